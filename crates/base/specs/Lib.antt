@@ -1,0 +1,5 @@
+-- What the definitions share: bytes of a text, tests on lists, and the sizes that an edition of the language fixes.
+pub mod Edition
+pub mod ListLaws
+pub mod Lists
+pub mod Text

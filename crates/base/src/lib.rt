@@ -1,0 +1,1 @@
+// Definitions only: what every other crate's specs lean on.

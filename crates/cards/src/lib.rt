@@ -1,0 +1,1 @@
+// Definitions only: bytes and their classes, lines, cards, joined statements, packing.

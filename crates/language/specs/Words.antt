@@ -1,0 +1,126 @@
+-- Document 01, "Statements": names and constants, and the names' places in a program. Assumes nothing.
+use mathlib.Core.Bool.{Bool, true, false, cond, _&&_, _||_}
+use mathlib.Core.List.{List, [], _∷_, _++_}
+use Prim.Native.Nat.{ℕ, suc, _+_, _*_, _-_}
+use lib.Dec.{leb}
+use lib.IntN.{ℤ, pos, negℤ}
+use lib.ListN.{length, take, drop, getD}
+use Rattle.base.specs.Edition.{Edition}
+use Rattle.base.specs.Lists.{begins}
+use Rattle.base.specs.Text.{bytes}
+use Rattle.cards.specs.Bytes.{isLetter, isDigit}
+use Rattle.language.specs.Program.{Length, constantly, numbered, Part, whole, first}
+use Rattle.language.specs.Reading.{
+  Purpose,
+  number,
+  string,
+  Role,
+  Met,
+  naming,
+  Read,
+  got,
+  broken,
+  _>>=_,
+  give,
+}
+
+-- the places that names have in the program, and the step behind the one that is read
+pub record Places : Type 0 where
+  pub string : List ℕ → ℕ
+  pub number : List ℕ → ℕ
+  pub label : List ℕ → ℕ
+  -- the step behind a routine's ROUTINE, and the one behind its ENDROUTINE
+  pub entry : List ℕ → ℕ
+  pub exit : List ℕ → ℕ
+  pub next : ℕ
+
+-- how many bytes at the front pass a test
+unfoldable pub run : (ℕ → Bool) → List ℕ → ℕ
+run f [] = 0
+run f (b ∷ bs) = elim (f b) [ true ↦ suc (run f bs) | false ↦ 0 ]
+
+unfoldable pub isNameByte : ℕ → Bool
+isNameByte b = isLetter b || isDigit b
+
+-- S1 "Name: a letter, then up to 7 letters or digits."; how many bytes of one stand in front, 0 for none. A longer one is none.
+unfoldable pub nameLength : List ℕ → ℕ
+nameLength bs = cond (isLetter (getD bs 0 0) && leb (run isNameByte bs) 8) (run isNameByte bs) 0
+
+unfoldable pub name : List ℕ → Read (List ℕ)
+name bs = elim (leb 1 (nameLength bs)) [ true ↦ give (take (nameLength bs) bs) (drop (nameLength bs) bs) | false ↦ broken ]
+
+-- a name, met as said
+unfoldable pub nameAs : (List ℕ → Met) → List ℕ → Read (List ℕ)
+nameAs meets bs = do
+  (n, rest) ← name bs
+  got n (meets n) rest
+
+-- the number that digits write
+unfoldable pub decimalFrom : ℕ → List ℕ → ℕ
+decimalFrom v [] = v
+decimalFrom v (b ∷ bs) = decimalFrom (v * 10 + (b - 48)) bs
+
+-- no role in a SCAN
+unfoldable pub noRole : List ℕ → List Role
+noRole n = []
+
+unfoldable pub isSign : List ℕ → Bool
+isSign bs = begins (bytes "+") bs || begins (bytes "-") bs
+
+module _ (e : Edition) where
+  -- S13 "an unsigned constant"; Q5 "or a constant its range"
+  unfoldable pub unsigned : List ℕ → Read ℕ
+  unsigned bs =
+      let n = run isDigit bs in
+      let v = decimalFrom 0 (take n bs) in
+      elim (leb 1 n && leb v (e .limit)) [ true ↦ give v (drop n bs) | false ↦ broken ]
+
+  -- S15 "a signed constant": the sign may be left out
+  unfoldable pub signed : List ℕ → Read ℤ
+  signed bs = elim (begins (bytes "-") bs) [
+    | true ↦ do
+      (v, rest) ← unsigned (drop 1 bs)
+      give (negℤ (pos v)) rest
+    | false ↦ do
+      (v, rest) ← unsigned (drop (cond (begins (bytes "+") bs) 1 0) bs)
+      give (pos v) rest
+  ]
+
+  module _ (at : Places) where
+    -- S13 "a declared number"
+    unfoldable pub numberName : List ℕ → Read ℕ
+    numberName bs = do
+      (n, rest) ← nameAs (naming number []) bs
+      give (at .number n) rest
+
+    -- S17 "n an unsigned constant or a number"
+    unfoldable pub bound : List ℕ → Read Length
+    bound bs = elim (isDigit (getD bs 0 0)) [
+      | true ↦ do
+        (v, rest) ← unsigned bs
+        give (constantly (pos v)) rest
+      | false ↦ do
+        (i, rest) ← numberName bs
+        give (numbered i) rest
+    ]
+
+    -- S17 the string with this place, or `S$n` where `$` follows
+    unfoldable pub partOf : ℕ → List ℕ → Read Part
+    partOf s bs = elim (begins (bytes "$") bs) [
+      | true ↦ do
+        (n, rest) ← bound (drop 1 bs)
+        give (first s n) rest
+      | false ↦ give (whole s) bs
+    ]
+
+    -- a string's name, with its role in a SCAN if it has one
+    unfoldable pub stringName : (List ℕ → List Role) → List ℕ → Read ℕ
+    stringName roles bs = do
+      (n, rest) ← nameAs (λ n. naming string (roles n) n) bs
+      give (at .string n) rest
+
+    -- a name or substring
+    unfoldable pub partName : (List ℕ → List Role) → List ℕ → Read Part
+    partName roles bs = do
+      (s, rest) ← stringName roles bs
+      partOf s rest

@@ -1,0 +1,1 @@
+// Definitions only: the statements of a program and how they are read from packed statements.

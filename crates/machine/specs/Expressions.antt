@@ -1,0 +1,145 @@
+-- Document 01, "Values": the values of operands, expressions and tests in a memory. Assumes nothing.
+use mathlib.Core.Bool.{Bool, true, false, _&&_, _||_}
+use mathlib.Core.List.{List, [], _∷_, _++_}
+use Prim.Native.Nat.{ℕ}
+use lib.IntN.{ℤ, pos, negℤ}
+use lib.ListN.{length}
+use lib.Signed.{ltZ, leZ}
+use Rattle.base.specs.Edition.{Edition}
+use Rattle.base.specs.Lists.{isNil}
+use Rattle.language.specs.Program.{
+  Length,
+  constantly,
+  numbered,
+  Part,
+  whole,
+  first,
+  Operand,
+  constant,
+  number,
+  lengthOf,
+  numberOf,
+  Operator,
+  plus,
+  minus,
+  times,
+  over,
+  Sign,
+  positive,
+  negative,
+  Item,
+  operand,
+  operator,
+  sign,
+  Element,
+  literal,
+  part,
+  text,
+  Comparison,
+  equal,
+  unequal,
+  less,
+  greater,
+  atMost,
+  atLeast,
+  Test,
+  isNull,
+  isNumeric,
+  compares,
+}
+use Rattle.values.specs.Conversion as Conversion
+use Rattle.values.specs.Conversion.{substring, textOf}
+use Rattle.values.specs.Numbers.{isNegative, sum, difference, product, quotient}
+use Rattle.values.specs.Work.{Work, done, stop, _>>=_, quietly}
+use Rattle.machine.specs.State.{Memory, stringAt, numberAt}
+
+unfoldable pub lengthIn : Memory → Length → ℤ
+lengthIn m (constantly z) = z
+lengthIn m (numbered i) = numberAt m i
+
+-- V3, V4 a name's string, or its substring
+unfoldable pub partIn : Memory → Part → Work (List ℕ)
+partIn m (whole s) = quietly (stringAt m s)
+partIn m (first s n) = substring (stringAt m s) (lengthIn m n)
+
+module _ (e : Edition) (m : Memory) where
+  unfoldable pub operandIn : Operand → Work ℤ
+  operandIn (constant z) = quietly z
+  operandIn (number i) = quietly (numberAt m i)
+  operandIn (lengthOf s) = quietly (pos (length (stringAt m s)))
+  operandIn (numberOf p) = do
+    s ← partIn m p
+    Conversion.numberOf e s
+
+  -- Q18, Q19 each operator's result is held to the range at once
+  unfoldable pub operation : Operator → ℤ → ℤ → Work ℤ
+  operation plus a b = sum e a b
+  operation minus a b = difference e a b
+  operation times a b = product e a b
+  operation over a b = quotient e a b
+
+  -- an item adds to the numbers known, the latest first: an operand its value, an operator what it makes of the latest two
+  unfoldable pub combined : (ℤ → ℤ → Work ℤ) → List ℤ → Work (List ℤ)
+  combined f [] = quietly []
+  combined f (b ∷ []) = quietly (b ∷ [])
+  combined f (b ∷ (a ∷ known)) = f a b >>= λ z. quietly (z ∷ known)
+
+  unfoldable pub signIn : Sign → List ℤ → List ℤ
+  signIn positive known = known
+  signIn negative [] = []
+  signIn negative (a ∷ known) = negℤ a ∷ known
+
+  unfoldable pub itemIn : List ℤ → Item → Work (List ℤ)
+  itemIn known (operand a) = operandIn a >>= λ z. quietly (z ∷ known)
+  itemIn known (operator o) = combined (operation o) known
+  itemIn known (sign s) = quietly (signIn s known)
+
+  unfoldable pub itemsIn : List ℤ → List Item → Work (List ℤ)
+  itemsIn known [] = quietly known
+  itemsIn known (i ∷ is) = do
+    more ← itemIn known i
+    itemsIn more is
+
+  unfoldable pub latest : List ℤ → ℤ
+  latest [] = pos 0
+  latest (z ∷ known) = z
+
+  -- V2 "Operators go left to right, * and / first, each once its right side is known"
+  unfoldable pub numericIn : List Item → Work ℤ
+  numericIn is = do
+    known ← itemsIn [] is
+    quietly (latest known)
+
+  unfoldable pub elementIn : Element → Work (List ℕ)
+  elementIn (literal w) = quietly w
+  elementIn (part p) = partIn m p
+  elementIn (text n i) = textOf (lengthIn m n) (numberAt m i)
+
+  unfoldable pub stringIn : List Element → Work (List ℕ)
+  stringIn [] = quietly []
+  stringIn (x ∷ xs) = do
+    v ← elementIn x
+    vs ← stringIn xs
+    quietly (v ++ vs)
+
+  unfoldable pub compared : Comparison → ℤ → ℤ → Bool
+  compared equal a b = leZ a b && leZ b a
+  compared unequal a b = ltZ a b || ltZ b a
+  compared less a b = ltZ a b
+  compared greater a b = ltZ b a
+  compared atMost a b = leZ a b
+  compared atLeast a b = leZ b a
+
+  -- V7 "a negative substring" is not numeric, V4 with a note
+  unfoldable pub numericPart : Part → Work Bool
+  numericPart p = do
+    s ← partIn m p
+    quietly (Conversion.isNumeric s)
+
+  unfoldable pub testIn : Test → Work Bool
+  testIn (isNull s) = quietly (isNil (stringAt m s))
+  testIn (isNumeric p) = numericPart p
+  testIn (compares a c b) = do
+    x ← operandIn a
+    y ← operandIn b
+    quietly (compared c x y)

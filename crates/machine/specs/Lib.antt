@@ -1,0 +1,7 @@
+-- The machine on strings and numbers: what it holds (State), values of expressions (Expressions), scanning statements (Scanning), one
+-- step of each statement (Step), a run (Run).
+pub mod Expressions
+pub mod Run
+pub mod Scanning
+pub mod State
+pub mod Step

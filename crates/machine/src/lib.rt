@@ -1,0 +1,1 @@
+// Definitions only: the machine on strings and numbers, one step of each statement, a run of k steps.

@@ -1,0 +1,22 @@
+-- Work with its notes, or the number that stops it. Assumes nothing.
+use Prim.Native.Nat.{ℕ, _+_}
+
+-- done with a value and so many notes, or stopped by 17 to 21
+pub data Work (A : Type 0) : Type 0 where
+  done : A → ℕ → Work A
+  stop : ℕ → Work A
+
+module _ {A : Type 0} where
+  -- D4 "17 to 21: the first met in order of work": notes add up until then
+  unfoldable pub noting : ℕ → Work A → Work A
+  noting n (done a m) = done a (n + m)
+  noting n (stop k) = stop k
+
+  unfoldable pub quietly : A → Work A
+  quietly a = done a 0
+
+module _ {A B : Type 0} where
+  infixl 20 _>>=_
+  unfoldable pub _>>=_ : Work A → (A → Work B) → Work B
+  done a n >>= next = noting n (next a)
+  stop k >>= next = stop k

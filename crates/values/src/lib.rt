@@ -1,0 +1,1 @@
+// Definitions only: numbers and their range, substrings, conversion between numbers and strings.

@@ -1,0 +1,24 @@
+-- The definitions answer the vectors, as computed facts: the test (Agrees), how a trace is written (Trace), the decks.
+pub mod Agrees
+pub mod Decks00
+pub mod Decks01
+pub mod Decks02
+pub mod Decks03
+pub mod Decks04
+pub mod Decks05
+pub mod Decks06
+pub mod Decks07
+pub mod Decks08
+pub mod Decks09
+pub mod Decks10
+pub mod Decks11
+pub mod Decks12
+pub mod Decks13
+pub mod Decks14
+pub mod Decks15
+pub mod Decks16
+pub mod Decks17
+pub mod Decks18
+pub mod Decks19
+pub mod Decks20
+pub mod Trace

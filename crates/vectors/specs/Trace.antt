@@ -1,0 +1,113 @@
+-- A deck's judgement and the first steps of its run, written as the vectors write them. Assumes nothing.
+use mathlib.Core.Bool.{Bool, true, false, cond}
+use mathlib.Core.List.{List, [], _∷_, _++_, map}
+use mathlib.Core.Option.{Option, none, some}
+use Prim.Native.Nat.{ℕ, zero, suc, _-_, _/_, _%_}
+use Prim.Native.String.{String}
+use lib.Dec.{ltb, eqb}
+use lib.IntN.{ℤ, natAbs}
+use lib.ListN.{length, getD}
+use Rattle.base.specs.Edition.{edition1}
+use Rattle.base.specs.Lists.{same}
+use Rattle.base.specs.Text.{bytes}
+use Rattle.cards.specs.Cards.{entries}
+use Rattle.judgement.specs.Deck as Deck
+use Rattle.judgement.specs.Deck.{Judgement, accepted, Judged, passed, judge, judgeFrom}
+use Rattle.judgement.specs.Known.{nothingKnown, strings, numbers}
+use Rattle.language.specs.Program.{Program}
+use Rattle.machine.specs.State.{Status, running, finished, stopped, State, fresh}
+use Rattle.machine.specs.Step.{Stepped, step}
+use Rattle.scanning.specs.Splits.{Split}
+use Rattle.values.specs.Conversion.{digits, signOf}
+
+unfoldable pub integer : ℤ → List ℕ
+integer z = signOf z ++ digits (natAbs z)
+
+-- texts parted by commas
+unfoldable pub commas : List (List ℕ) → List ℕ
+commas [] = []
+commas (x ∷ []) = x
+commas (x ∷ (y ∷ ys)) = x ++ (bytes "," ++ commas (y ∷ ys))
+
+unfoldable pub hexDigit : ℕ → ℕ
+hexDigit n = getD (bytes "0123456789abcdef") n 0
+
+unfoldable pub hex : List ℕ → List ℕ
+hex [] = []
+hex (b ∷ bs) = hexDigit (b / 16) ∷ (hexDigit (b % 16) ∷ hex bs)
+
+unfoldable pub pairs : List (List ℕ) → List (List ℕ) → List (List ℕ)
+pairs [] vs = []
+pairs (n ∷ ns) [] = []
+pairs (n ∷ ns) (v ∷ vs) = (n ++ (bytes ":" ++ v)) ∷ pairs ns vs
+
+unfoldable pub split : Option Split → List ℕ
+split none = bytes "-"
+split (some s) = digits (s .start) ++ (bytes ";" ++ commas (map digits (s .lengths)))
+
+unfoldable pub status : Status → List ℕ
+status running = bytes "running"
+status finished = bytes "finished"
+status stopped = bytes "stopped"
+
+unfoldable pub cardOf : Program → ℕ → List ℕ
+cardOf p k = digits (getD (map (λ s. s .card) (p .steps)) k 0)
+
+-- a deck's names, its program, the bytes of its input
+module _ (stringNames numberNames : List (List ℕ)) (p : Program) (size : ℕ) where
+  unfoldable pub line : ℕ → Stepped → List ℕ
+  line k s =
+      let c = s .state in
+      bytes "step "
+      ++ (digits k
+      ++ (bytes ": n="
+      ++ (digits (s .answer .number)
+      ++ (bytes " notes="
+      ++ (digits (s .answer .notes)
+      ++ (bytes " split="
+      ++ (split (s .answer .scanned .split)
+      ++ (bytes " trials="
+      ++ (digits (s .answer .scanned .trials)
+      ++ (bytes " in="
+      ++ (digits (size - length (c .input))
+      ++ (bytes " out="
+      ++ (digits (length (c .output))
+      ++ (bytes " state="
+      ++ (status (c .status)
+      ++ (bytes " next="
+      ++ (cardOf p (c .next)
+      ++ (bytes " held=["
+      ++ (commas (map (cardOf p) (c .returns))
+      ++ (bytes "] numbers={"
+      ++ (commas (pairs numberNames (map integer (c .memory .numbers)))
+      ++ (bytes "} strings={"
+      ++ (commas (pairs stringNames (map hex (c .memory .strings)))
+      ++ bytes "}\n")))))))))))))))))))))))
+
+  -- at most so many steps from number k on, up to the one that finishes or stops
+  unfoldable pub steps : ℕ → ℕ → State → List ℕ
+  steps zero k c = []
+  steps (suc n) k c =
+      let s = step edition1 p 300 c in
+      let rest = steps n (suc k) (s .state) in
+      line k s ++ following (s .state .status) rest
+    where
+      following : Status → List ℕ → List ℕ
+      following running rest = rest
+      following finished rest = []
+      following stopped rest = []
+
+unfoldable pub stringNames : Judged → List (List ℕ)
+stringNames (passed k) = strings k
+stringNames (Deck.Judged.refused n c) = []
+
+unfoldable pub numberNames : Judged → List (List ℕ)
+numberNames (passed k) = numbers k
+numberNames (Deck.Judged.refused n c) = []
+
+unfoldable pub traced : Judged → List ℕ → Judgement → List ℕ
+traced j input (Deck.Judgement.refused n c) = bytes "REFUSED " ++ (digits n ++ (bytes " " ++ (digits c ++ bytes "\n")))
+traced j input (accepted p) = steps (stringNames j) (numberNames j) p (length input) 60 1 (fresh p input)
+
+unfoldable pub trace : (deck input : List ℕ) → List ℕ
+trace deck input = traced (judgeFrom edition1 nothingKnown (entries edition1 deck)) input (judge edition1 deck)
