@@ -1,5 +1,5 @@
 #!/usr/bin/env python3
-"""Writes the computed facts of crates/vectors from the vectors in tests/vectors: `tools/vectors.py` from the root."""
+"""Writes the computed facts of crates/vectors from tests/vectors, and the list of what they unfold to crates/computing."""
 import glob, os, re
 
 ROOT = os.path.dirname(os.path.dirname(os.path.abspath(__file__)))
@@ -44,42 +44,36 @@ def write(name, lines):
 
 
 def main():
-    own = re.findall(r"^ *unfoldable pub (\S+) :", open(os.path.join(SPECS, "Trace.antt")).read(), re.M)
-    names = unfoldable() + ["Rattle.vectors.specs.Trace." + n for n in own]
+    with open(os.path.join(ROOT, "crates/computing/specs/Lib.antt"), "w") as f:
+        f.write("\n".join([
+            "-- A fact about closed values is proved by computing, with every definition unfolded: `unfolding everything`. Assumes nothing.",
+            "",
+            "unfoldable pub everything : Unit {0}",
+            "unfolding",
+        ] + ["  " + n for n in unfoldable()] + ["everything = tt"]) + "\n")
     for old in glob.glob(os.path.join(SPECS, "Decks*.antt")) + glob.glob(os.path.join(SPECS, "Scans*.antt")):
         os.remove(old)
-    write("Agrees", [
-        "-- A deck with its input gives a trace, a scan an answer: tests that compute. They unfold every definition. Assumes nothing.",
-        "use mathlib.Core.Bool.{Bool}",
-        "use mathlib.Core.List.{List}",
-        "use Prim.Native.Nat.{ℕ}",
-        "use Prim.Native.String.{String}",
-        "use Rattle.base.specs.Lists.{same}",
-        "use Rattle.base.specs.Text.{bytes}",
-        "use Rattle.scanning.specs.Splits.{Element}",
-        "use Rattle.scanning.specs.Trials.{scan}",
-        "use Rattle.values.specs.Conversion.{digits}",
-        "use Rattle.vectors.specs.Trace.{trace, split}",
-        "use mathlib.Core.List.{_++_}",
-        "",
-        "unfoldable pub agrees : (deck input expected : String) → Bool",
-        "unfolding",
-    ] + ["  " + n for n in names] + [
-        "agrees deck input expected = same (trace (bytes deck) (bytes input)) (bytes expected)",
-    ])
-    modules = ["Agrees", "Trace"]
+    modules = ["Scans", "Trace"]
     decks = sorted(glob.glob(os.path.join(ROOT, "tests/vectors/decks/*.deck")))
     for i in range(0, len(decks), PER_FILE):
         module = "Decks%02d" % (i // PER_FILE)
         modules.append(module)
-        lines = ["-- Decks with their traces. Assumes nothing.", "use mathlib.Core.Bool.{true}", "use mathlib.Core.Path.{_≡_, refl}",
-                 "use Rattle.vectors.specs.Agrees.{agrees}"]
+        lines = ["-- Decks with their inputs and traces. Assumes nothing.", "use mathlib.Core.Bool.{true}",
+                 "use mathlib.Core.Path.{_≡_, refl}", "use Rattle.vectors.specs.Trace.{agrees}"]
         for deck in decks[i:i + PER_FILE]:
             name = os.path.basename(deck)[:-5]
             data = [open(deck[:-5] + ext, "rb").read() for ext in (".deck", ".in", ".trace")]
             lines += ["", f"{name} : agrees {' '.join(text(d) for d in data)} ≡ true", "unfolding agrees", f"{name} = refl"]
         write(module, lines)
-    write("Lib", ["-- The definitions answer the vectors, as computed facts: the test (Agrees), how a trace is written (Trace), the decks."]
+    scans = open(os.path.join(ROOT, "tests/vectors/scans.txt")).read().splitlines()
+    lines = ["-- Scans with their answers, some hundred a fact. Assumes nothing.", "use mathlib.Core.Bool.{true}",
+             "use mathlib.Core.Path.{_≡_, refl}", "use Rattle.vectors.specs.Trace.{scansAgree}"]
+    for i in range(0, len(scans), 100):
+        name = "scans%02d" % (i // 100)
+        lines += ["", f"{name} : scansAgree {text(''.join(l + chr(10) for l in scans[i:i + 100]).encode())} ≡ true",
+                  "unfolding scansAgree", f"{name} = refl"]
+    write("Scans", lines)
+    write("Lib", ["-- The definitions answer the vectors, as computed facts: how an answer is written (Trace), decks (Decks..), scans (Scans)."]
           + ["pub mod " + m for m in sorted(modules)])
 
 

@@ -1,4 +1,6 @@
--- What the definitions share: bytes of a text, tests on lists, and the sizes that an edition of the language fixes.
+-- What the definitions share: bytes of a text, tests on lists, what holds whichever way a test goes, and the sizes that an edition of
+-- the language fixes.
+pub mod Choice
 pub mod Edition
 pub mod ListLaws
 pub mod Lists

@@ -4,7 +4,6 @@ use mathlib.Core.List.{List, []}
 use Prim.Native.Nat.{ℕ}
 use lib.IntN.{ℤ, pos}
 use lib.ListN.{getD, set, replicate}
-use Rattle.language.specs.Program.{Program}
 
 pub data Status : Type 0 where
   running finished stopped : Status
@@ -43,14 +42,21 @@ withString m s v = record { strings = set (m .strings) s v; numbers = m .numbers
 unfoldable pub withNumber : Memory → ℕ → ℤ → Memory
 withNumber m i z = record { strings = m .strings; numbers = set (m .numbers) i z }
 
+-- Q10 "32 strings, 32 numbers": a memory has all of them, whether a program names them or not
+unfoldable pub mostStrings : ℕ
+mostStrings = 32
+
+unfoldable pub mostNumbers : ℕ
+mostNumbers = 32
+
 -- V1 numbers "start at 0", strings "start null"
-unfoldable pub freshMemory : Program → Memory
-freshMemory p = record { strings = replicate (p .strings) []; numbers = replicate (p .numbers) (pos 0) }
+unfoldable pub freshMemory : Memory
+freshMemory = record { strings = replicate mostStrings []; numbers = replicate mostNumbers (pos 0) }
 
 -- R7 the state before the first step
-unfoldable pub fresh : Program → (input : List ℕ) → State
-fresh p input =
-    record { status = running; next = 0; returns = []; memory = freshMemory p; input = input; output = [] }
+unfoldable pub fresh : (input : List ℕ) → State
+fresh input =
+    record { status = running; next = 0; returns = []; memory = freshMemory; input = input; output = [] }
 
 -- the state moved on to a step, with this memory
 unfoldable pub goingTo : ℕ → Memory → State → State

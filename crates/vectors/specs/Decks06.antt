@@ -1,7 +1,7 @@
--- Decks with their traces. Assumes nothing.
+-- Decks with their inputs and traces. Assumes nothing.
 use mathlib.Core.Bool.{true}
 use mathlib.Core.Path.{_≡_, refl}
-use Rattle.vectors.specs.Agrees.{agrees}
+use Rattle.vectors.specs.Trace.{agrees}
 
 r01 : agrees "         PROGRAM T\n        +END\n" "" "REFUSED 3 2\n" ≡ true
 unfolding agrees

@@ -1,7 +1,7 @@
--- Decks with their traces. Assumes nothing.
+-- Decks with their inputs and traces. Assumes nothing.
 use mathlib.Core.Bool.{true}
 use mathlib.Core.Path.{_≡_, refl}
-use Rattle.vectors.specs.Agrees.{agrees}
+use Rattle.vectors.specs.Trace.{agrees}
 
 r21 : agrees "A        PROGRAM T\n         READ X/A\n         END\n" "1\n2\n" "step 1: n=0 notes=0 split=- trials=0 in=2 out=0 state=running next=2 held=[] numbers={} strings={X:31}\nstep 2: n=0 notes=0 split=- trials=0 in=4 out=0 state=running next=2 held=[] numbers={} strings={X:32}\nstep 3: n=0 notes=0 split=- trials=0 in=4 out=0 state=running next=3 held=[] numbers={} strings={X:32}\nstep 4: n=0 notes=0 split=- trials=0 in=4 out=0 state=finished next=3 held=[] numbers={} strings={X:32}\n" ≡ true
 unfolding agrees

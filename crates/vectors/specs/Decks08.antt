@@ -1,7 +1,7 @@
--- Decks with their traces. Assumes nothing.
+-- Decks with their inputs and traces. Assumes nothing.
 use mathlib.Core.Bool.{true}
 use mathlib.Core.Path.{_≡_, refl}
-use Rattle.vectors.specs.Agrees.{agrees}
+use Rattle.vectors.specs.Trace.{agrees}
 
 r41 : agrees "         PROGRAM T\n         NUMBER N\n         N$3=\"A\"\n         END\n" "" "REFUSED 6 3\n" ≡ true
 unfolding agrees

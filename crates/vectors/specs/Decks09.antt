@@ -1,7 +1,7 @@
--- Decks with their traces. Assumes nothing.
+-- Decks with their inputs and traces. Assumes nothing.
 use mathlib.Core.Bool.{true}
 use mathlib.Core.Path.{_≡_, refl}
-use Rattle.vectors.specs.Agrees.{agrees}
+use Rattle.vectors.specs.Trace.{agrees}
 
 r61 : agrees "         PROGRAM T\n         NUMBER N\n         N=8388607*2/2\n         END\n" "" "step 1: n=19 notes=0 split=- trials=0 in=0 out=0 state=stopped next=3 held=[] numbers={N:0} strings={}\n" ≡ true
 unfolding agrees

@@ -1,7 +1,7 @@
--- Decks with their traces. Assumes nothing.
+-- Decks with their inputs and traces. Assumes nothing.
 use mathlib.Core.Bool.{true}
 use mathlib.Core.Path.{_≡_, refl}
-use Rattle.vectors.specs.Agrees.{agrees}
+use Rattle.vectors.specs.Trace.{agrees}
 
 r86 : agrees "         PROGRAM T\n         NUMBER N\n         N=-1\n         READ X$N\n         END\n" "" "step 1: n=0 notes=0 split=- trials=0 in=0 out=0 state=running next=4 held=[] numbers={N:-1} strings={X:}\nstep 2: n=17 notes=0 split=- trials=0 in=0 out=0 state=stopped next=4 held=[] numbers={N:-1} strings={X:}\n" ≡ true
 unfolding agrees

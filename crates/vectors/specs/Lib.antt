@@ -1,5 +1,4 @@
--- The definitions answer the vectors, as computed facts: the test (Agrees), how a trace is written (Trace), the decks.
-pub mod Agrees
+-- The definitions answer the vectors, as computed facts: how an answer is written (Trace), decks (Decks..), scans (Scans).
 pub mod Decks00
 pub mod Decks01
 pub mod Decks02
@@ -21,4 +20,5 @@ pub mod Decks17
 pub mod Decks18
 pub mod Decks19
 pub mod Decks20
+pub mod Scans
 pub mod Trace

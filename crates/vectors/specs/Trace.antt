@@ -1,24 +1,26 @@
 -- A deck's judgement and the first steps of its run, written as the vectors write them. Assumes nothing.
 use mathlib.Core.Bool.{Bool, true, false, cond}
-use mathlib.Core.List.{List, [], _∷_, _++_, map}
+use mathlib.Core.List.{List, [], _∷_, _++_, map, reverse}
 use mathlib.Core.Option.{Option, none, some}
-use Prim.Native.Nat.{ℕ, zero, suc, _-_, _/_, _%_}
+use Prim.Native.Nat.{ℕ, zero, suc, _+_, _*_, _-_, _/_, _%_}
 use Prim.Native.String.{String}
-use lib.Dec.{ltb, eqb}
+use lib.Dec.{leb, eqb}
 use lib.IntN.{ℤ, natAbs}
-use lib.ListN.{length, getD}
+use lib.ListN.{length, drop, getD}
 use Rattle.base.specs.Edition.{edition1}
-use Rattle.base.specs.Lists.{same}
+use Rattle.base.specs.Lists.{same, begins, all}
 use Rattle.base.specs.Text.{bytes}
-use Rattle.cards.specs.Cards.{entries}
+use Rattle.cards.specs.Cards.{entries, lines}
+use Rattle.computing.specs.{everything}
 use Rattle.judgement.specs.Deck as Deck
 use Rattle.judgement.specs.Deck.{Judgement, accepted, Judged, passed, judge, judgeFrom}
 use Rattle.judgement.specs.Known.{nothingKnown, strings, numbers}
 use Rattle.language.specs.Program.{Program}
 use Rattle.machine.specs.State.{Status, running, finished, stopped, State, fresh}
 use Rattle.machine.specs.Step.{Stepped, step}
-use Rattle.scanning.specs.Splits.{Split}
-use Rattle.values.specs.Conversion.{digits, signOf}
+use Rattle.scanning.specs.Splits.{Element, string, fixed, free, Split}
+use Rattle.scanning.specs.Trials.{Scanned, scan}
+use Rattle.values.specs.Conversion.{digits, signOf, decimal}
 
 unfoldable pub integer : ℤ → List ℕ
 integer z = signOf z ++ digits (natAbs z)
@@ -107,7 +109,58 @@ numberNames (Deck.Judged.refused n c) = []
 
 unfoldable pub traced : Judged → List ℕ → Judgement → List ℕ
 traced j input (Deck.Judgement.refused n c) = bytes "REFUSED " ++ (digits n ++ (bytes " " ++ (digits c ++ bytes "\n")))
-traced j input (accepted p) = steps (stringNames j) (numberNames j) p (length input) 60 1 (fresh p input)
+traced j input (accepted p) = steps (stringNames j) (numberNames j) p (length input) 60 1 (fresh input)
 
 unfoldable pub trace : (deck input : List ℕ) → List ℕ
 trace deck input = traced (judgeFrom edition1 nothingKnown (entries edition1 deck)) input (judge edition1 deck)
+
+-- a deck with its input gives this trace
+unfoldable pub agrees : (deck input expected : String) → Bool
+unfolding everything integer commas hexDigit hex pairs split status cardOf line steps stringNames numberNames traced trace
+agrees deck input expected = same (trace (bytes deck) (bytes input)) (bytes expected)
+
+-- The scans are lines `REFERENCE ELEMENT.. => answer`. A reference is in hex, `-` if null; `s:HEX` is a string, `f:N` a fixed filler, `x` a
+-- free one; the answer is `start;lengths trials` or `FAIL trials`.
+unfoldable pub hexValue : ℕ → ℕ
+hexValue b = cond (leb 97 b) (b - 87) (b - 48)
+
+unfoldable pub unhex : List ℕ → List ℕ
+unhex [] = []
+unhex (a ∷ []) = []
+unhex (a ∷ (b ∷ bs)) = (16 * hexValue a + hexValue b) ∷ unhex bs
+
+unfoldable pub elementOf : List ℕ → Element
+elementOf w =
+    cond (begins (bytes "s:") w) (string (unhex (drop 2 w)))
+    (cond (begins (bytes "f:") w) (fixed (decimal 0 (drop 2 w)))
+    free)
+
+unfoldable pub answerOf : Scanned → List ℕ
+answerOf a = failOrSplit (a .split) ++ (bytes " " ++ digits (a .trials))
+  where
+    failOrSplit : Option Split → List ℕ
+    failOrSplit none = bytes "FAIL"
+    failOrSplit (some s) = split (some s)
+
+-- the part of a line before a blank, and the part behind it
+unfoldable pub word : List ℕ → List ℕ
+word [] = []
+word (b ∷ bs) = elim (eqb b 32) [ true ↦ [] | false ↦ b ∷ word bs ]
+
+unfoldable pub behindWord : List ℕ → List ℕ
+behindWord l = drop (length (word l) + 1) l
+
+-- the elements up to `=>`, then what the answer must be
+unfoldable pub scanAgrees : ℕ → List ℕ → List Element → List ℕ → Bool
+scanAgrees zero r p l = false
+scanAgrees (suc k) r p l = elim (begins (bytes "=>") l) [
+  | true ↦ same (answerOf (scan (reverse p) r)) (drop 3 l)
+  | false ↦ scanAgrees k r (elementOf (word l) ∷ p) (behindWord l)
+]
+
+unfoldable pub lineAgrees : List ℕ → Bool
+lineAgrees l = scanAgrees (length l) (cond (begins (bytes "-") l) [] (unhex (word l))) [] (behindWord l)
+
+unfoldable pub scansAgree : String → Bool
+unfolding everything split commas hexValue unhex elementOf answerOf word behindWord scanAgrees lineAgrees
+scansAgree expected = all lineAgrees (lines (bytes expected))

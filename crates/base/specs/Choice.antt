@@ -1,0 +1,12 @@
+-- What holds whichever way a test goes. Assumes nothing.
+use mathlib.Core.Bool.{Bool, true, false, cond}
+use mathlib.Core.Path.{_≡_, refl}
+
+-- what holds of true and of false, where the test comes out so, holds of the test
+pub test-cases : (P : Bool → Type 0) (test : Bool) → (test ≡ true → P true) → (test ≡ false → P false) → P test
+test-cases P true f g = f refl
+test-cases P false f g = g refl
+
+-- what holds of each value, where the test chooses it, holds of the one chosen
+pub cond-cases : {A : Type 0} (P : A → Type 0) (test : Bool) {x y : A} → (test ≡ true → P x) → (test ≡ false → P y) → P (cond test x y)
+cond-cases P test {x} {y} = test-cases (λ t. P (cond t x y)) test

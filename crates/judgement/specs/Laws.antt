@@ -1,0 +1,213 @@
+-- Every answer of a deck's judgement is in range, and an accepted program keeps its counts and has a step. Assumes nothing.
+use mathlib.Core.Bool.{Bool, true, false, _||_, true≢false, false≢true}
+use mathlib.Core.List.{List, [], _∷_}
+use mathlib.Core.Option.{Option, none, some}
+use mathlib.Core.Path.{_≡_, refl, sym, _∙_, subst}
+use Prim.Native.Nat.{ℕ, suc, _+_, _≤_}
+use native.Mathlib.Omega.{arith}
+use lib.Dec.{ltb, eqb}
+use lib.ListN.{length, drop, length-append}
+use borrow.Author.Tests.{ltb-false}
+use Rattle.base.specs.Choice.{test-cases, cond-cases}
+use Rattle.base.specs.Edition.{Edition}
+use Rattle.base.specs.Lists.{any, keep}
+use Rattle.cards.specs.Bytes.{isBlank, slash}
+use Rattle.cards.specs.Cards.{lines, Entry, skipped, statement, isComment, isBlankLine, column9, joined, entriesFrom, entries}
+use Rattle.cards.specs.Packing.{packed, literalsWhole}
+use Rattle.language.specs.Forms.{statementForm, formOf, stepEnd}
+use Rattle.language.specs.Keywords.{END, sameKind, leading}
+use Rattle.language.specs.Laws.{same-kind}
+use Rattle.language.specs.Program.{Statement, finish, Program}
+use Rattle.language.specs.Reading.{Met, Read, got, broken, meeting, give, finished, _>>=_}
+use Rattle.language.specs.Words.{Places}
+use Rattle.judgement.specs.Known.{Known, nothingKnown, strings, numbers, namesFor, isOneOf, learn}
+use Rattle.judgement.specs.Refusals.{labelForm, labelled, readStatement, is10}
+use Rattle.judgement.specs.Deck.{unplaced, Judged, passed, stepRead, stepsFrom, placesOf, programOf, Judgement, accepted, judge}
+use Rattle.judgement.specs.Rules.{Judging, ended, missing, skips, unsound, turned, learns, Concluding, refuses, refuses11}
+use Rattle.judgement.specs.Rules.{refuses12, concluding, accepted-program}
+
+-- the cards are lines 1 to n
+data CardsIn (n : ℕ) : List Entry → Type 0 where
+  empty : CardsIn n []
+  line : {card : ℕ} {sound : Bool} {es : List Entry} → 1 ≤ card → card ≤ n → CardsIn n es → CardsIn n (skipped card sound ∷ es)
+  form : {card : ℕ} {sound : Bool} {label text : List ℕ} {es : List Entry} → 1 ≤ card → card ≤ n → CardsIn n es
+      → CardsIn n (statement card sound label text ∷ es)
+
+-- a line joined to what comes behind it is their card
+joined-cards : (e : Edition) (n card : ℕ) (bs : List ℕ) (es : List Entry) → 1 ≤ card → card ≤ n → CardsIn n es
+    → CardsIn n (joined e card bs es)
+unfolding joined
+joined-cards e n card bs [] low high h = form low high h
+joined-cards e n card bs (skipped c s ∷ es) low high h = form low high h
+joined-cards e n card bs (statement c s label text ∷ es) low high (form _ _ h) = form low high h
+
+-- the cards of some lines, the last of which has number n
+entries-cards : (e : Edition) (n first : ℕ) (ls : List (List ℕ)) → 1 ≤ first → first + length ls ≤ suc n
+    → CardsIn n (entriesFrom e first ls)
+unfolding entriesFrom
+entries-cards e n first [] low high = empty
+entries-cards e n first (bs ∷ ls) low high =
+    let inside : first ≤ n = omega arith in
+    let h = entries-cards e n (suc first) ls (omega arith) (omega arith) in
+    cond-cases (CardsIn n) (isComment bs || isBlankLine e bs) (λ _. line low inside h) (λ _.
+    cond-cases (CardsIn n) (isBlank (column9 e bs)) (λ _. form low inside h) (λ _.
+    cond-cases (CardsIn n) (eqb (column9 e bs) slash) (λ _. form low inside h) (λ _.
+    joined-cards e n first bs (entriesFrom e (suc first) ls) low inside h)))
+
+-- a number 3 to 12 with a card: D3 "0 for .. 11, 12 and a missing END", else one of the lines
+pub record Answers (last n card : ℕ) : Type 0 where
+  pub low : 3 ≤ n
+  pub high : n ≤ 12
+  pub line : card ≤ last
+  pub whole : 11 ≤ n → card ≡ 0
+  pub part : card ≡ 0 → ¬ (n ≡ 4) → 11 ≤ n
+
+-- entries turned down get such a number and card
+entries-answer : {e : Edition} {k : Known} {es : List Entry} {last n card : ℕ} → CardsIn last es
+    → Judging e k es (Judged.refused n card) → Answers last n card
+entries-answer h (missing _) = omega arith
+entries-answer (line low high h) (skips j) = entries-answer h j
+entries-answer (line low high h) unsound = omega arith
+entries-answer (form low high h) (turned n t) = omega arith
+entries-answer (form low high h) (learns s m rest q p j) = entries-answer h j
+
+-- a deck turned down gets such a number and card
+deck-answers : {e : Edition} {es : List Entry} {last n card : ℕ} → CardsIn last es → Concluding e es (Judgement.refused n card)
+    → Answers last n card
+deck-answers h (refuses j) = entries-answer h j
+deck-answers h (refuses11 k j h11) = omega arith
+deck-answers h (refuses12 k j h11 h12) = omega arith
+
+-- D3 the number and card of a deck turned down
+pub judge-answers : (e : Edition) (deck : List ℕ) (n c : ℕ) → judge e deck ≡ Judgement.refused n c → Answers (length (lines deck)) n c
+unfolding entries
+judge-answers e deck n c q =
+    let cards = entries-cards e (length (lines deck)) 1 (lines deck) (omega arith) (omega arith) in
+    deck-answers cards (subst (Concluding e (entries e deck)) q (concluding e deck))
+
+-- a deck's number is one of 3 to 12, and its card at most the number of its lines
+pub judge-range : (e : Edition) (deck : List ℕ) (n c : ℕ) → judge e deck ≡ Judgement.refused n c
+    → (3 ≤ n) × (n ≤ 12) × (c ≤ length (lines deck))
+judge-range e deck n c q =
+    let h = judge-answers e deck n c q in
+    (h .low, h .high, h .line)
+
+-- a disjunction that is false has two false parts
+neither : (a b : Bool) → (a || b) ≡ false → (a ≡ false) × (b ≡ false)
+neither true b e = absurd (true≢false e)
+neither false b e = (refl, e)
+
+-- Q10 the counts of a deck behind some statements
+pub record Counts (k : Known) : Type 0 where
+  pub statements : k .statements ≤ 256
+  pub strings : length (strings k) ≤ 32
+  pub numbers : length (numbers k) ≤ 32
+  pub labels : length (k .labels) ≤ 64
+  pub routines : length (k .routines) ≤ 16
+  pub elements : k .elements ≤ 1024
+  pub items : k .items ≤ 1024
+  pub literals : k .literals ≤ 4096
+
+-- where 10 does not apply the counts hold
+not10-counts : (k : Known) (m : Met) → is10 k m ≡ false → Counts k
+unfolding is10
+not10-counts k m h =
+    let h1 = neither _ _ h in
+    let h2 = neither _ _ (h1 .1) in
+    let h3 = neither _ _ (h2 .1) in
+    let h4 = neither _ _ (h3 .1) in
+    let h5 = neither _ _ (h4 .1) in
+    let h6 = neither (any (ltb 20) (m .rows)) _ (h5 .1) in
+    let h7 = neither _ _ (h6 .1) in
+    let h8 = neither _ _ (h7 .1) in
+    record {
+      statements = ltb-false _ _ (h1 .0);
+      strings = ltb-false _ _ (h2 .0);
+      numbers = ltb-false _ _ (h3 .0);
+      labels = ltb-false _ _ (h4 .0);
+      routines = ltb-false _ _ (h5 .0);
+      elements = ltb-false _ _ (h7 .0);
+      items = ltb-false _ _ (h8 .0);
+      literals = ltb-false _ _ (h8 .1);
+    }
+
+-- at first nothing is counted
+nothing-counted : Counts nothingKnown
+unfolding nothingKnown strings numbers namesFor keep
+nothing-counted = omega arith
+
+-- entries that pass keep the counts
+passed-counts : {e : Edition} {k after : Known} {es : List Entry} → Counts k → Judging e k es (passed after) → Counts after
+passed-counts h (ended _) = h
+passed-counts h (skips j) = passed-counts h j
+passed-counts h (learns {k} {text} s m rest q p j) = passed-counts (not10-counts (learn k (leading (packed text) .kind) m) m (p .not10)) j
+
+-- a statement read is at most one step
+one-step : (card : ℕ) (read : Read (Option Statement)) → length (stepRead card read) ≤ 1
+unfolding stepRead
+one-step card (got (some s) m rest) = omega arith
+one-step card (got none m rest) = omega arith
+one-step card broken = omega arith
+
+-- entries that pass make no more steps than statements
+passed-steps : {e : Edition} {k after : Known} {es : List Entry} → Judging e k es (passed after) → (whole : Known) (n : ℕ)
+    → length (stepsFrom e whole n es) + k .statements ≤ after .statements
+unfolding stepsFrom learn
+passed-steps (ended _) whole n = omega arith
+passed-steps (skips j) whole n = passed-steps j whole n
+passed-steps {e} (learns {k} {card} {label} {text} s m rest q p j) whole n =
+    let read = readStatement e (isOneOf (numbers whole)) (placesOf whole (suc n)) label text in
+    let one = one-step card read in
+    let more = passed-steps j whole (elim (stepRead card read) [ [] ↦ n | s ∷ ss ↦ suc n ]) in
+    simp length-append (omega arith)
+
+-- a statement that only ends is a step where it is read
+ending-step : (card : ℕ) (label : Read (Unit {0})) (whole : Bool) (bs : List ℕ) (s : Option Statement) (m : Met) (rest : List ℕ)
+    → labelled label whole (stepEnd finish bs) ≡ got s m rest → 1 ≤ length (stepRead card (labelled label whole (stepEnd finish bs)))
+unfolding labelled meeting stepEnd finished give _>>=_ stepRead
+ending-step card (got u n left) true [] s m rest q = omega arith
+ending-step card (got u n left) true (b ∷ bs) s m rest q = let z : _≡_ {A = ℕ} 0 1 = cc in absurd (omega arith)
+ending-step card (got u n left) false bs s m rest q = let z : _≡_ {A = ℕ} 0 1 = cc in absurd (omega arith)
+ending-step card broken whole bs s m rest q = let z : _≡_ {A = ℕ} 0 1 = cc in absurd (omega arith)
+
+-- END is a step, whatever the places and numbers are
+end-step : (e : Edition) (isNumber isNumber′ : List ℕ → Bool) (at at′ : Places) (card : ℕ) (label text : List ℕ) (s : Option Statement)
+    (m : Met) (rest : List ℕ) → leading (packed text) .kind ≡ END → readStatement e isNumber at label text ≡ got s m rest
+    → 1 ≤ length (stepRead card (readStatement e isNumber′ at′ label text))
+unfolding readStatement statementForm formOf
+end-step e isNumber isNumber′ at at′ card label text s m rest end q =
+    let bs = drop (leading (packed text) .size) (packed text) in
+    rw end (ending-step card (labelForm label) (literalsWhole text) bs s m rest (rw end at q))
+
+-- entries that pass with no END before them make a step
+passed-step : {e : Edition} {k after : Known} {es : List Entry} → k .ended ≡ false → Judging e k es (passed after) → (whole : Known) (n : ℕ)
+    → 1 ≤ length (stepsFrom e whole n es)
+unfolding stepsFrom learn
+passed-step before (ended h) whole n = absurd (false≢true (sym before ∙ h))
+passed-step before (skips j) whole n = passed-step before j whole n
+passed-step {e} before (learns {k} {card} {label} {text} {es} s m rest q p j) whole n =
+    let kind = leading (packed text) .kind in
+    let isNumber = isOneOf (numbers whole) in
+    let at = placesOf whole (suc n) in
+    let read = stepRead card (readStatement e isNumber at label text) in
+    let next : ℕ = elim read [ [] ↦ n | s ∷ ss ↦ suc n ] in
+    let here : sameKind kind END ≡ true → 1 ≤ length read = λ h.
+    end-step e (isOneOf (numbers k)) isNumber unplaced at card label text s m rest (same-kind kind END h) q in
+    let behind : sameKind kind END ≡ false → 1 ≤ length (stepsFrom e whole next es) = λ h. passed-step h j whole next in
+    simp length-append (test-cases (λ _. 1 ≤ length read + length (stepsFrom e whole next es)) (sameKind kind END)
+    (λ h. omega (arith, here h)) (λ h. omega (arith, behind h)))
+
+-- Q10 an accepted program has at most 256 steps, 32 strings and 32 numbers
+pub accepted-counts : (e : Edition) (deck : List ℕ) (p : Program) → judge e deck ≡ accepted p
+    → (length (p .steps) ≤ 256) × (p .strings ≤ 32) × (p .numbers ≤ 32)
+unfolding programOf nothingKnown
+accepted-counts e deck p q =
+    accepted-program e deck p q (λ p. (length (p .steps) ≤ 256) × (p .strings ≤ 32) × (p .numbers ≤ 32)) (λ k j _ _.
+    let counts = passed-counts nothing-counted j in
+    let steps = passed-steps j k 0 in
+    (omega arith, counts .strings, counts .numbers))
+
+-- an accepted program has a step
+pub accepted-step : (e : Edition) (deck : List ℕ) (p : Program) → judge e deck ≡ accepted p → 1 ≤ length (p .steps)
+unfolding programOf nothingKnown
+accepted-step e deck p q = accepted-program e deck p q (λ p. 1 ≤ length (p .steps)) (λ k j _ _. passed-step refl j k 0)

@@ -1,0 +1,121 @@
+-- The judgement of a deck as rules, one for each way it may go, and that every deck is judged by them. Assumes nothing.
+use mathlib.Core.Bool.{Bool, true, false}
+use mathlib.Core.List.{List, [], _∷_}
+use mathlib.Core.Option.{Option}
+use mathlib.Core.Path.{_≡_, refl, subst}
+use Prim.Native.Nat.{ℕ, _≤_}
+use native.Mathlib.Omega.{arith}
+use lib.Dec.{eqb}
+use borrow.Author.Tests.{ne-eqb}
+use Rattle.base.specs.Choice.{cond-cases}
+use Rattle.base.specs.Edition.{Edition}
+use Rattle.cards.specs.Cards.{Entry, skipped, statement, entries}
+use Rattle.cards.specs.Packing.{packed}
+use Rattle.language.specs.Keywords.{Kind, leading}
+use Rattle.language.specs.Program.{Statement, Program}
+use Rattle.language.specs.Reading.{Met, Read, got, broken}
+use Rattle.judgement.specs.Known.{Known, nothingKnown, numbers, isOneOf, learn}
+use Rattle.judgement.specs.Refusals.{readStatement, isMisplaced, is6, is7, is8, is9, is10, metNumber, formNumber, statementNumber}
+use Rattle.judgement.specs.Deck.{unplaced, Judged, passed, judgeFrom, metBy, is11, is12, programOf, Judgement, accepted}
+use Rattle.judgement.specs.Deck.{concluded, judge}
+
+-- none of 4 and 6 to 10 applies to a statement that met these
+pub record Passes (k : Known) (kind : Kind) (m : Met) : Type 0 where
+  pub not4 : isMisplaced k kind ≡ false
+  pub not6 : is6 k m ≡ false
+  pub not7 : is7 k m ≡ false
+  pub not8 : is8 m ≡ false
+  pub not9 : is9 k kind ≡ false
+  pub not10 : is10 (learn k kind m) m ≡ false
+
+-- what a statement's number says: one of 3 to 10 turns it down, or it passes with 0
+data Numbered (k : Known) (kind : Kind) : Bool → Read (Option Statement) → ℕ → Type 0 where
+  turned : {sound : Bool} {read : Read (Option Statement)} (n : ℕ) → (3 ≤ n) × (n ≤ 10) → Numbered k kind sound read n
+  passes : {s : Option Statement} {m : Met} {rest : List ℕ} → Passes k kind m → Numbered k kind true (got s m rest) 0
+
+-- every statement's number says so
+statement-numbered : (k : Known) (kind : Kind) (sound : Bool) (read : Read (Option Statement))
+    → Numbered k kind sound read (statementNumber k kind sound read)
+unfolding statementNumber formNumber metNumber
+statement-numbered k kind false read = turned 3 (omega arith)
+statement-numbered k kind true broken =
+    cond-cases (Numbered k kind true broken) (isMisplaced k kind) (λ _. turned 4 (omega arith)) (λ _. turned 5 (omega arith))
+statement-numbered k kind true (got s m rest) =
+    let P = Numbered k kind true (got s m rest) in
+    cond-cases P (isMisplaced k kind) (λ _. turned 4 (omega arith)) (λ h4.
+    cond-cases P (is6 k m) (λ _. turned 6 (omega arith)) (λ h6.
+    cond-cases P (is7 k m) (λ _. turned 7 (omega arith)) (λ h7.
+    cond-cases P (is8 m) (λ _. turned 8 (omega arith)) (λ h8.
+    cond-cases P (is9 k kind) (λ _. turned 9 (omega arith)) (λ h9.
+    cond-cases P (is10 (learn k kind m) m) (λ _. turned 10 (omega arith)) (λ h10.
+    passes (record { not4 = h4; not6 = h6; not7 = h7; not8 = h8; not9 = h9; not10 = h10 })))))))
+
+-- the rules by which entries are judged, from what is known before them
+pub data Judging (e : Edition) : Known → List Entry → Judged → Type 0 where
+  ended : {k : Known} → k .ended ≡ true → Judging e k [] (passed k)
+  missing : {k : Known} → k .ended ≡ false → Judging e k [] (Judged.refused 4 0)
+  skips : {k : Known} {card : ℕ} {es : List Entry} {j : Judged} → Judging e k es j → Judging e k (skipped card true ∷ es) j
+  unsound : {k : Known} {card : ℕ} {es : List Entry} → Judging e k (skipped card false ∷ es) (Judged.refused 3 card)
+  turned : {k : Known} {card : ℕ} {sound : Bool} {label text : List ℕ} {es : List Entry} (n : ℕ) → (3 ≤ n) × (n ≤ 10)
+      → Judging e k (statement card sound label text ∷ es) (Judged.refused n card)
+  learns : {k : Known} {card : ℕ} {label text : List ℕ} {es : List Entry} {j : Judged} (s : Option Statement) (m : Met) (rest : List ℕ)
+      → readStatement e (isOneOf (numbers k)) unplaced label text ≡ got s m rest
+      → Passes k (leading (packed text) .kind) m
+      → Judging e (learn k (leading (packed text) .kind) m) es j
+      → Judging e k (statement card true label text ∷ es) j
+
+-- a statement is judged by its number
+statement-judging : (e : Edition) (k : Known) (card : ℕ) (sound : Bool) (label text : List ℕ) (es : List Entry)
+    {read : Read (Option Statement)} {n : ℕ}
+    → readStatement e (isOneOf (numbers k)) unplaced label text ≡ read
+    → Numbered k (leading (packed text) .kind) sound read n
+    → (j : Judged) → Judging e (learn k (leading (packed text) .kind) (metBy read)) es j
+    → Judging e k (statement card sound label text ∷ es) (elim (eqb n 0) [ true ↦ j | false ↦ Judged.refused n card ])
+unfolding metBy
+statement-judging e k card sound label text es q (Numbered.turned n h) j further =
+    rw (ne-eqb n 0 (λ z. omega arith)) (Judging.turned n h)
+statement-judging e k card true label text es q (passes {s} {m} {rest} p) j further = learns s m rest q p further
+
+-- entries are judged by the rules
+pub judging : (e : Edition) (k : Known) (es : List Entry) → Judging e k es (judgeFrom e k es)
+unfolding judgeFrom
+judging e k [] = cond-cases (Judging e k []) (k .ended) (λ h. ended h) (λ h. missing h)
+judging e k (skipped card true ∷ es) = skips (judging e k es)
+judging e k (skipped card false ∷ es) = unsound
+judging e k (statement card sound label text ∷ es) =
+    let kind = leading (packed text) .kind in
+    let read = readStatement e (isOneOf (numbers k)) unplaced label text in
+    let next = learn k kind (metBy read) in
+    statement-judging e k card sound label text es refl (statement-numbered k kind sound read) (judgeFrom e next es) (judging e next es)
+
+-- the rules by which a whole deck is judged
+pub data Concluding (e : Edition) (es : List Entry) : Judgement → Type 0 where
+  refuses : {n card : ℕ} → Judging e nothingKnown es (Judged.refused n card) → Concluding e es (Judgement.refused n card)
+  refuses11 : (k : Known) → Judging e nothingKnown es (passed k) → is11 k ≡ true → Concluding e es (Judgement.refused 11 0)
+  refuses12 : (k : Known) → Judging e nothingKnown es (passed k) → is11 k ≡ false → is12 k ≡ true
+      → Concluding e es (Judgement.refused 12 0)
+  accepts : (k : Known) → Judging e nothingKnown es (passed k) → is11 k ≡ false → is12 k ≡ false
+      → Concluding e es (accepted (programOf e k es))
+
+-- a deck is judged by the rules
+pub concluding : (e : Edition) (deck : List ℕ) → Concluding e (entries e deck) (judge e deck)
+unfolding judge concluded
+concluding e deck = concludes (judgeFrom e nothingKnown (entries e deck)) (judging e nothingKnown (entries e deck))
+  where
+    es : List Entry
+    es = entries e deck
+
+    concludes : (j : Judged) → Judging e nothingKnown es j → Concluding e es (concluded e es j)
+    concludes (passed k) h =
+        cond-cases (Concluding e es) (is11 k) (λ h11. refuses11 k h h11) (λ h11.
+        cond-cases (Concluding e es) (is12 k) (λ h12. refuses12 k h h11 h12) (λ h12. accepts k h h11 h12))
+    concludes (Judged.refused n card) h = refuses h
+
+-- what holds of the program of every deck that passes holds of an accepted deck's program
+pub accepted-program : (e : Edition) (deck : List ℕ) (p : Program) → judge e deck ≡ accepted p → (P : Program → Type 0)
+    → ((k : Known) → Judging e nothingKnown (entries e deck) (passed k) → is11 k ≡ false → is12 k ≡ false → P (programOf e k (entries e deck)))
+    → P p
+accepted-program e deck p q P f = concludes (subst (Concluding e (entries e deck)) q (concluding e deck))
+  where
+    concludes : {p : Program} → Concluding e (entries e deck) (accepted p) → P p
+    concludes (accepts k j h11 h12) = f k j h11 h12

@@ -1,0 +1,3 @@
+-- Document 01, "Trade lines tried": P1 to P12 as one table (Lines), LOTS (Lots).
+pub mod Lines
+pub mod Lots
