@@ -1,0 +1,382 @@
+-- What Buffers says of a store: a good store is the image of its strings, the image of strings holds them, and a string set is one
+-- cell spliced in. Assumes nothing.
+use mathlib.Core.Bool.{true, _&&_, and-eq-true-iff}
+use mathlib.Core.List.{List, [], _∷_, _++_, append-assoc}
+use mathlib.Core.Path.{_≡_, refl, sym, ap, ap₂, _∙_}
+use Prim.Native.Nat.{ℕ, zero, suc, _+_, _*_, _-_, _/_, _%_, _≤_, _<_}
+use native.Mathlib.Nat.{add-mul-div-left, add-mul-mod-self-left, add-zero, div-eq-of-lt, mod-add-div, mod-eq-of-lt, not-suc-le-zero, zero-add}
+use native.Mathlib.Numerals.{add-one}
+use native.Mathlib.Omega.{arith}
+use lib.Dec.{leb, ltb, eqb, lit<}
+use lib.ListN.{length, take, drop, getD, set, replicate, length-append, length-replicate, length-set, length-drop, replicate-append-replicate, take-append-drop}
+use lib.Seq.{drop-at, drop-cons, drop-drop, getD-drop, length-take-le, take-add, take-at}
+use borrow.Author.Tests.{leb-true, ltb-true, eqb-true, le-leb, lt-ltb}
+use Rattle.base.specs.Lists.{all}
+use Rattle.machine.specs.State.{mostStrings}
+use Rattle.values.specs.Conversion.{longestString}
+use Rattle.calls.specs.Buffers.{
+  cellSize,
+  storeSize,
+  cellImage,
+  storeImage,
+  stringIn,
+  stringsFrom,
+  stringsIn,
+  cellKeeps,
+  cellsKeep,
+  storeKeeps,
+}
+use Rattle.calls.specs.Numerals.{inBytes, numberAt}
+use Rattle.calls.specs.Splices.{splice, append-splice, splice-append, splice-seam}
+
+-- a store that a step may be given
+pub record Good (store : List ℕ) : Type 0 where
+  pub size : 32832 ≤ length store
+  pub keeps : storeKeeps store ≡ true
+
+-- strings that fit their cells
+abbrev pub Short : List (List ℕ) → Type 0
+Short vs = (i : ℕ) → length (getD vs i []) ≤ 1024
+
+-- what a cell that keeps its rules tells of its bytes
+pub record Cell (store : List ℕ) (at : ℕ) : Type 0 where
+  pub low : getD store at 0 < 256
+  pub short : numberAt 2 store at ≤ 1024
+  pub zeros : all (λ b. eqb b 0) (take (1024 - numberAt 2 store at) (drop (at + (2 + numberAt 2 store at)) store)) ≡ true
+
+pub cell-told : (store : List ℕ) (at : ℕ) → cellKeeps store at ≡ true → Cell store at
+unfolding cellKeeps longestString
+cell-told store at e =
+    let n = numberAt 2 store at in
+    let z = all (λ b. eqb b 0) (take (1024 - n) (drop (at + (2 + n)) store)) in
+    let h = and-eq-true-iff (ltb (getD store at 0) 256) (leb n 1024 && z) .0 e in
+    let k = and-eq-true-iff (leb n 1024) z .0 (h .1) in
+    record { low = ltb-true _ _ (h .0); short = leb-true _ _ (k .0); zeros = k .1 }
+
+pub cell-keeps : (store : List ℕ) (at : ℕ) → Cell store at → cellKeeps store at ≡ true
+unfolding cellKeeps longestString
+cell-keeps store at c = rw (lt-ltb _ _ (c .low), le-leb _ _ (c .short), c .zeros)
+
+-- a list of zeros alone
+zeros-are : (l : List ℕ) → all (λ b. eqb b 0) l ≡ true → l ≡ replicate (length l) 0
+unfolding all
+zeros-are [] e = refl
+zeros-are (x ∷ xs) e =
+    let h = and-eq-true-iff (eqb x 0) (all (λ b. eqb b 0) xs) .0 e in
+    ap₂ {C = List ℕ} _∷_ (eqb-true x 0 (h .0)) (zeros-are xs (h .1))
+
+all-zeros : (n : ℕ) → all (λ b. eqb b 0) (replicate n 0) ≡ true
+unfolding all
+all-zeros zero = refl
+all-zeros (suc n) = all-zeros n
+
+all-behind : (s t : List ℕ) → all (λ b. eqb b 0) (s ++ t) ≡ true → all (λ b. eqb b 0) t ≡ true
+unfolding all
+all-behind [] t e = e
+all-behind (x ∷ s) t e = all-behind s t (and-eq-true-iff (eqb x 0) (all (λ b. eqb b 0) (s ++ t)) .0 e .1)
+
+-- the two bytes of a length
+pub number-two : (store : List ℕ) (at : ℕ) → numberAt 2 store at ≡ getD store at 0 + 256 * getD store (at + 1) 0
+unfolding numberAt
+number-two store at = omega arith
+
+length-bytes : (a b n : ℕ) → a < 256 → n ≤ 1024 → n ≡ a + 256 * b → inBytes 2 n ≡ a ∷ b ∷ []
+unfolding inBytes
+length-bytes a b n h k e =
+    let p : n % 256 ≡ a = ap (λ (x : ℕ). x % 256) e ∙ add-mul-mod-self-left a 256 b ∙ mod-eq-of-lt h in
+    let d : n / 256 ≡ b =
+    ap (λ (x : ℕ). x / 256) e ∙ add-mul-div-left a b (lit< tt) ∙ ap (λ (x : ℕ). x + b) (div-eq-of-lt h) ∙ zero-add b in
+    let q : n / 256 % 256 ≡ b = ap (λ (x : ℕ). x % 256) d ∙ mod-eq-of-lt (omega arith) in
+    rw (p, q)
+
+pub length-image : (v : List ℕ) → length v ≤ 1024 → length (cellImage v) ≡ 1026
+unfolding cellImage inBytes longestString
+length-image v h = simp (length-append, length-replicate) (omega arith)
+
+-- a cell that keeps its rules is the image of its string
+module _ (store : List ℕ) (at : ℕ) (c : Cell store at) (fits : at + 1026 ≤ length store) where
+  string-length : length (stringIn store at) ≡ numberAt 2 store at
+  unfolding stringIn
+  string-length = length-take-le _ _ (simp length-drop (omega (arith, c .short)))
+
+  pub zeros-behind : (m : ℕ) → numberAt 2 store at ≤ m → m ≤ 1024 → take (1024 - m) (drop (at + (2 + m)) store) ≡ replicate (1024 - m) 0
+  zeros-behind m h k =
+      let n = numberAt 2 store at in
+      let x = drop (at + (2 + n)) store in
+      let parts : 1024 - n ≡ (m - n) + (1024 - m) = omega arith in
+      let place : at + (2 + n) + (m - n) ≡ at + (2 + m) = omega arith in
+      let cut : take (1024 - n) x ≡ take (m - n) x ++ take (1024 - m) (drop (at + (2 + m)) store) =
+      ap (λ (j : ℕ). take j x) parts
+      ∙ take-add (m - n) (1024 - m) x
+      ∙ ap (λ (l : List ℕ). take (m - n) x ++ take (1024 - m) l) (drop-drop (m - n) (at + (2 + n)) store ∙ ap (λ (j : ℕ). drop j store) place) in
+      let all-zero : all (λ b. eqb b 0) (take (1024 - m) (drop (at + (2 + m)) store)) ≡ true =
+      all-behind (take (m - n) x) (take (1024 - m) (drop (at + (2 + m)) store)) (ap (all (λ b. eqb b 0)) (sym cut) ∙ c .zeros) in
+      zeros-are _ all-zero
+      ∙ ap (λ (j : ℕ). replicate j 0) (length-take-le (1024 - m) (drop (at + (2 + m)) store) (simp length-drop (omega arith)))
+
+  cell-bytes : drop at store ≡ getD store at 0 ∷ getD store (at + 1) 0 ∷ drop (at + 2) store
+  cell-bytes =
+      let next : suc (at + 1) ≡ at + 2 = omega arith in
+      drop-cons store at 0 (omega arith)
+      ∙ ap (λ (l : List ℕ). getD store at 0 ∷ l)
+      (ap (λ (j : ℕ). drop j store) (sym (add-one at))
+      ∙ drop-cons store (at + 1) 0 (omega arith)
+      ∙ ap (λ (j : ℕ). getD store (at + 1) 0 ∷ drop j store) next)
+
+  pub cell-image : cellImage (stringIn store at) ≡ take 1026 (drop at store)
+  unfolding cellImage longestString stringIn
+  cell-image =
+      let n = numberAt 2 store at in
+      let r = drop (at + 2) store in
+      let bytes : inBytes 2 n ≡ getD store at 0 ∷ getD store (at + 1) 0 ∷ [] =
+      length-bytes (getD store at 0) (getD store (at + 1) 0) n (c .low) (c .short) (number-two store at) in
+      let place : at + (2 + n) ≡ at + 2 + n = omega arith in
+      let zeros : replicate (1024 - n) 0 ≡ take (1024 - n) (drop n r) =
+      sym (zeros-behind n (omega arith) (c .short))
+      ∙ ap (take (1024 - n)) (ap (λ (j : ℕ). drop j store) place ∙ sym (drop-drop n (at + 2) store)) in
+      let parts : n + (1024 - n) ≡ 1024 = omega (arith, c .short) in
+      let tail : take n r ++ replicate (1024 - n) 0 ≡ take 1024 r =
+      ap (λ (l : List ℕ). take n r ++ l) zeros ∙ sym (take-add n (1024 - n) r) ∙ ap (λ (j : ℕ). take j r) parts in
+      ap (λ (j : ℕ). inBytes 2 j ++ (take n r ++ replicate (1024 - j) 0)) string-length
+      ∙ ap₂ {C = List ℕ} _++_ bytes tail
+      ∙ ap (take 1026) (sym cell-bytes)
+
+-- cells from a place on that keep their rules are the image of their strings
+cells-image : (store : List ℕ) (at n : ℕ) → at + 1026 * n ≤ length store → cellsKeep store at n ≡ true
+    → storeImage (stringsFrom store at n) ≡ take (1026 * n) (drop at store)
+unfolding storeImage stringsFrom cellsKeep cellSize
+cells-image store at zero fits e = refl
+cells-image store at (suc n) fits e =
+    let h = and-eq-true-iff (cellKeeps store at) (cellsKeep store (at + 1026) n) .0 e in
+    let size : 1026 + 1026 * n ≡ 1026 * suc n = omega arith in
+    ap₂ {C = List ℕ} _++_ (cell-image store at (cell-told store at (h .0)) (omega arith))
+    (cells-image store (at + 1026) n (omega arith) (h .1) ∙ ap (take (1026 * n)) (sym (drop-drop 1026 at store)))
+    ∙ sym (take-add 1026 (1026 * n) (drop at store))
+    ∙ ap (λ (j : ℕ). take j (drop at store)) size
+
+length-strings : (store : List ℕ) (at n : ℕ) → length (stringsFrom store at n) ≡ n
+unfolding stringsFrom
+length-strings store at zero = refl
+length-strings store at (suc n) = ap suc (length-strings store (at + cellSize) n)
+
+-- the string at a place
+strings-at : (store : List ℕ) (at n i : ℕ) → i < n → getD (stringsFrom store at n) i [] ≡ stringIn store (at + 1026 * i)
+unfolding stringsFrom cellSize
+strings-at store at zero i h = absurd (not-suc-le-zero h)
+strings-at store at (suc n) zero h = ap (stringIn store) (sym (add-zero at))
+strings-at store at (suc n) (suc i) h =
+    let place : at + 1026 + 1026 * i ≡ at + 1026 * suc i = omega arith in
+    strings-at store (at + 1026) n i (omega arith) ∙ ap (stringIn store) place
+
+cell-at : (store : List ℕ) (at n i : ℕ) → i < n → cellsKeep store at n ≡ true → cellKeeps store (at + 1026 * i) ≡ true
+unfolding cellsKeep cellSize
+cell-at store at zero i h e = absurd (not-suc-le-zero h)
+cell-at store at (suc n) zero h e =
+    ap (cellKeeps store) (add-zero at) ∙ and-eq-true-iff (cellKeeps store at) (cellsKeep store (at + 1026) n) .0 e .0
+cell-at store at (suc n) (suc i) h e =
+    let place : at + 1026 * suc i ≡ at + 1026 + 1026 * i = omega arith in
+    ap (cellKeeps store) place
+    ∙ cell-at store (at + 1026) n i (omega arith) (and-eq-true-iff (cellKeeps store at) (cellsKeep store (at + 1026) n) .0 e .1)
+
+-- a number up to 1,024 is read back from its two bytes
+number-back : (n : ℕ) → n ≤ 1024 → n % 256 + 256 * (n / 256 % 256) ≡ n
+number-back n h =
+    let q : n / 256 % 256 ≡ n / 256 = mod-eq-of-lt (omega arith) in
+    ap (λ (x : ℕ). n % 256 + 256 * x) q ∙ mod-add-div n 256
+
+-- the image of a string, at a place of a store, is a cell that keeps its rules and holds the string
+module _ (store : List ℕ) (at : ℕ) (v t : List ℕ) (short : length v ≤ 1024) (e : drop at store ≡ cellImage v ++ t) where
+  image-low : getD store at 0 ≡ length v % 256
+  unfolding cellImage inBytes
+  image-low =
+      ap (λ (j : ℕ). getD store j 0) (sym (add-zero at)) ∙ sym (getD-drop at store 0 0) ∙ ap (λ (l : List ℕ). getD l 0 0) e
+
+  image-number : numberAt 2 store at ≡ length v
+  unfolding cellImage inBytes
+  image-number =
+      let high : getD store (at + 1) 0 ≡ length v / 256 % 256 =
+      sym (getD-drop at store 1 0) ∙ ap (λ (l : List ℕ). getD l 1 0) e in
+      number-two store at ∙ ap₂ (λ (x y : ℕ). x + 256 * y) image-low high ∙ number-back (length v) short
+
+  image-behind : drop (at + 2) store ≡ v ++ (replicate (1024 - length v) 0 ++ t)
+  unfolding cellImage inBytes longestString
+  image-behind = sym (drop-drop 2 at store) ∙ ap (drop 2) e ∙ append-assoc v (replicate (1024 - length v) 0) t
+
+  image-string : stringIn store at ≡ v
+  unfolding stringIn
+  image-string =
+      ap₂ (λ (n : ℕ) (l : List ℕ). take n l) image-number image-behind ∙ take-at v (replicate (1024 - length v) 0 ++ t) (length v) refl
+
+  image-cell : Cell store at
+  image-cell =
+      let z : List ℕ = replicate (1024 - length v) 0 in
+      let place : at + (2 + numberAt 2 store at) ≡ at + 2 + length v = omega (arith, image-number) in
+      let zeros : take (1024 - numberAt 2 store at) (drop (at + (2 + numberAt 2 store at)) store) ≡ z =
+      ap₂ (λ (n j : ℕ). take (1024 - n) (drop j store)) image-number place
+      ∙ ap (take (1024 - length v))
+      (sym (drop-drop (length v) (at + 2) store) ∙ ap (drop (length v)) image-behind ∙ drop-at v (z ++ t) (length v) refl)
+      ∙ take-at z t (1024 - length v) (length-replicate (1024 - length v) 0) in
+      record {
+        low = omega (arith, image-low);
+        short = omega (arith, image-number);
+        zeros = ap (all (λ b. eqb b 0)) zeros ∙ all-zeros (1024 - length v);
+      }
+
+-- the image of strings, from a place of a store on, holds them
+module _ (store rest : List ℕ) where
+  image-held : (vs : List (List ℕ)) (at : ℕ) → Short vs → drop at store ≡ storeImage vs ++ rest
+      → (stringsFrom store at (length vs) ≡ vs) × (cellsKeep store at (length vs) ≡ true)
+  unfolding storeImage stringsFrom cellsKeep cellSize
+  image-held [] at s e = (refl, refl)
+  image-held (v ∷ vs) at s e =
+      let first : drop at store ≡ cellImage v ++ (storeImage vs ++ rest) = e ∙ append-assoc (cellImage v) (storeImage vs) rest in
+      let next : drop (at + 1026) store ≡ storeImage vs ++ rest =
+      sym (drop-drop 1026 at store)
+      ∙ ap (drop 1026) first
+      ∙ drop-at (cellImage v) (storeImage vs ++ rest) 1026 (length-image v (s 0)) in
+      let more = image-held vs (at + 1026) (λ i. s (suc i)) next in
+      let t = storeImage vs ++ rest in (
+        ap₂ {C = List (List ℕ)} _∷_ (image-string store at v t (s 0) first) (more .0),
+        and-eq-true-iff (cellKeeps store at) (cellsKeep store (at + 1026) (length vs)) .1
+            (cell-keeps store at (image-cell store at v t (s 0) first), more .1),
+      )
+
+strings-short : (store : List ℕ) (at n : ℕ) → at + 1026 * n ≤ length store → cellsKeep store at n ≡ true → Short (stringsFrom store at n)
+unfolding stringsFrom cellsKeep cellSize
+strings-short store at zero fits e i = omega arith
+strings-short store at (suc n) fits e zero =
+    let c = cell-told store at (and-eq-true-iff (cellKeeps store at) (cellsKeep store (at + 1026) n) .0 e .0) in
+    omega (arith, string-length store at c (omega arith), c .short)
+strings-short store at (suc n) fits e (suc i) =
+    strings-short store (at + 1026) n (omega arith) (and-eq-true-iff (cellKeeps store at) (cellsKeep store (at + 1026) n) .0 e .1) i
+
+-- Of a good store: its cells keep their rules, its strings fit their cells, and it is the image of its strings.
+module _ (store : List ℕ) (g : Good store) where
+  cells-keep : cellsKeep store 0 32 ≡ true
+  unfolding storeKeeps mostStrings
+  cells-keep = and-eq-true-iff (leb storeSize (length store)) (cellsKeep store 0 32) .0 (g .keeps) .1
+
+  pub good-cell : (s : ℕ) → s < 32 → Cell store (1026 * s)
+  good-cell s h =
+      cell-told store (1026 * s)
+      (ap (cellKeeps store) (sym (zero-add (1026 * s))) ∙ cell-at store 0 32 s h cells-keep)
+
+  pub good-short : Short (stringsIn store)
+  unfolding stringsIn mostStrings
+  good-short = strings-short store 0 32 (g .size) cells-keep
+
+  pub good-image : storeImage (stringsIn store) ++ drop storeSize store ≡ store
+  unfolding stringsIn storeSize mostStrings
+  good-image =
+      ap (λ (l : List ℕ). l ++ drop 32832 store) (cells-image store 0 32 (g .size) cells-keep) ∙ take-append-drop 32832 store
+
+-- a store has 32 strings, and each is that of its cell
+pub count-strings : (store : List ℕ) → length (stringsIn store) ≡ 32
+unfolding stringsIn mostStrings
+count-strings store = length-strings store 0 32
+
+pub string-at : (store : List ℕ) (s : ℕ) → s < 32 → getD (stringsIn store) s [] ≡ stringIn store (1026 * s)
+unfolding stringsIn mostStrings
+string-at store s h = strings-at store 0 32 s h ∙ ap (stringIn store) (zero-add (1026 * s))
+
+length-images : (ws : List (List ℕ)) → Short ws → length (storeImage ws) ≡ 1026 * length ws
+unfolding storeImage
+length-images [] s = refl
+length-images (w ∷ ws) s =
+    length-append (cellImage w) (storeImage ws)
+    ∙ ap₂ _+_ (length-image w (s 0)) (length-images ws (λ i. s (suc i)))
+    ∙ omega arith
+
+-- the image of 32 strings that fit their cells is a good store that holds them
+module _ (vs : List (List ℕ)) (rest : List ℕ) (all-there : length vs ≡ 32) (short : Short vs) where
+  pub image-strings : stringsIn (storeImage vs ++ rest) ≡ vs
+  unfolding stringsIn mostStrings
+  image-strings =
+      ap (stringsFrom (storeImage vs ++ rest) 0) (sym all-there) ∙ image-held (storeImage vs ++ rest) rest vs 0 short refl .0
+
+  pub image-good : Good (storeImage vs ++ rest)
+  unfolding storeKeeps mostStrings storeSize
+  image-good =
+      let size : 32832 ≤ length (storeImage vs ++ rest) =
+      omega (arith, length-append (storeImage vs) rest, length-images vs short) in
+      let keep : cellsKeep (storeImage vs ++ rest) 0 32 ≡ true =
+      ap (cellsKeep (storeImage vs ++ rest) 0) (sym all-there) ∙ image-held (storeImage vs ++ rest) rest vs 0 short refl .1 in
+      record {
+        size = size;
+        keeps =
+            and-eq-true-iff (leb 32832 (length (storeImage vs ++ rest))) (cellsKeep (storeImage vs ++ rest) 0 32) .1
+            (le-leb _ _ size, keep);
+      }
+
+-- the image with one string set is the image with one cell spliced in
+image-set : (vs : List (List ℕ)) (i : ℕ) (v : List ℕ) → i < length vs → Short vs → length v ≤ 1024
+    → storeImage (set vs i v) ≡ splice (storeImage vs) (1026 * i) (cellImage v)
+unfolding storeImage
+image-set [] i v h s k = absurd (not-suc-le-zero h)
+image-set (w ∷ vs) zero v h s k =
+    sym (splice-seam [] (cellImage w) (storeImage vs) (cellImage v) 0 refl (length-image w (s 0) ∙ sym (length-image v k)))
+image-set (w ∷ vs) (suc i) v h s k =
+    let place : length (cellImage w) + 1026 * i ≡ 1026 * suc i = omega (arith, length-image w (s 0)) in
+    ap (λ (l : List ℕ). cellImage w ++ l) (image-set vs i v (omega arith) (λ j. s (suc j)) k)
+    ∙ sym (append-splice (cellImage w) (storeImage vs) (1026 * i) (cellImage v))
+    ∙ ap (λ (j : ℕ). splice (cellImage w ++ storeImage vs) j (cellImage v)) place
+
+short-set : (vs : List (List ℕ)) (i : ℕ) (v : List ℕ) → Short vs → length v ≤ 1024 → Short (set vs i v)
+short-set [] i v s k j = s j
+short-set (w ∷ vs) zero v s k zero = k
+short-set (w ∷ vs) zero v s k (suc j) = s (suc j)
+short-set (w ∷ vs) (suc i) v s k zero = s 0
+short-set (w ∷ vs) (suc i) v s k (suc j) = short-set vs i v (λ n. s (suc n)) k j
+
+-- the store with a string set
+unfoldable pub storeWith : List ℕ → ℕ → List ℕ → List ℕ
+storeWith store s v = storeImage (set (stringsIn store) s v) ++ drop storeSize store
+
+-- It is the store with one cell spliced in, and a good store that holds the strings with that one set.
+module _ (store : List ℕ) (g : Good store) (s : ℕ) (v : List ℕ) (k : length v ≤ 1024) where
+  pub with-splice : s < 32 → storeWith store s v ≡ splice store (1026 * s) (cellImage v)
+  unfolding storeWith
+  with-splice h =
+      let size : 1026 * s + length (cellImage v) ≤ length (storeImage (stringsIn store)) =
+      omega (arith, length-image v k, length-images (stringsIn store) (good-short store g), count-strings store) in
+      ap (λ (l : List ℕ). l ++ drop storeSize store)
+      (image-set (stringsIn store) s v (omega (arith, count-strings store)) (good-short store g) k)
+      ∙ sym (splice-append (storeImage (stringsIn store)) (drop storeSize store) (1026 * s) (cellImage v) size)
+      ∙ ap (λ (l : List ℕ). splice l (1026 * s) (cellImage v)) (good-image store g)
+
+  all-set : length (set (stringsIn store) s v) ≡ 32
+  all-set = length-set (stringsIn store) s v ∙ count-strings store
+
+  pub with-strings : stringsIn (storeWith store s v) ≡ set (stringsIn store) s v
+  unfolding storeWith
+  with-strings =
+      image-strings (set (stringsIn store) s v) (drop storeSize store) all-set (short-set (stringsIn store) s v (good-short store g) k)
+
+  pub with-good : Good (storeWith store s v)
+  unfolding storeWith
+  with-good =
+      image-good (set (stringsIn store) s v) (drop storeSize store) all-set (short-set (stringsIn store) s v (good-short store g) k)
+
+-- where the string of a good store lies, and how long it is
+module _ (store : List ℕ) (g : Good store) (s : ℕ) (h : s < 32) where
+  pub string-count : length (getD (stringsIn store) s []) ≡ getD store (1026 * s) 0 + 256 * getD store (1026 * s + 1) 0
+  string-count =
+      ap length (string-at store s h)
+      ∙ string-length store (1026 * s) (good-cell store g s h) (omega (arith, g .size))
+      ∙ number-two store (1026 * s)
+
+  pub string-part : getD (stringsIn store) s [] ≡ take (length (getD (stringsIn store) s [])) (drop (1026 * s + 2) store)
+  unfolding stringIn
+  string-part =
+      string-at store s h
+      ∙ ap (λ (n : ℕ). take n (drop (1026 * s + 2) store)) (sym (string-count ∙ sym (number-two store (1026 * s))))
+
+-- zeros are the image of null strings
+pub fresh-image : (n : ℕ) → storeImage (replicate n []) ≡ replicate (1026 * n) 0
+unfolding storeImage cellImage inBytes longestString
+fresh-image zero = refl
+fresh-image (suc n) =
+    let size : 1026 + 1026 * n ≡ 1026 * suc n = omega arith in
+    ap (λ (l : List ℕ). replicate 1026 0 ++ l) (fresh-image n)
+    ∙ replicate-append-replicate 1026 (1026 * n) 0
+    ∙ ap (λ (j : ℕ). replicate j 0) size

@@ -1,0 +1,116 @@
+-- What the code's cases say: a row read as an element, an element tested, its length told, places passed over. Assumes nothing.
+use mathlib.Core.Bool.{true, false}
+use mathlib.Core.List.{List}
+use mathlib.Core.Path.{_≡_, refl, sym, _∙_, ap, subst}
+use Prim.Native.Nat.{ℕ, _+_, _*_, _-_, _≤_, _<_, _^_}
+use native.Mathlib.Omega.{arith}
+use lib.ListN.{length, take, drop, getD, length-drop}
+use lib.Seq.{take-all}
+use borrow.Author.Tests.{eq-eqb, ne-eqb, le-leb, lt-leb}
+use Rattle.base.specs.Lists.{begins}
+use Rattle.scanning.specs.Splits as Splits
+use Rattle.scanning.specs.Splits.{string}
+use Rattle.search.specs.Passing.{Passes}
+use Rattle.scan.specs.Rows.{rowOf, rowElement, elementOf, sizeOf, Sized, SizedPart, Good, GoodPart}
+use Rattle.scan.specs.Steps.{judged, testOf, SkipSays}
+use Rattle.scan.specs.declared.Element.{Element}
+use Rattle.scan.specs.declared.Element.the-variants.{Part, Fixed, Free}
+use Rattle.scan.specs.declared.Test.{Test}
+use Rattle.scan.specs.declared.Test.the-variants.{Piece, Other, Few, Filler}
+
+module _ (a b : ℕ) where
+  pub row-part : (kind : ℕ) → kind ≡ 1 → Part a b ≡ rowOf kind a b
+  unfolding rowOf
+  row-part kind e = rw (eq-eqb kind 1 e)
+
+  pub row-fixed : (kind : ℕ) → (kind ≡ 1 → ⊥) → kind ≡ 2 → Fixed a ≡ rowOf kind a b
+  unfolding rowOf
+  row-fixed kind h e = rw (ne-eqb kind 1 h, eq-eqb kind 2 e)
+
+  pub row-free : (kind : ℕ) → (kind ≡ 1 → ⊥) → (kind ≡ 2 → ⊥) → Free ≡ rowOf kind a b
+  unfolding rowOf
+  row-free kind h g = rw (ne-eqb kind 1 h, ne-eqb kind 2 g)
+
+module _ (e : Element) where
+  pub sized-part : (from to : ℕ) → e ≡ Part from to → Sized e → (from ≤ to) × (to - from ≡ sizeOf e) × (to - from < 2 ^ 32)
+  unfolding Sized sizeOf
+  sized-part from to h s =
+      let p : SizedPart from to = subst Sized h s in
+      (p .order, sym (ap sizeOf h), omega (arith, p .small))
+
+  pub sized-fixed : (n : ℕ) → e ≡ Fixed n → Sized e → (n ≡ sizeOf e) × (n < 2 ^ 32)
+  unfolding Sized sizeOf
+  sized-fixed n h s = (sym (ap sizeOf h), subst Sized h s)
+
+  pub sized-free : e ≡ Free → 0 ≡ sizeOf e
+  unfolding sizeOf
+  sized-free h = sym (ap sizeOf h)
+
+  pub good-part : (values : List ℕ) (from to : ℕ) → e ≡ Part from to → Good values e → GoodPart values from to
+  unfolding Good
+  good-part values from to h g = subst (Good values) h g
+
+-- the reference from a place on
+pub part-rest : (s : List ℕ) (at n : ℕ) → n ≡ length s - at → take n (drop at s) ≡ drop at s
+part-rest s at n e = take-all n (drop at s) (omega (arith, length-drop at s))
+
+module _ (word rest : List ℕ) where
+  pub test-few : length rest < length word → Few ≡ testOf (string word) rest
+  unfolding testOf judged
+  test-few h = rw (lt-leb (length word) (length rest) h)
+
+  pub test-piece : length word ≤ length rest → begins word rest ≡ true → Piece (length word) ≡ testOf (string word) rest
+  unfolding testOf judged
+  test-piece h e = rw (le-leb (length word) (length rest) h, e)
+
+  pub test-other : length word ≤ length rest → begins word rest ≡ false → Other ≡ testOf (string word) rest
+  unfolding testOf judged
+  test-other h e = rw (le-leb (length word) (length rest) h, e)
+
+module _ (values s : List ℕ) (at : ℕ) (e : Element) where
+  pub test-part : (from to m n : ℕ) (t : Test) → e ≡ Part from to → m ≡ length s - at → n ≡ to - from
+      → t ≡ testOf (string (take n (drop from values))) (take m (drop at s)) → t ≡ testOf (elementOf values e) (drop at s)
+  unfolding elementOf
+  test-part from to m n t h em en r =
+      r
+      ∙ ap (testOf (string (take n (drop from values)))) (part-rest s at m em)
+      ∙ ap (λ (k : ℕ). testOf (string (take k (drop from values))) (drop at s)) en
+      ∙ sym (ap (λ (x : Element). testOf (elementOf values x) (drop at s)) h)
+
+  pub test-fixed-few : (n : ℕ) → e ≡ Fixed n → length s - at < n → Few ≡ testOf (elementOf values e) (drop at s)
+  unfolding elementOf testOf judged
+  test-fixed-few n h l =
+      rw (h, lt-leb n (length (drop at s)) (omega (arith, length-drop at s)))
+
+  pub test-fixed-piece : (n : ℕ) → e ≡ Fixed n → n ≤ length s - at → Piece n ≡ testOf (elementOf values e) (drop at s)
+  unfolding elementOf testOf judged
+  test-fixed-piece n h l =
+      rw (h, le-leb n (length (drop at s)) (omega (arith, length-drop at s)))
+
+  pub test-free : e ≡ Free → Filler ≡ testOf (elementOf values e) (drop at s)
+  unfolding elementOf testOf
+  test-free h = rw h
+
+  pub skip-part : (from to m n k : ℕ) → e ≡ Part from to → m ≡ length s - at → n ≡ to - from
+      → Passes (take m (drop at s)) (take n (drop from values)) k → SkipSays (drop at s) (elementOf values e) k
+  unfolding elementOf
+  skip-part from to m n k h em en p =
+      let word : List ℕ = take n (drop from values) in
+      let rest = part-rest s at m em in
+      let p′ : Passes (drop at s) word k = subst (λ (l : List ℕ). Passes l word k) rest p in
+      let same : string word ≡ elementOf values e =
+      ap (λ (i : ℕ). string (take i (drop from values))) en ∙ sym (ap (elementOf values) h) in
+      subst (λ (x : Splits.Element). SkipSays (drop at s) x k) same
+      (record {
+        inside = p′ .inside;
+        fails = λ j l. sym (test-other word (drop j (drop at s)) (p′ .enough j l) (p′ .differ j l));
+      })
+
+  pub skip-none : SkipSays (drop at s) (elementOf values e) 0
+  skip-none = record { inside = omega arith; fails = λ j l. absurd (omega arith) }
+
+-- the test of the element read from row i
+pub test-told : (values rows s : List ℕ) (i : ℕ) (e : Element) (t t′ : Test) → e ≡ rowElement rows i → t ≡ testOf (elementOf values e) s
+    → t ≡ t′ → testOf (elementOf values (rowElement rows i)) s ≡ t′
+test-told values rows s i e t t′ read tested is =
+    ap (λ (x : Element). testOf (elementOf values x) s) (sym read) ∙ sym tested ∙ is

@@ -1,0 +1,434 @@
+-- `scan::run` scans group by group. The invariant: what is left of the slide, behind what is settled, is the whole scan's outcome.
+-- Assumes nothing.
+use Rattle.scan.proofs.Running.{run-begins, run-skips, run-moves, run-stops, run-ends, run-done, run-last, run-next}
+use Rattle.scan.specs.Steps.{WholeGroup, FailedGroup, GroupSays, RunSays}
+use Rattle.scan.specs.Rows.{Good}
+use Rattle.scanning.specs.Trials.{other, few}
+use mathlib.Core.Path.{sym, subst}
+use Rattle.scan.proofs.Running.{Running}
+use Prim.Native.Nat.{_+_, _-_}
+use lib.ListN.{length}
+use native.Mathlib.Omega.{arith}
+use borrow.Author.Needs.{needs}
+use Rattle.scan.proofs.run.Statement.{statement}
+use Rattle.scan.proofs.run.Tie as tie
+use Rattle.scan.proofs.run.Reads as reads
+use Rattle.scan.proofs.run.Lts as lts
+use Rattle.scan.proofs.row_element.Reads as row-element-reads
+use Rattle.scan.proofs.skip.Reads as skip-reads
+use Rattle.scan.proofs.test_group.Reads as test-group-reads
+
+abbrev Inv-loop : tie.InvT-loop
+Inv-loop reference values rows count answer₀ g₀ from₀ place₀ trials₀ answer g from place trials = Running reference values rows count answer g from place trials
+
+abbrev μ-loop : tie.MeasureT-loop
+μ-loop reference values rows count answer₀ g₀ from₀ place₀ trials₀ answer g from place trials = length reference - place + (count - g)
+
+-- the run after the places passed over
+skipped : (c : tie.After-skip Inv-loop μ-loop)
+    → Running (c .before .before .before .before .before .before .args .reference .now) (c .before .before .before .before .before .before .args .values .now)
+    (c .before .before .before .before .before .before .args .rows .now) (c .before .before .before .before .before .before .args .count)
+    (c .before .before .loop .answer) (c .before .before .loop .g) (c .before .before .loop .from)
+    (c .before .before .loop .place + c .skip .result) (c .before .before .loop .trials + c .skip .result)
+skipped c =
+    let a = c .before .before .before .before .before .before .args in
+    let s = c .before .before .loop in
+    run-skips (a .reference .now) (a .values .now) (a .rows .now) (a .count) (s .answer) (s .g) (s .from) (s .place) (s .trials) (s .inv)
+    (c .before .row-element .result) (c .skip .result) (c .before .row-element .ensures) (c .skip .ensures)
+
+-- too few bytes for the group
+ended : (c : tie.After-known-told Inv-loop μ-loop)
+    → FailedGroup (c .before .before .before .before .before .before .before .before .before .before .args .reference .now) (c .before .before .before .before .before .before .before .before .before .before .args .values .now) (c .before .before .before .before .before .before .before .before .before .before .args .rows .now) (c .before .before .before .before .before .before .before .before .before .before .args .count) (c .before .before .before .before .before .before .loop .g)
+    (c .before .before .before .before .before .before .loop .place + c .before .before .before .before .skip .result) (c .before .n .given .0 .0) (few (c .before .n .given .0 .0))
+unfolding GroupSays
+ended c =
+    let a = c .before .before .before .before .before .before .before .before .before .before .args in
+    let s = c .before .before .before .before .before .before .loop in
+    subst (GroupSays (a .reference .now) (a .values .now) (a .rows .now) (a .count) (s .g) (s .place + c .before .before .before .before .skip .result)) (c .before .n .given .1)
+    (c .before .before .before .test-group .ensures)
+
+-- other bytes in the group
+differed : (c : tie.After-known-told2 Inv-loop μ-loop)
+    → FailedGroup (c .before .before .before .before .before .before .before .before .before .before .args .reference .now) (c .before .before .before .before .before .before .before .before .before .before .args .values .now) (c .before .before .before .before .before .before .before .before .before .before .args .rows .now) (c .before .before .before .before .before .before .before .before .before .before .args .count) (c .before .before .before .before .before .before .loop .g)
+    (c .before .before .before .before .before .before .loop .place + c .before .before .before .before .skip .result) (c .before .n2 .given .0 .0) (other (c .before .n2 .given .0 .0))
+unfolding GroupSays
+differed c =
+    let a = c .before .before .before .before .before .before .before .before .before .before .args in
+    let s = c .before .before .before .before .before .before .loop in
+    subst (GroupSays (a .reference .now) (a .values .now) (a .rows .now) (a .count) (s .g) (s .place + c .before .before .before .before .skip .result)) (c .before .n2 .given .1)
+    (c .before .before .before .test-group .ensures)
+
+-- the whole group passed
+whole : (c : tie.After-known-told3 Inv-loop μ-loop)
+    → WholeGroup (c .before .before .before .before .before .before .before .before .before .before .args .reference .now) (c .before .before .before .before .before .before .before .before .before .before .args .values .now) (c .before .before .before .before .before .before .before .before .before .before .args .rows .now) (c .before .before .before .before .before .before .before .before .before .before .args .count) (c .before .before .before .before .before .before .loop .g)
+    (c .before .before .before .before .before .before .loop .place + c .before .before .before .before .skip .result) (c .before .j .given .0 .0) (c .before .j .given .0 .1 .0)
+unfolding GroupSays
+whole c =
+    let a = c .before .before .before .before .before .before .before .before .before .before .args in
+    let s = c .before .before .before .before .before .before .loop in
+    subst (GroupSays (a .reference .now) (a .values .now) (a .rows .now) (a .count) (s .g) (s .place + c .before .before .before .before .skip .result)) (c .before .j .given .1)
+    (c .before .before .before .test-group .ensures)
+
+-- src/lib.rt:148:5
+loop-holds : tie.Need-loop-holds Inv-loop μ-loop
+loop-holds c =
+    let a = c .before .before .before .args in
+    run-begins (a .reference .now) (a .values .now) (a .rows .now) (a .count) (a .answer .now) (c .before .before .before .pre .1 .0 .1) (c .before .before .before .pre .1 .1)
+
+-- src/lib.rt:149:13
+row-element-requires : tie.Need-row-element-requires Inv-loop μ-loop
+row-element-requires c κs =
+    let i = c .loop .inv in
+    let p = c .before .before .before .before .pre .0 in
+    omega arith
+
+-- src/lib.rt:150:13
+skip-requires : tie.Need-skip-requires Inv-loop μ-loop
+skip-requires c κs =
+    let a = c .before .before .before .before .before .args in
+    let p = c .before .before .before .before .before .pre in
+    let s = c .before .loop in
+    ((p .1 .0 .0, s .inv .inside), subst (Good (a .values .now)) (sym (c .row-element .ensures)) (p .0 .good (s .g) (s .inv .more)))
+
+-- src/lib.rt:151:9
+add-place : tie.Need-add-place Inv-loop μ-loop
+add-place c =
+    let a = c .before .before .before .before .before .before .args in
+    let s = c .before .before .loop in
+    let k = c .skip .result in
+    let p = c .before .before .before .before .before .before .pre in
+    let r = skipped (c) in
+    omega arith
+
+-- src/lib.rt:152:9
+add-trials : tie.Need-add-trials Inv-loop μ-loop
+add-trials c =
+    let a = c .before .before .before .before .before .before .args in
+    let s = c .before .before .loop in
+    let k = c .skip .result in
+    let p = c .before .before .before .before .before .before .pre in
+    let r = skipped (c) in
+    omega arith
+
+-- src/lib.rt:153:15
+test-group-requires : tie.Need-test-group-requires Inv-loop μ-loop
+test-group-requires c κs =
+    let a = c .before .before .before .before .before .before .args in
+    let s = c .before .before .loop in
+    let k = c .skip .result in
+    let p = c .before .before .before .before .before .before .pre in
+    let r = skipped (c) in
+    (p .0, record { short = p .1 .0 .0; start = omega arith; inside = r .inside })
+
+-- src/lib.rt:154:25
+enum-known-n : tie.Need-enum-known-n Inv-loop μ-loop
+enum-known-n c = search needs
+
+-- src/lib.rt:155:35
+add-t17 : tie.Need-add-t17 Inv-loop μ-loop
+add-t17 c =
+    let a = c .before .before .before .before .before .before .before .before .before .before .args in
+    let s = c .before .before .before .before .before .before .loop in
+    let k = c .before .before .before .before .skip .result in
+    let p = c .before .before .before .before .before .before .before .before .before .before .pre in
+    let r = skipped (c .before .before .before .before) in
+    let f = ended c in
+    omega arith
+
+-- src/lib.rt:155:17
+returns : tie.Need-returns Inv-loop μ-loop
+unfolding RunSays
+returns c =
+    let a = c .before .before .before .before .before .before .before .before .before .before .args in
+    let s = c .before .before .before .before .before .before .loop in
+    let k = c .before .before .before .before .skip .result in
+    let p = c .before .before .before .before .before .before .before .before .before .before .pre in
+    let r = skipped (c .before .before .before .before) in
+    run-ends (a .reference .now) (a .values .now) (a .rows .now) (a .count) (s .answer) (s .g) (s .from) (s .place + k) (s .trials + k) r (c .before .n .given .0 .0) (p .1 .0 .0) (p .0 .few) (ended c)
+
+-- src/lib.rt:157:26
+enum-known-n-2 : tie.Need-enum-known-n-2 Inv-loop μ-loop
+enum-known-n-2 c = search needs
+
+-- src/lib.rt:158:17
+add-trials-2 : tie.Need-add-trials-2 Inv-loop μ-loop
+add-trials-2 c =
+    let a = c .before .before .before .before .before .before .before .before .before .before .args in
+    let s = c .before .before .before .before .before .before .loop in
+    let k = c .before .before .before .before .skip .result in
+    let p = c .before .before .before .before .before .before .before .before .before .before .pre in
+    let r = skipped (c .before .before .before .before) in
+    let f = differed c in
+    omega arith
+
+-- src/lib.rt:160:21
+returns-2 : tie.Need-returns-2 Inv-loop μ-loop
+unfolding RunSays
+returns-2 c =
+    let a = c .before .before .before .before .before .before .before .before .before .before .before .args in
+    let s = c .before .before .before .before .before .before .before .loop in
+    let k = c .before .before .before .before .before .skip .result in
+    let p = c .before .before .before .before .before .before .before .before .before .before .before .pre in
+    let r = skipped (c .before .before .before .before .before) in
+    run-stops (a .reference .now) (a .values .now) (a .rows .now) (a .count) (s .answer) (s .g) (s .from) (s .place + k) (s .trials + k) r (c .before .before .n2 .given .0 .0) (p .1 .0 .0) (p .0 .few) (differed (c .before)) (c .if1 .taken)
+
+-- src/lib.rt:162:17
+add-place-2 : tie.Need-add-place-2 Inv-loop μ-loop
+add-place-2 c =
+    let a = c .before .before .before .before .before .before .before .before .before .before .before .args in
+    let s = c .before .before .before .before .before .before .before .loop in
+    let k = c .before .before .before .before .before .skip .result in
+    let p = c .before .before .before .before .before .before .before .before .before .before .before .pre in
+    let r = skipped (c .before .before .before .before .before) in
+    omega arith
+
+-- src/lib.rt:148:5
+loop-less : tie.Need-loop-less Inv-loop μ-loop
+loop-less c =
+    let a = c .before .before .before .before .before .before .before .before .before .before .before .args in
+    let s = c .before .before .before .before .before .before .before .loop in
+    let k = c .before .before .before .before .before .skip .result in
+    let p = c .before .before .before .before .before .before .before .before .before .before .before .pre in
+    let r = skipped (c .before .before .before .before .before) in
+    omega (arith, r .inside, c .if1 .left)
+
+-- src/lib.rt:148:5
+loop-again : tie.Need-loop-again Inv-loop μ-loop
+loop-again c =
+    let a = c .before .before .before .before .before .before .before .before .before .before .before .args in
+    let s = c .before .before .before .before .before .before .before .loop in
+    let k = c .before .before .before .before .before .skip .result in
+    let p = c .before .before .before .before .before .before .before .before .before .before .before .pre in
+    let r = skipped (c .before .before .before .before .before) in
+    run-moves (a .reference .now) (a .values .now) (a .rows .now) (a .count) (s .answer) (s .g) (s .from) (s .place + k) (s .trials + k) r (c .before .before .n2 .given .0 .0) (differed (c .before)) (omega (arith, r .inside, c .if1 .left))
+
+-- src/lib.rt:164:26
+enum-known-j : tie.Need-enum-known-j Inv-loop μ-loop
+enum-known-j c = search needs
+
+-- src/lib.rt:165:34
+sub-answer : tie.Need-sub-answer Inv-loop μ-loop
+sub-answer c =
+    let a = c .before .before .before .before .before .before .before .before .before .before .args in
+    let s = c .before .before .before .before .before .before .loop in
+    let k = c .before .before .before .before .skip .result in
+    let p = c .before .before .before .before .before .before .before .before .before .before .pre in
+    let r = skipped (c .before .before .before .before) in
+    let w = whole c .reached in
+    omega arith
+
+-- src/lib.rt:165:33
+cast-answer : tie.Need-cast-answer Inv-loop μ-loop
+cast-answer c =
+    let a = c .before .before .before .before .before .before .before .before .before .before .args in
+    let s = c .before .before .before .before .before .before .loop in
+    let k = c .before .before .before .before .skip .result in
+    let p = c .before .before .before .before .before .before .before .before .before .before .pre in
+    let r = skipped (c .before .before .before .before) in
+    let w = whole c .reached in
+    omega arith
+
+-- src/lib.rt:165:24
+add-answer : tie.Need-add-answer Inv-loop μ-loop
+add-answer c =
+    let a = c .before .before .before .before .before .before .before .before .before .before .args in
+    let s = c .before .before .before .before .before .before .loop in
+    let k = c .before .before .before .before .skip .result in
+    let p = c .before .before .before .before .before .before .before .before .before .before .pre in
+    let r = skipped (c .before .before .before .before) in
+    let w = whole c .reached in
+    omega arith
+
+-- src/lib.rt:165:17
+mul-answer : tie.Need-mul-answer Inv-loop μ-loop
+mul-answer c =
+    let a = c .before .before .before .before .before .before .before .before .before .before .args in
+    let s = c .before .before .before .before .before .before .loop in
+    let k = c .before .before .before .before .skip .result in
+    let p = c .before .before .before .before .before .before .before .before .before .before .pre in
+    let r = skipped (c .before .before .before .before) in
+    let w = whole c .reached in
+    omega arith
+
+-- src/lib.rt:165:17
+element-write-answer : tie.Need-element-write-answer Inv-loop μ-loop
+element-write-answer c =
+    let a = c .before .before .before .before .before .before .before .before .before .before .args in
+    let s = c .before .before .before .before .before .before .loop in
+    let k = c .before .before .before .before .skip .result in
+    let p = c .before .before .before .before .before .before .before .before .before .before .pre in
+    let r = skipped (c .before .before .before .before) in
+    let w = whole c .reached in
+    omega arith
+
+-- src/lib.rt:166:27
+sub-trials : tie.Need-sub-trials Inv-loop μ-loop
+sub-trials c =
+    let a = c .before .before .before .before .before .before .before .before .before .before .args in
+    let s = c .before .before .before .before .before .before .loop in
+    let k = c .before .before .before .before .skip .result in
+    let p = c .before .before .before .before .before .before .before .before .before .before .pre in
+    let r = skipped (c .before .before .before .before) in
+    let w = whole c .reached in
+    omega arith
+
+-- src/lib.rt:166:17
+add-trials-3 : tie.Need-add-trials-3 Inv-loop μ-loop
+add-trials-3 c =
+    let a = c .before .before .before .before .before .before .before .before .before .before .args in
+    let s = c .before .before .before .before .before .before .loop in
+    let k = c .before .before .before .before .skip .result in
+    let p = c .before .before .before .before .before .before .before .before .before .before .pre in
+    let r = skipped (c .before .before .before .before) in
+    let w = whole c .reached in
+    omega arith
+
+-- src/lib.rt:168:21
+returns-3 : tie.Need-returns-3 Inv-loop μ-loop
+unfolding RunSays
+returns-3 c =
+    let a = c .before .before .before .before .before .before .before .before .before .before .before .args in
+    let s = c .before .before .before .before .before .before .before .loop in
+    let k = c .before .before .before .before .before .skip .result in
+    let p = c .before .before .before .before .before .before .before .before .before .before .before .pre in
+    let r = skipped (c .before .before .before .before .before) in
+    run-done (a .reference .now) (a .values .now) (a .rows .now) (a .count) (s .answer) (s .g) (s .from) (s .place + k) (s .trials + k) r (c .before .before .j .given .0 .0) (c .before .before .j .given .0 .1 .0) (whole (c .before)) (p .1 .0 .0) (p .0 .few) (c .if2 .taken)
+
+-- src/lib.rt:170:21
+add-g : tie.Need-add-g Inv-loop μ-loop
+add-g c =
+    let a = c .before .before .before .before .before .before .before .before .before .before .before .args in
+    let s = c .before .before .before .before .before .before .before .loop in
+    let k = c .before .before .before .before .before .skip .result in
+    let p = c .before .before .before .before .before .before .before .before .before .before .before .pre in
+    let r = skipped (c .before .before .before .before .before) in
+    let w = whole (c .before) .reached in
+    omega arith
+
+-- src/lib.rt:172:38
+sub-answer-2 : tie.Need-sub-answer-2 Inv-loop μ-loop
+sub-answer-2 c =
+    let a = c .before .before .before .before .before .before .before .before .before .before .before .before .args in
+    let s = c .before .before .before .before .before .before .before .before .loop in
+    let k = c .before .before .before .before .before .before .skip .result in
+    let p = c .before .before .before .before .before .before .before .before .before .before .before .before .pre in
+    let r = skipped (c .before .before .before .before .before .before) in
+    let w = whole (c .before .before) .reached in
+    omega arith
+
+-- src/lib.rt:172:37
+cast-answer-2 : tie.Need-cast-answer-2 Inv-loop μ-loop
+cast-answer-2 c =
+    let a = c .before .before .before .before .before .before .before .before .before .before .before .before .args in
+    let s = c .before .before .before .before .before .before .before .before .loop in
+    let k = c .before .before .before .before .before .before .skip .result in
+    let p = c .before .before .before .before .before .before .before .before .before .before .before .before .pre in
+    let r = skipped (c .before .before .before .before .before .before) in
+    let w = whole (c .before .before) .reached in
+    omega arith
+
+-- src/lib.rt:172:28
+add-answer-2 : tie.Need-add-answer-2 Inv-loop μ-loop
+add-answer-2 c =
+    let a = c .before .before .before .before .before .before .before .before .before .before .before .before .args in
+    let s = c .before .before .before .before .before .before .before .before .loop in
+    let k = c .before .before .before .before .before .before .skip .result in
+    let p = c .before .before .before .before .before .before .before .before .before .before .before .before .pre in
+    let r = skipped (c .before .before .before .before .before .before) in
+    let w = whole (c .before .before) .reached in
+    omega arith
+
+-- src/lib.rt:172:21
+mul-answer-2 : tie.Need-mul-answer-2 Inv-loop μ-loop
+mul-answer-2 c =
+    let a = c .before .before .before .before .before .before .before .before .before .before .before .before .args in
+    let s = c .before .before .before .before .before .before .before .before .loop in
+    let k = c .before .before .before .before .before .before .skip .result in
+    let p = c .before .before .before .before .before .before .before .before .before .before .before .before .pre in
+    let r = skipped (c .before .before .before .before .before .before) in
+    let w = whole (c .before .before) .reached in
+    omega arith
+
+-- src/lib.rt:172:21
+element-write-answer-2 : tie.Need-element-write-answer-2 Inv-loop μ-loop
+element-write-answer-2 c =
+    let a = c .before .before .before .before .before .before .before .before .before .before .before .before .args in
+    let s = c .before .before .before .before .before .before .before .before .loop in
+    let k = c .before .before .before .before .before .before .skip .result in
+    let p = c .before .before .before .before .before .before .before .before .before .before .before .before .pre in
+    let r = skipped (c .before .before .before .before .before .before) in
+    let w = whole (c .before .before) .reached in
+    omega arith
+
+-- src/lib.rt:173:21
+returns-4 : tie.Need-returns-4 Inv-loop μ-loop
+unfolding RunSays
+returns-4 c =
+    let a = c .before .before .before .before .before .before .before .before .before .before .before .before .args in
+    let s = c .before .before .before .before .before .before .before .before .loop in
+    let k = c .before .before .before .before .before .before .skip .result in
+    let p = c .before .before .before .before .before .before .before .before .before .before .before .before .pre in
+    let r = skipped (c .before .before .before .before .before .before) in
+    run-last (a .reference .now) (a .values .now) (a .rows .now) (a .count) (s .answer) (s .g) (s .from) (s .place + k) (s .trials + k) r (c .before .before .before .j .given .0 .0) (c .before .before .before .j .given .0 .1 .0) (whole (c .before .before)) (p .1 .0 .0) (p .0 .few) (c .if3 .taken)
+
+-- src/lib.rt:148:5
+loop-less-2 : tie.Need-loop-less-2 Inv-loop μ-loop
+loop-less-2 c =
+    let a = c .before .before .before .before .before .before .before .before .before .before .before .before .args in
+    let s = c .before .before .before .before .before .before .before .before .loop in
+    let k = c .before .before .before .before .before .before .skip .result in
+    let p = c .before .before .before .before .before .before .before .before .before .before .before .before .pre in
+    let r = skipped (c .before .before .before .before .before .before) in
+    let w = whole (c .before .before) .reached in
+    omega (arith, w .high, w .low, w .forth, w .inside, c .if3 .left, c .before .if2 .left)
+
+-- src/lib.rt:148:5
+loop-again-2 : tie.Need-loop-again-2 Inv-loop μ-loop
+loop-again-2 c =
+    let a = c .before .before .before .before .before .before .before .before .before .before .before .before .args in
+    let s = c .before .before .before .before .before .before .before .before .loop in
+    let k = c .before .before .before .before .before .before .skip .result in
+    let p = c .before .before .before .before .before .before .before .before .before .before .before .before .pre in
+    let r = skipped (c .before .before .before .before .before .before) in
+    let w = whole (c .before .before) .reached in
+    run-next (a .reference .now) (a .values .now) (a .rows .now) (a .count) (s .answer) (s .g) (s .from) (s .place + k) (s .trials + k) r (c .before .before .before .j .given .0 .0) (c .before .before .before .j .given .0 .1 .0) (whole (c .before .before)) (omega (arith, w .high, c .if3 .left, c .before .if2 .left))
+
+pub run-spec : {M : Type 1} → statement M
+run-spec =
+    tie.close
+    (tie.spec
+    Inv-loop
+    μ-loop
+    loop-holds
+    row-element-requires
+    skip-requires
+    add-place
+    add-trials
+    test-group-requires
+    enum-known-n
+    add-t17
+    returns
+    enum-known-n-2
+    add-trials-2
+    returns-2
+    add-place-2
+    loop-less
+    loop-again
+    enum-known-j
+    sub-answer
+    cast-answer
+    add-answer
+    mul-answer
+    element-write-answer
+    sub-trials
+    add-trials-3
+    returns-3
+    add-g
+    sub-answer-2
+    cast-answer-2
+    add-answer-2
+    mul-answer-2
+    element-write-answer-2
+    returns-4
+    loop-less-2
+    loop-again-2)

@@ -1,0 +1,63 @@
+-- `scan::strigol_scan` keeps the scan call's promise.
+-- Assumes nothing.
+use Rattle.scan.proofs.Calls.{count-most, promise-long, promise-many, promise-kept}
+use Rattle.scanning.specs.Call.{longestReference, mostElements, rowBytes, countOf}
+use mathlib.Core.Path.{refl}
+use native.Mathlib.Omega.{arith}
+use borrow.Author.Needs.{needs}
+use Rattle.scan.proofs.strigol_scan.Statement.{statement}
+use Rattle.scan.proofs.strigol_scan.Tie as tie
+use Rattle.scan.proofs.strigol_scan.Reads as reads
+use Rattle.scan.proofs.strigol_scan.Lts as lts
+use Rattle.scan.proofs.fail.Reads as fail-reads
+use Rattle.scan.proofs.scan_rows.Reads as scan-rows-reads
+
+-- src/lib.rt:375:9
+fail-requires : tie.Need-fail-requires
+fail-requires c κs = search needs
+
+-- src/lib.rt:376:9
+returns : tie.Need-returns
+unfolding longestReference
+returns c =
+    let a = c .before .before .before .before .before .before .args in
+    promise-long (a .reference .now) (a .values .now) (a .elements .now) 22 (c .fail .last .1 .0) (c .before .before .if1 .taken) refl (c .fail .ensures)
+
+-- src/lib.rt:379:9
+fail-requires-2 : tie.Need-fail-requires-2
+fail-requires-2 c κs = search needs
+
+-- src/lib.rt:380:9
+returns-2 : tie.Need-returns-2
+unfolding longestReference mostElements countOf rowBytes
+returns-2 c =
+    let a = c .before .before .before .before .before .before .before .args in
+    promise-many (a .reference .now) (a .values .now) (a .elements .now) 23 (c .fail2 .last .1 .0) (c .before .before .before .if1 .left) (omega arith) refl (c .fail2 .ensures)
+
+-- src/lib.rt:386:10
+add-scan-rows : tie.Need-add-scan-rows
+add-scan-rows c = search needs
+
+-- src/lib.rt:382:5
+scan-rows-requires : tie.Need-scan-rows-requires
+unfolding countOf rowBytes
+scan-rows-requires c κs = ((c .before .before .if1 .left, c .before .if2 .left), refl)
+
+-- src/lib.rt:365:1
+returns-3 : tie.Need-returns-3
+unfolding longestReference mostElements
+returns-3 c =
+    let a = c .before .before .before .before .before .before .before .args in
+    promise-kept (a .reference .now) (a .values .now) (a .elements .now) (c .scan-rows .result) (c .scan-rows .last .1 .1 .1 .1 .0) (c .before .before .before .if1 .left) (count-most (a .elements .now) (c .before .before .if2 .left)) (c .scan-rows .ensures)
+
+pub strigol-scan-spec : {M : Type 1} → statement M
+strigol-scan-spec =
+    tie.close
+    (tie.spec
+    fail-requires
+    returns
+    fail-requires-2
+    returns-2
+    add-scan-rows
+    scan-rows-requires
+    returns-3)

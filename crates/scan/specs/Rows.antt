@@ -1,0 +1,82 @@
+-- A pattern as rows of three numbers: the kind, 1 a string with its part's ends, 2 a fixed filler with its length, any other a free
+-- filler. Which elements the rows are, and when the scan can go through them. Assumes nothing.
+use mathlib.Core.Bool.{cond}
+use mathlib.Core.List.{List, [], _∷_}
+use mathlib.Core.Option.{Option, none, some}
+use mathlib.Core.Path.{_≡_}
+use Prim.Native.Nat.{ℕ, zero, suc, _+_, _*_, _-_, _≤_, _<_, _^_}
+use lib.Dec.{eqb}
+use lib.ListN.{length, take, drop, getD}
+use Rattle.scanning.specs.Splits as Splits
+use Rattle.scanning.specs.Splits.{string, fixed, free}
+use Rattle.scan.specs.declared.Element.{Element}
+use Rattle.scan.specs.declared.Element.the-variants.{Part, Fixed, Free}
+
+-- the element that a kind and two numbers are
+unfoldable pub rowOf : ℕ → ℕ → ℕ → Element
+rowOf kind a b = cond (eqb kind 1) (Part a b) (cond (eqb kind 2) (Fixed a) Free)
+
+-- the element in row i
+unfoldable pub rowElement : List ℕ → ℕ → Element
+rowElement rows i = rowOf (getD rows (3 * i) 0) (getD rows (3 * i + 1) 0) (getD rows (3 * i + 2) 0)
+
+-- a part's ends stand for the bytes between them
+unfoldable pub elementOf : List ℕ → Element → Splits.Element
+elementOf values (Part from to) = string (take (to - from) (drop from values))
+elementOf values (Fixed n) = fixed n
+elementOf values Free = free
+
+-- n elements from row i on
+unfoldable pub elementsAt : (values rows : List ℕ) → ℕ → ℕ → List Splits.Element
+elementsAt values rows zero i = []
+elementsAt values rows (suc n) i = elementOf values (rowElement rows i) ∷ elementsAt values rows n (i + 1)
+
+-- the pattern of so many rows
+unfoldable pub patternOf : (values rows : List ℕ) → ℕ → List Splits.Element
+patternOf values rows count = elementsAt values rows count 0
+
+-- the length of the piece that an element takes, a free filler's left 0
+unfoldable pub sizeOf : Element → ℕ
+sizeOf (Part from to) = to - from
+sizeOf (Fixed n) = n
+sizeOf Free = 0
+
+-- the lengths of n elements from row i on
+unfoldable pub sizesAt : List ℕ → ℕ → ℕ → List ℕ
+sizesAt rows zero i = []
+sizesAt rows (suc n) i = sizeOf (rowElement rows i) ∷ sizesAt rows n (i + 1)
+
+-- a part's ends are in order, and its length fits an answer
+pub record SizedPart (from to : ℕ) : Type 0 where
+  pub order : from ≤ to
+  pub small : to < 2 ^ 32
+
+-- an element whose length can be told
+unfoldable pub Sized : Element → Type 0
+Sized (Part from to) = SizedPart from to
+Sized (Fixed n) = n < 2 ^ 32
+Sized Free = Unit {0}
+
+-- a part's ends lie in the values, and its length fits an answer
+pub record GoodPart (values : List ℕ) (from to : ℕ) : Type 0 where
+  pub order : from ≤ to
+  pub inside : to ≤ length values
+  pub small : to < 2 ^ 32
+
+-- an element that the scan can test
+unfoldable pub Good : List ℕ → Element → Type 0
+Good values (Part from to) = GoodPart values from to
+Good values (Fixed n) = n < 2 ^ 32
+Good values Free = Unit {0}
+
+-- rows that can be read, each a good element
+pub record GoodRows (values rows : List ℕ) (count : ℕ) : Type 0 where
+  pub few : count ≤ 20
+  pub room : 3 * count ≤ length rows
+  pub good : (i : ℕ) → i < count → Good values (rowElement rows i)
+
+-- what a row of bytes was read as: kind 0 where it is no element
+pub record RowSays (values : List ℕ) (e : Option Splits.Element) (kind a b : ℕ) : Type 0 where
+  pub bad : kind ≡ 0 → e ≡ none
+  pub same : (kind ≡ 0 → ⊥) → e ≡ some (elementOf values (rowOf kind a b))
+  pub good : Good values (rowOf kind a b)

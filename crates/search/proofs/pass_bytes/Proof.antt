@@ -1,0 +1,81 @@
+-- `search::pass_bytes` passes only places where not both bytes stand, which is its invariant too.
+-- Assumes nothing.
+use mathlib.Core.Path.{_≡_, refl, sym}
+use Prim.Native.Nat.{ℕ, _≤_, _<_, _-_}
+use native.Mathlib.Omega.{arith}
+use mathlib.Core.Logic.{⊎-elim}
+use borrow.Author.Needs.{needs}
+use lib.ListN.{length, getD}
+use Rattle.search.specs.Passing.{Without}
+use Rattle.search.proofs.Laws.{without-one}
+use Rattle.search.proofs.pass_bytes.Statement.{statement}
+use Rattle.search.proofs.pass_bytes.Tie as tie
+use Rattle.search.proofs.pass_bytes.Reads as reads
+use Rattle.search.proofs.pass_bytes.Lts as lts
+
+abbrev Inv-loop : tie.InvT-loop
+Inv-loop text first last span from k₀ k = Without text first last span k
+
+abbrev μ-loop : tie.MeasureT-loop
+μ-loop text first last span from k₀ k = length text - k
+
+-- src/lib.rt:65:5
+loop-holds : tie.Need-loop-holds Inv-loop μ-loop
+loop-holds c = search needs
+
+-- src/lib.rt:65:18
+sub-loop : tie.Need-sub-loop Inv-loop μ-loop
+sub-loop c = search needs
+
+-- src/lib.rt:66:12
+shared-slice-read-if1 : tie.Need-shared-slice-read-if1 Inv-loop μ-loop
+shared-slice-read-if1 c = search needs
+
+-- src/lib.rt:67:21
+add-if2 : tie.Need-add-if2 Inv-loop μ-loop
+add-if2 c = search needs
+
+-- src/lib.rt:67:16
+shared-slice-read-if2 : tie.Need-shared-slice-read-if2 Inv-loop μ-loop
+shared-slice-read-if2 c = search needs
+
+-- src/lib.rt:68:17
+returns : tie.Need-returns Inv-loop μ-loop
+returns c = search needs
+
+-- src/lib.rt:71:9
+add-k : tie.Need-add-k Inv-loop μ-loop
+add-k c = search needs
+
+-- src/lib.rt:65:5
+loop-less : tie.Need-loop-less Inv-loop μ-loop
+loop-less c = search needs
+
+-- src/lib.rt:65:5
+loop-again : tie.Need-loop-again Inv-loop μ-loop
+loop-again c =
+    let a = c .before .before .before .before .args in
+    let s = c .before .before .before .loop in
+    without-one (a .text .now) (a .first) (a .last) (a .span) (s .k) (s .inv) (omega arith)
+    (⊎-elim (λ w f l. w .2 .left l) (λ w f l. w .left f) (c .if1 .came))
+
+-- src/lib.rt:59:1
+returns-2 : tie.Need-returns-2 Inv-loop μ-loop
+returns-2 c = search needs
+
+pub pass-bytes-spec : {M : Type 1} → statement M
+pass-bytes-spec =
+    tie.close
+    (tie.spec
+    Inv-loop
+    μ-loop
+    loop-holds
+    sub-loop
+    shared-slice-read-if1
+    add-if2
+    shared-slice-read-if2
+    returns
+    add-k
+    loop-less
+    loop-again
+    returns-2)

@@ -1,0 +1,2 @@
+-- What the search for a string promises.
+pub mod Passing
