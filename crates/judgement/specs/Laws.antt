@@ -1,14 +1,14 @@
--- Every answer of a deck's judgement is in range, and an accepted program keeps its counts and has a step. Assumes nothing.
-use mathlib.Core.Bool.{Bool, true, false, _||_, true≢false, false≢true}
-use mathlib.Core.List.{List, [], _∷_}
+-- Every answer of a deck's judgement is in range; an accepted program keeps its counts, and its last step finishes. Assumes nothing.
+use mathlib.Core.Bool.{Bool, true, false, _||_, false≢true}
+use mathlib.Core.List.{List, [], _∷_, _++_}
 use mathlib.Core.Option.{Option, none, some}
-use mathlib.Core.Path.{_≡_, refl, sym, _∙_, subst}
+use mathlib.Core.Path.{_≡_, refl, sym, _∙_, subst, subst₂}
 use Prim.Native.Nat.{ℕ, suc, _+_, _≤_}
 use native.Mathlib.Omega.{arith}
 use lib.Dec.{ltb, eqb}
 use lib.ListN.{length, drop, length-append}
 use borrow.Author.Tests.{ltb-false}
-use Rattle.base.specs.Choice.{test-cases, cond-cases}
+use Rattle.base.specs.Choice.{test-cases, cond-cases, neither-true}
 use Rattle.base.specs.Edition.{Edition}
 use Rattle.base.specs.Lists.{any, keep}
 use Rattle.cards.specs.Bytes.{isBlank, slash}
@@ -17,13 +17,25 @@ use Rattle.cards.specs.Packing.{packed, literalsWhole}
 use Rattle.language.specs.Forms.{statementForm, formOf, stepEnd}
 use Rattle.language.specs.Keywords.{END, sameKind, leading}
 use Rattle.language.specs.Laws.{same-kind}
-use Rattle.language.specs.Program.{Statement, finish, Program}
+use Rattle.language.specs.Program.{Statement, finish, Step, Program}
 use Rattle.language.specs.Reading.{Met, Read, got, broken, meeting, give, finished, _>>=_}
 use Rattle.language.specs.Words.{Places}
 use Rattle.judgement.specs.Known.{Known, nothingKnown, strings, numbers, namesFor, isOneOf, learn}
 use Rattle.judgement.specs.Refusals.{labelForm, labelled, readStatement, is10}
 use Rattle.judgement.specs.Deck.{unplaced, Judged, passed, stepRead, stepsFrom, placesOf, programOf, Judgement, accepted, judge}
-use Rattle.judgement.specs.Rules.{Judging, ended, missing, skips, unsound, turned, learns, Concluding, refuses, refuses11}
+use Rattle.judgement.specs.Rules.{
+  passes-before-end,
+  Judging,
+  ended,
+  missing,
+  skips,
+  unsound,
+  turned,
+  learns,
+  Concluding,
+  refuses,
+  refuses11,
+}
 use Rattle.judgement.specs.Rules.{refuses12, concluding, accepted-program}
 
 -- the cards are lines 1 to n
@@ -92,11 +104,6 @@ judge-range e deck n c q =
     let h = judge-answers e deck n c q in
     (h .low, h .high, h .line)
 
--- a disjunction that is false has two false parts
-neither : (a b : Bool) → (a || b) ≡ false → (a ≡ false) × (b ≡ false)
-neither true b e = absurd (true≢false e)
-neither false b e = (refl, e)
-
 -- Q10 the counts of a deck behind some statements
 pub record Counts (k : Known) : Type 0 where
   pub statements : k .statements ≤ 256
@@ -112,14 +119,14 @@ pub record Counts (k : Known) : Type 0 where
 not10-counts : (k : Known) (m : Met) → is10 k m ≡ false → Counts k
 unfolding is10
 not10-counts k m h =
-    let h1 = neither _ _ h in
-    let h2 = neither _ _ (h1 .1) in
-    let h3 = neither _ _ (h2 .1) in
-    let h4 = neither _ _ (h3 .1) in
-    let h5 = neither _ _ (h4 .1) in
-    let h6 = neither (any (ltb 20) (m .rows)) _ (h5 .1) in
-    let h7 = neither _ _ (h6 .1) in
-    let h8 = neither _ _ (h7 .1) in
+    let h1 = neither-true _ _ h in
+    let h2 = neither-true _ _ (h1 .1) in
+    let h3 = neither-true _ _ (h2 .1) in
+    let h4 = neither-true _ _ (h3 .1) in
+    let h5 = neither-true _ _ (h4 .1) in
+    let h6 = neither-true (any (ltb 20) (m .rows)) _ (h5 .1) in
+    let h7 = neither-true _ _ (h6 .1) in
+    let h8 = neither-true _ _ (h7 .1) in
     record {
       statements = ltb-false _ _ (h1 .0);
       strings = ltb-false _ _ (h2 .0);
@@ -161,41 +168,66 @@ passed-steps {e} (learns {k} {card} {label} {text} s m rest q p j) whole n =
     let more = passed-steps j whole (elim (stepRead card read) [ [] ↦ n | s ∷ ss ↦ suc n ]) in
     simp length-append (omega arith)
 
--- a statement that only ends is a step where it is read
-ending-step : (card : ℕ) (label : Read (Unit {0})) (whole : Bool) (bs : List ℕ) (s : Option Statement) (m : Met) (rest : List ℕ)
-    → labelled label whole (stepEnd finish bs) ≡ got s m rest → 1 ≤ length (stepRead card (labelled label whole (stepEnd finish bs)))
+-- a statement that only finishes is such a step where it is read
+finish-step : (card : ℕ) (label : Read (Unit {0})) (whole : Bool) (bs : List ℕ) (s : Option Statement) (m : Met) (rest : List ℕ)
+    → labelled label whole (stepEnd finish bs) ≡ got s m rest
+    → stepRead card (labelled label whole (stepEnd finish bs)) ≡ record { card = card; statement = finish } ∷ []
 unfolding labelled meeting stepEnd finished give _>>=_ stepRead
-ending-step card (got u n left) true [] s m rest q = omega arith
-ending-step card (got u n left) true (b ∷ bs) s m rest q = let z : _≡_ {A = ℕ} 0 1 = cc in absurd (omega arith)
-ending-step card (got u n left) false bs s m rest q = let z : _≡_ {A = ℕ} 0 1 = cc in absurd (omega arith)
-ending-step card broken whole bs s m rest q = let z : _≡_ {A = ℕ} 0 1 = cc in absurd (omega arith)
+finish-step card (got u n left) true [] s m rest q = refl
+finish-step card (got u n left) true (b ∷ bs) s m rest q = let z : _≡_ {A = ℕ} 0 1 = cc in absurd (omega arith)
+finish-step card (got u n left) false bs s m rest q = let z : _≡_ {A = ℕ} 0 1 = cc in absurd (omega arith)
+finish-step card broken whole bs s m rest q = let z : _≡_ {A = ℕ} 0 1 = cc in absurd (omega arith)
 
--- END is a step, whatever the places and numbers are
+-- END is a step that finishes, whatever the places and numbers are
 end-step : (e : Edition) (isNumber isNumber′ : List ℕ → Bool) (at at′ : Places) (card : ℕ) (label text : List ℕ) (s : Option Statement)
     (m : Met) (rest : List ℕ) → leading (packed text) .kind ≡ END → readStatement e isNumber at label text ≡ got s m rest
-    → 1 ≤ length (stepRead card (readStatement e isNumber′ at′ label text))
+    → stepRead card (readStatement e isNumber′ at′ label text) ≡ record { card = card; statement = finish } ∷ []
 unfolding readStatement statementForm formOf
 end-step e isNumber isNumber′ at at′ card label text s m rest end q =
     let bs = drop (leading (packed text) .size) (packed text) in
-    rw end (ending-step card (labelForm label) (literalsWhole text) bs s m rest (rw end at q))
+    rw end (finish-step card (labelForm label) (literalsWhole text) bs s m rest (rw end at q))
 
--- entries that pass with no END before them make a step
-passed-step : {e : Edition} {k after : Known} {es : List Entry} → k .ended ≡ false → Judging e k es (passed after) → (whole : Known) (n : ℕ)
-    → 1 ≤ length (stepsFrom e whole n es)
-unfolding stepsFrom learn
-passed-step before (ended h) whole n = absurd (false≢true (sym before ∙ h))
-passed-step before (skips j) whole n = passed-step before j whole n
-passed-step {e} before (learns {k} {card} {label} {text} {es} s m rest q p j) whole n =
+-- the last step finishes
+unfoldable pub LastFinishes : List Step → Type 0
+LastFinishes [] = ⊥
+LastFinishes (s ∷ []) = s .statement ≡ finish
+LastFinishes (s ∷ (t ∷ ss)) = LastFinishes (t ∷ ss)
+
+-- it does whatever stands before it
+last-behind : (ss ts : List Step) → LastFinishes ts → LastFinishes (ss ++ ts)
+unfolding LastFinishes
+last-behind [] ts h = h
+last-behind (s ∷ []) [] h = absurd h
+last-behind (s ∷ []) (t ∷ ts) h = h
+last-behind (s ∷ (r ∷ ss)) ts h = last-behind (r ∷ ss) ts h
+
+-- behind END no step comes
+passed-nothing : {e : Edition} {k after : Known} {es : List Entry} → k .ended ≡ true → Judging e k es (passed after)
+    → (whole : Known) (n : ℕ)
+    → stepsFrom e whole n es ≡ []
+unfolding stepsFrom
+passed-nothing h (ended _) whole n = refl
+passed-nothing h (skips j) whole n = passed-nothing h j whole n
+passed-nothing h (learns {k} s m rest q p j) whole n = absurd (false≢true (sym (passes-before-end p) ∙ h))
+
+-- entries that pass with no END before them make steps whose last finishes
+passed-finishes : {e : Edition} {k after : Known} {es : List Entry} → k .ended ≡ false → Judging e k es (passed after)
+    → (whole : Known) (n : ℕ)
+    → LastFinishes (stepsFrom e whole n es)
+unfolding stepsFrom learn LastFinishes
+passed-finishes before (ended h) whole n = absurd (false≢true (sym before ∙ h))
+passed-finishes before (skips j) whole n = passed-finishes before j whole n
+passed-finishes {e} before (learns {k} {card} {label} {text} {es} s m rest q p j) whole n =
     let kind = leading (packed text) .kind in
     let isNumber = isOneOf (numbers whole) in
     let at = placesOf whole (suc n) in
     let read = stepRead card (readStatement e isNumber at label text) in
     let next : ℕ = elim read [ [] ↦ n | s ∷ ss ↦ suc n ] in
-    let here : sameKind kind END ≡ true → 1 ≤ length read = λ h.
-    end-step e (isOneOf (numbers k)) isNumber unplaced at card label text s m rest (same-kind kind END h) q in
-    let behind : sameKind kind END ≡ false → 1 ≤ length (stepsFrom e whole next es) = λ h. passed-step h j whole next in
-    simp length-append (test-cases (λ _. 1 ≤ length read + length (stepsFrom e whole next es)) (sameKind kind END)
-    (λ h. omega (arith, here h)) (λ h. omega (arith, behind h)))
+    test-cases (λ _. LastFinishes (read ++ stepsFrom e whole next es)) (sameKind kind END)
+    (λ end.
+    let here = end-step e (isOneOf (numbers k)) isNumber unplaced at card label text s m rest (same-kind kind END end) q in
+    subst₂ (λ ss ts. LastFinishes (ss ++ ts)) (sym here) (sym (passed-nothing end j whole next)) refl)
+    (λ inner. last-behind read (stepsFrom e whole next es) (passed-finishes inner j whole next))
 
 -- Q10 an accepted program has at most 256 steps, 32 strings and 32 numbers
 pub accepted-counts : (e : Edition) (deck : List ℕ) (p : Program) → judge e deck ≡ accepted p
@@ -207,7 +239,16 @@ accepted-counts e deck p q =
     let steps = passed-steps j k 0 in
     (omega arith, counts .strings, counts .numbers))
 
+-- the last step of an accepted program finishes: it is that of END
+pub accepted-finishes : (e : Edition) (deck : List ℕ) (p : Program) → judge e deck ≡ accepted p → LastFinishes (p .steps)
+unfolding programOf nothingKnown
+accepted-finishes e deck p q = accepted-program e deck p q (λ p. LastFinishes (p .steps)) (λ k j _ _. passed-finishes refl j k 0)
+
 -- an accepted program has a step
 pub accepted-step : (e : Edition) (deck : List ℕ) (p : Program) → judge e deck ≡ accepted p → 1 ≤ length (p .steps)
-unfolding programOf nothingKnown
-accepted-step e deck p q = accepted-program e deck p q (λ p. 1 ≤ length (p .steps)) (λ k j _ _. passed-step refl j k 0)
+unfolding LastFinishes
+accepted-step e deck p q = some-step (p .steps) (accepted-finishes e deck p q)
+  where
+    some-step : (ss : List Step) → LastFinishes ss → 1 ≤ length ss
+    some-step [] h = absurd h
+    some-step (s ∷ ss) h = omega arith

@@ -1,5 +1,5 @@
 -- The judgement of a deck as rules, one for each way it may go, and that every deck is judged by them. Assumes nothing.
-use mathlib.Core.Bool.{Bool, true, false}
+use mathlib.Core.Bool.{Bool, true, false, not, Bool·beq}
 use mathlib.Core.List.{List, [], _∷_}
 use mathlib.Core.Option.{Option}
 use mathlib.Core.Path.{_≡_, refl, subst}
@@ -7,11 +7,11 @@ use Prim.Native.Nat.{ℕ, _≤_}
 use native.Mathlib.Omega.{arith}
 use lib.Dec.{eqb}
 use borrow.Author.Tests.{ne-eqb}
-use Rattle.base.specs.Choice.{cond-cases}
+use Rattle.base.specs.Choice.{cond-cases, neither-true}
 use Rattle.base.specs.Edition.{Edition}
 use Rattle.cards.specs.Cards.{Entry, skipped, statement, entries}
 use Rattle.cards.specs.Packing.{packed}
-use Rattle.language.specs.Keywords.{Kind, leading}
+use Rattle.language.specs.Keywords.{Kind, PROGRAM, sameKind, leading}
 use Rattle.language.specs.Program.{Statement, Program}
 use Rattle.language.specs.Reading.{Met, Read, got, broken}
 use Rattle.judgement.specs.Known.{Known, nothingKnown, numbers, isOneOf, learn}
@@ -27,6 +27,11 @@ pub record Passes (k : Known) (kind : Kind) (m : Met) : Type 0 where
   pub not8 : is8 m ≡ false
   pub not9 : is9 k kind ≡ false
   pub not10 : is10 (learn k kind m) m ≡ false
+
+-- Q4 "a statement follows" END: before a statement that passes END has not been
+pub passes-before-end : {k : Known} {kind : Kind} {m : Met} → Passes k kind m → k .ended ≡ false
+unfolding isMisplaced
+passes-before-end {k} {kind} p = neither-true (not (Bool·beq (eqb (k .statements) 0) (sameKind kind PROGRAM))) (k .ended) (p .not4) .1
 
 -- what a statement's number says: one of 3 to 10 turns it down, or it passes with 0
 data Numbered (k : Known) (kind : Kind) : Bool → Read (Option Statement) → ℕ → Type 0 where
@@ -113,7 +118,8 @@ concluding e deck = concludes (judgeFrom e nothingKnown (entries e deck)) (judgi
 
 -- what holds of the program of every deck that passes holds of an accepted deck's program
 pub accepted-program : (e : Edition) (deck : List ℕ) (p : Program) → judge e deck ≡ accepted p → (P : Program → Type 0)
-    → ((k : Known) → Judging e nothingKnown (entries e deck) (passed k) → is11 k ≡ false → is12 k ≡ false → P (programOf e k (entries e deck)))
+    → ((k : Known) → Judging e nothingKnown (entries e deck) (passed k) → is11 k ≡ false → is12 k ≡ false
+    → P (programOf e k (entries e deck)))
     → P p
 accepted-program e deck p q P f = concludes (subst (Concluding e (entries e deck)) q (concluding e deck))
   where

@@ -1,9 +1,9 @@
--- Kinds that pass the test of sameness are equal. Assumes nothing.
+-- Kinds and purposes that pass the test of sameness are equal. Assumes nothing.
 use mathlib.Core.Bool.{true}
 use mathlib.Core.List.{List, [], _∷_}
 use mathlib.Core.Path.{_≡_, refl, sym, _∙_, ap}
 use lib.ListN.{getD}
-use borrow.Author.Tests.{eqb-true}
+use borrow.Author.Tests.{eqb-true, eq-eqb}
 use Rattle.language.specs.Keywords.{
   Kind,
   REPLACEMENT,
@@ -26,6 +26,7 @@ use Rattle.language.specs.Keywords.{
   kindNumber,
   sameKind,
 }
+use Rattle.language.specs.Reading.{Purpose, program, label, routine, number, string, purposeNumber, samePurpose}
 
 -- the kinds in the order of their numbers
 kinds : List Kind
@@ -74,3 +75,27 @@ kind-at UNKNOWN = refl
 pub same-kind : (j k : Kind) → sameKind j k ≡ true → j ≡ k
 unfolding sameKind
 same-kind j k e = sym (kind-at j) ∙ ap (λ n. getD kinds n UNKNOWN) (eqb-true (kindNumber j) (kindNumber k) e) ∙ kind-at k
+
+-- the purposes in the order of their numbers
+purposes : List Purpose
+purposes = program ∷ label ∷ routine ∷ number ∷ string ∷ []
+
+-- a purpose stands at its number
+purpose-at : (p : Purpose) → getD purposes (purposeNumber p) program ≡ p
+unfolding purposes purposeNumber
+purpose-at program = refl
+purpose-at label = refl
+purpose-at routine = refl
+purpose-at number = refl
+purpose-at string = refl
+
+-- purposes that pass the test are equal
+pub same-purpose : (p q : Purpose) → samePurpose p q ≡ true → p ≡ q
+unfolding samePurpose
+same-purpose p q e =
+    sym (purpose-at p) ∙ ap (λ n. getD purposes n program) (eqb-true (purposeNumber p) (purposeNumber q) e) ∙ purpose-at q
+
+-- a purpose passes the test with itself
+pub same-purpose-refl : (p : Purpose) → samePurpose p p ≡ true
+unfolding samePurpose
+same-purpose-refl p = eq-eqb (purposeNumber p) (purposeNumber p) refl

@@ -1,9 +1,12 @@
 -- The language: what a program is (Program), how a form is read (Reading), names and constants (Words), numeric expressions (Numeric),
--- string expressions and patterns (Strings), kinds of statements (Keywords), their forms (Forms), and that kinds are told apart (Laws).
+-- string expressions and patterns (Strings), kinds of statements (Keywords), their forms (Forms). Of these: kinds and purposes are told
+-- apart (Laws), what it is for the places in a program to be places of it (Placed), a form is read alike with any places (Alike).
+pub mod Alike
 pub mod Forms
 pub mod Keywords
 pub mod Laws
 pub mod Numeric
+pub mod Placed
 pub mod Program
 pub mod Reading
 pub mod Strings

@@ -1,0 +1,283 @@
+-- Every place that a statement of an accepted program names is below the program's counts: its strings, its numbers, and the steps that
+-- it leads to. Assumes nothing.
+use mathlib.Core.Bool.{Bool, true, false, cond, not, _&&_, _||_, false≢true, and-eq-true-iff}
+use mathlib.Core.List.{List, [], _∷_, _++_}
+use mathlib.Core.Option.{Option, none, some}
+use mathlib.Core.Path.{_≡_, refl, sym, _∙_, ap, subst}
+use Prim.Native.Nat.{ℕ, suc, _+_, _<_}
+use native.Mathlib.Omega.{arith}
+use lib.Dec.{leb}
+use lib.ListN.{length, take, drop}
+use borrow.Author.Tests.{not-true}
+use Rattle.base.specs.Choice.{test-cases, true-behind}
+use Rattle.base.specs.Edition.{Edition}
+use Rattle.base.specs.Lists.{same, any, begins}
+use Rattle.base.specs.Text.{bytes}
+use Rattle.cards.specs.Cards.{Entry, entries}
+use Rattle.cards.specs.Packing.{packed, literalsWhole}
+use Rattle.language.specs.Alike.{Alike, both, neither, SameStep, StepPlaced, PlacedBy, alike-meeting, alike-map, alike-formOf}
+use Rattle.language.specs.Forms.{statementForm, formOf, setsNumber, replacement}
+use Rattle.language.specs.Keywords.{Kind, REPLACEMENT, END, sameKind, leading}
+use Rattle.language.specs.Laws.{same-kind}
+use Rattle.language.specs.Placed.{Each, Sizes, AllPlaced, programSizes}
+use Rattle.language.specs.Program.{Statement, Step, Program}
+use Rattle.language.specs.Reading as Reading
+use Rattle.language.specs.Reading.{
+  Purpose,
+  number,
+  string,
+  purposeNumber,
+  Naming,
+  Role,
+  Met,
+  naming,
+  Read,
+  got,
+  broken,
+  meeting,
+  give,
+  _>>=_,
+}
+use Rattle.language.specs.Words.{Places, nameLength, name, nameAs, noRole, stringName, partName}
+use Rattle.judgement.specs.Known.{Label, Routine, Known, nothingKnown, sameNaming, strings, numbers, namesFor, isOneOf, isStep, learn}
+use Rattle.judgement.specs.Refusals.{labelForm, labelled, readStatement}
+use Rattle.judgement.specs.Deck.{unplaced, passed, indexOf, stepOf, routineNamed, placesOf, stepRead, stepsFrom, programOf}
+use Rattle.judgement.specs.Deck.{accepted, judge}
+use Rattle.judgement.specs.Names.{Has, same-naming-refl, any-append, names-for, passed-keeps, learn-keeps, learn-adds, OnePurpose}
+use Rattle.judgement.specs.Names.{passed-one-purpose, used-known}
+use Rattle.judgement.specs.Targets.{isInner, LabelBelow, RoutineBelow, TargetsBelow, passed-goes-on, passed-below}
+use Rattle.judgement.specs.Rules.{Judging, ended, skips, learns, accepted-program}
+
+-- what is read uses a name
+Uses : {A : Type 0} → Naming → Read A → Type 0
+Uses x (got a m rest) = Has x (m .used)
+Uses x broken = Unit
+
+-- a name used is used still behind other names
+uses-behind : {A : Type 0} (x : Naming) (m : Met) (r : Read A) → Uses x r → Uses x (meeting m r)
+unfolding Uses meeting Reading.both
+uses-behind x m (got a n rest) h =
+    any-append (sameNaming x) (m .used) (n .used) ∙ true-behind (any (sameNaming x) (m .used)) (any (sameNaming x) (n .used)) h
+uses-behind x m broken h = tt
+
+-- a name used is used still before others
+uses-before : {A : Type 0} (x : Naming) (m : Met) (r : Read A) → Has x (m .used) → Uses x (meeting m r)
+unfolding Uses meeting Reading.both
+uses-before x m (got a n rest) h = any-append (sameNaming x) (m .used) (n .used) ∙ ap (λ b. b || any (sameNaming x) (n .used)) h
+uses-before x m broken h = tt
+
+-- a name used is used still whatever is read next
+uses-next : {A B : Type 0} (x : Naming) (r : Read A) (f : A × List ℕ → Read B) → Uses x r → Uses x (r >>= f)
+unfolding Uses _>>=_
+uses-next x (got a m rest) f h = uses-before x m (f (a, rest)) h
+uses-next x broken f h = tt
+
+-- a name at the front is used
+uses-name : (p : Purpose) (roles : List ℕ → List Role) (bs : List ℕ)
+    → Uses (record { purpose = p; name = take (nameLength bs) bs }) (nameAs (λ n. naming p (roles n) n) bs)
+unfolding Uses nameAs name give naming meeting _>>=_ Reading.both Reading.nothing any
+uses-name p roles bs =
+    let x : Naming = record { purpose = p; name = take (nameLength bs) bs } in
+    let n = nameLength bs in
+    test-cases
+    (λ t. Uses x ((elim t [ true ↦ give (take n bs) (drop n bs) | false ↦ broken ]) >>= (λ (w, rest). got w (naming p (roles w) w) rest)))
+    (leb 1 n) (λ _. ap (λ b. b || false) (same-naming-refl x)) (λ _. tt)
+
+-- a replacement of no number uses the name at its front as a string
+uses-string : (e : Edition) (isNumber : List ℕ → Bool) (at : Places) (bs : List ℕ) → setsNumber e isNumber at bs ≡ false
+    → Uses (record { purpose = string; name = take (nameLength bs) bs }) (replacement e isNumber at bs)
+unfolding replacement partName stringName
+uses-string e isNumber at bs h =
+    let x : Naming = record { purpose = string; name = take (nameLength bs) bs } in
+    rw (h, replacement) (uses-next x _ _ (uses-next x _ _ (uses-next x _ _ (uses-name string noRole bs))))
+
+-- what a statement's form uses the statement uses
+uses-labelled : {A : Type 0} (x : Naming) (label : Read (Unit {0})) (whole : Bool) (form : Read A) → Uses x form
+    → Uses x (labelled label whole form)
+unfolding Uses labelled
+uses-labelled x (got u m rest) true form h = uses-behind x m form h
+uses-labelled x (got u m rest) false form h = tt
+uses-labelled x broken whole form h = tt
+
+-- labelled alike what is read alike stays so
+alike-labelled : {K : Naming → Type 0} {A : Type 0} {R : A → A → Type 0} {P : A → Type 0} {x y : Read A} (label : Read (Unit {0}))
+    (whole : Bool) → Alike K R P x y → Alike K R P (labelled label whole x) (labelled label whole y)
+unfolding labelled
+alike-labelled (got u m rest) true h = alike-meeting {Q = Unit {0}} m (λ _. tt) (alike-map (λ _ p _. p) h)
+alike-labelled (got u m rest) false h = neither
+alike-labelled broken whole h = neither
+
+-- a string is no number
+string-not-number : ¬ (string ≡ number)
+unfolding purposeNumber
+string-not-number h = let z : _≡_ {A = ℕ} 4 3 = ap purposeNumber h in omega arith
+
+-- two tests, each before the same test, agree where the second follows from the first and not without it
+tests-agree : (a b c : Bool) → (a ≡ true → b ≡ true) → (a ≡ false → ¬ (b ≡ true)) → (a && c) ≡ (b && c)
+tests-agree true b c follows only = ap (λ t. t && c) (sym (follows refl))
+tests-agree false true c follows only = absurd (only refl refl)
+tests-agree false false c follows only = refl
+
+-- the kind of a statement, and what stands behind its keyword
+abbrev kindOf : List ℕ → Kind
+kindOf text = leading (packed text) .kind
+
+abbrev bodyOf : List ℕ → List ℕ
+bodyOf text = drop (leading (packed text) .size) (packed text)
+
+-- a name is a number for a replacement of it where it is one for the whole deck
+numbers-agree : (e : Edition) (k after : Known) (label text : List ℕ) (s : Option Statement) (m : Met) (rest : List ℕ) (at : Places)
+    → kindOf text ≡ REPLACEMENT → readStatement e (isOneOf (numbers k)) unplaced label text ≡ got s m rest
+    → ((x : Naming) → Has x (k .names) → Has x (after .names)) → ((x : Naming) → Has x (m .used) → Has x (after .names))
+    → OnePurpose (after .names)
+    → setsNumber e (isOneOf (numbers k)) unplaced (bodyOf text) ≡ setsNumber e (isOneOf (numbers after)) at (bodyOf text)
+unfolding setsNumber isOneOf numbers readStatement statementForm formOf Uses
+numbers-agree e k after label text s m rest at kind q keeps adds one =
+    let bs = bodyOf text in
+    let w = take (nameLength bs) bs in
+    let equals = begins (bytes "=") (drop (nameLength bs) bs) in
+    let x : Naming = record { purpose = string; name = w } in
+    let y : Naming = record { purpose = number; name = w } in
+    let isNumber : List ℕ → Bool = λ n. any (same n) (namesFor number (k .names)) in
+    tests-agree (isNumber w) (any (same w) (namesFor number (after .names))) equals
+    (λ h. names-for number w (after .names) ∙ keeps y (sym (names-for number w (k .names)) ∙ h))
+    (λ h g.
+    let form = uses-string e isNumber unplaced bs (ap (λ t. t && equals) h) in
+    let used = uses-labelled x (labelForm label) (literalsWhole text) _ form in
+    let known = adds x (subst (Uses x) (rw kind at q) used) in
+    string-not-number (one w string number known (sym (names-for number w (after .names)) ∙ g)))
+
+-- a statement is read alike with any places
+alike-readStatement : (K : Naming → Type 0) (z : Sizes) (e : Edition) (at at′ : Places) (isNumber isNumber′ : List ℕ → Bool)
+    (label text : List ℕ) → PlacedBy K z at′
+    → (kindOf text ≡ REPLACEMENT → setsNumber e isNumber at (bodyOf text) ≡ setsNumber e isNumber′ at′ (bodyOf text))
+    → (isInner (kindOf text) ≡ true → at′ .next < z .steps)
+    → Alike K (SameStep (isStep (kindOf text))) (StepPlaced z) (readStatement e isNumber at label text)
+    (readStatement e isNumber′ at′ label text)
+unfolding readStatement statementForm isStep
+alike-readStatement K z e at at′ isNumber isNumber′ label text placed agree next =
+    alike-labelled (labelForm label) (literalsWhole text)
+    (alike-formOf K z e at at′ placed isNumber isNumber′ (kindOf text) (bodyOf text) (λ h. agree (same-kind (kindOf text) REPLACEMENT h))
+    next)
+
+-- a name in a list stands at a place in it
+index-below : (w : List ℕ) (ws : List (List ℕ)) → any (same w) ws ≡ true → indexOf w ws < length ws
+unfolding indexOf any
+index-below w [] h = absurd (false≢true h)
+index-below w (v ∷ ws) h =
+    test-cases (λ t. (elim t [ true ↦ 0 | false ↦ suc (indexOf w ws) ]) < suc (length ws)) (same w v) (λ _. omega arith)
+    (λ differs. omega (arith, index-below w ws (rw differs at h)))
+
+-- a label's step is below a bound of all, and so is that of no label
+step-below : (b : ℕ) (ls : List Label) (n : List ℕ) → 0 < b → Each (LabelBelow b) ls → stepOf ls n < b
+unfolding stepOf Each
+step-below b [] n h g = h
+step-below b (l ∷ ls) n h g =
+    test-cases (λ t. (elim t [ true ↦ l .step | false ↦ stepOf ls n ]) < b) (same n (l .name)) (λ _. g .0) (λ _. step-below b ls n h (g .1))
+
+-- a routine's steps are below a bound of all, and so are those of no routine
+routine-below : (b : ℕ) (rs : List Routine) (n : List ℕ) → 0 < b → Each (RoutineBelow b) rs → RoutineBelow b (routineNamed rs n)
+unfolding routineNamed Each
+routine-below b [] n h g = (h, h)
+routine-below b (r ∷ rs) n h g =
+    test-cases (λ t. RoutineBelow b (elim t [ true ↦ r | false ↦ routineNamed rs n ])) (same n (r .name)) (λ _. g .0)
+    (λ _. routine-below b rs n h (g .1))
+
+-- the names of a deck
+abbrev NamesOf : Known → Naming → Type 0
+NamesOf k x = Has x (k .names)
+
+-- the counts of a deck
+sizesOf : Known → Sizes
+sizesOf k = record { strings = length (strings k); numbers = length (numbers k); steps = k .steps }
+
+-- the places of a deck that passes are below its counts
+deck-placed : (k : Known) (n : ℕ) → 0 < k .steps → TargetsBelow (k .steps) k → PlacedBy (NamesOf k) (sizesOf k) (placesOf k n)
+unfolding sizesOf placesOf strings numbers
+deck-placed k n h t =
+    record {
+      string = λ w g. index-below w (namesFor string (k .names)) (names-for string w (k .names) ∙ g);
+      number = λ w g. index-below w (namesFor number (k .names)) (names-for number w (k .names) ∙ g);
+      label = λ w. step-below (k .steps) (k .labels) w h (t .labels);
+      entry = λ w. routine-below (k .steps) (k .routines) w h (t .routines) .0;
+      exit = λ w. routine-below (k .steps) (k .routines) w h (t .routines) .1;
+    }
+
+-- steps from number n on, up to the count, all placed
+StepsPlaced : Sizes → ℕ → List Step → Type 0
+StepsPlaced z n ss = AllPlaced z ss × (length ss + n ≡ z .steps)
+
+-- a statement read alike goes before the steps that are placed behind it
+statement-placed : {K : Naming → Type 0} {z : Sizes} {s : Option Statement} {m : Met} {rest : List ℕ} {read : Read (Option Statement)}
+    (step : Bool) → Alike K (SameStep step) (StepPlaced z) (got s m rest) read → Each K (m .used) → (card n : ℕ) (more : ℕ → List Step)
+    → StepsPlaced z (cond step (suc n) n) (more (cond step (suc n) n))
+    → StepsPlaced z n (stepRead card read ++ more (elim (stepRead card read) [ [] ↦ n | s ∷ ss ↦ suc n ]))
+unfolding StepsPlaced stepRead Each
+statement-placed true (both {a = some a} {b = some b} r p) known card n more h = ((p known, h .0), omega arith)
+statement-placed true (both {a = some a} {b = none} r p) known card n more h = absurd r
+statement-placed true (both {a = none} r p) known card n more h = absurd r
+statement-placed false (both {a = none} {b = none} r p) known card n more h = h
+statement-placed false (both {a = none} {b = some b} r p) known card n more h = absurd r
+statement-placed false (both {a = some a} r p) known card n more h = absurd r
+
+-- behind a step that is not END's another comes
+next-below : {e : Edition} {after : Known} {es : List Entry} (k : Known) (kind : Kind) (m : Met)
+    → Judging e (learn k kind m) es (passed after) → isInner kind ≡ true → suc (k .steps) < after .steps
+unfolding learn
+next-below k kind m j inner =
+    let parts = and-eq-true-iff (isStep kind) (not (sameKind kind END)) .0 inner in
+    let below = passed-goes-on (not-true (sameKind kind END) (parts .1)) j in
+    rw (parts .0) at below
+
+-- a deck that passes, each name of it with one purpose and a place
+module _ (e : Edition) (after : Known) (one : OnePurpose (after .names))
+    (placed : (n : ℕ) → PlacedBy (NamesOf after) (sizesOf after) (placesOf after n)) where
+  -- a statement that passes is read alike with the places of the deck
+  passed-alike : (k : Known) (label text : List ℕ) {es : List Entry} (s : Option Statement) (m : Met) (rest : List ℕ)
+      → readStatement e (isOneOf (numbers k)) unplaced label text ≡ got s m rest
+      → Judging e (learn k (kindOf text) m) es (passed after)
+      → Alike (NamesOf after) (SameStep (isStep (kindOf text))) (StepPlaced (sizesOf after)) (got s m rest)
+      (readStatement e (isOneOf (numbers after)) (placesOf after (suc (k .steps))) label text)
+  unfolding sizesOf placesOf
+  passed-alike k label text s m rest q j =
+      let z = sizesOf after in
+      let at = placesOf after (suc (k .steps)) in
+      let isNumber = isOneOf (numbers after) in
+      let keeps : (x : Naming) → Has x (k .names) → Has x (after .names) = λ x h. passed-keeps j x (learn-keeps x k (kindOf text) m h) in
+      let adds : (x : Naming) → Has x (m .used) → Has x (after .names) = λ x h. passed-keeps j x (learn-adds x k (kindOf text) m h) in
+      subst (λ r. Alike (NamesOf after) (SameStep (isStep (kindOf text))) (StepPlaced z) r (readStatement e isNumber at label text)) q
+      (alike-readStatement (NamesOf after) z e unplaced at (isOneOf (numbers k)) isNumber label text (placed (suc (k .steps)))
+      (λ h. numbers-agree e k after label text s m rest at h q keeps adds one) (next-below k (kindOf text) m j))
+
+  -- entries that pass make steps that are placed, as many as were counted
+  passed-placed : {k : Known} {es : List Entry} → Judging e k es (passed after)
+      → StepsPlaced (sizesOf after) (k .steps) (stepsFrom e after (k .steps) es)
+  unfolding stepsFrom StepsPlaced Each sizesOf learn
+  passed-placed (ended _) = (tt, omega arith)
+  passed-placed (skips j) = passed-placed j
+  passed-placed (learns {k} {card} {label} {text} {es} s m rest q p j) =
+      statement-placed (isStep (kindOf text)) (passed-alike k label text s m rest q j) (used-known k (kindOf text) m j) card (k .steps)
+      (λ n. stepsFrom e after n es) (passed-placed j)
+
+-- before the first statement no label or routine is known
+nothing-below : TargetsBelow 1 nothingKnown
+unfolding nothingKnown Each
+nothing-below = record { labels = tt; routines = tt }
+
+-- and no name
+nothing-one-purpose : OnePurpose (nothingKnown .names)
+unfolding nothingKnown any
+nothing-one-purpose w p q x y = absurd (false≢true x)
+
+-- every statement of an accepted program names strings, numbers and steps that the program has
+pub accepted-placed : (e : Edition) (deck : List ℕ) (p : Program) → judge e deck ≡ accepted p → AllPlaced (programSizes p) (p .steps)
+unfolding programOf sizesOf StepsPlaced nothingKnown
+accepted-placed e deck p q =
+    accepted-program e deck p q (λ p. AllPlaced (programSizes p) (p .steps)) (λ k j _ _.
+    let one = passed-one-purpose j nothing-one-purpose in
+    let targets = passed-below j nothing-below in
+    let steps = passed-placed e k one (λ n. deck-placed k n (passed-goes-on refl j) targets) j in
+    let ss = stepsFrom e k 0 (entries e deck) in
+    let count : k .steps ≡ length ss = omega (arith, steps .1) in
+    let sizes : ℕ → Sizes = λ n. record { strings = length (strings k); numbers = length (numbers k); steps = n } in
+    subst (λ n. AllPlaced (sizes n) ss) count (steps .0))
