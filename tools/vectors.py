@@ -4,7 +4,7 @@ import glob, os, re
 
 ROOT = os.path.dirname(os.path.dirname(os.path.abspath(__file__)))
 SPECS = os.path.join(ROOT, "crates/vectors/specs")
-DEFINITIONS = ["base", "scanning", "cards", "language", "judgement", "values", "machine"]
+DEFINITIONS = ["base", "scanning", "cards", "language", "judgement", "values", "machine", "calls"]
 PER_FILE = 20
 
 
@@ -59,11 +59,13 @@ def main():
         module = "Decks%02d" % (i // PER_FILE)
         modules.append(module)
         lines = ["-- Decks with their inputs and traces. Assumes nothing.", "use mathlib.Core.Bool.{true}",
-                 "use mathlib.Core.Path.{_≡_, refl}", "use Rattle.vectors.specs.Trace.{agrees}"]
+                 "use mathlib.Core.Path.{_≡_, refl}", "use Rattle.vectors.specs.Trace.{agrees, agreesWhole}"]
         for deck in decks[i:i + PER_FILE]:
             name = os.path.basename(deck)[:-5]
-            data = [open(deck[:-5] + ext, "rb").read() for ext in (".deck", ".in", ".trace")]
-            lines += ["", f"{name} : agrees {' '.join(text(d) for d in data)} ≡ true", "unfolding agrees", f"{name} = refl"]
+            whole = os.path.exists(deck[:-5] + ".out")
+            data = [open(deck[:-5] + ext, "rb").read() for ext in (".deck", ".in", ".trace") + ((".out",) if whole else ())]
+            test = "agreesWhole" if whole else "agrees"
+            lines += ["", f"{name} : {test} {' '.join(text(d) for d in data)} ≡ true", f"unfolding {test}", f"{name} = refl"]
         write(module, lines)
     scans = open(os.path.join(ROOT, "tests/vectors/scans.txt")).read().splitlines()
     lines = ["-- Scans with their answers, some hundred a fact. Assumes nothing.", "use mathlib.Core.Bool.{true}",

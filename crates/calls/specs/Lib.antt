@@ -1,17 +1,28 @@
 -- The calls: numbers as bytes (Numerals), a program as a table (Table) and back (TableReading), when a program is in range (Rules), store
 -- and state (Buffers) with their laws (BufferLaws, over Splices), what each call answers and leaves (Calls), the demands (Demands).
 -- Laws: numbers (NumeralLaws), cells (CellLaws), rows (RowLaws) and programs (TableLaws) are read back from their bytes (ByteLaws).
+-- Demand 3 proved (DemandLaws): programs in range run (ProgramLaws, NumberBounds, Invariant), buffers hold the machine (Holding), steps on
+-- them do what it does (StepLaws, ScanLaws), and stopped ones change the status alone (StopLaws).
 pub mod BufferLaws
 pub mod Buffers
 pub mod ByteLaws
 pub mod Calls
 pub mod CellLaws
+pub mod DemandLaws
 pub mod Demands
+pub mod Holding
+pub mod Invariant
+pub mod NumberBounds
 pub mod NumeralLaws
 pub mod Numerals
+pub mod ProgramLaws
 pub mod RowLaws
 pub mod Rules
+pub mod ScanLaws
 pub mod Splices
+pub mod StepLaws
+pub mod StopLaws
+pub mod Strigol
 pub mod Table
 pub mod TableLaws
 pub mod TableReading

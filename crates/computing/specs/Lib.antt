@@ -117,6 +117,17 @@ unfolding
     Rattle.language.specs.Numeric.termAt
     Rattle.language.specs.Numeric.moreFactors
     Rattle.language.specs.Numeric.factorAt
+    Rattle.language.specs.Placed.Each
+    Rattle.language.specs.Placed.LengthPlaced
+    Rattle.language.specs.Placed.PartPlaced
+    Rattle.language.specs.Placed.OperandPlaced
+    Rattle.language.specs.Placed.ItemPlaced
+    Rattle.language.specs.Placed.ElementPlaced
+    Rattle.language.specs.Placed.PatternPlaced
+    Rattle.language.specs.Placed.TestPlaced
+    Rattle.language.specs.Placed.BranchPlaced
+    Rattle.language.specs.Placed.ReplacementPlaced
+    Rattle.language.specs.Placed.StatementPlaced
     Rattle.language.specs.Reading.purposeNumber
     Rattle.language.specs.Reading.samePurpose
     Rattle.language.specs.Reading.nothing
@@ -189,6 +200,7 @@ unfolding
     Rattle.judgement.specs.Known.closed
     Rattle.judgement.specs.Known.scopeAfter
     Rattle.judgement.specs.Known.learn
+    Rattle.judgement.specs.Laws.LastFinishes
     Rattle.judgement.specs.Refusals.isMisplaced
     Rattle.judgement.specs.Refusals.labelForm
     Rattle.judgement.specs.Refusals.labelled
@@ -296,4 +308,146 @@ unfolding
     Rattle.machine.specs.Step.turnedDownBy
     Rattle.machine.specs.Step.concluded
     Rattle.machine.specs.Step.step
+    Rattle.calls.specs.BufferLaws.storeWith
+    Rattle.calls.specs.Buffers.cellSize
+    Rattle.calls.specs.Buffers.storeSize
+    Rattle.calls.specs.Buffers.cellImage
+    Rattle.calls.specs.Buffers.storeImage
+    Rattle.calls.specs.Buffers.stringIn
+    Rattle.calls.specs.Buffers.stringsFrom
+    Rattle.calls.specs.Buffers.stringsIn
+    Rattle.calls.specs.Buffers.cellKeeps
+    Rattle.calls.specs.Buffers.cellsKeep
+    Rattle.calls.specs.Buffers.storeKeeps
+    Rattle.calls.specs.Buffers.stateSize
+    Rattle.calls.specs.Buffers.returnsAt
+    Rattle.calls.specs.Buffers.numbersAt
+    Rattle.calls.specs.Buffers.statusNumber
+    Rattle.calls.specs.Buffers.statusOf
+    Rattle.calls.specs.Buffers.returnsIn
+    Rattle.calls.specs.Buffers.numbersIn
+    Rattle.calls.specs.Buffers.stateKeeps
+    Rattle.calls.specs.Buffers.stateIn
+    Rattle.calls.specs.Buffers.storeLeft
+    Rattle.calls.specs.Buffers.stateLeft
+    Rattle.calls.specs.Buffers.outputLeft
+    Rattle.calls.specs.Buffers.firstState
+    Rattle.calls.specs.Calls.longestDeck
+    Rattle.calls.specs.Calls.readJudged
+    Rattle.calls.specs.Calls.readCall
+    Rattle.calls.specs.Calls.startCall
+    Rattle.calls.specs.Calls.givenIn
+    Rattle.calls.specs.Calls.outOfRange
+    Rattle.calls.specs.Calls.stepRefusal
+    Rattle.calls.specs.Calls.carried
+    Rattle.calls.specs.Calls.stepCall
+    Rattle.calls.specs.Calls.buffersAfter
+    Rattle.calls.specs.Calls.outcomeNumber
+    Rattle.calls.specs.Calls.runEnded
+    Rattle.calls.specs.Calls.withStep
+    Rattle.calls.specs.Calls.runBehind
+    Rattle.calls.specs.Calls.runCall
+    Rattle.calls.specs.Demands.LeftBy
+    Rattle.calls.specs.Demands.HoldsProgram
+    Rattle.calls.specs.Demands.startedWith
+    Rattle.calls.specs.Demands.Demand3
+    Rattle.calls.specs.Numerals.inBytes
+    Rattle.calls.specs.Numerals.numberAt
+    Rattle.calls.specs.Numerals.bias
+    Rattle.calls.specs.Numerals.biased
+    Rattle.calls.specs.Numerals.unbiased
+    Rattle.calls.specs.Rules.mostWaiting
+    Rattle.calls.specs.Rules.balanced
+    Rattle.calls.specs.Rules.placeOf
+    Rattle.calls.specs.Rules.signedLengthHolds
+    Rattle.calls.specs.Rules.lengthHolds
+    Rattle.calls.specs.Rules.partHolds
+    Rattle.calls.specs.Rules.operandHolds
+    Rattle.calls.specs.Rules.itemHolds
+    Rattle.calls.specs.Rules.elementHolds
+    Rattle.calls.specs.Rules.patternHolds
+    Rattle.calls.specs.Rules.rowHolds
+    Rattle.calls.specs.Rules.branchHolds
+    Rattle.calls.specs.Rules.testHolds
+    Rattle.calls.specs.Rules.statementHolds
+    Rattle.calls.specs.Rules.stepHolds
+    Rattle.calls.specs.Rules.isFinish
+    Rattle.calls.specs.Rules.lastFinishes
+    Rattle.calls.specs.Rules.isProgram
+    Rattle.calls.specs.Rules.keepsRules
+    Rattle.calls.specs.Splices.splice
+    Rattle.calls.specs.Strigol.keptDeck
+    Rattle.calls.specs.Strigol.keptInput
+    Rattle.calls.specs.Strigol.lentOutput
+    Rattle.calls.specs.Strigol.mostSteps
+    Rattle.calls.specs.Strigol.outcomeWord
+    Rattle.calls.specs.Strigol.closingLine
+    Rattle.calls.specs.Strigol.printedBy
+    Rattle.calls.specs.Strigol.printedFor
+    Rattle.calls.specs.Strigol.printed
+    Rattle.calls.specs.Table.cell
+    Rattle.calls.specs.Table.noCell
+    Rattle.calls.specs.Table.cellBytes
+    Rattle.calls.specs.Table.lengthCell
+    Rattle.calls.specs.Table.partCell
+    Rattle.calls.specs.Table.operandCell
+    Rattle.calls.specs.Table.operatorKind
+    Rattle.calls.specs.Table.signKind
+    Rattle.calls.specs.Table.itemCell
+    Rattle.calls.specs.Table.range
+    Rattle.calls.specs.Table.elementCell
+    Rattle.calls.specs.Table.patternCell
+    Rattle.calls.specs.Table.literalIn
+    Rattle.calls.specs.Table.replacementOf
+    Rattle.calls.specs.Table.elementsOf
+    Rattle.calls.specs.Table.itemsOf
+    Rattle.calls.specs.Table.rowBytes
+    Rattle.calls.specs.Table.row
+    Rattle.calls.specs.Table.rangeCell
+    Rattle.calls.specs.Table.comparisonNumber
+    Rattle.calls.specs.Table.directionNumber
+    Rattle.calls.specs.Table.replacementFlag
+    Rattle.calls.specs.Table.testRow
+    Rattle.calls.specs.Table.rowOf
+    Rattle.calls.specs.Table.stepRows
+    Rattle.calls.specs.Table.allElements
+    Rattle.calls.specs.Table.allItems
+    Rattle.calls.specs.Table.allLiterals
+    Rattle.calls.specs.Table.elementRows
+    Rattle.calls.specs.Table.itemRows
+    Rattle.calls.specs.Table.filledTo
+    Rattle.calls.specs.Table.stepsAt
+    Rattle.calls.specs.Table.elementsAt
+    Rattle.calls.specs.Table.itemsAt
+    Rattle.calls.specs.Table.literalsAt
+    Rattle.calls.specs.Table.format
+    Rattle.calls.specs.Table.header
+    Rattle.calls.specs.Table.image
+    Rattle.calls.specs.TableReading.cellAt
+    Rattle.calls.specs.TableReading.rangeFrom
+    Rattle.calls.specs.TableReading.rangeCount
+    Rattle.calls.specs.TableReading.rangeMore
+    Rattle.calls.specs.TableReading.lengthOfCell
+    Rattle.calls.specs.TableReading.partOfCell
+    Rattle.calls.specs.TableReading.operandOfCell
+    Rattle.calls.specs.TableReading.operatorOfKind
+    Rattle.calls.specs.TableReading.signOfKind
+    Rattle.calls.specs.TableReading.itemOfCell
+    Rattle.calls.specs.TableReading.elementOfCell
+    Rattle.calls.specs.TableReading.patternOfCell
+    Rattle.calls.specs.TableReading.itemsFrom
+    Rattle.calls.specs.TableReading.elementsFrom
+    Rattle.calls.specs.TableReading.patternFrom
+    Rattle.calls.specs.TableReading.comparisonOf
+    Rattle.calls.specs.TableReading.rowAt
+    Rattle.calls.specs.TableReading.branchOf
+    Rattle.calls.specs.TableReading.testOf
+    Rattle.calls.specs.TableReading.elementsOfRow
+    Rattle.calls.specs.TableReading.patternOfRow
+    Rattle.calls.specs.TableReading.replacementOfRow
+    Rattle.calls.specs.TableReading.directionOf
+    Rattle.calls.specs.TableReading.statementOfRow
+    Rattle.calls.specs.TableReading.stepIn
+    Rattle.calls.specs.TableReading.stepsFrom
+    Rattle.calls.specs.TableReading.programIn
 everything = tt

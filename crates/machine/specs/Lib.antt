@@ -1,5 +1,7 @@
 -- The machine on strings and numbers: what it holds (State), values of expressions (Expressions), scanning statements (Scanning), one
--- step of each statement (Step), a run (Run).
+-- step of each statement (Step), a run (Run); how work ends (Ends) and that it leaves a memory within its bounds (Bounds).
+pub mod Bounds
+pub mod Ends
 pub mod Expressions
 pub mod Run
 pub mod Scanning

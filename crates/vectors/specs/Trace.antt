@@ -1,5 +1,5 @@
 -- A deck's judgement and the first steps of its run, written as the vectors write them. Assumes nothing.
-use mathlib.Core.Bool.{Bool, true, false, cond}
+use mathlib.Core.Bool.{Bool, true, false, cond, _&&_}
 use mathlib.Core.List.{List, [], _∷_, _++_, map, reverse}
 use mathlib.Core.Option.{Option, none, some}
 use Prim.Native.Nat.{ℕ, zero, suc, _+_, _*_, _-_, _/_, _%_}
@@ -10,6 +10,7 @@ use lib.ListN.{length, drop, getD}
 use Rattle.base.specs.Edition.{edition1}
 use Rattle.base.specs.Lists.{same, begins, all}
 use Rattle.base.specs.Text.{bytes}
+use Rattle.calls.specs.Strigol.{printed}
 use Rattle.cards.specs.Cards.{entries, lines}
 use Rattle.computing.specs.{everything}
 use Rattle.judgement.specs.Deck as Deck
@@ -118,6 +119,12 @@ trace deck input = traced (judgeFrom edition1 nothingKnown (entries edition1 dec
 unfoldable pub agrees : (deck input expected : String) → Bool
 unfolding everything integer commas hexDigit hex pairs split status cardOf line steps stringNames numberNames traced trace
 agrees deck input expected = same (trace (bytes deck) (bytes input)) (bytes expected)
+
+-- the same, and the program prints this
+unfoldable pub agreesWhole : (deck input expected output : String) → Bool
+unfolding everything agrees
+agreesWhole deck input expected output =
+    agrees deck input expected && same (printed edition1 (bytes deck) (bytes input)) (bytes output)
 
 -- The scans are lines `REFERENCE ELEMENT.. => answer`. A reference is in hex, `-` if null; `s:HEX` is a string, `f:N` a fixed filler, `x` a
 -- free one; the answer is `start;lengths trials` or `FAIL trials`.

@@ -1,0 +1,209 @@
+-- The customer's third demand, proved, and that the table of an accepted deck holds its program. Both assume that the program of an
+-- accepted deck is in range: acceptedHolds, a parameter.
+use mathlib.Core.Bool.{Bool, true, false, cond}
+use mathlib.Core.List.{List, _++_}
+use mathlib.Core.Option.{Option}
+use mathlib.Core.Path.{_≡_, refl, sym, _∙_, ap, ap₂, subst, subst₂}
+use Prim.Native.Nat.{ℕ, _+_, _*_, _-_, _≤_, _<_}
+use native.Mathlib.Omega.{arith}
+use lib.Dec.{ltb, eqb, lit<, lit≤}
+use lib.ListN.{length, drop, replicate, length-append, length-replicate}
+use borrow.Author.Tests.{le-ltb, ltb-true, ltb-false, eqb-true, eqb-false}
+use Rattle.base.specs.Edition.{Edition, edition1}
+use Rattle.judgement.specs.Deck.{Judgement, accepted, judge}
+use Rattle.language.specs.Program as Program
+use Rattle.language.specs.Program.{Part, PatternElement, Direction, Branch, Program}
+use Rattle.machine.specs.Run.{after}
+use Rattle.machine.specs.State.{State, freshMemory, fresh, mostStrings}
+use Rattle.machine.specs.Step.{carrying, statementAt, turnedDownBy, concluded, step}
+use Rattle.values.specs.Conversion.{longestString}
+use Rattle.calls.specs.BufferLaws.{fresh-image}
+use Rattle.calls.specs.Buffers.{storeSize, stateSize, stateIn, storeLeft, stateLeft, outputLeft, firstState}
+use Rattle.calls.specs.Calls.{longestDeck, ReadCalled, readJudged, readCall, StartCalled, startCall, Buffers, givenIn}
+use Rattle.calls.specs.Calls.{carried, stepCall, buffersAfter}
+use Rattle.calls.specs.Demands.{Scans, StepClaim, HoldsProgram, startedWith, Demand3}
+use Rattle.calls.specs.Holding.{Holding, leftOf, left-holds}
+use Rattle.calls.specs.Invariant.{Sound, returns-enough, next-sound, fresh-sound}
+use Rattle.calls.specs.ProgramLaws.{Runs, program-runs}
+use Rattle.calls.specs.Numerals.{bias}
+use Rattle.calls.specs.Rules.{isProgram}
+use Rattle.calls.specs.ScanLaws.{concluded-scans}
+use Rattle.calls.specs.StepLaws.{Tabled, small-refused, small-called, small-after, refusal-held, call-held, step-holds, after-holds}
+use Rattle.calls.specs.Table.{image, literalsAt}
+use Rattle.calls.specs.TableLaws.{image-length, programIn-image, image-keeps}
+
+-- the deck call, by how its two sizes and its deck come out
+abbrev readBy : Edition → List ℕ → (long short : Bool) → Judgement → ReadCalled
+readBy e table long short j =
+    cond long (record { number = 1; card = 0; table = table })
+    (cond short (record { number = 2; card = 0; table = table })
+    (readJudged e table j))
+
+-- of an accepted deck, with both sizes right
+accepted-table : (e : Edition) (table : List ℕ) (long short : Bool) (p : Program) → readBy e table long short (accepted p) .number ≡ 0
+    → readBy e table long short (accepted p) .table ≡ image e p ++ drop (e .tableSize) table
+unfolding readJudged
+accepted-table e table true short p h = absurd (omega arith)
+accepted-table e table false true p h = absurd (omega arith)
+accepted-table e table false false p h = refl
+
+-- what the deck call leaves of an accepted deck
+read-table : (e : Edition) (deck table : List ℕ) (p : Program) → judge e deck ≡ accepted p → readCall e deck table .number ≡ 0
+    → readCall e deck table .table ≡ image e p ++ drop (e .tableSize) table
+unfolding readCall
+read-table e deck table p judged h =
+    let long = ltb longestDeck (length deck) in
+    let short = ltb (length table) (e .tableSize) in
+    ap (λ j. readBy e table long short j .table) judged
+    ∙ accepted-table e table long short p (ap (λ j. readBy e table long short j .number) (sym judged) ∙ h)
+
+module _ (e : Edition) (limit : e .limit < bias) (size : literalsAt + 4096 ≤ e .tableSize) where
+  -- the table that an accepted deck leaves holds its program
+  read-tabled : (deck table : List ℕ) (p : Program) → isProgram e p ≡ true → judge e deck ≡ accepted p
+      → readCall e deck table .number ≡ 0
+      → Tabled e p (readCall e deck table .table)
+  read-tabled deck table p inside judged h =
+      let rest = drop (e .tableSize) table in
+      let long : e .tableSize ≤ length (image e p ++ rest) = omega (arith, length-append (image e p) rest, image-length e p inside size) in
+      subst (Tabled e p) (sym (read-table e deck table p judged h))
+      (record { size = long; keeps = image-keeps e p rest limit size inside; reads = programIn-image e p rest limit size inside })
+
+-- R12 "32 cells of 1,026 bytes"
+cells-size : 1026 * mostStrings ≡ storeSize
+unfolding mostStrings storeSize
+cells-size = refl
+
+-- what starting leaves is what is left of a machine before its first step
+started-left : (store input output : List ℕ) → storeSize ≤ length store
+    → startedWith store output ≡ leftOf input (record { store = store; state = replicate stateSize 0; output = output }) (fresh input)
+unfolding startedWith startCall storeLeft stateLeft outputLeft firstState fresh freshMemory
+started-left store input output large =
+    let zeroed : StartCalled = record { number = 0; store = replicate storeSize 0 ++ drop storeSize store; state = firstState } in
+    let kept : StartCalled = record { number = 14; store = store; state = firstState } in
+    let started : startCall store ≡ zeroed = ap (λ t. cond t kept zeroed) (le-ltb (length store) storeSize large) in
+    let stores : replicate storeSize 0 ++ drop storeSize store ≡ storeLeft store (fresh input) =
+    ap (λ l. l ++ drop storeSize store) (sym (fresh-image mostStrings ∙ ap (λ n. replicate n 0) cells-size)) in
+    let none-taken : length input - length input ≡ 0 = omega arith in
+    let states : firstState ≡ stateLeft (replicate stateSize 0) input (fresh input) = rw none-taken in
+    (λ i. record { store = started i .store; state = started i .state; output = output })
+    ∙ (λ i. record { store = stores i; state = states i; output = output })
+
+-- a store too small stays
+started-small : (store output : List ℕ) → ltb (length store) storeSize ≡ true → startedWith store output .store ≡ store
+unfolding startedWith startCall
+started-small store output q = rw q
+
+-- numbers fit their places, a string's length is a number, p is a program in range, and the table holds it
+module _ (e : Edition) (limit : e .limit < bias) (wide : longestString ≤ e .limit) (p : Program) (runs : Runs e p)
+    (table input : List ℕ) (t : Tabled e p table) where
+  -- buffers b that hold a machine c in range
+  module _ (lent : ℕ) (c : State) (b : Buffers) (s : Sound e p lent input c) (h : Holding e p lent input c b) where
+    -- a scanning step on them that is neither stopped nor turned down
+    scans-held : (d : Direction) (q : Part) (xs : List PatternElement) (r : Option (List Program.Element)) (f : Branch)
+        → statementAt p (c .next) ≡ Program.scan d q xs r f
+        → stepCall e table input b .number ≡ 0
+        → Scans e (c .memory) d q xs r (stepCall e table input b .answer) (givenIn e table input (stepCall e table input b .left) .memory)
+    unfolding step carried givenIn
+    scans-held d q xs r f is zero = either (eqb (turnedDownBy p c) 0) refl
+      where
+        Claim : Type 0
+        Claim = Scans e (c .memory) d q xs r (stepCall e table input b .answer) (givenIn e table input (stepCall e table input b .left) .memory)
+
+        either : (goes : Bool) → eqb (turnedDownBy p c) 0 ≡ goes → Claim
+        either true goes =
+            let w = carrying e lent (Program.scan d q xs r f) c in
+            let stepped : step e p lent c ≡ concluded c w = rw (goes, is) in
+            let called : stepCall e table input b ≡ carried e table input b (concluded c w) =
+            call-held e p table input t lent c b h true goes ∙ ap (carried e table input b) stepped in
+            let ended = rw is at (next-sound e wide p runs lent input c s (returns-enough p c (eqb-true (turnedDownBy p c) 0 goes))) in
+            let number : concluded c w .answer .number ≡ 0 = sym (ap (λ x. x .number) called) ∙ zero in
+            let held = step-holds e p table input t limit wide runs lent c b s h .given in
+            subst₂ (Scans e (c .memory) d q xs r) (sym (ap (λ x. x .answer) called))
+            (sym (ap (λ x. x .memory) held ∙ ap (λ x. x .state .memory) stepped))
+            (concluded-scans e lent c d q xs r f w refl ended number)
+        either false goes =
+            let number : turnedDownBy p c ≡ 0 = sym (ap (λ x. x .number) (call-held e p table input t lent c b h false goes)) ∙ zero in
+            absurd (eqb-false (turnedDownBy p c) 0 goes number)
+
+    -- the claim of a step on such buffers
+    claim-held : (store : List ℕ) → StepClaim e p table store input c b
+    unfolding givenIn stateIn
+    claim-held store =
+        record {
+          refusal = λ _. refusal-held e p table input t lent c b h;
+          statement = λ _. ap₂ statementAt (t .reads) (ap (λ x. x .next) (h .given));
+          given = λ _. h .given;
+          scans = scans-held;
+        }
+
+  -- with a store too small nothing is claimed of any step
+  claim-small : (store : List ℕ) (c : State) (b : Buffers) → length store < storeSize → length (b .store) < storeSize
+      → StepClaim e p table store input c b
+  claim-small store c b small left =
+      let refused = small-refused e p table input t b left in
+      let called = small-called e p table input t b left in
+      record {
+        refusal = λ large. absurd (omega arith);
+        statement = λ zero. absurd (omega arith);
+        given = λ zero. absurd (omega arith);
+        scans = λ d q xs r f is zero. absurd (omega (arith, ap (λ x. x .number) called));
+      }
+
+  -- the claim of the step behind k steps, by the size of the store lent
+  claim-after : (store output : List ℕ) (k : ℕ)
+      → StepClaim e p table store input (after e p (length output) k (fresh input)) (buffersAfter e table input k (startedWith store output))
+  claim-after store output k = by-size (ltb (length store) storeSize) refl
+    where
+      c : State
+      c = after e p (length output) k (fresh input)
+
+      b : Buffers
+      b = buffersAfter e table input k (startedWith store output)
+
+      by-size : (small : Bool) → ltb (length store) storeSize ≡ small → StepClaim e p table store input c b
+      by-size true q =
+          let small = ltb-true (length store) storeSize q in
+          let same = started-small store output q in
+          let left : length (startedWith store output .store) < storeSize = rw same small in
+          let after-same = small-after e p table input t k (startedWith store output) left in
+          claim-small store c b small (subst (λ (x : Buffers). length (x .store) < storeSize) (sym after-same) left)
+      by-size false q =
+          let lent = length output in
+          let sound = fresh-sound e wide p runs lent input in
+          let base : Buffers = record { store = store; state = replicate stateSize 0; output = output } in
+          let started : Holding e p lent input (fresh input) (startedWith store output) =
+          subst (Holding e p lent input (fresh input)) (sym (started-left store input output (ltb-false (length store) storeSize q)))
+          (left-holds e limit p lent input (fresh input) sound base (length-replicate stateSize 0) refl) in
+          let both = after-holds e p table input t limit wide runs lent k (fresh input) (startedWith store output) sound started in
+          claim-held lent c b (both .0) (both .1) store
+
+-- numbers fit their places, tables and string lengths their sizes, and the program of an accepted deck is in range
+module _ (e : Edition) (limit : e .limit < bias) (wide : longestString ≤ e .limit) (size : literalsAt + 4096 ≤ e .tableSize)
+    (acceptedHolds : (deck : List ℕ) (p : Program) → judge e deck ≡ accepted p → isProgram e p ≡ true) where
+  -- R14, Q13 of every deck and table
+  pub holds-program : (deck table : List ℕ) → HoldsProgram e deck table
+  unfolding HoldsProgram
+  holds-program deck table p judged h =
+      let t = read-tabled e limit size deck table p (acceptedHolds deck p judged) judged h in
+      (t .keeps, t .reads)
+
+  -- demand 3 of every deck, table, store, input and output
+  pub demand3 : (deck table store input output : List ℕ) → Demand3 e deck table store input output
+  unfolding Demand3
+  demand3 deck table store input output p judged h k =
+      let inside = acceptedHolds deck p judged in
+      claim-after e limit wide p (program-runs e p inside) (readCall e deck table .table) input
+      (read-tabled e limit size deck table p inside judged h) store output k
+
+-- the sizes of edition 1 are such
+pub edition1-limit : edition1 .limit < bias
+unfolding edition1 bias
+edition1-limit = lit< tt
+
+pub edition1-wide : longestString ≤ edition1 .limit
+unfolding edition1 longestString
+edition1-wide = lit≤ tt
+
+pub edition1-size : literalsAt + 4096 ≤ edition1 .tableSize
+unfolding edition1 literalsAt
+edition1-size = lit≤ tt

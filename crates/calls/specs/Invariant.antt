@@ -1,0 +1,269 @@
+-- What a machine that runs a program in range holds is in range, before the first step and behind every one. Assumes nothing.
+use mathlib.Core.Bool.{Bool, true, false, cond, _&&_, _||_, and-eq-true-iff}
+use mathlib.Core.List.{List, [], _∷_, _++_}
+use mathlib.Core.Option.{Option, none, some}
+use mathlib.Core.Path.{_≡_, refl, sym, _∙_, ap}
+use Prim.Native.Nat.{ℕ, zero, suc, _+_, _-_, _≤_, _<_, min}
+use native.Mathlib.Omega.{arith}
+use lib.Dec.{leb, ltb, eqb}
+use lib.IntN.{natAbs}
+use lib.ListN.{length, take, drop, getD, length-append, length-take, length-drop}
+use lib.Seq.{drop-drop}
+use borrow.Author.Tests.{leb-true, leb-false, ltb-true, eqb-true}
+use Rattle.base.specs.Choice.{cond-cases}
+use Rattle.base.specs.Edition.{Edition}
+use Rattle.base.specs.Lists.{all, isNil}
+use Rattle.cards.specs.Bytes.{newline}
+use Rattle.language.specs.Program as Program
+use Rattle.language.specs.Program.{Part, whole, first, PatternElement, Direction, Branch, Statement, setNumber, setString, goto}
+use Rattle.language.specs.Program.{finish, ifTest, read, write, execute, return, Program}
+use Rattle.machine.specs.Bounds.{Bounded, fresh-bounded, string-bounded, number-bounded, expression-ends, replacement-bounded, scanning-bounded}
+use Rattle.machine.specs.Ends.{Ends, ends, stops, Any, ends-bind}
+use Rattle.machine.specs.Expressions.{lengthIn}
+use Rattle.machine.specs.State.{Status, stopped, finished, Memory, State, withString, withNumber, fresh, goingTo, withReturns}
+use Rattle.machine.specs.State.{withInput, withOutput, withStatus, isRunning}
+use Rattle.machine.specs.Step.{Done, moving, chosen, scannedTo, recordLength, taking, reading, shortened, putting, returning, carrying}
+use Rattle.machine.specs.Step.{statementAt, mostReturns, lacksReturn, turnedDownBy, Stepped, concluded, step}
+use Rattle.scanning.specs.Splits.{Split}
+use Rattle.values.specs.Conversion.{longestString}
+use Rattle.values.specs.Numbers.{isNegative}
+use Rattle.values.specs.Work.{Work, done, stop, quietly}
+use Rattle.calls.specs.NumberBounds.{expression-ranged, test-ends}
+use Rattle.calls.specs.ProgramLaws.{Runs, right-true, statement-holds, step-behind, first-step}
+use Rattle.calls.specs.Rules.{balanced, itemHolds, partHolds, rowHolds, branchHolds, testHolds, patternHolds, statementHolds}
+use Rattle.calls.specs.Rules.{isFinish, placeOf}
+use Rattle.calls.specs.Table.{replacementOf}
+
+-- every step, held return, string, number, and the places in input and output, are in range
+pub record Sound (e : Edition) (p : Program) (lent : ℕ) (input : List ℕ) (c : State) : Type 0 where
+  pub next : c .next < length (p .steps)
+  pub returns : (i : ℕ) → getD (c .returns) i 0 < length (p .steps)
+  pub count : length (c .returns) ≤ mostReturns
+  pub memory : Bounded e (c .memory)
+  pub unread : c .input ≡ drop (length input - length (c .input)) input
+  pub written : length (c .output) ≤ lent
+
+-- what is left behind some bytes tells how many they are
+drop-unread : (input : List ℕ) (k : ℕ) → drop k input ≡ drop (length input - length (drop k input)) input
+drop-unread input zero = let none-taken : length input - length input ≡ 0 = omega arith in rw none-taken
+drop-unread [] (suc k) = refl
+drop-unread (x ∷ xs) (suc k) =
+    let one-more : suc (length xs) - length (drop k xs) ≡ suc (length xs - length (drop k xs)) = omega (arith, length-drop k xs) in
+    drop-unread xs k ∙ ap (λ j. drop j (x ∷ xs)) (sym one-more)
+
+unread-any : (input rest : List ℕ) (k : ℕ) → rest ≡ drop k input → rest ≡ drop (length input - length rest) input
+unread-any input rest k e = e ∙ drop-unread input k ∙ ap (λ r. drop (length input - length r) input) (sym e)
+
+-- a step that the machine doesn't turn down has the returns it needs
+pub returns-enough : (p : Program) (c : State) → turnedDownBy p c ≡ 0 → lacksReturn (statementAt p (c .next)) (c .returns) ≡ false
+unfolding turnedDownBy
+returns-enough p c = enough (lacksReturn (statementAt p (c .next)) (c .returns))
+  where
+    enough : (lacks : Bool) → _≡_ {A = ℕ} (cond lacks 15 (cond (isRunning (c .status)) 0 16)) 0 → lacks ≡ false
+    enough true h = absurd (omega arith)
+    enough false h = refl
+
+-- a string's length is a number in range, and p is a program that runs
+module _ (e : Edition) (wide : longestString ≤ e .limit) (p : Program) (runs : Runs e p) (lent : ℕ) (input : List ℕ) where
+  abbrev Kept : State → Type 0
+  Kept = Sound e p lent input
+
+  going-sound : (c : State) (k : ℕ) (m : Memory) → Kept c → k < length (p .steps) → Bounded e m → Kept (goingTo k m c)
+  unfolding goingTo
+  going-sound c k m s inside b =
+      record { next = inside; returns = s .returns; count = s .count; memory = b; unread = s .unread; written = s .written }
+
+  status-sound : (c : State) (x : Status) → Kept c → Kept (withStatus x c)
+  unfolding withStatus
+  status-sound c x s =
+      record { next = s .next; returns = s .returns; count = s .count; memory = s .memory; unread = s .unread; written = s .written }
+
+  returns-sound : (c : State) (rs : List ℕ) → Kept c → ((i : ℕ) → getD rs i 0 < length (p .steps)) → length rs ≤ mostReturns
+      → Kept (withReturns rs c)
+  unfolding withReturns
+  returns-sound c rs s inside few =
+      record { next = s .next; returns = inside; count = few; memory = s .memory; unread = s .unread; written = s .written }
+
+  input-sound : (c : State) (n : ℕ) → Kept c → Kept (withInput (drop n (c .input)) c)
+  unfolding withInput
+  input-sound c n s =
+      let taken = length input - length (c .input) in
+      record {
+        next = s .next;
+        returns = s .returns;
+        count = s .count;
+        memory = s .memory;
+        unread = unread-any input (drop n (c .input)) (taken + n) (ap (drop n) (s .unread) ∙ drop-drop n taken input);
+        written = s .written;
+      }
+
+  output-sound : (c : State) (o : List ℕ) → Kept c → length o ≤ lent → Kept (withOutput o c)
+  unfolding withOutput
+  output-sound c o s fits =
+      record { next = s .next; returns = s .returns; count = s .count; memory = s .memory; unread = s .unread; written = fits }
+
+  -- both steps of a branch field
+  abbrev BranchInside : Branch → Type 0
+  BranchInside b = (b .success < length (p .steps)) × (b .failure < length (p .steps))
+
+  branch-inside : (b : Branch) → branchHolds e (p .strings) (p .numbers) (length (p .steps)) b ≡ true → BranchInside b
+  unfolding branchHolds
+  branch-inside b h =
+      let both = and-eq-true-iff (ltb (b .success) (length (p .steps))) (ltb (b .failure) (length (p .steps))) .0 h in
+      (ltb-true _ _ (both .0), ltb-true _ _ (both .1))
+
+  taking-sound : (s most : ℕ) (b : Branch) (c : State) → Kept c → BranchInside b → Kept (taking s most b c)
+  unfolding taking goingTo
+  taking-sound s most b c k inside =
+      let n = recordLength (c .input) in
+      let v = take (min most longestString) (take n (c .input)) in
+      let short : length v ≤ longestString = simp length-take (omega arith) in
+      let m = withString (c .memory) s v in
+      cond-cases Kept (eqb most 0 || isNil (c .input)) (λ q. going-sound c (b .failure) (c .memory) k (inside .1) (k .memory))
+      (λ q.
+      input-sound (goingTo (b .success) m c) (n + 1)
+      (going-sound c (b .success) m k (inside .0) (string-bounded e (c .memory) s v short (k .memory))))
+
+  abbrev KeptDone : Done → Type 0
+  KeptDone d = Kept (d .state)
+
+  reading-sound : (q : Part) (b : Branch) (c : State) → Kept c → BranchInside b → Ends KeptDone (reading q b c)
+  unfolding reading moving quietly
+  reading-sound (whole s) b c k inside = ends (taking-sound s longestString b c k inside)
+  reading-sound (first s n) b c k inside =
+      let z = lengthIn (c .memory) n in
+      cond-cases (Ends KeptDone) (isNegative z) (λ q. stops (omega arith) (omega arith))
+      (λ q. ends (taking-sound s (natAbs z) b c k inside))
+
+  shortened-ends : (v : List ℕ) → Ends Any (shortened v)
+  unfolding shortened
+  shortened-ends v = cond-cases (Ends Any) (leb (length v) longestString) (λ q. ends tt) (λ q. ends tt)
+
+  putting-sound : (v : List ℕ) (c : State) → Kept c → Ends Kept (putting lent v c)
+  unfolding putting quietly
+  putting-sound v c k =
+      let o = c .output ++ (v ++ (newline ∷ [])) in
+      let size : length o ≡ length (c .output) + (length v + 1) = simp length-append (omega arith) in
+      cond-cases (Ends Kept) (isNil v) (λ q. ends k)
+      (λ q.
+      cond-cases (Ends Kept) (leb (length (c .output) + (length v + 1)) lent)
+      (λ fits. let inside : length o ≤ lent = omega (arith, leb-true) in ends (output-sound c o k inside))
+      (λ _. stops (omega arith) (omega arith)))
+
+  returning-sound : (rs : List ℕ) (c : State) → Kept c → ((i : ℕ) → getD rs i 0 < length (p .steps)) → length rs ≤ mostReturns
+      → Kept (returning rs c)
+  unfolding returning
+  returning-sound [] c k inside few = k
+  returning-sound (r ∷ rs) c k inside few =
+      returns-sound (goingTo r (c .memory) c) rs (going-sound c r (c .memory) k (inside 0) (k .memory)) (λ i. inside (suc i)) (omega arith)
+
+  chosen-inside : (r : Bool) (b : Branch) → BranchInside b → chosen r b < length (p .steps)
+  unfolding chosen
+  chosen-inside true b inside = inside .0
+  chosen-inside false b inside = inside .1
+
+  scanned-inside : (s : Option Split) (b : Branch) → BranchInside b → scannedTo s b < length (p .steps)
+  unfolding scannedTo
+  scanned-inside none b inside = inside .1
+  scanned-inside (some s) b inside = inside .0
+
+  abbrev Holds : Statement → Type 0
+  Holds x = statementHolds e (p .strings) (p .numbers) (length (p .steps)) x ≡ true
+
+  scan-branch : (d : Direction) (q : Part) (xs : List PatternElement) (r : Option (List Program.Element)) (b : Branch)
+      → Holds (Program.scan d q xs r b) → BranchInside b
+  unfolding statementHolds
+  scan-branch d q xs r b h =
+      let steps = length (p .steps) in
+      let place = partHolds e (p .strings) (p .numbers) steps q in
+      let few = leb (length xs) 20 in
+      let pattern = all (patternHolds e (p .strings) (p .numbers) steps (placeOf q)) xs in
+      let row = rowHolds e (p .strings) (p .numbers) steps (replacementOf r) in
+      let branch = branchHolds e (p .strings) (p .numbers) steps b in
+      let two = right-true few (pattern && (row && branch)) (right-true place (few && (pattern && (row && branch))) h) in
+      branch-inside b (right-true row branch (right-true pattern (row && branch) two))
+
+  read-branch : (q : Part) (b : Branch) → Holds (read q b) → BranchInside b
+  unfolding statementHolds
+  read-branch q b h =
+      let steps = length (p .steps) in
+      branch-inside b
+      (right-true (partHolds e (p .strings) (p .numbers) steps q) (branchHolds e (p .strings) (p .numbers) steps b) h)
+
+  -- what a statement in range makes of a state in range
+  pub carrying-sound : (c : State) (x : Statement) → Kept c → Holds x → (isFinish x ≡ false → suc (c .next) < length (p .steps))
+      → lacksReturn x (c .returns) ≡ false → Ends KeptDone (carrying e lent x c)
+  unfolding carrying statementHolds isFinish lacksReturn moving quietly
+  carrying-sound c (setNumber i x) k h behind returns =
+      let items = all (itemHolds e (p .strings) (p .numbers) (length (p .steps))) x in
+      let r = right-true (balanced 0 x) items (right-true (ltb i (p .numbers)) (balanced 0 x && items) h) in
+      ends-bind (expression-ranged e wide (p .strings) (p .numbers) (length (p .steps)) (c .memory) (k .memory) x r)
+      (λ z inside.
+      let m = withNumber (c .memory) i z in
+      ends (going-sound c (suc (c .next)) m k (behind refl) (number-bounded e (c .memory) i z inside (k .memory))))
+  carrying-sound c (setString q xs) k h behind returns =
+      ends-bind (replacement-bounded e (c .memory) q xs (k .memory)) (λ m b. ends (going-sound c (suc (c .next)) m k (behind refl) b))
+  carrying-sound c (goto j) k h behind returns = ends (going-sound c j (c .memory) k (ltb-true _ _ h) (k .memory))
+  carrying-sound c finish k h behind returns = ends (status-sound c finished k)
+  carrying-sound c (ifTest t b) k h behind returns =
+      let test = testHolds e (p .strings) (p .numbers) (length (p .steps)) t in
+      let both = and-eq-true-iff test (branchHolds e (p .strings) (p .numbers) (length (p .steps)) b) .0 h in
+      ends-bind (test-ends e wide (p .strings) (p .numbers) (length (p .steps)) (c .memory) (k .memory) t (both .0))
+      (λ r _. ends (going-sound c (chosen r b) (c .memory) k (chosen-inside r b (branch-inside b (both .1))) (k .memory)))
+  carrying-sound c (Program.scan d q xs r b) k h behind returns =
+      let inside = scan-branch d q xs r b h in
+      ends-bind (scanning-bounded e (c .memory) d q xs r (k .memory))
+      (λ l b′. ends (going-sound c (scannedTo (l .scanned .split) b) (l .memory) k (scanned-inside (l .scanned .split) b inside) b′))
+  carrying-sound c (read q b) k h behind returns = reading-sound q b c k (read-branch q b h)
+  carrying-sound c (write xs) k h behind returns =
+      ends-bind (expression-ends e (c .memory) xs)
+      (λ v _.
+      ends-bind (shortened-ends v)
+      (λ w _.
+      ends-bind (putting-sound w c k)
+      (λ c′ k′. ends (going-sound c′ (suc (c .next)) (c .memory) k′ (behind refl) (k .memory)))))
+  carrying-sound c (execute j) k h behind returns =
+      let few : length (c .returns) < mostReturns = leb-false mostReturns (length (c .returns)) returns in
+      ends
+      (returns-sound (goingTo j (c .memory) c) (suc (c .next) ∷ c .returns) (going-sound c j (c .memory) k (ltb-true _ _ h) (k .memory))
+      (elim [ zero ↦ behind refl | suc i ↦ k .returns i ]) (omega arith))
+  carrying-sound c return k h behind returns = ends (returning-sound (c .returns) c k (k .returns) (k .count))
+
+  -- how the statement that comes next ends, where the machine doesn't turn it down
+  pub next-sound : (c : State) → Kept c → lacksReturn (statementAt p (c .next)) (c .returns) ≡ false
+      → Ends KeptDone (carrying e lent (statementAt p (c .next)) c)
+  unfolding statementAt
+  next-sound c k returns =
+      carrying-sound c (statementAt p (c .next)) k
+      (statement-holds e (p .strings) (p .numbers) (length (p .steps)) (p .steps) (c .next) (runs .hold))
+      (step-behind (p .steps) (c .next) (runs .last) (k .next))
+      returns
+
+  concluded-sound : (c : State) (w : Work Done) → Kept c → Ends KeptDone w → Kept (concluded c w .state)
+  unfolding concluded
+  concluded-sound c (done d n) k (ends h) = h
+  concluded-sound c (stop n) k (stops low high) = status-sound c stopped k
+
+  -- a step leaves a state in range
+  pub step-sound : (c : State) → Kept c → Kept (step e p lent c .state)
+  unfolding step
+  step-sound c k =
+      let n = turnedDownBy p c in
+      cond-cases (λ (s : Stepped). Kept (s .state)) (eqb n 0)
+      (λ q.
+      concluded-sound c (carrying e lent (statementAt p (c .next)) c) k (next-sound c k (returns-enough p c (eqb-true n 0 q))))
+      (λ q. k)
+
+  -- and so is the state before the first step
+  pub fresh-sound : Kept (fresh input)
+  unfolding fresh
+  fresh-sound =
+      let inside = first-step (p .steps) (runs .last) in
+      record {
+        next = inside;
+        returns = λ i. inside;
+        count = omega arith;
+        memory = fresh-bounded e;
+        unread = unread-any input input 0 refl;
+        written = omega arith;
+      }

@@ -1,0 +1,74 @@
+-- What a program in range lets its run rely on: every statement is in range, and only the last step has no step behind it.
+-- Assumes nothing.
+use mathlib.Core.Bool.{Bool, true, false, _&&_, and-eq-true-iff, false≢true, true≢false}
+use mathlib.Core.List.{List, [], _∷_, map}
+use mathlib.Core.Path.{_≡_, refl, sym, _∙_}
+use Prim.Native.Nat.{ℕ, zero, suc, _<_}
+use native.Mathlib.Omega.{arith}
+use lib.Dec.{leb, ltb}
+use lib.ListN.{length, getD}
+use Rattle.base.specs.Edition.{Edition}
+use Rattle.base.specs.Lists.{all}
+use Rattle.language.specs.Program.{finish, Step, Program}
+use Rattle.calls.specs.Rules.{statementHolds, stepHolds, isFinish, lastFinishes, isProgram}
+use Rattle.calls.specs.Table.{allElements, allItems, allLiterals}
+
+-- the statement of every step is in range
+pub statement-holds : (e : Edition) (strings numbers steps : ℕ) (ss : List Step) (k : ℕ)
+    → all (stepHolds e strings numbers steps) ss ≡ true
+    → statementHolds e strings numbers steps (getD (map (λ s. s .statement) ss) k finish) ≡ true
+unfolding all stepHolds statementHolds
+statement-holds e strings numbers steps [] k h = refl
+statement-holds e strings numbers steps (s ∷ ss) zero h =
+    let first = and-eq-true-iff (stepHolds e strings numbers steps s) (all (stepHolds e strings numbers steps) ss) .0 h .0 in
+    and-eq-true-iff (ltb (s .card) 65536) (statementHolds e strings numbers steps (s .statement)) .0 first .1
+statement-holds e strings numbers steps (s ∷ ss) (suc k) h =
+    let both = and-eq-true-iff (stepHolds e strings numbers steps s) (all (stepHolds e strings numbers steps) ss) .0 h in
+    statement-holds e strings numbers steps ss k (both .1)
+
+-- behind a step that doesn't finish there is a step
+pub step-behind : (ss : List Step) (k : ℕ) → lastFinishes ss ≡ true → k < length ss
+    → isFinish (getD (map (λ s. s .statement) ss) k finish) ≡ false → suc k < length ss
+unfolding lastFinishes
+step-behind [] k h inside goes = absurd (false≢true h)
+step-behind (s ∷ []) zero h inside goes = absurd (true≢false (sym h ∙ goes))
+step-behind (s ∷ []) (suc k) h inside goes = absurd (omega arith)
+step-behind (s ∷ (t ∷ ss)) zero h inside goes = omega arith
+step-behind (s ∷ (t ∷ ss)) (suc k) h inside goes =
+    let further = step-behind (t ∷ ss) k h (omega arith) goes in
+    omega arith
+
+-- a program whose last step finishes has a first one
+pub first-step : (ss : List Step) → lastFinishes ss ≡ true → 0 < length ss
+unfolding lastFinishes
+first-step [] h = absurd (false≢true h)
+first-step (s ∷ ss) h = omega arith
+
+-- a conjunction that is true has a true right part
+pub right-true : (a b : Bool) → (a && b) ≡ true → b ≡ true
+right-true a b h = and-eq-true-iff a b .0 h .1
+
+-- what a run relies on: the last step finishes, and every statement is in range
+pub record Runs (e : Edition) (p : Program) : Type 0 where
+  pub last : lastFinishes (p .steps) ≡ true
+  pub hold : all (stepHolds e (p .strings) (p .numbers) (length (p .steps))) (p .steps) ≡ true
+
+-- a program in range runs
+pub program-runs : (e : Edition) (p : Program) → isProgram e p ≡ true → Runs e p
+unfolding isProgram
+program-runs e p h =
+    let strings = leb (p .strings) 32 in
+    let numbers = leb (p .numbers) 32 in
+    let steps = leb (length (p .steps)) 256 in
+    let elements = leb (length (allElements (p .steps))) 1024 in
+    let items = leb (length (allItems (p .steps))) 1024 in
+    let literals = leb (length (allLiterals (allElements (p .steps)))) 4096 in
+    let last = lastFinishes (p .steps) in
+    let hold = all (stepHolds e (p .strings) (p .numbers) (length (p .steps))) (p .steps) in
+    let one = literals && (last && hold) in
+    let three = elements && (items && one) in
+    let five = numbers && (steps && three) in
+    let h₃ = right-true steps three (right-true numbers (steps && three) (right-true strings five h)) in
+    let h₁ = right-true items one (right-true elements (items && one) h₃) in
+    let both = and-eq-true-iff last hold .0 (right-true literals (last && hold) h₁) in
+    record { last = both .0; hold = both .1 }

@@ -1,0 +1,52 @@
+-- How work ends: done with a value of which something holds, or stopped by a number from 17 to 21. Assumes nothing.
+use mathlib.Core.Path.{_≡_, refl}
+use Prim.Native.Nat.{ℕ, _≤_}
+use native.Mathlib.Omega.{arith}
+use Rattle.values.specs.Work.{Work, done, stop, noting, _>>=_}
+
+-- P holds of the value, or the work stopped by one of the numbers that stop a step
+pub data Ends {A : Type 0} (P : A → Type 0) : Work A → Type 0 where
+  ends : {a : A} {n : ℕ} → P a → Ends P (done a n)
+  stops : {k : ℕ} → 17 ≤ k → k ≤ 21 → Ends P (stop k)
+
+-- every value will do
+abbrev pub Any : {A : Type 0} → A → Type 0
+Any a = Unit {0}
+
+module _ {A : Type 0} {P : A → Type 0} where
+  ends-noting : (n : ℕ) {w : Work A} → Ends P w → Ends P (noting n w)
+  unfolding noting
+  ends-noting n (ends h) = ends h
+  ends-noting n (stops low high) = stops low high
+
+module _ {A B : Type 0} {P : A → Type 0} {Q : B → Type 0} where
+  -- work behind work that ends so
+  pub ends-bind : {w : Work A} {f : A → Work B} → Ends P w → ((a : A) → P a → Ends Q (f a)) → Ends Q (w >>= f)
+  unfolding _>>=_
+  ends-bind {f} (ends {a} {n} h) g = ends-noting n (g a h)
+  ends-bind (stops low high) g = stops low high
+
+-- work in two parts that comes to b: what the part in front and the part behind come to
+pub record BothDone {A B : Type 0} (w : Work A) (f : A → Work B) (b : B) : Type 0 where
+  pub front : A
+  pub frontNotes : ℕ
+  pub isFront : w ≡ done front frontNotes
+  pub notes : ℕ
+  pub isBehind : f front ≡ done b notes
+
+-- work that stopped is not done
+stop-not-done : {A : Type 0} (k : ℕ) (a : A) (n : ℕ) → ¬ (stop k ≡ done a n)
+stop-not-done k a n e = let z : _≡_ {A = ℕ} 0 1 = cc in omega arith
+
+module _ {A B : Type 0} where
+  -- the two parts, each done
+  pub both-done : (w : Work A) (f : A → Work B) (b : B) (n : ℕ) → (w >>= f) ≡ done b n → BothDone w f b
+  unfolding _>>=_ noting
+  both-done (done a k) f b n e = behind (f a) refl e
+    where
+      behind : (v : Work B) → f a ≡ v → noting k v ≡ done b n → BothDone (done a k) f b
+      behind (done c j) q h =
+          let same : c ≡ b = cc in
+          record { front = a; frontNotes = k; isFront = refl; notes = j; isBehind = cc }
+      behind (stop j) q h = absurd (stop-not-done j b n h)
+  both-done (stop k) f b n e = absurd (stop-not-done k b n e)
