@@ -2,6 +2,7 @@
 -- the language fixes.
 pub mod Choice
 pub mod Edition
+pub mod Limits
 pub mod ListLaws
 pub mod Lists
 pub mod Text

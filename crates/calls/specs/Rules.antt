@@ -7,6 +7,7 @@ use lib.Dec.{leb, ltb, eqb}
 use lib.IntN.{ℤ}
 use lib.ListN.{length, take}
 use Rattle.base.specs.Edition.{Edition}
+use Rattle.base.specs.Limits as Limits
 use Rattle.base.specs.Lists.{same, all, isNil}
 use Rattle.language.specs.Program.{
   Length,
@@ -107,7 +108,7 @@ module _ (e : Edition) (strings numbers steps : ℕ) where
   patternHolds r (fixedFiller s n) = ltb s strings && (not (eqb s r) && lengthHolds n)
 
   unfoldable pub rowHolds : List Element → Bool
-  rowHolds xs = leb (length xs) 20 && all elementHolds xs
+  rowHolds xs = leb (length xs) Limits.row && all elementHolds xs
 
   unfoldable pub branchHolds : Branch → Bool
   branchHolds b = ltb (b .success) steps && ltb (b .failure) steps
@@ -125,7 +126,7 @@ module _ (e : Edition) (strings numbers steps : ℕ) where
   statementHolds (ifTest t b) = testHolds t && branchHolds b
   statementHolds (scan d p xs r b) =
       partHolds p
-      && (leb (length xs) 20 && (all (patternHolds (placeOf p)) xs && (rowHolds (replacementOf r) && branchHolds b)))
+      && (leb (length xs) Limits.row && (all (patternHolds (placeOf p)) xs && (rowHolds (replacementOf r) && branchHolds b)))
   statementHolds (read p b) = partHolds p && branchHolds b
   statementHolds (write xs) = rowHolds xs
   statementHolds (execute k) = ltb k steps
@@ -155,12 +156,12 @@ lastFinishes (s ∷ (t ∷ ss)) = lastFinishes (t ∷ ss)
 -- Q10's counts of what a program keeps, and every place in it in range
 unfoldable pub isProgram : Edition → Program → Bool
 isProgram e p =
-    leb (p .strings) 32
-    && (leb (p .numbers) 32
-    && (leb (length (p .steps)) 256
-    && (leb (length (allElements (p .steps))) 1024
-    && (leb (length (allItems (p .steps))) 1024
-    && (leb (length (allLiterals (allElements (p .steps)))) 4096
+    leb (p .strings) Limits.strings
+    && (leb (p .numbers) Limits.numbers
+    && (leb (length (p .steps)) Limits.statements
+    && (leb (length (allElements (p .steps))) Limits.elements
+    && (leb (length (allItems (p .steps))) Limits.items
+    && (leb (length (allLiterals (allElements (p .steps)))) Limits.literals
     && (lastFinishes (p .steps)
     && all (stepHolds e (p .strings) (p .numbers) (length (p .steps))) (p .steps)))))))
 

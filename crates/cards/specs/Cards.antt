@@ -5,6 +5,7 @@ use Prim.Native.Nat.{ℕ, suc}
 use lib.Dec.{leb, eqb}
 use lib.ListN.{length, take, drop, getD}
 use Rattle.base.specs.Edition.{Edition}
+use Rattle.base.specs.Limits as Limits
 use Rattle.base.specs.Lists.{all, keep}
 use Rattle.cards.specs.Bytes.{classOf, isBlank, isRefused, newline, star, slash}
 
@@ -26,7 +27,7 @@ pub data Entry : Type 0 where
 
 -- Q3 "A byte is refused, a line exceeds 80"
 unfoldable pub soundLine : List ℕ → Bool
-soundLine line = leb (length line) 80 && all (λ b. not (isRefused (classOf b))) line
+soundLine line = leb (length line) Limits.line && all (λ b. not (isRefused (classOf b))) line
 
 -- C4 "`*` in column 1 makes the line a comment"
 unfoldable pub isComment : List ℕ → Bool

@@ -6,6 +6,7 @@ use Prim.Native.Nat.{ℕ, suc, _+_}
 use lib.Dec.{leb, ltb, eqb}
 use lib.ListN.{length}
 use Rattle.base.specs.Edition.{Edition}
+use Rattle.base.specs.Limits as Limits
 use Rattle.base.specs.Lists.{same, any}
 use Rattle.cards.specs.Packing.{packed, literalsWhole}
 use Rattle.language.specs.Forms.{statementForm}
@@ -101,15 +102,15 @@ is9 k kind =
 -- elements, 1,024 operands and `+ - * /` in numeric expressions, or 4,096 literal bytes.", with the statement that met these
 unfoldable pub is10 : Known → Met → Bool
 is10 k m =
-    ltb 256 (k .statements)
-    || (ltb 32 (length (strings k))
-    || (ltb 32 (length (numbers k))
-    || (ltb 64 (length (k .labels))
-    || (ltb 16 (length (k .routines))
-    || (any (ltb 20) (m .rows)
-    || (ltb 1024 (k .elements)
-    || (ltb 1024 (k .items)
-    || ltb 4096 (k .literals))))))))
+    ltb Limits.statements (k .statements)
+    || (ltb Limits.strings (length (strings k))
+    || (ltb Limits.numbers (length (numbers k))
+    || (ltb Limits.labels (length (k .labels))
+    || (ltb Limits.routines (length (k .routines))
+    || (any (ltb Limits.row) (m .rows)
+    || (ltb Limits.elements (k .elements)
+    || (ltb Limits.items (k .items)
+    || ltb Limits.literals (k .literals))))))))
 
 -- 6 to 10 of a statement whose form holds, or 0
 unfoldable pub metNumber : Known → Kind → Met → ℕ

@@ -6,6 +6,7 @@ use lib.Dec.{ltb}
 use lib.IntN.{ℤ, pos}
 use lib.ListN.{length, drop, getD}
 use Rattle.base.specs.Edition.{Edition}
+use Rattle.base.specs.Limits as Limits
 use Rattle.base.specs.Lists.{begins}
 use Rattle.base.specs.Text.{bytes}
 use Rattle.cards.specs.Bytes.{isDigit}
@@ -43,7 +44,7 @@ use Rattle.language.specs.Words.{Places, unsigned, signed, isSign, noRol
 
 -- S13 "at most 16 deep"
 unfoldable pub deepest : ℕ
-deepest = 16
+deepest = Limits.parentheses
 
 -- an operator with the bytes behind it, read where more terms or more factors may follow
 unfoldable pub sumOperator : List ℕ → Read Operator

@@ -4,6 +4,7 @@ use mathlib.Core.List.{List, []}
 use Prim.Native.Nat.{ℕ}
 use lib.IntN.{ℤ, pos}
 use lib.ListN.{getD, set, replicate}
+use Rattle.base.specs.Limits as Limits
 
 pub data Status : Type 0 where
   running finished stopped : Status
@@ -44,10 +45,10 @@ withNumber m i z = record { strings = m .strings; numbers = set (m .numbers) i z
 
 -- Q10 "32 strings, 32 numbers": a memory has all of them, whether a program names them or not
 unfoldable pub mostStrings : ℕ
-mostStrings = 32
+mostStrings = Limits.strings
 
 unfoldable pub mostNumbers : ℕ
-mostNumbers = 32
+mostNumbers = Limits.numbers
 
 -- V1 numbers "start at 0", strings "start null"
 unfoldable pub freshMemory : Memory

@@ -7,6 +7,7 @@ use lib.Dec.{leb, ltb, eqb}
 use lib.IntN.{ℤ, natAbs}
 use lib.ListN.{length, take, drop, getD}
 use Rattle.base.specs.Edition.{Edition}
+use Rattle.base.specs.Limits as Limits
 use Rattle.base.specs.Lists.{isNil}
 use Rattle.cards.specs.Bytes.{newline}
 use Rattle.language.specs.Program as Program
@@ -132,7 +133,7 @@ unfoldable pub returning : List ℕ → State → State
 returning [] c = c
 returning (k ∷ rs) c = withReturns rs (goingTo k (c .memory) c)
 
--- N5 "All of it follows the deck's statement, starting from the strings and numbers that the step was given."
+-- N6 "All of it follows the deck's statement, starting from the strings and numbers that the step was given."
 unfoldable pub carrying : Edition → (lent : ℕ) → Statement → State → Work Done
 carrying e lent (setNumber i x) c = do
   z ← numericIn e (c .memory) x
@@ -163,7 +164,7 @@ statementAt p k = getD (map (λ s. s .statement) (p .steps)) k finish
 
 -- Q15 "RETURN or ENDROUTINE comes next with no return held, or EXECUTE with 16 held"
 unfoldable pub mostReturns : ℕ
-mostReturns = 16
+mostReturns = Limits.returns
 
 unfoldable pub lacksReturn : Statement → List ℕ → Bool
 lacksReturn (setNumber i x) rs = false

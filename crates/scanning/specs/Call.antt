@@ -11,13 +11,14 @@ use lib.Dec.{leb, ltb, eqb}
 use lib.ListN.{length, take, drop, getD, replicate}
 use Rattle.scanning.specs.Splits.{Element, string, fixed, free, Split, AnswersFirstFit}
 use Rattle.scanning.specs.Trials.{Scanned, scan}
+use Rattle.base.specs.Limits as Limits
 
 -- the longest reference, the most elements of a pattern, the bytes of an element's row
 unfoldable pub longestReference : ℕ
-longestReference = 1024
+longestReference = Limits.bytes
 
 unfoldable pub mostElements : ℕ
-mostElements = 20
+mostElements = Limits.row
 
 unfoldable pub rowBytes : ℕ
 rowBytes = 12

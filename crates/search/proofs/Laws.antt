@@ -1,33 +1,46 @@
--- What a string that begins a text says of their bytes. Assumes nothing.
-use mathlib.Core.Bool.{Bool, true, false, _&&_, true≢false, false≢true}
-use mathlib.Core.Logic.{_⊎_, inl, inr, ⊎-elim, ⊎-map}
+-- What bytes that differ say of a word's places. Assumes nothing.
+use mathlib.Core.Bool.{Bool, true, false, _&&_, _||_, true≢false, false≢true}
 use mathlib.Core.List.{List}
-use mathlib.Core.Path.{_≡_, refl, sym, _∙_, ap}
+use mathlib.Core.Logic.{_⊎_, inl, inr, ⊎-elim, ⊎-map}
+use mathlib.Core.Path.{_≡_, refl, sym, _∙_, ap, subst}
 use Prim.Native.Nat.{ℕ, zero, suc, _+_, _-_, _≤_, _<_}
 use native.Mathlib.Omega.{arith}
-use lib.Bits.{bitOr, or-step, or-zero-r}
 use lib.Dec.{eqb}
-use mir.Val.{boolByte}
-use borrow.Author.Count.{below-more}
-use borrow.Author.Tests.{eq-eqb}
 use lib.ListN.{length, take, drop, getD, length-drop}
-use lib.Seq.{length-take-le, getD-take, getD-drop, ext-getD}
+use lib.Seq.{length-take-le, take-all, getD-take, getD-drop, ext-getD}
+use borrow.Author.Count.{below-more}
+use borrow.Author.Tests.{eq-eqb, ne-eqb}
 use Rattle.base.specs.Lists.{begins}
 use Rattle.base.specs.ListLaws.{begins-iff}
-use Rattle.search.specs.Passing.{Both, Without, Passes}
+use Rattle.search.specs.Passing.{Agrees, Both, Blocks, Without, Room, Passes}
 
 -- a test that is not true is false
-pub not-true : (b : Bool) → (b ≡ true → ⊥) → b ≡ false
+not-true : (b : Bool) → (b ≡ true → ⊥) → b ≡ false
 not-true true h = absurd (h refl)
 not-true false h = refl
 
+-- a number is below another or not
+below-or-not : (j k : ℕ) → (j < k) ⊎ (k ≤ j)
+below-or-not zero zero = inr (omega arith)
+below-or-not zero (suc k) = inl (omega arith)
+below-or-not (suc j) zero = inr (omega arith)
+below-or-not (suc j) (suc k) = ⊎-map (λ h. omega arith) (λ h. omega arith) (below-or-not j k)
+
+-- the text from a place on
+pub part-rest : (s : List ℕ) (at n : ℕ) → n ≡ length s - at → take n (drop at s) ≡ drop at s
+part-rest s at n e = take-all n (drop at s) (omega (arith, length-drop at s))
+
+-- a part of so many bytes has them
+pub part-length : (s : List ℕ) (at n : ℕ) → at + n ≤ length s → length (take n (drop at s)) ≡ n
+part-length s at n h = length-take-le n (drop at s) (omega (arith, length-drop at s))
+
 -- where a word begins a text each of its bytes stands there
-pub begins-byte : (word text : List ℕ) → begins word text ≡ true → (i : ℕ) → i < length word → getD text i 0 ≡ getD word i 0
+begins-byte : (word text : List ℕ) → begins word text ≡ true → (i : ℕ) → i < length word → getD text i 0 ≡ getD word i 0
 begins-byte word text e i h =
     sym (getD-take (length word) text i 0 h) ∙ ap (λ (l : List ℕ). getD l i 0) (begins-iff word text .0 e)
 
 -- where each of its bytes stands there a word begins a text
-pub bytes-begin : (word text : List ℕ) → length word ≤ length text → ((i : ℕ) → i < length word → getD text i 0 ≡ getD word i 0)
+bytes-begin : (word text : List ℕ) → length word ≤ length text → ((i : ℕ) → i < length word → getD text i 0 ≡ getD word i 0)
     → begins word text ≡ true
 bytes-begin word text room same =
     let size : length (take (length word) text) ≡ length word = length-take-le (length word) text room in
@@ -35,83 +48,138 @@ bytes-begin word text room same =
     (ext-getD 0 (take (length word) text) word size
     (λ i h. getD-take (length word) text i 0 (omega arith) ∙ same i (omega arith)))
 
--- no place is passed
-pub passes-none : (text word : List ℕ) → Passes text word 0
-passes-none text word =
-    record { inside = omega arith; enough = λ j h. absurd (omega arith); differ = λ j h. absurd (omega arith) }
+-- all bytes agree: the word begins the text
+pub agrees-whole : (rest word : List ℕ) (n : ℕ) → length word ≤ length rest → Agrees rest word n → n ≡ length word
+    → begins word rest ≡ true
+agrees-whole rest word n room a e = bytes-begin word rest room (λ i h. a .same i (omega arith))
 
--- where not both the first and the last byte stand the word does not
-pub without-passes : (text word : List ℕ) (span k : ℕ) → length word ≡ span + 1 → Without text (getD word 0 0) (getD word span 0) span k
-    → Passes text word k
-without-passes text word span k size w =
-    record {
-      inside = omega arith;
-      enough = λ j h. omega (arith, length-drop j text, w .inside);
-      differ =
-          λ j h.
-          not-true (begins word (drop j text))
-          (λ e.
-          w .differ j h
-          (ap (λ (n : ℕ). getD text n 0) (omega arith) ∙ sym (getD-drop j text 0 0) ∙ begins-byte word (drop j text) e 0 (omega arith))
-          (sym (getD-drop j text span 0) ∙ begins-byte word (drop j text) e span (omega arith)));
-    }
+-- not all agree: it doesn't
+pub agrees-part : (rest word : List ℕ) (n : ℕ) → Agrees rest word n → n < length word → begins word rest ≡ false
+agrees-part rest word n a h = not-true (begins word rest) (λ e. a .differ h (begins-byte word rest e n h))
 
--- a number is below another or not
-pub below-or-not : (j k : ℕ) → (j < k) ⊎ (k ≤ j)
-below-or-not zero zero = inr (omega arith)
-below-or-not zero (suc k) = inl (omega arith)
-below-or-not (suc j) zero = inr (omega arith)
-below-or-not (suc j) (suc k) = ⊎-map (λ h. omega arith) (λ h. omega arith) (below-or-not j k)
+-- how many bytes agree tells whether the word begins the text
+pub agrees-begins : (rest word : List ℕ) (n : ℕ) → length word ≤ length rest → Agrees rest word n → eqb n (length word) ≡ begins word rest
+agrees-begins rest word n room a =
+    ⊎-elim
+    (λ (h : n < length word). ne-eqb n (length word) (λ e. omega arith) ∙ sym (agrees-part rest word n a h))
+    (λ (h : length word ≤ n).
+    let e : n ≡ length word = omega (arith, a .inside) in
+    eq-eqb n (length word) e ∙ sym (agrees-whole rest word n room a e))
+    (below-or-not n (length word))
 
 -- a conjunction that is false has a false part
-pub both-false : (a b : Bool) → (a && b) ≡ false → a ≡ true → b ≡ true → ⊥
+both-false : (a b : Bool) → (a && b) ≡ false → a ≡ true → b ≡ true → ⊥
 both-false true true e f g = true≢false e
 both-false true false e f g = false≢true g
 both-false false b e f g = false≢true f
 
--- where a flag joined to a number leaves 0 the number is 0 and the flag not set
-pub or-flag : (a : ℕ) (t : Bool) → bitOr a (boolByte t) ≡ 0 → (a ≡ 0) × (t ≡ false)
-or-flag a true e = absurd (omega (arith, or-step a 1, e))
-or-flag a false e = (sym (or-zero-r a) ∙ e, refl)
+-- a disjunction that is false has two false parts
+neither : (a b : Bool) → (a || b) ≡ false → (a ≡ false) × (b ≡ false)
+neither true b e = absurd (true≢false e)
+neither false b e = (refl, e)
 
-module _ (fronts backs : List ℕ) (first last : ℕ) where
-  -- one more place with nothing found
-  pub hit-more : (found j : ℕ) → (found ≡ 0 → (i : ℕ) → i < j → Both fronts backs first last i → ⊥)
-      → bitOr found (boolByte (eqb (getD fronts j 0) first && eqb (getD backs j 0) last)) ≡ 0
-      → (i : ℕ) → i < j + 1 → Both fronts backs first last i → ⊥
-  hit-more found j h e =
-      let parts = or-flag found (eqb (getD fronts j 0) first && eqb (getD backs j 0) last) e in
-      below-more (λ i. Both fronts backs first last i → ⊥) j (h (parts .0))
-      (λ b.
-      both-false (eqb (getD fronts j 0) first) (eqb (getD backs j 0) last) (parts .1)
-      (eq-eqb (getD fronts j 0) first (b .0))
-      (eq-eqb (getD backs j 0) last (b .1)))
+-- one more place of a block with nothing found
+pub hit-more : (fronts backs : List ℕ) (first last : ℕ) (found : Bool) (j : ℕ)
+    → (found ≡ false → (i : ℕ) → i < j → Both fronts backs first last i → ⊥)
+    → (found || (eqb (getD fronts j 0) first && eqb (getD backs j 0) last)) ≡ false
+    → (i : ℕ) → i < j + 1 → Both fronts backs first last i → ⊥
+hit-more fronts backs first last found j h e =
+    let parts = neither found (eqb (getD fronts j 0) first && eqb (getD backs j 0) last) e in
+    below-more (λ i. Both fronts backs first last i → ⊥) j (h (parts .0))
+    (λ b.
+    both-false (eqb (getD fronts j 0) first) (eqb (getD backs j 0) last) (parts .1)
+    (eq-eqb (getD fronts j 0) first (b .0))
+    (eq-eqb (getD backs j 0) last (b .1)))
 
-module _ (text : List ℕ) (first last span : ℕ) where
-  -- one more place, where one of the two does not stand
-  pub without-one : (k : ℕ) → Without text first last span k → k + span < length text
-      → (getD text k 0 ≡ first → getD text (k + span) 0 ≡ last → ⊥) → Without text first last span (k + 1)
-  without-one k w room h =
+-- the same of one byte
+pub byte-more : (block : List ℕ) (byte : ℕ) (found : Bool) (j : ℕ)
+    → (found ≡ false → (i : ℕ) → i < j → getD block i 0 ≡ byte → ⊥)
+    → (found || eqb (getD block j 0) byte) ≡ false → (i : ℕ) → i < j + 1 → getD block i 0 ≡ byte → ⊥
+byte-more block byte found j h e =
+    let parts = neither found (eqb (getD block j 0) byte) e in
+    below-more (λ i. getD block i 0 ≡ byte → ⊥) j (h (parts .0))
+    (λ b. true≢false (sym (eq-eqb (getD block j 0) byte b) ∙ parts .1))
+
+module _ (text : List ℕ) (first last span places from : ℕ) where
+  -- no place passed yet
+  pub without-none : from ≤ places → Without text first last span places from from
+  without-none h = record { low = omega arith; high = h; differ = λ j low high. absurd (omega arith) }
+
+  module _ (k : ℕ) (w : Without text first last span places from k) where
+    -- the places from k to k′ as well
+    pub without-join : (k′ : ℕ) → Without text first last span places k k′ → Without text first last span places from k′
+    without-join k′ w′ =
+        record {
+          low = omega (arith, w .low, w′ .low);
+          high = w′ .high;
+          differ = λ j low high. ⊎-elim (λ (h : j < k). w .differ j low h) (λ (h : k ≤ j). w′ .differ j h high) (below-or-not j k);
+        }
+
+    -- one more place, where one of the two bytes does not stand
+    pub without-one : k < places → (getD text k 0 ≡ first → getD text (k + span) 0 ≡ last → ⊥)
+        → Without text first last span places from (k + 1)
+    without-one room h =
+        without-join (k + 1)
+        (record {
+          low = omega arith;
+          high = omega arith;
+          differ =
+              λ j low high.
+              let e : k ≡ j = omega arith in
+              subst (λ (i : ℕ). getD text i 0 ≡ first → getD text (i + span) 0 ≡ last → ⊥) e h;
+        })
+
+    -- a block more, of two parts of the text where nothing was found
+    pub without-block : (size m n : ℕ) → m ≡ size → n ≡ size → k + size ≤ places
+        → ((j : ℕ) → j < size → Both (take m (drop k text)) (take n (drop (k + span) text)) first last j → ⊥)
+        → Without text first last span places from (k + size)
+    without-block size m n em en room h =
+        without-join (k + size) (record { low = omega arith; high = room; differ = behind })
+      where
+        behind : (j : ℕ) → k ≤ j → j < k + size → getD text j 0 ≡ first → getD text (j + span) 0 ≡ last → ⊥
+        behind j low high f l =
+            let i : ℕ = j - k in
+            let e : k + i ≡ j = omega arith in
+            let e′ : k + span + i ≡ j + span = omega arith in
+            h i (omega arith) (
+              getD-take m (drop k text) i 0 (omega arith) ∙ getD-drop k text i 0 ∙ ap (λ (n : ℕ). getD text n 0) e ∙ f,
+              getD-take n (drop (k + span) text) i 0 (omega arith)
+                  ∙ getD-drop (k + span) text i 0
+                  ∙ ap (λ (n : ℕ). getD text n 0) e′
+                  ∙ l,
+            )
+
+module _ (text word : List ℕ) where
+  -- no place is passed
+  pub passes-none : Passes text word 0
+  passes-none =
+      record { inside = omega arith; enough = λ j h. absurd (omega arith); differ = λ j h. absurd (omega arith) }
+
+  -- where not both bytes of the word stand the word does not
+  pub passes-more : (span places k k′ : ℕ) → span < length word → places + length word ≡ length text + 1 → Passes text word k
+      → Without text (getD word 0 0) (getD word span 0) span places k k′ → Passes text word k′
+  passes-more span places k k′ inside size p w =
+      record {
+        inside = omega (arith, w .high);
+        enough = λ j h. omega (arith, length-drop j text, w .high);
+        differ =
+            λ j h. ⊎-elim (λ (l : j < k). p .differ j l) (λ (l : k ≤ j). not-true (begins word (drop j text)) (stands j l h)) (below-or-not j k);
+      }
+    where
+      stands : (j : ℕ) → k ≤ j → j < k′ → begins word (drop j text) ≡ true → ⊥
+      stands j low high e =
+          w .differ j low high
+          (ap (λ (n : ℕ). getD text n 0) (omega arith) ∙ sym (getD-drop j text 0 0) ∙ begins-byte word (drop j text) e 0 (omega arith))
+          (sym (getD-drop j text span 0) ∙ begins-byte word (drop j text) e span inside)
+
+  -- one more place, where not all bytes agree
+  pub passes-one : (places k n m : ℕ) → places + length word ≡ length text + 1 → k < places → Passes text word k
+      → m ≡ length text - k → Agrees (take m (drop k text)) word n → n < length word → Passes text word (k + 1)
+  passes-one places k n m size room p e a h =
       record {
         inside = omega arith;
-        differ = below-more (λ j. getD text j 0 ≡ first → getD text (j + span) 0 ≡ last → ⊥) k (w .differ) h;
+        enough = λ j l. omega (arith, length-drop j text);
+        differ =
+            below-more (λ j. begins word (drop j text) ≡ false) k (p .differ)
+            (ap (begins word) (sym (part-rest text k m e)) ∙ agrees-part (take m (drop k text)) word n a h);
       }
-
-  -- 32 more places, in two parts of the text where nothing was found
-  pub without-block : (k m n : ℕ) → m ≡ 32 → n ≡ 32 → Without text first last span k → k + 32 + span ≤ length text
-      → ((j : ℕ) → j < 32 → Both (take m (drop k text)) (take n (drop (k + span) text)) first last j → ⊥)
-      → Without text first last span (k + 32)
-  without-block k m n em en w room h = record { inside = room; differ = differ }
-    where
-      behind : (j : ℕ) → k ≤ j → j < k + 32 → getD text j 0 ≡ first → getD text (j + span) 0 ≡ last → ⊥
-      behind j low high f l =
-          let i : ℕ = j - k in
-          let e : k + i ≡ j = omega arith in
-          let e′ : k + span + i ≡ j + span = omega arith in
-          h i (omega arith) (
-            getD-take m (drop k text) i 0 (omega arith) ∙ getD-drop k text i 0 ∙ ap (λ (n : ℕ). getD text n 0) e ∙ f,
-            getD-take n (drop (k + span) text) i 0 (omega arith) ∙ getD-drop (k + span) text i 0 ∙ ap (λ (n : ℕ). getD text n 0) e′ ∙ l,
-          )
-
-      differ : (j : ℕ) → j < k + 32 → getD text j 0 ≡ first → getD text (j + span) 0 ≡ last → ⊥
-      differ j high f l = ⊎-elim (λ (low : j < k). w .differ j low f l) (λ (low : k ≤ j). behind j low high f l) (below-or-not j k)

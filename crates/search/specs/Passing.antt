@@ -1,4 +1,4 @@
--- Places that a string can't stand at: told by its first and its last byte, and what that says of the whole string. Assumes nothing.
+-- Places that a string can't stand at: told by two of its bytes, and what that says of the whole string. Assumes nothing.
 use mathlib.Core.Bool.{Bool, false}
 use mathlib.Core.List.{List}
 use mathlib.Core.Path.{_≡_}
@@ -6,24 +6,38 @@ use Prim.Native.Nat.{ℕ, _+_, _≤_, _<_}
 use lib.ListN.{length, drop, getD}
 use Rattle.base.specs.Lists.{begins}
 
--- the byte first stands at a place of a text and the byte last at the same place of another
+-- the first n bytes of a word stand at the start of rest, and the next one doesn't
+pub record Agrees (rest word : List ℕ) (n : ℕ) : Type 0 where
+  pub inside : n ≤ length word
+  pub same : (i : ℕ) → i < n → getD rest i 0 ≡ getD word i 0
+  pub differ : n < length word → getD rest n 0 ≡ getD word n 0 → ⊥
+
+-- the byte first stands at a place of a block and the byte last at the same place of another
 abbrev pub Both : List ℕ → List ℕ → ℕ → ℕ → ℕ → Type 0
 Both fronts backs first last j = (getD fronts j 0 ≡ first) × (getD backs j 0 ≡ last)
 
--- two blocks of 32 bytes
-pub record Blocks (fronts backs : List ℕ) : Type 0 where
-  pub front : length fronts ≡ 32
-  pub back : length backs ≡ 32
+-- two blocks of so many bytes
+pub record Blocks (fronts backs : List ℕ) (size : ℕ) : Type 0 where
+  pub front : length fronts ≡ size
+  pub back : length backs ≡ size
 
--- a text that the search can go through, with a byte at span
-pub record Searchable (text : List ℕ) (span : ℕ) : Type 0 where
+-- so many places of a text, each with span bytes behind it, to be searched from a place on
+pub record Searchable (text : List ℕ) (span places from : ℕ) : Type 0 where
   pub short : length text ≤ 1024
-  pub room : span < length text
+  pub room : places + span ≤ length text
+  pub start : from ≤ places
 
--- at none of the first k places first stands and last stands span bytes behind it; there are that many bytes behind each
-pub record Without (text : List ℕ) (first last span k : ℕ) : Type 0 where
-  pub inside : k + span ≤ length text
-  pub differ : (j : ℕ) → j < k → getD text j 0 ≡ first → getD text (j + span) 0 ≡ last → ⊥
+-- at no place from one to another first stands and last stands span bytes behind it
+pub record Without (text : List ℕ) (first last span places from to : ℕ) : Type 0 where
+  pub low : from ≤ to
+  pub high : to ≤ places
+  pub differ : (j : ℕ) → from ≤ j → j < to → getD text j 0 ≡ first → getD text (j + span) 0 ≡ last → ⊥
+
+-- a word that a text has room for
+pub record Room (text word : List ℕ) : Type 0 where
+  pub short : length text ≤ 1024
+  pub some : 0 < length word
+  pub fits : length word ≤ length text
 
 -- at each of the first k places there are enough bytes for the word, and other ones
 pub record Passes (text word : List ℕ) (k : ℕ) : Type 0 where

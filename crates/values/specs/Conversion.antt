@@ -6,6 +6,7 @@ use lib.Dec.{leb, ltb, eqb}
 use lib.IntN.{ℤ, pos, negsuc, negℤ, natAbs}
 use lib.ListN.{length, take, drop, replicate}
 use Rattle.base.specs.Edition.{Edition}
+use Rattle.base.specs.Limits as Limits
 use Rattle.base.specs.Lists.{begins, all, isNil}
 use Rattle.base.specs.Text.{bytes}
 use Rattle.values.specs.Numbers.{isNegative, held}
@@ -13,7 +14,7 @@ use Rattle.values.specs.Work.{Work, done, stop}
 
 -- V1 "strings hold 0 to 1,024 bytes"
 unfoldable pub longestString : ℕ
-longestString = 1024
+longestString = Limits.bytes
 
 -- V3 "`S$n` is the first n bytes of S, all if shorter."; V4 "Negative n: a note, and null"
 unfoldable pub substring : List ℕ → ℤ → Work (List ℕ)

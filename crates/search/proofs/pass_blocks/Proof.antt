@@ -1,13 +1,11 @@
 -- `search::pass_blocks` passes only blocks where nothing was found. The invariant: no place passed has both bytes.
 -- Assumes nothing.
-use mathlib.Core.Path.{_≡_, _∙_}
-use Prim.Native.Nat.{ℕ, _+_, _-_, _≤_}
+use Rattle.search.proofs.Laws.{part-length, without-none, without-block}
+use Rattle.search.specs.Passing.{Without}
+use Prim.Native.Nat.{_+_, _-_}
+use mathlib.Core.Path.{_∙_}
 use native.Mathlib.Omega.{arith}
 use borrow.Author.Needs.{needs}
-use lib.ListN.{length, take, drop, length-drop}
-use lib.Seq.{length-take-le}
-use Rattle.search.specs.Passing.{Without}
-use Rattle.search.proofs.Laws.{without-block}
 use Rattle.search.proofs.pass_blocks.Statement.{statement}
 use Rattle.search.proofs.pass_blocks.Tie as tie
 use Rattle.search.proofs.pass_blocks.Reads as reads
@@ -15,91 +13,87 @@ use Rattle.search.proofs.pass_blocks.Lts as lts
 use Rattle.search.proofs.hit.Reads as hit-reads
 
 abbrev Inv-loop : tie.InvT-loop
-Inv-loop text first last span k₀ k = Without text first last span k
+Inv-loop text first last span places from k₀ k = Without text first last span places from k
 
 abbrev μ-loop : tie.MeasureT-loop
-μ-loop text first last span k₀ k = length text - k
+μ-loop text first last span places from k₀ k = places - k
 
--- src/lib.rt:46:5
+-- src/lib.rt:86:5
 loop-holds : tie.Need-loop-holds Inv-loop μ-loop
-loop-holds c = search needs
+loop-holds c = let a = c .before .args in without-none (a .text .now) (a .first) (a .last) (a .span) (a .places) (a .from) (c .before .pre .start)
 
--- src/lib.rt:46:11
-add-loop : tie.Need-add-loop Inv-loop μ-loop
-add-loop c = omega arith
-
--- src/lib.rt:46:24
+-- src/lib.rt:86:17
 sub-loop : tie.Need-sub-loop Inv-loop μ-loop
 sub-loop c = omega arith
 
--- src/lib.rt:47:22
+-- src/lib.rt:87:22
 add-behind : tie.Need-add-behind Inv-loop μ-loop
 add-behind c = omega arith
 
--- src/lib.rt:48:31
+-- src/lib.rt:88:31
 add-fronts : tie.Need-add-fronts Inv-loop μ-loop
 add-fronts c = omega arith
 
--- src/lib.rt:48:22
+-- src/lib.rt:88:22
 sub-fronts : tie.Need-sub-fronts Inv-loop μ-loop
 sub-fronts c = omega arith
 
--- src/lib.rt:48:22
+-- src/lib.rt:88:22
 part-fronts-start : tie.Need-part-fronts-start Inv-loop μ-loop
 part-fronts-start c = omega arith
 
--- src/lib.rt:48:22
+-- src/lib.rt:88:22
 part-fronts-end : tie.Need-part-fronts-end Inv-loop μ-loop
 part-fronts-end c = omega arith
 
--- src/lib.rt:49:35
+-- src/lib.rt:89:35
 add-backs : tie.Need-add-backs Inv-loop μ-loop
 add-backs c = omega arith
 
--- src/lib.rt:49:21
+-- src/lib.rt:89:21
 sub-backs : tie.Need-sub-backs Inv-loop μ-loop
 sub-backs c = omega arith
 
--- src/lib.rt:49:21
+-- src/lib.rt:89:21
 part-backs-start : tie.Need-part-backs-start Inv-loop μ-loop
 part-backs-start c = omega arith
 
--- src/lib.rt:49:21
+-- src/lib.rt:89:21
 part-backs-end : tie.Need-part-backs-end Inv-loop μ-loop
 part-backs-end c = omega arith
 
--- src/lib.rt:50:12
+-- src/lib.rt:90:12
 hit-requires : tie.Need-hit-requires Inv-loop μ-loop
 hit-requires c κs =
     let text = c .before .before .before .before .before .args .text .now in
     let span = c .before .before .before .before .before .args .span in
     let k = c .before .before .before .loop .k in
-    let size : (at n : ℕ) → at + n ≤ length text → length (take n (drop at text)) ≡ n =
-    λ at n h. length-take-le n (drop at text) (omega (arith, length-drop at text)) in
-    record { front = size k (k + 32 - k) (omega arith) ∙ omega arith; back = size (k + span) (k + span + 32 - (k + span)) (omega arith) ∙ omega arith }
+    record {
+      front = part-length text k (k + 32 - k) (omega arith) ∙ omega arith;
+      back = part-length text (k + span) (k + span + 32 - (k + span)) (omega arith) ∙ omega arith;
+    }
 
--- src/lib.rt:51:13
+-- src/lib.rt:91:13
 returns : tie.Need-returns Inv-loop μ-loop
 returns c = search needs
 
--- src/lib.rt:53:9
+-- src/lib.rt:93:9
 add-k : tie.Need-add-k Inv-loop μ-loop
 add-k c = omega arith
 
--- src/lib.rt:46:5
+-- src/lib.rt:86:5
 loop-less : tie.Need-loop-less Inv-loop μ-loop
 loop-less c = omega arith
 
--- src/lib.rt:46:5
+-- src/lib.rt:86:5
 loop-again : tie.Need-loop-again Inv-loop μ-loop
 loop-again c =
     let a = c .before .before .before .before .before .before .before .args in
     let s = c .before .before .before .before .before .loop in
-    without-block (a .text .now) (a .first) (a .last) (a .span) (s .k) (s .k + 32 - s .k) (s .k + a .span + 32 - (s .k + a .span))
-    (omega arith) (omega arith) (s .inv) (omega arith)
-    (c .before .hit .ensures (c .if1 .left))
+    without-block (a .text .now) (a .first) (a .last) (a .span) (a .places) (a .from) (s .k) (s .inv) 32 (s .k + 32 - s .k)
+    (s .k + a .span + 32 - (s .k + a .span)) (omega arith) (omega arith) (omega arith) (c .before .hit .ensures (c .if1 .left))
 
--- src/lib.rt:41:1
+-- src/lib.rt:81:1
 returns-2 : tie.Need-returns-2 Inv-loop μ-loop
 returns-2 c = search needs
 
@@ -110,7 +104,6 @@ pass-blocks-spec =
     Inv-loop
     μ-loop
     loop-holds
-    add-loop
     sub-loop
     add-behind
     add-fronts

@@ -1,65 +1,59 @@
 -- `search::pass_bytes` passes only places where not both bytes stand, which is its invariant too.
 -- Assumes nothing.
-use mathlib.Core.Path.{_≡_, refl, sym}
-use Prim.Native.Nat.{ℕ, _≤_, _<_, _-_}
-use native.Mathlib.Omega.{arith}
-use mathlib.Core.Logic.{⊎-elim}
-use borrow.Author.Needs.{needs}
-use lib.ListN.{length, getD}
+use Rattle.search.proofs.Laws.{without-none, without-one}
 use Rattle.search.specs.Passing.{Without}
-use Rattle.search.proofs.Laws.{without-one}
+use Prim.Native.Nat.{_-_}
+use mathlib.Core.Logic.{⊎-elim}
+use native.Mathlib.Omega.{arith}
+use borrow.Author.Needs.{needs}
 use Rattle.search.proofs.pass_bytes.Statement.{statement}
 use Rattle.search.proofs.pass_bytes.Tie as tie
 use Rattle.search.proofs.pass_bytes.Reads as reads
 use Rattle.search.proofs.pass_bytes.Lts as lts
 
 abbrev Inv-loop : tie.InvT-loop
-Inv-loop text first last span from k₀ k = Without text first last span k
+Inv-loop text first last span places from k₀ k = Without text first last span places from k
 
 abbrev μ-loop : tie.MeasureT-loop
-μ-loop text first last span from k₀ k = length text - k
+μ-loop text first last span places from k₀ k = places - k
 
--- src/lib.rt:65:5
+-- src/lib.rt:138:5
 loop-holds : tie.Need-loop-holds Inv-loop μ-loop
-loop-holds c = search needs
+loop-holds c = let a = c .args in without-none (a .text .now) (a .first) (a .last) (a .span) (a .places) (a .from) (c .pre .start)
 
--- src/lib.rt:65:18
-sub-loop : tie.Need-sub-loop Inv-loop μ-loop
-sub-loop c = search needs
-
--- src/lib.rt:66:12
+-- src/lib.rt:139:12
 shared-slice-read-if1 : tie.Need-shared-slice-read-if1 Inv-loop μ-loop
 shared-slice-read-if1 c = search needs
 
--- src/lib.rt:67:21
+-- src/lib.rt:140:21
 add-if2 : tie.Need-add-if2 Inv-loop μ-loop
 add-if2 c = search needs
 
--- src/lib.rt:67:16
+-- src/lib.rt:140:16
 shared-slice-read-if2 : tie.Need-shared-slice-read-if2 Inv-loop μ-loop
 shared-slice-read-if2 c = search needs
 
--- src/lib.rt:68:17
+-- src/lib.rt:141:17
 returns : tie.Need-returns Inv-loop μ-loop
 returns c = search needs
 
--- src/lib.rt:71:9
+-- src/lib.rt:144:9
 add-k : tie.Need-add-k Inv-loop μ-loop
 add-k c = search needs
 
--- src/lib.rt:65:5
+-- src/lib.rt:138:5
 loop-less : tie.Need-loop-less Inv-loop μ-loop
 loop-less c = search needs
 
--- src/lib.rt:65:5
+-- src/lib.rt:138:5
 loop-again : tie.Need-loop-again Inv-loop μ-loop
 loop-again c =
     let a = c .before .before .before .before .args in
     let s = c .before .before .before .loop in
-    without-one (a .text .now) (a .first) (a .last) (a .span) (s .k) (s .inv) (omega arith)
+    without-one (a .text .now) (a .first) (a .last) (a .span) (a .places) (a .from) (s .k) (s .inv) (c .before .before .loop-test .taken)
     (⊎-elim (λ w f l. w .2 .left l) (λ w f l. w .left f) (c .if1 .came))
 
--- src/lib.rt:59:1
+-- src/lib.rt:133:1
 returns-2 : tie.Need-returns-2 Inv-loop μ-loop
 returns-2 c = search needs
 
@@ -70,7 +64,6 @@ pass-bytes-spec =
     Inv-loop
     μ-loop
     loop-holds
-    sub-loop
     shared-slice-read-if1
     add-if2
     shared-slice-read-if2

@@ -1,57 +1,56 @@
--- `search::passed` passes only places where the word's first or last byte does not stand.
+-- `search::passed` passes only places where the word does not stand.
 -- Assumes nothing.
-use Prim.Native.Nat.{_-_}
+use Rattle.search.proofs.Laws.{passes-none, passes-more}
+use lib.ListN.{length}
 use native.Mathlib.Omega.{arith}
 use borrow.Author.Needs.{needs}
-use borrow.Author.Tests.{ltb-false}
-use lib.ListN.{length}
-use Rattle.search.proofs.Laws.{passes-none, without-passes}
 use Rattle.search.proofs.passed.Statement.{statement}
 use Rattle.search.proofs.passed.Tie as tie
 use Rattle.search.proofs.passed.Reads as reads
 use Rattle.search.proofs.passed.Lts as lts
-use Rattle.search.proofs.pass_blocks.Reads as pass-blocks-reads
-use Rattle.search.proofs.pass_bytes.Reads as pass-bytes-reads
+use Rattle.search.proofs.passed_byte.Reads as passed-byte-reads
+use Rattle.search.proofs.passed_word.Reads as passed-word-reads
 
--- src/lib.rt:83:9
+-- src/lib.rt:194:9
 returns : tie.Need-returns
-returns c = passes-none (c .before .before .before .args .text .now) (c .before .before .before .args .word .now)
+returns c = let a = c .before .before .before .args in passes-none (a .text .now) (a .word .now)
 
--- src/lib.rt:85:16
-sub-span : tie.Need-sub-span
-sub-span c = search needs
-
--- src/lib.rt:86:17
-shared-slice-read-first : tie.Need-shared-slice-read-first
-shared-slice-read-first c = search needs
-
--- src/lib.rt:87:16
-shared-slice-read-last : tie.Need-shared-slice-read-last
-shared-slice-read-last c = search needs
-
--- src/lib.rt:88:9
-pass-blocks-requires : tie.Need-pass-blocks-requires
-pass-blocks-requires c κs = record { short = search needs; room = omega (arith, ltb-false) }
-
--- src/lib.rt:89:5
-pass-bytes-requires : tie.Need-pass-bytes-requires
-pass-bytes-requires c κs = (record { short = search needs; room = omega (arith, ltb-false) }, c .pass-blocks .ensures)
-
--- src/lib.rt:77:1
+-- src/lib.rt:197:9
 returns-2 : tie.Need-returns-2
-returns-2 c =
-    let a = c .before .before .before .before .before .before .before .before .args in
+returns-2 c = let a = c .before .before .before .before .args in passes-none (a .text .now) (a .word .now)
+
+-- src/lib.rt:200:34
+shared-slice-read-passed-byte : tie.Need-shared-slice-read-passed-byte
+shared-slice-read-passed-byte c = search needs
+
+-- src/lib.rt:200:9
+passed-byte-requires : tie.Need-passed-byte-requires
+passed-byte-requires c κs = search needs
+
+-- src/lib.rt:200:9
+returns-3 : tie.Need-returns-3
+returns-3 c =
+    let a = c .before .before .before .before .before .before .before .args in
+    let text = a .text .now in
     let word = a .word .now in
-    without-passes (a .text .now) word (length word - 1) (c .pass-bytes .result) (omega arith) (c .pass-bytes .ensures)
+    passes-more text word 0 (length text) 0 (c .passed-byte .result) (omega arith) (omega arith) (passes-none text word) (c .passed-byte .ensures)
+
+-- src/lib.rt:202:5
+passed-word-requires : tie.Need-passed-word-requires
+passed-word-requires c κs = search needs
+
+-- src/lib.rt:188:1
+returns-4 : tie.Need-returns-4
+returns-4 c = search needs
 
 pub passed-spec : {M : Type 1} → statement M
 passed-spec =
     tie.close
     (tie.spec
     returns
-    sub-span
-    shared-slice-read-first
-    shared-slice-read-last
-    pass-blocks-requires
-    pass-bytes-requires
-    returns-2)
+    returns-2
+    shared-slice-read-passed-byte
+    passed-byte-requires
+    returns-3
+    passed-word-requires
+    returns-4)

@@ -1,0 +1,48 @@
+-- Every count and length that document 01 fixes once and for all, named here once. Assumes nothing.
+use Prim.Native.Nat.{ℕ}
+
+-- Q10 "256 statements, 32 strings, 32 numbers, 64 labels or 16 routines declared"
+abbrev pub statements : ℕ
+statements = 256
+
+abbrev pub strings : ℕ
+strings = 32
+
+abbrev pub numbers : ℕ
+numbers = 32
+
+abbrev pub labels : ℕ
+labels = 64
+
+abbrev pub routines : ℕ
+routines = 16
+
+-- Q10 "20 elements in an expression", Q23 "The pattern has over 20 elements."
+abbrev pub row : ℕ
+row = 20
+
+-- Q10 "1,024 elements, 1,024 operands and `+ - * /` in numeric expressions, or 4,096 literal bytes"
+abbrev pub elements : ℕ
+elements = 1024
+
+abbrev pub items : ℕ
+items = 1024
+
+abbrev pub literals : ℕ
+literals = 4096
+
+-- V1 "strings hold 0 to 1,024 bytes", Q22 "the reference exceeds 1,024 bytes"
+abbrev pub bytes : ℕ
+bytes = 1024
+
+-- S13 "an expression in parentheses, at most 16 deep"
+abbrev pub parentheses : ℕ
+parentheses = 16
+
+-- Q15 "EXECUTE with 16 held"
+abbrev pub returns : ℕ
+returns = 16
+
+-- Q3 "a line exceeds 80"
+abbrev pub line : ℕ
+line = 80

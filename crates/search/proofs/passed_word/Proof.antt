@@ -1,0 +1,204 @@
+-- `search::passed_word` passes only places where two of the word's bytes don't both stand or the bytes don't all agree. The invariant: no place
+-- passed has the word. Assumes nothing.
+use Rattle.search.proofs.Laws.{part-length, without-join, passes-none, passes-more, passes-one}
+use Rattle.search.specs.Passing.{Passes}
+use lib.ListN.{length, getD}
+use Prim.Native.Nat.{_-_, _≤_, _<_}
+use mathlib.Core.Path.{refl}
+use native.Mathlib.Omega.{arith}
+use borrow.Author.Needs.{needs}
+use Rattle.search.proofs.passed_word.Statement.{statement}
+use Rattle.search.proofs.passed_word.Tie as tie
+use Rattle.search.proofs.passed_word.Reads as reads
+use Rattle.search.proofs.passed_word.Lts as lts
+use Rattle.search.proofs.pass_blocks.Reads as pass-blocks-reads
+use Rattle.search.proofs.pass_bytes.Reads as pass-bytes-reads
+use Rattle.search.proofs.pass_eights.Reads as pass-eights-reads
+use Rattle.search.proofs.same_until.Reads as same-until-reads
+
+abbrev Inv-loop : tie.InvT-loop
+Inv-loop text word places first span₀ k₀ span k = (span < length word) × (k ≤ places) × Passes text word k
+
+abbrev μ-loop : tie.MeasureT-loop
+μ-loop text word places first span₀ k₀ span k = places - k
+
+-- after the three ways of passing places
+gone : (c : tie.After-pass-bytes Inv-loop μ-loop) → Passes (c .before .before .before .before .before .before .before .before .before .args .text .now) (c .before .before .before .before .before .before .before .before .before .args .word .now) (c .pass-bytes .result)
+gone c =
+    let a = c .before .before .before .before .before .before .before .before .before .args in
+    let p = c .before .before .before .before .before .before .before .before .before .pre in
+    let s = c .before .before .before .before .before .loop in
+    let text = a .text .now in
+    let word = a .word .now in
+    let first = getD word 0 0 in
+    let last = getD word (s .span) 0 in
+    let places = length text - (length word - 1) in
+    let b = c .before .before .pass-blocks in
+    let e = c .before .pass-eights in
+    let w = c .pass-bytes in
+    passes-more text word (s .span) places (s .k) (w .result) (s .inv .0) (omega arith) (s .inv .2)
+    (without-join text first last (s .span) places (s .k) (e .result)
+    (without-join text first last (s .span) places (s .k) (b .result) (b .ensures) (e .result) (e .ensures)) (w .result) (w .ensures))
+
+-- src/lib.rt:165:32
+sub-places : tie.Need-sub-places Inv-loop μ-loop
+sub-places c = omega arith
+
+-- src/lib.rt:165:18
+sub-places-2 : tie.Need-sub-places-2 Inv-loop μ-loop
+sub-places-2 c = omega arith
+
+-- src/lib.rt:166:17
+shared-slice-read-first : tie.Need-shared-slice-read-first Inv-loop μ-loop
+shared-slice-read-first c = omega arith
+
+-- src/lib.rt:167:20
+sub-span : tie.Need-sub-span Inv-loop μ-loop
+sub-span c = omega arith
+
+-- src/lib.rt:169:5
+loop-holds : tie.Need-loop-holds Inv-loop μ-loop
+loop-holds c =
+    let a = c .before .before .before .args in
+    let p = c .before .before .before .pre in
+    (omega arith, omega arith, passes-none (a .text .now) (a .word .now))
+
+-- src/lib.rt:170:20
+shared-slice-read-last : tie.Need-shared-slice-read-last Inv-loop μ-loop
+shared-slice-read-last c = omega arith
+
+-- src/lib.rt:171:13
+pass-blocks-requires : tie.Need-pass-blocks-requires Inv-loop μ-loop
+pass-blocks-requires c κs =
+    let a = c .before .before .before .before .before .before .args in
+    let p = c .before .before .before .before .before .before .pre in
+    let s = c .before .before .loop in
+    record { short = p .short; room = omega arith; start = omega arith }
+
+-- src/lib.rt:172:13
+pass-eights-requires : tie.Need-pass-eights-requires Inv-loop μ-loop
+pass-eights-requires c κs =
+    let a = c .before .before .before .before .before .before .before .args in
+    let p = c .before .before .before .before .before .before .before .pre in
+    let s = c .before .before .before .loop in
+    let w = c .pass-blocks .ensures in
+    record { short = p .short; room = omega arith; start = w .high }
+
+-- src/lib.rt:173:9
+pass-bytes-requires : tie.Need-pass-bytes-requires Inv-loop μ-loop
+pass-bytes-requires c κs =
+    let a = c .before .before .before .before .before .before .before .before .args in
+    let p = c .before .before .before .before .before .before .before .before .pre in
+    let s = c .before .before .before .before .loop in
+    let w = c .pass-eights .ensures in
+    record { short = p .short; room = omega arith; start = w .high }
+
+-- src/lib.rt:175:13
+returns : tie.Need-returns Inv-loop μ-loop
+returns c = gone (c .before)
+
+-- src/lib.rt:177:28
+sub-same-until : tie.Need-sub-same-until Inv-loop μ-loop
+sub-same-until c =
+    let a = c .before .before .before .before .before .before .before .before .before .before .args in
+    let p = c .before .before .before .before .before .before .before .before .before .before .pre in
+    let s = c .before .before .before .before .before .before .loop in
+    let w = c .before .pass-bytes .ensures in
+    omega arith
+
+-- src/lib.rt:177:28
+part-same-until-start : tie.Need-part-same-until-start Inv-loop μ-loop
+part-same-until-start c =
+    let a = c .before .before .before .before .before .before .before .before .before .before .args in
+    let p = c .before .before .before .before .before .before .before .before .before .before .pre in
+    let s = c .before .before .before .before .before .before .loop in
+    let w = c .before .pass-bytes .ensures in
+    omega arith
+
+-- src/lib.rt:177:28
+part-same-until-end : tie.Need-part-same-until-end Inv-loop μ-loop
+part-same-until-end c =
+    let a = c .before .before .before .before .before .before .before .before .before .before .args in
+    let p = c .before .before .before .before .before .before .before .before .before .before .pre in
+    let s = c .before .before .before .before .before .before .loop in
+    let w = c .before .pass-bytes .ensures in
+    omega arith
+
+-- src/lib.rt:177:13
+same-until-requires : tie.Need-same-until-requires Inv-loop μ-loop
+same-until-requires c κs =
+    let a = c .before .before .before .before .before .before .before .before .before .before .before .args in
+    let p = c .before .before .before .before .before .before .before .before .before .before .before .pre in
+    let s = c .before .before .before .before .before .before .before .loop in
+    let w = c .before .before .pass-bytes .ensures in
+    let k = c .before .before .pass-bytes .result in
+    omega (arith, part-length (a .text .now) k (length (a .text .now) - k) (omega arith), c .before .if1 .left)
+
+-- src/lib.rt:179:13
+returns-2 : tie.Need-returns-2 Inv-loop μ-loop
+returns-2 c = gone (c .before .before .before .before)
+
+-- src/lib.rt:182:9
+add-k : tie.Need-add-k Inv-loop μ-loop
+add-k c =
+    let a = c .before .before .before .before .before .before .before .before .before .before .before .before .before .args in
+    let p = c .before .before .before .before .before .before .before .before .before .before .before .before .before .pre in
+    let s = c .before .before .before .before .before .before .before .before .before .loop in
+    let w = c .before .before .before .before .pass-bytes .ensures in
+    omega arith
+
+-- src/lib.rt:169:5
+loop-less : tie.Need-loop-less Inv-loop μ-loop
+loop-less c =
+    let a = c .before .before .before .before .before .before .before .before .before .before .before .before .before .args in
+    let p = c .before .before .before .before .before .before .before .before .before .before .before .before .before .pre in
+    let s = c .before .before .before .before .before .before .before .before .before .loop in
+    let w = c .before .before .before .before .pass-bytes .ensures in
+    let e = c .before .before .before .before .before .pass-eights .ensures in
+    let b = c .before .before .before .before .before .before .pass-blocks .ensures in
+    omega (arith, w .low, w .high, e .low, b .low, c .before .before .before .if1 .left)
+
+-- src/lib.rt:169:5
+loop-again : tie.Need-loop-again Inv-loop μ-loop
+loop-again c =
+    let a = c .before .before .before .before .before .before .before .before .before .before .before .before .before .args in
+    let p = c .before .before .before .before .before .before .before .before .before .before .before .before .before .pre in
+    let s = c .before .before .before .before .before .before .before .before .before .loop in
+    let w = c .before .before .before .before .pass-bytes .ensures in
+    let k = c .before .before .before .before .pass-bytes .result in
+    let g = c .before .same-until .ensures in (
+      omega (arith, g .inside, c .if2 .left),
+      omega (arith, w .high, c .before .before .before .if1 .left),
+      passes-one (a .text .now) (a .word .now) (length (a .text .now) - (length (a .word .now) - 1)) k (c .before .same-until .result)
+          (length (a .text .now) - k) (omega arith) (omega (arith, w .high, c .before .before .before .if1 .left)) (gone (c .before .before .before .before)) refl g (omega (arith, g .inside, c .if2 .left)),
+    )
+
+-- src/lib.rt:161:1
+returns-3 : tie.Need-returns-3 Inv-loop μ-loop
+returns-3 c = c .before .loop .inv .2
+
+pub passed-word-spec : {M : Type 1} → statement M
+passed-word-spec =
+    tie.close
+    (tie.spec
+    Inv-loop
+    μ-loop
+    sub-places
+    sub-places-2
+    shared-slice-read-first
+    sub-span
+    loop-holds
+    shared-slice-read-last
+    pass-blocks-requires
+    pass-eights-requires
+    pass-bytes-requires
+    returns
+    sub-same-until
+    part-same-until-start
+    part-same-until-end
+    same-until-requires
+    returns-2
+    add-k
+    loop-less
+    loop-again
+    returns-3)
