@@ -4,12 +4,13 @@ use mathlib.Core.Bool.{true, _&&_, and-eq-true-iff}
 use mathlib.Core.List.{List, [], _∷_, _++_, append-assoc}
 use mathlib.Core.Path.{_≡_, refl, sym, ap, ap₂, _∙_}
 use Prim.Native.Nat.{ℕ, zero, suc, _+_, _*_, _-_, _/_, _%_, _≤_, _<_}
-use native.Mathlib.Nat.{add-mul-div-left, add-mul-mod-self-left, add-zero, div-eq-of-lt, mod-add-div, mod-eq-of-lt, not-suc-le-zero, zero-add}
+use native.Mathlib.Nat.{add-mul-div-left, add-mul-mod-self-left, add-zero, div-eq-of-lt, mod-eq-of-lt, not-suc-le-zero, zero-add}
 use native.Mathlib.Numerals.{add-one}
 use native.Mathlib.Omega.{arith}
 use lib.Dec.{leb, ltb, eqb, lit<}
-use lib.ListN.{length, take, drop, getD, set, replicate, length-append, length-replicate, length-set, length-drop, replicate-append-replicate, take-append-drop}
-use lib.Seq.{drop-at, drop-cons, drop-drop, getD-drop, length-take-le, take-add, take-at}
+use lib.ListN.{length, take, drop, getD, set, replicate, length-append, length-drop, length-replicate, length-set}
+use lib.ListN.{replicate-append-replicate, take-append-drop}
+use lib.Seq.{drop-at, drop-cons, drop-drop, length-take-le, take-add}
 use borrow.Author.Tests.{leb-true, ltb-true, eqb-true, le-leb, lt-ltb}
 use Rattle.base.specs.Lists.{all}
 use Rattle.machine.specs.State.{mostStrings}
@@ -26,6 +27,7 @@ use Rattle.calls.specs.Buffers.{
   cellsKeep,
   storeKeeps,
 }
+use Rattle.calls.specs.NumeralLaws.{Stands, stands-front, stands-back, byte-read, bytes-read, number-read}
 use Rattle.calls.specs.Numerals.{inBytes, numberAt}
 use Rattle.calls.specs.Splices.{splice, append-splice, splice-append, splice-seam}
 
@@ -33,6 +35,14 @@ use Rattle.calls.specs.Splices.{splice, append-splice, splice-append, sp
 pub record Good (store : List ℕ) : Type 0 where
   pub size : 32832 ≤ length store
   pub keeps : storeKeeps store ≡ true
+
+pub keeps-good : (store : List ℕ) → storeKeeps store ≡ true → Good store
+unfolding storeKeeps storeSize
+keeps-good store e =
+    record {
+      size = leb-true _ _ (and-eq-true-iff (leb 32832 (length store)) (cellsKeep store 0 mostStrings) .0 e .0);
+      keeps = e;
+    }
 
 -- strings that fit their cells
 abbrev pub Short : List (List ℕ) → Type 0
@@ -99,7 +109,8 @@ module _ (store : List ℕ) (at : ℕ) (c : Cell store at) (fits : at + 1026 ≤
   unfolding stringIn
   string-length = length-take-le _ _ (simp length-drop (omega (arith, c .short)))
 
-  pub zeros-behind : (m : ℕ) → numberAt 2 store at ≤ m → m ≤ 1024 → take (1024 - m) (drop (at + (2 + m)) store) ≡ replicate (1024 - m) 0
+  pub zeros-behind : (m : ℕ) → numberAt 2 store at ≤ m → m ≤ 1024
+      → take (1024 - m) (drop (at + (2 + m)) store) ≡ replicate (1024 - m) 0
   zeros-behind m h k =
       let n = numberAt 2 store at in
       let x = drop (at + (2 + n)) store in
@@ -178,46 +189,39 @@ cell-at store at (suc n) (suc i) h e =
     ap (cellKeeps store) place
     ∙ cell-at store (at + 1026) n i (omega arith) (and-eq-true-iff (cellKeeps store at) (cellsKeep store (at + 1026) n) .0 e .1)
 
--- a number up to 1,024 is read back from its two bytes
-number-back : (n : ℕ) → n ≤ 1024 → n % 256 + 256 * (n / 256 % 256) ≡ n
-number-back n h =
-    let q : n / 256 % 256 ≡ n / 256 = mod-eq-of-lt (omega arith) in
-    ap (λ (x : ℕ). n % 256 + 256 * x) q ∙ mod-add-div n 256
-
--- the image of a string, at a place of a store, is a cell that keeps its rules and holds the string
+-- the image of a string, where it stands in a store, is a cell that keeps its rules and holds the string
 module _ (store : List ℕ) (at : ℕ) (v t : List ℕ) (short : length v ≤ 1024) (e : drop at store ≡ cellImage v ++ t) where
-  image-low : getD store at 0 ≡ length v % 256
-  unfolding cellImage inBytes
-  image-low =
-      ap (λ (j : ℕ). getD store j 0) (sym (add-zero at)) ∙ sym (getD-drop at store 0 0) ∙ ap (λ (l : List ℕ). getD l 0 0) e
+  abbrev zeros-after : List ℕ
+  zeros-after = replicate (1024 - length v) 0
+
+  image-stands : Stands store at (inBytes 2 (length v) ++ (v ++ zeros-after))
+  unfolding cellImage longestString
+  image-stands = record { behind = t; here = e }
 
   image-number : numberAt 2 store at ≡ length v
-  unfolding cellImage inBytes
-  image-number =
-      let high : getD store (at + 1) 0 ≡ length v / 256 % 256 =
-      sym (getD-drop at store 1 0) ∙ ap (λ (l : List ℕ). getD l 1 0) e in
-      number-two store at ∙ ap₂ (λ (x y : ℕ). x + 256 * y) image-low high ∙ number-back (length v) short
+  image-number = number-read 2 store at (length v) (omega arith) (stands-front store (inBytes 2 (length v)) (v ++ zeros-after) image-stands)
 
-  image-behind : drop (at + 2) store ≡ v ++ (replicate (1024 - length v) 0 ++ t)
-  unfolding cellImage inBytes longestString
-  image-behind = sym (drop-drop 2 at store) ∙ ap (drop 2) e ∙ append-assoc v (replicate (1024 - length v) 0) t
+  image-behind : Stands store (at + 2) (v ++ zeros-after)
+  unfolding inBytes
+  image-behind = stands-back store (inBytes 2 (length v)) (v ++ zeros-after) image-stands
 
   image-string : stringIn store at ≡ v
   unfolding stringIn
   image-string =
-      ap₂ (λ (n : ℕ) (l : List ℕ). take n l) image-number image-behind ∙ take-at v (replicate (1024 - length v) 0 ++ t) (length v) refl
+      ap (λ (n : ℕ). take n (drop (at + 2) store)) image-number
+      ∙ bytes-read store (at + 2) v (stands-front store v zeros-after image-behind)
 
   image-cell : Cell store at
+  unfolding inBytes
   image-cell =
-      let z : List ℕ = replicate (1024 - length v) 0 in
+      let low = byte-read store at (length v % 256) ((length v / 256 % 256) ∷ (v ++ zeros-after)) image-stands in
       let place : at + (2 + numberAt 2 store at) ≡ at + 2 + length v = omega (arith, image-number) in
-      let zeros : take (1024 - numberAt 2 store at) (drop (at + (2 + numberAt 2 store at)) store) ≡ z =
+      let zeros : take (1024 - numberAt 2 store at) (drop (at + (2 + numberAt 2 store at)) store) ≡ zeros-after =
       ap₂ (λ (n j : ℕ). take (1024 - n) (drop j store)) image-number place
-      ∙ ap (take (1024 - length v))
-      (sym (drop-drop (length v) (at + 2) store) ∙ ap (drop (length v)) image-behind ∙ drop-at v (z ++ t) (length v) refl)
-      ∙ take-at z t (1024 - length v) (length-replicate (1024 - length v) 0) in
+      ∙ ap (λ (n : ℕ). take n (drop (at + 2 + length v) store)) (sym (length-replicate (1024 - length v) 0))
+      ∙ bytes-read store (at + 2 + length v) zeros-after (stands-back store v zeros-after image-behind) in
       record {
-        low = omega (arith, image-low);
+        low = omega (arith, low);
         short = omega (arith, image-number);
         zeros = ap (all (λ b. eqb b 0)) zeros ∙ all-zeros (1024 - length v);
       }
