@@ -1,97 +1,36 @@
--- The customer's third demand, proved, and that the table of an accepted deck holds its program. Both assume that the program of an
--- accepted deck is in range: acceptedHolds, a parameter.
-use mathlib.Core.Bool.{Bool, true, false, cond}
-use mathlib.Core.List.{List, _++_}
+-- The customer's third demand, proved; with it, that the table of an accepted deck holds its program, and that a run of calls is the run
+-- of the machine. They assume that the program of an accepted deck is in range: acceptedHolds, a parameter.
+use mathlib.Core.Bool.{Bool, true, false}
+use mathlib.Core.List.{List}
 use mathlib.Core.Option.{Option}
 use mathlib.Core.Path.{_≡_, refl, sym, _∙_, ap, ap₂, subst, subst₂}
-use Prim.Native.Nat.{ℕ, _+_, _*_, _-_, _≤_, _<_}
+use Prim.Native.Nat.{ℕ, _+_, _≤_, _<_}
 use native.Mathlib.Omega.{arith}
 use lib.Dec.{ltb, eqb, lit<, lit≤}
-use lib.ListN.{length, drop, replicate, length-append, length-replicate}
-use borrow.Author.Tests.{le-ltb, ltb-true, ltb-false, eqb-true, eqb-false}
+use lib.ListN.{length}
+use borrow.Author.Tests.{ltb-true, ltb-false, eqb-true, eqb-false}
 use Rattle.base.specs.Edition.{Edition, edition1}
-use Rattle.judgement.specs.Deck.{Judgement, accepted, judge}
+use Rattle.judgement.specs.Deck.{accepted, judge}
 use Rattle.language.specs.Program as Program
 use Rattle.language.specs.Program.{Part, PatternElement, Direction, Branch, Program}
-use Rattle.machine.specs.Run.{after}
-use Rattle.machine.specs.State.{State, freshMemory, fresh, mostStrings}
+use Rattle.machine.specs.Run.{after, run}
+use Rattle.machine.specs.State.{State, fresh}
 use Rattle.machine.specs.Step.{carrying, statementAt, turnedDownBy, concluded, step}
 use Rattle.values.specs.Conversion.{longestString}
-use Rattle.calls.specs.BufferLaws.{fresh-image}
-use Rattle.calls.specs.Buffers.{storeSize, stateSize, stateIn, storeLeft, stateLeft, outputLeft, firstState}
-use Rattle.calls.specs.Calls.{longestDeck, ReadCalled, readJudged, readCall, StartCalled, startCall, Buffers, givenIn}
-use Rattle.calls.specs.Calls.{carried, stepCall, buffersAfter}
+use Rattle.calls.specs.Buffers.{storeSize, stateIn}
+use Rattle.calls.specs.Calls.{readCall, Buffers, givenIn}
+use Rattle.calls.specs.Calls.{carried, stepCall, buffersAfter, runCall}
 use Rattle.calls.specs.Demands.{Scans, StepClaim, HoldsProgram, startedWith, Demand3}
-use Rattle.calls.specs.Holding.{Holding, leftOf, left-holds}
+use Rattle.calls.specs.Holding.{Holding}
 use Rattle.calls.specs.Invariant.{Sound, returns-enough, next-sound, fresh-sound}
 use Rattle.calls.specs.ProgramLaws.{Runs, program-runs}
 use Rattle.calls.specs.Numerals.{bias}
 use Rattle.calls.specs.Rules.{isProgram}
 use Rattle.calls.specs.ScanLaws.{concluded-scans}
+use Rattle.calls.specs.RunLaws.{RunSame, run-same}
+use Rattle.calls.specs.StartLaws.{read-tabled, started-small, started-holds}
 use Rattle.calls.specs.StepLaws.{Tabled, small-refused, small-called, small-after, refusal-held, call-held, step-holds, after-holds}
-use Rattle.calls.specs.Table.{image, literalsAt}
-use Rattle.calls.specs.TableLaws.{image-length, programIn-image, image-keeps}
-
--- the deck call, by how its two sizes and its deck come out
-abbrev readBy : Edition → List ℕ → (long short : Bool) → Judgement → ReadCalled
-readBy e table long short j =
-    cond long (record { number = 1; card = 0; table = table })
-    (cond short (record { number = 2; card = 0; table = table })
-    (readJudged e table j))
-
--- of an accepted deck, with both sizes right
-accepted-table : (e : Edition) (table : List ℕ) (long short : Bool) (p : Program) → readBy e table long short (accepted p) .number ≡ 0
-    → readBy e table long short (accepted p) .table ≡ image e p ++ drop (e .tableSize) table
-unfolding readJudged
-accepted-table e table true short p h = absurd (omega arith)
-accepted-table e table false true p h = absurd (omega arith)
-accepted-table e table false false p h = refl
-
--- what the deck call leaves of an accepted deck
-read-table : (e : Edition) (deck table : List ℕ) (p : Program) → judge e deck ≡ accepted p → readCall e deck table .number ≡ 0
-    → readCall e deck table .table ≡ image e p ++ drop (e .tableSize) table
-unfolding readCall
-read-table e deck table p judged h =
-    let long = ltb longestDeck (length deck) in
-    let short = ltb (length table) (e .tableSize) in
-    ap (λ j. readBy e table long short j .table) judged
-    ∙ accepted-table e table long short p (ap (λ j. readBy e table long short j .number) (sym judged) ∙ h)
-
-module _ (e : Edition) (limit : e .limit < bias) (size : literalsAt + 4096 ≤ e .tableSize) where
-  -- the table that an accepted deck leaves holds its program
-  read-tabled : (deck table : List ℕ) (p : Program) → isProgram e p ≡ true → judge e deck ≡ accepted p
-      → readCall e deck table .number ≡ 0
-      → Tabled e p (readCall e deck table .table)
-  read-tabled deck table p inside judged h =
-      let rest = drop (e .tableSize) table in
-      let long : e .tableSize ≤ length (image e p ++ rest) = omega (arith, length-append (image e p) rest, image-length e p inside size) in
-      subst (Tabled e p) (sym (read-table e deck table p judged h))
-      (record { size = long; keeps = image-keeps e p rest limit size inside; reads = programIn-image e p rest limit size inside })
-
--- R12 "32 cells of 1,026 bytes"
-cells-size : 1026 * mostStrings ≡ storeSize
-unfolding mostStrings storeSize
-cells-size = refl
-
--- what starting leaves is what is left of a machine before its first step
-started-left : (store input output : List ℕ) → storeSize ≤ length store
-    → startedWith store output ≡ leftOf input (record { store = store; state = replicate stateSize 0; output = output }) (fresh input)
-unfolding startedWith startCall storeLeft stateLeft outputLeft firstState fresh freshMemory
-started-left store input output large =
-    let zeroed : StartCalled = record { number = 0; store = replicate storeSize 0 ++ drop storeSize store; state = firstState } in
-    let kept : StartCalled = record { number = 14; store = store; state = firstState } in
-    let started : startCall store ≡ zeroed = ap (λ t. cond t kept zeroed) (le-ltb (length store) storeSize large) in
-    let stores : replicate storeSize 0 ++ drop storeSize store ≡ storeLeft store (fresh input) =
-    ap (λ l. l ++ drop storeSize store) (sym (fresh-image mostStrings ∙ ap (λ n. replicate n 0) cells-size)) in
-    let none-taken : length input - length input ≡ 0 = omega arith in
-    let states : firstState ≡ stateLeft (replicate stateSize 0) input (fresh input) = rw none-taken in
-    (λ i. record { store = started i .store; state = started i .state; output = output })
-    ∙ (λ i. record { store = stores i; state = states i; output = output })
-
--- a store too small stays
-started-small : (store output : List ℕ) → ltb (length store) storeSize ≡ true → startedWith store output .store ≡ store
-unfolding startedWith startCall
-started-small store output q = rw q
+use Rattle.calls.specs.Table.{literalsAt}
 
 -- numbers fit their places, a string's length is a number, p is a program in range, and the table holds it
 module _ (e : Edition) (limit : e .limit < bias) (wide : longestString ≤ e .limit) (p : Program) (runs : Runs e p)
@@ -170,10 +109,7 @@ module _ (e : Edition) (limit : e .limit < bias) (wide : longestString ≤ e .li
       by-size false q =
           let lent = length output in
           let sound = fresh-sound e wide p runs lent input in
-          let base : Buffers = record { store = store; state = replicate stateSize 0; output = output } in
-          let started : Holding e p lent input (fresh input) (startedWith store output) =
-          subst (Holding e p lent input (fresh input)) (sym (started-left store input output (ltb-false (length store) storeSize q)))
-          (left-holds e limit p lent input (fresh input) sound base (length-replicate stateSize 0) refl) in
+          let started = started-holds e limit wide p runs store input output (ltb-false (length store) storeSize q) in
           let both = after-holds e p table input t limit wide runs lent k (fresh input) (startedWith store output) sound started in
           claim-held lent c b (both .0) (both .1) store
 
@@ -195,15 +131,30 @@ module _ (e : Edition) (limit : e .limit < bias) (wide : longestString ≤ e .li
       claim-after e limit wide p (program-runs e p inside) (readCall e deck table .table) input
       (read-tabled e limit size deck table p inside judged h) store output k
 
--- the sizes of edition 1 are such
+  -- with a store that is large enough, a run of an accepted deck from the start is the machine's
+  pub accepted-run : (deck table store input output : List ℕ) (p : Program) → judge e deck ≡ accepted p
+      → readCall e deck table .number ≡ 0 → storeSize ≤ length store → (k : ℕ)
+      → RunSame e p (length output) input (run e p (length output) k (fresh input))
+      (runCall e (readCall e deck table .table) input k (startedWith store output))
+  accepted-run deck table store input output p judged h large k =
+      let inside = acceptedHolds deck p judged in
+      let runs = program-runs e p inside in
+      let lent = length output in
+      run-same e limit wide p runs (readCall e deck table .table) input (read-tabled e limit size deck table p inside judged h) lent k
+      (fresh input) (startedWith store output) (fresh-sound e wide p runs lent input)
+      (started-holds e limit wide p runs store input output large)
+
+-- edition 1: its numbers fit their places
 pub edition1-limit : edition1 .limit < bias
 unfolding edition1 bias
 edition1-limit = lit< tt
 
+-- a string's length is one of them
 pub edition1-wide : longestString ≤ edition1 .limit
 unfolding edition1 longestString
 edition1-wide = lit≤ tt
 
+-- its tables have room for all literal bytes
 pub edition1-size : literalsAt + 4096 ≤ edition1 .tableSize
 unfolding edition1 literalsAt
 edition1-size = lit≤ tt

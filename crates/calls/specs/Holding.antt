@@ -54,13 +54,17 @@ unfolding all
 all-everywhere f [] d h = refl
 all-everywhere f (x ∷ l) d h = and-eq-true-iff (f x) (all f l) .1 (h 0, all-everywhere f l d (λ i. h (suc i)))
 
--- a list turned round passes the tests that the list passes
-all-reverse : {A : Type 0} (f : A → Bool) (l r : List A) → all f l ≡ true → all f r ≡ true → all f (reverseAux l r) ≡ true
+all-onto : {A : Type 0} (f : A → Bool) (l r : List A) → all f l ≡ true → all f r ≡ true → all f (reverseAux l r) ≡ true
 unfolding all
-all-reverse f [] r h g = g
-all-reverse f (x ∷ l) r h g =
+all-onto f [] r h g = g
+all-onto f (x ∷ l) r h g =
     let both = and-eq-true-iff (f x) (all f l) .0 h in
-    all-reverse f l (x ∷ r) (both .1) (and-eq-true-iff (f x) (all f r) .1 (both .0, g))
+    all-onto f l (x ∷ r) (both .1) (and-eq-true-iff (f x) (all f r) .1 (both .0, g))
+
+-- a list turned round passes the tests that the list passes
+pub all-reverse : {A : Type 0} (f : A → Bool) (l : List A) → all f l ≡ true → all f (reverse l) ≡ true
+unfolding all
+all-reverse f l h = all-onto f l [] h refl
 
 both-true : {a b : Bool} → a ≡ true → b ≡ true → (a && b) ≡ true
 both-true {a} {b} h g = and-eq-true-iff a b .1 (h, g)
@@ -116,14 +120,14 @@ module _ (e : Edition) (limit : e .limit < bias) (p : Program) (lent : ℕ) (inp
         ap (λ n. suc (suc (suc (suc (suc n))))) whole
 
     state-keeps : stateKeeps e (length (p .steps)) (length input) lent (stateLeft state input c) ≡ true
-    unfolding stateKeeps stateLeft isInRange numberAt all
+    unfolding stateKeeps stateLeft isInRange numberAt
     state-keeps =
         let steps = length (p .steps) in
         let inside : (k : ℕ) → Bool = λ k. ltb k steps in
         let returns : all inside (returnsIn (stateLeft state input c)) ≡ true =
         ap (all inside) returns-left
-        ∙ all-reverse inside (c .returns) []
-        (all-everywhere inside (c .returns) 0 (λ i. lt-ltb (getD (c .returns) i 0) steps (s .returns i))) refl in
+        ∙ all-reverse inside (c .returns)
+        (all-everywhere inside (c .returns) 0 (λ i. lt-ltb (getD (c .returns) i 0) steps (s .returns i))) in
         let held : (i : ℕ) → isInRange e (getD (c .memory .numbers) i (pos 0)) ≡ true =
         λ i. le-leb (natAbs (numberAt (c .memory) i)) (e .limit) (s .memory .held i) in
         let numbers : all (isInRange e) (numbersIn (stateLeft state input c)) ≡ true =

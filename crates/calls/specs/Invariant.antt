@@ -51,7 +51,8 @@ drop-unread (x ∷ xs) (suc k) =
     let one-more : suc (length xs) - length (drop k xs) ≡ suc (length xs - length (drop k xs)) = omega (arith, length-drop k xs) in
     drop-unread xs k ∙ ap (λ j. drop j (x ∷ xs)) (sym one-more)
 
-unread-any : (input rest : List ℕ) (k : ℕ) → rest ≡ drop k input → rest ≡ drop (length input - length rest) input
+-- any rest of the input tells how many bytes were taken
+pub unread-any : (input rest : List ℕ) (k : ℕ) → rest ≡ drop k input → rest ≡ drop (length input - length rest) input
 unread-any input rest k e = e ∙ drop-unread input k ∙ ap (λ r. drop (length input - length r) input) (sym e)
 
 -- a step that the machine doesn't turn down has the returns it needs

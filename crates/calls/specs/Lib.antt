@@ -1,8 +1,8 @@
 -- The calls: numbers as bytes (Numerals), a program as a table (Table) and back (TableReading), when a program is in range (Rules), store
 -- and state (Buffers) with their laws (BufferLaws, over Splices), what each call answers and leaves (Calls), the demands (Demands).
 -- Laws: numbers (NumeralLaws), cells (CellLaws), rows (RowLaws) and programs (TableLaws) are read back from their bytes (ByteLaws).
--- Demand 3 proved (DemandLaws): programs in range run (ProgramLaws, NumberBounds, Invariant), buffers hold the machine (Holding), steps on
--- them do what it does (StepLaws, ScanLaws), and stopped ones change the status alone (StopLaws).
+-- Demand 3 proved (DemandLaws): programs in range run (ProgramLaws, NumberBounds, Invariant), buffers hold the machine (Holding, GivenLaws,
+-- StartLaws), calls on them do what it does (StepLaws, ScanLaws, RunLaws), and stopped steps change the status alone (StopLaws).
 pub mod BufferLaws
 pub mod Buffers
 pub mod ByteLaws
@@ -10,6 +10,7 @@ pub mod Calls
 pub mod CellLaws
 pub mod DemandLaws
 pub mod Demands
+pub mod GivenLaws
 pub mod Holding
 pub mod Invariant
 pub mod NumberBounds
@@ -18,8 +19,10 @@ pub mod Numerals
 pub mod ProgramLaws
 pub mod RowLaws
 pub mod Rules
+pub mod RunLaws
 pub mod ScanLaws
 pub mod Splices
+pub mod StartLaws
 pub mod StepLaws
 pub mod StopLaws
 pub mod Strigol

@@ -9,10 +9,10 @@ use lib.Seq.{take-at}
 use Rattle.base.specs.Edition.{Edition}
 use Rattle.language.specs.Program as Program
 use Rattle.language.specs.Program.{Part, PatternElement, Direction, Branch}
-use Rattle.machine.specs.Ends.{Ends, stops, both-done}
+use Rattle.machine.specs.Ends.{Ends, stops, both-done, done-value}
 use Rattle.machine.specs.Scanning.{Searched, turned, searchedIn, Valued, patternIn, withoutFillers, naming, replacing, Left, leaving, scanningIn}
 use Rattle.machine.specs.State.{Memory, State, goingTo}
-use Rattle.machine.specs.Step.{Done, scannedTo, carrying, concluded}
+use Rattle.machine.specs.Step.{Done, carrying, concluded}
 use Rattle.scanning.specs.Call.{mostElements, splitNumbers, answerNumbers, splitIn}
 use Rattle.scanning.specs.FirstFit.{scan-first-fit}
 use Rattle.scanning.specs.Laws.{fits-count}
@@ -44,13 +44,13 @@ left-by : (e : Edition) (m : Memory) (d : Direction) (xs : List PatternElement) 
     → (l .scanned ≡ a) × LeftBy e m d xs r x vs s (l .memory)
 unfolding leaving LeftBy quietly
 left-by e m d xs r x vs a none l n q =
-    let same : l ≡ record { memory = withoutFillers xs m; scanned = a } = cc in
+    let same : l ≡ record { memory = withoutFillers xs m; scanned = a } = sym (done-value q) in
     (ap (λ k. k .scanned) same, ap (λ k. k .memory) same)
 left-by e m d xs r x vs a (some s) l n q =
     let named = naming vs (drop (s .start) (turned d (x .reference))) (s .lengths) (withoutFillers xs m) in
     let parts = both-done (replacing e d x s r named) (λ k. quietly (record { memory = k; scanned = a })) l n q in
     let after = parts .front in
-    let same : l ≡ record { memory = after; scanned = a } = let behind = parts .isBehind in cc in
+    let same : l ≡ record { memory = after; scanned = a } = sym (done-value (parts .isBehind)) in
     let memories : after ≡ l .memory = sym (ap (λ k. k .memory) same) in
     (ap (λ k. k .scanned) same, (parts .frontNotes, parts .isFront ∙ ap (λ k. done k (parts .frontNotes)) memories))
 
@@ -96,8 +96,7 @@ unfolding carrying concluded quietly goingTo
 concluded-scans e lent c d q xs r f (done k n) is ended zero =
     let parts = both-done (scanningIn e (c .memory) d q xs r) _ k n is in
     let l = parts .front in
-    let same : k ≡ record { state = goingTo (scannedTo (l .scanned .split) f) (l .memory) c; scanned = l .scanned } =
-    let behind = parts .isBehind in cc in
-    subst₂ (λ (a : Scanned) (m : Memory). Scans e (c .memory) d q xs r (answerNumbers n a) m) (sym (ap (λ x. x .scanned) same))
-    (sym (ap (λ x. x .state .memory) same)) (scanning-scans e (c .memory) d q xs r l (parts .frontNotes) n (parts .isFront))
+    let same = done-value (parts .isBehind) in
+    subst₂ (λ (a : Scanned) (m : Memory). Scans e (c .memory) d q xs r (answerNumbers n a) m) (ap (λ x. x .scanned) same)
+    (ap (λ x. x .state .memory) same) (scanning-scans e (c .memory) d q xs r l (parts .frontNotes) n (parts .isFront))
 concluded-scans e lent c d q xs r f (stop k) is (stops low high) zero = absurd (omega arith)

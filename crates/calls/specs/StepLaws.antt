@@ -12,6 +12,7 @@ use Rattle.language.specs.Program.{Program}
 use Rattle.machine.specs.Run.{after}
 use Rattle.machine.specs.State.{State, mostStrings}
 use Rattle.machine.specs.Step.{turnedDownBy, Stepped, step}
+use Rattle.machine.specs.StepEnds.{step-turned}
 use Rattle.scanning.specs.Call.{noAnswer}
 use Rattle.values.specs.Conversion.{longestString}
 use Rattle.calls.specs.Buffers.{storeSize, storeKeeps, cellsKeep, stateKeeps}
@@ -90,11 +91,6 @@ module _ (e : Edition) (p : Program) (table input : List ℕ) (t : Tabled e p ta
         λ i. went (refusal-held i) (eqb (refusal-held i) 0) (step e (t .reads i) (h .outputLength i) (h .given i)) in
         calls ∙ ap (λ x. went (turnedDownBy p c) x (step e p lent c)) q
 
-    -- a step turned down hands its state back
-    step-back : eqb (turnedDownBy p c) 0 ≡ false → step e p lent c .state ≡ c
-    unfolding step
-    step-back q = rw q
-
   -- numbers fit their places, a string's length is a number, and p is a program in range
   module _ (limit : e .limit < bias) (wide : longestString ≤ e .limit) (runs : Runs e p) (lent : ℕ) where
     -- the buffers left hold the machine left
@@ -110,7 +106,7 @@ module _ (e : Edition) (p : Program) (table input : List ℕ) (t : Tabled e p ta
             (left-holds e limit p lent input (step e p lent c .state) (step-sound e wide p runs lent input c s) b (h .stateLength) (h .outputLength))
         either false q =
             subst (λ (x : StepCalled). Holding e p lent input (step e p lent c .state) (x .left)) (sym (call-held lent c b h false q))
-            (subst (λ x. Holding e p lent input x b) (sym (step-back lent c b h q)) h)
+            (subst (λ x. Holding e p lent input x b) (sym (ap (λ s. s .state) (step-turned e p lent c q))) h)
 
     -- and so behind every list of steps
     pub after-holds : (k : ℕ) (c : State) (b : Buffers) → Sound e p lent input c → Holding e p lent input c b

@@ -34,8 +34,12 @@ pub record BothDone {A B : Type 0} (w : Work A) (f : A → Work B) (b : B) : Typ
   pub notes : ℕ
   pub isBehind : f front ≡ done b notes
 
+-- work that is done in two ways has one value
+pub done-value : {A : Type 0} {a b : A} {n k : ℕ} → done a n ≡ done b k → a ≡ b
+done-value h = cc
+
 -- work that stopped is not done
-stop-not-done : {A : Type 0} (k : ℕ) (a : A) (n : ℕ) → ¬ (stop k ≡ done a n)
+pub stop-not-done : {A : Type 0} (k : ℕ) (a : A) (n : ℕ) → ¬ (stop k ≡ done a n)
 stop-not-done k a n e = let z : _≡_ {A = ℕ} 0 1 = cc in omega arith
 
 module _ {A B : Type 0} where

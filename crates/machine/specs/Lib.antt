@@ -1,5 +1,6 @@
 -- The machine on strings and numbers: what it holds (State), values of expressions (Expressions), scanning statements (Scanning), one
--- step of each statement (Step), a run (Run); how work ends (Ends) and that it leaves a memory within its bounds (Bounds).
+-- step of each statement (Step), a run (Run). Of these: how work ends (Ends), how a step does (StepEnds), and that a memory stays within
+-- its bounds (Bounds).
 pub mod Bounds
 pub mod Ends
 pub mod Expressions
@@ -7,3 +8,4 @@ pub mod Run
 pub mod Scanning
 pub mod State
 pub mod Step
+pub mod StepEnds

@@ -9,7 +9,8 @@ use lib.Seq.{set-at}
 use Rattle.scanning.specs.Trials.{Tried, found, few, settled, slide, match, answered, scan}
 use Rattle.scanning.specs.Call.{mostElements, splitNumbers, answerNumbers}
 use Rattle.scan.specs.Rows.{rowElement, elementsAt, patternOf, sizeOf, sizesAt}
-use Rattle.scan.specs.Steps.{outcome, rowAnswer, RunFound, RunFailed}
+use Rattle.scan.specs.Rows.{rowAnswer}
+use Rattle.scan.specs.Steps.{outcome, RunFound, RunFailed}
 use Rattle.scan.specs.declared.Element.the-variants.{Free}
 use Rattle.scan.proofs.Rows.{sizes-split, sizes-last, sizes-length}
 

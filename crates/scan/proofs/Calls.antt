@@ -1,5 +1,5 @@
 -- The call: rows of bytes read as elements, the pattern they make, and the promise. Assumes nothing.
-use mathlib.Core.Bool.{Bool, true, false, cond}
+use mathlib.Core.Bool.{Bool, true, false, cond, true≢false, false≢true}
 use mathlib.Core.List.{List, [], _∷_, _++_, append-assoc, append-nil}
 use mathlib.Core.Option.{Option, none, some}
 use mathlib.Core.Path.{_≡_, refl, sym, _∙_, ap, subst}
@@ -9,7 +9,7 @@ use lib.Dec.{leb, ltb, eqb}
 use lib.ListN.{length, take, drop, getD, set, replicate, length-set}
 use lib.Seq.{getD-set-same, getD-set-other, take-at}
 use borrow.Author.Count.{below-more}
-use borrow.Author.Tests.{eq-eqb, ne-eqb, le-leb, lt-leb, lt-ltb, le-ltb}
+use borrow.Author.Tests.{eq-eqb, ne-eqb, le-leb, lt-leb, lt-ltb, le-ltb, leb-true, ltb-true}
 use Rattle.scanning.specs.Splits as Splits
 use Rattle.scanning.specs.Splits.{string, fixed, free, Split, FirstFit, AnswersFirstFit}
 use Rattle.scanning.specs.Trials.{Scanned, scan}
@@ -18,120 +18,71 @@ use Rattle.scanning.specs.FirstFit.{scan-first-fit}
 use Rattle.scanning.specs.Call.{longestReference, mostElements, rowBytes, number4, countOf, stringIn, fixedBy, elementIn}
 use Rattle.scanning.specs.Call.{noAnswer, joinElement, elementsFrom, patternIn, splitNumbers, answerNumbers, Called, turnedDown, scanWith, scanCall}
 use Rattle.scanning.specs.Call.{splitIn, ScanPromise}
-use Rattle.scan.specs.Rows.{rowOf, rowElement, elementOf, elementsAt, patternOf, Good, GoodPart, GoodRows, RowSays}
+use Rattle.scan.specs.Rows.{rowOf, rowAt, rowElement, elementOf, elementsAt, patternOf, sizeOf, sizesAt, Good, GoodRows, RowSays, rowAnswer, RowsSay}
+use Rattle.scan.proofs.Answers.{row-filled}
 use Rattle.scan.specs.Steps.{CallSays}
 use Rattle.scan.specs.declared.Element.{Element}
 
-module _ (values : List ℕ) where
+module _ (values elements : List ℕ) (at : ℕ) where
   -- a row that is no element
-  pub row-bad : (e : Option Splits.Element) → e ≡ none → RowSays values e 0 0 0
-  unfolding Good rowOf
-  row-bad e h = record { bad = λ z. h; same = λ n. absurd (n refl); good = tt }
+  pub row-bad : elementIn values elements at ≡ none → RowSays values elements at false
+  row-bad h = record { bad = λ e. h; same = λ e. absurd (false≢true e); good = λ e. absurd (false≢true e); room = λ e. absurd (false≢true e) }
 
-  pub part-disordered : (from to : ℕ) → to < from → stringIn values from to ≡ none
-  unfolding stringIn
-  part-disordered from to h = rw (lt-leb from to h)
+  -- a row that is one
+  pub row-good : elementIn values elements at ≡ some (elementOf values (rowAt elements at)) → Good values (rowAt elements at)
+      → at + 12 ≤ length elements → RowSays values elements at true
+  row-good h g l = record { bad = λ e. absurd (true≢false e); same = λ e. h; good = λ e. g; room = λ e. l }
 
-  pub part-outside : (from to : ℕ) → from ≤ to → length values < to → stringIn values from to ≡ none
-  unfolding stringIn
-  part-outside from to h g = rw (le-leb from to h, lt-leb to (length values) g)
+  pub element-short : at ≤ length elements → length elements - at < 12 → RowSays values elements at false
+  unfolding elementIn rowBytes
+  element-short h g = row-bad (rw (lt-leb (at + 12) (length elements) (omega arith)))
 
-  pub part-read : (from to : ℕ) → to < 2 ^ 32 → from ≤ to → to ≤ length values → RowSays values (stringIn values from to) 1 from to
-  unfolding stringIn elementOf Good rowOf
-  part-read from to small h g =
-      record {
-        bad = λ z. absurd (omega arith);
-        same = λ n. rw (le-leb from to h, le-leb to (length values) g);
-        good = record { order = h; inside = g; small = small };
-      }
+  module _ (room : 12 ≤ length elements - at) where
+    abbrev kind : ℕ
+    kind = getD elements at 0
 
-  pub fixed-read : (n : ℕ) → n < 2 ^ 31 → RowSays values (fixedBy n) 2 n 0
-  unfolding fixedBy elementOf Good rowOf
-  fixed-read n h = record { bad = λ z. absurd (omega arith); same = λ m. rw (lt-ltb n (2 ^ 31) h); good = omega arith }
+    abbrev from : ℕ
+    from = number4 elements (at + 4)
 
-  pub fixed-negative : (n : ℕ) → 2 ^ 31 ≤ n → fixedBy n ≡ none
-  unfolding fixedBy
-  fixed-negative n h = rw (le-ltb n (2 ^ 31) h)
+    abbrev to : ℕ
+    to = number4 elements (at + 8)
 
-  pub free-read : RowSays values (some free) 3 0 0
-  unfolding elementOf Good rowOf
-  free-read = record { bad = λ z. absurd (omega arith); same = λ m. refl; good = tt }
+    in-row : leb (at + 12) (length elements) ≡ true
+    in-row = le-leb (at + 12) (length elements) (omega arith)
 
-  module _ (elements : List ℕ) (at : ℕ) where
-    pub element-short : at ≤ length elements → length elements - at < 12 → elementIn values elements at ≡ none
-    unfolding elementIn rowBytes
-    element-short h g = rw (lt-leb (at + 12) (length elements) (omega arith))
+    pub string-disordered : kind ≡ 1 → to < from → RowSays values elements at false
+    unfolding elementIn rowBytes stringIn
+    string-disordered k h = row-bad (rw (in-row, eq-eqb kind 1 k, lt-leb from to h))
 
-    module _ (room : 12 ≤ length elements - at) where
-      pub element-string : getD elements at 0 ≡ 1
-          → elementIn values elements at ≡ stringIn values (number4 elements (at + 4)) (number4 elements (at + 8))
-      unfolding elementIn rowBytes
-      element-string k = rw (le-leb (at + 12) (length elements) (omega arith), eq-eqb (getD elements at 0) 1 k)
+    pub string-told : kind ≡ 1 → to < 2 ^ 32 → from ≤ to → RowSays values elements at (leb to (length values))
+    unfolding elementIn rowBytes stringIn rowAt rowOf elementOf Good
+    string-told k small h = by (leb to (length values)) refl
+      where
+        by : (b : Bool) → leb to (length values) ≡ b → RowSays values elements at b
+        by true e =
+            row-good (rw (in-row, eq-eqb kind 1 k, le-leb from to h, e))
+            (rw (eq-eqb kind 1 k) (record { order = h; inside = leb-true to (length values) e; small = small }))
+            (omega arith)
+        by false e = row-bad (rw (in-row, eq-eqb kind 1 k, le-leb from to h, e))
 
-      pub element-fixed : (getD elements at 0 ≡ 1 → ⊥) → getD elements at 0 ≡ 2
-          → elementIn values elements at ≡ fixedBy (number4 elements (at + 4))
-      unfolding elementIn rowBytes
-      element-fixed j k =
-          rw
-          (le-leb (at + 12) (length elements) (omega arith), ne-eqb (getD elements at 0) 1 j, eq-eqb (getD elements at 0) 2 k)
+    pub fixed-told : (kind ≡ 1 → ⊥) → kind ≡ 2 → RowSays values elements at (ltb from (2 ^ 31))
+    unfolding elementIn rowBytes fixedBy rowAt rowOf elementOf Good
+    fixed-told j k = by (ltb from (2 ^ 31)) refl
+      where
+        by : (b : Bool) → ltb from (2 ^ 31) ≡ b → RowSays values elements at b
+        by true e =
+            row-good (rw (in-row, ne-eqb kind 1 j, eq-eqb kind 2 k, e))
+            (rw (ne-eqb kind 1 j, eq-eqb kind 2 k) (omega (arith, ltb-true from (2 ^ 31) e)))
+            (omega arith)
+        by false e = row-bad (rw (in-row, ne-eqb kind 1 j, eq-eqb kind 2 k, e))
 
-      pub element-free : (getD elements at 0 ≡ 1 → ⊥) → (getD elements at 0 ≡ 2 → ⊥) → getD elements at 0 ≡ 3
-          → elementIn values elements at ≡ some free
-      unfolding elementIn rowBytes
-      element-free i j k =
-          rw
-          (le-leb (at + 12) (length elements) (omega arith), ne-eqb (getD elements at 0) 1 i, ne-eqb (getD elements at 0) 2 j, eq-eqb (getD elements at 0) 3 k)
-
-      pub element-unknown : (getD elements at 0 ≡ 1 → ⊥) → (getD elements at 0 ≡ 2 → ⊥) → (getD elements at 0 ≡ 3 → ⊥)
-          → elementIn values elements at ≡ none
-      unfolding elementIn rowBytes
-      element-unknown i j k =
-          rw
-          (le-leb (at + 12) (length elements) (omega arith), ne-eqb (getD elements at 0) 1 i, ne-eqb (getD elements at 0) 2 j, ne-eqb (getD elements at 0) 3 k)
-
--- the same row for an equal element
-pub row-same : (values : List ℕ) (e e′ : Option Splits.Element) (kind a b : ℕ) → e ≡ e′ → RowSays values e kind a b → RowSays values e′ kind a b
-row-same values e e′ kind a b h r = subst (λ (x : Option Splits.Element). RowSays values x kind a b) h r
-
--- rows after one more was written
-abbrev pub written : List ℕ → (i kind a b : ℕ) → List ℕ
-written rows i kind a b = set (set (set rows (3 * i) kind) (3 * i + 1) a) (3 * i + 2) b
-
-module _ (rows : List ℕ) (i kind a b : ℕ) (room : 3 * i + 2 < length rows) where
-  before : (m : ℕ) → m < 3 * i → getD (written rows i kind a b) m 0 ≡ getD rows m 0
-  before m h =
-      getD-set-other (set (set rows (3 * i) kind) (3 * i + 1) a) (3 * i + 2) m b 0 (λ e. omega arith)
-      ∙ getD-set-other (set rows (3 * i) kind) (3 * i + 1) m a 0 (λ e. omega arith)
-      ∙ getD-set-other rows (3 * i) m kind 0 (λ e. omega arith)
-
-  pub row-kept : (j : ℕ) → j < i → rowElement (written rows i kind a b) j ≡ rowElement rows j
-  unfolding rowElement
-  row-kept j h =
-      rw (before (3 * j) (omega arith), before (3 * j + 1) (omega arith), before (3 * j + 2) (omega arith))
-
-  pub row-written : rowElement (written rows i kind a b) i ≡ rowOf kind a b
-  unfolding rowElement
-  row-written =
-      let first : getD (written rows i kind a b) (3 * i) 0 ≡ kind =
-      getD-set-other (set (set rows (3 * i) kind) (3 * i + 1) a) (3 * i + 2) (3 * i) b 0 (λ e. omega arith)
-      ∙ getD-set-other (set rows (3 * i) kind) (3 * i + 1) (3 * i) a 0 (λ e. omega arith)
-      ∙ getD-set-same rows (3 * i) kind 0 (omega arith) in
-      let second : getD (written rows i kind a b) (3 * i + 1) 0 ≡ a =
-      getD-set-other (set (set rows (3 * i) kind) (3 * i + 1) a) (3 * i + 2) (3 * i + 1) b 0 (λ e. omega arith)
-      ∙ getD-set-same (set rows (3 * i) kind) (3 * i + 1) a 0 (simp length-set (omega arith)) in
-      let third : getD (written rows i kind a b) (3 * i + 2) 0 ≡ b =
-      getD-set-same (set (set rows (3 * i) kind) (3 * i + 1) a) (3 * i + 2) b 0 (simp length-set (omega arith)) in
-      rw (first, second, third)
-
--- rows that are the same elements
-elements-same : (values rows rows′ : List ℕ) (n i : ℕ) → ((j : ℕ) → j < i + n → rowElement rows′ j ≡ rowElement rows j)
-    → elementsAt values rows′ n i ≡ elementsAt values rows n i
-unfolding elementsAt
-elements-same values rows rows′ zero i h = refl
-elements-same values rows rows′ (suc n) i h =
-    ap (λ (e : Element). elementOf values e ∷ elementsAt values rows′ n (i + 1)) (h i (omega arith))
-    ∙ ap (λ (p : List Splits.Element). elementOf values (rowElement rows i) ∷ p)
-    (elements-same values rows rows′ n (i + 1) (λ j l. h j (omega arith)))
+    pub free-told : (kind ≡ 1 → ⊥) → (kind ≡ 2 → ⊥) → RowSays values elements at (eqb kind 3)
+    unfolding elementIn rowBytes rowAt rowOf elementOf Good
+    free-told i j = by (eqb kind 3) refl
+      where
+        by : (b : Bool) → eqb kind 3 ≡ b → RowSays values elements at b
+        by true e = row-good (rw (in-row, ne-eqb kind 1 i, ne-eqb kind 2 j, e)) (rw (ne-eqb kind 1 i, ne-eqb kind 2 j) tt) (omega arith)
+        by false e = row-bad (rw (in-row, ne-eqb kind 1 i, ne-eqb kind 2 j, e))
 
 -- one row more
 elements-more : (values rows : List ℕ) (n i : ℕ)
@@ -163,91 +114,109 @@ prefixed-more p e none = refl
 prefixed-more p e (some q) = ap some (sym (append-assoc p (e ∷ []) q))
 
 -- the first i rows were read, the next starts at a place
-pub record Decoding (values elements rows : List ℕ) (count i at : ℕ) : Type 0 where
+pub record Reading (values elements : List ℕ) (count : ℕ) (answer : List ℕ) (i at : ℕ) : Type 0 where
   pub place : at ≡ 12 * i
   pub high : i ≤ count
-  pub size : length rows ≡ 60
-  pub good : (j : ℕ) → j < i → Good values (rowElement rows j)
-  pub same : patternIn values elements ≡ prefixed (elementsAt values rows i 0) (elementsFrom values elements (count - i) at)
+  pub room : 12 * i ≤ length elements
+  pub good : (j : ℕ) → j < i → Good values (rowElement elements j)
+  pub same : patternIn values elements ≡ prefixed (elementsAt values elements i 0) (elementsFrom values elements (count - i) at)
+  pub left : answer ≡ rowAnswer i (0 ∷ sizesAt elements i 0)
 
 module _ (values elements : List ℕ) (count : ℕ) (counted : count ≡ countOf elements) where
-  pub decode-begins : (rows : List ℕ) → length rows ≡ 60 → Decoding values elements rows count 0 0
-  unfolding patternIn elementsAt
-  decode-begins rows size =
+  pub read-begins : (answer : List ℕ) → answer ≡ rowAnswer 0 (0 ∷ []) → Reading values elements count answer 0 0
+  unfolding patternIn elementsAt sizesAt
+  read-begins answer left =
       let e : countOf elements ≡ count - 0 = omega arith in
       record {
         place = omega arith;
         high = omega arith;
-        size = size;
+        room = omega arith;
         good = λ j h. absurd (omega arith);
         same =
             ap (λ (n : ℕ). elementsFrom values elements n 0) e ∙ prefixed-nil (elementsFrom values elements (count - 0) 0);
+        left = left;
       }
 
-  module _ (rows : List ℕ) (i at : ℕ) (d : Decoding values elements rows count i at) where
-    pub decode-inside : i < count → at ≤ length elements
+  module _ (answer : List ℕ) (i at : ℕ) (d : Reading values elements count answer i at) where
+    pub read-inside : i < count → at ≤ length elements
     unfolding countOf rowBytes
-    decode-inside h = omega (arith, d .place)
+    read-inside h = omega (arith, d .place)
 
     -- the pattern by the next row's element
-    next : i < count → patternIn values elements
-        ≡ prefixed (elementsAt values rows i 0) (joinElement (elementIn values elements at) (elementsFrom values elements (count - (i + 1)) (at + 12)))
+    next : i < count
+        → patternIn values elements
+        ≡ prefixed (elementsAt values elements i 0)
+        (joinElement (elementIn values elements at) (elementsFrom values elements (count - (i + 1)) (at + 12)))
     unfolding elementsFrom rowBytes
     next h =
         let e : count - i ≡ suc (count - (i + 1)) = omega arith in
-        d .same ∙ ap (λ (n : ℕ). prefixed (elementsAt values rows i 0) (elementsFrom values elements n at)) e
+        d .same ∙ ap (λ (n : ℕ). prefixed (elementsAt values elements i 0) (elementsFrom values elements n at)) e
 
-    pub decode-bad : i < count → elementIn values elements at ≡ none → patternIn values elements ≡ none
+    pub read-bad : (answer′ : List ℕ) → i < count → RowSays values elements at false → RowsSay values elements count answer′ false
     unfolding prefixed joinElement
-    decode-bad h e =
-        next h
-        ∙ ap (λ (o : Option Splits.Element). prefixed (elementsAt values rows i 0) (joinElement o (elementsFrom values elements (count - (i + 1)) (at + 12)))) e
+    read-bad answer′ h r =
+        record {
+          bad =
+              λ f.
+              next h
+              ∙ ap
+              (λ (o : Option Splits.Element).
+              prefixed (elementsAt values elements i 0) (joinElement o (elementsFrom values elements (count - (i + 1)) (at + 12))))
+              (r .bad refl);
+          same = λ e. absurd (false≢true e);
+          good = λ e. absurd (false≢true e);
+          left = λ e. absurd (false≢true e);
+        }
 
-    pub decode-more : (kind a b : ℕ) → i < count → count ≤ 20 → RowSays values (elementIn values elements at) kind a b → (kind ≡ 0 → ⊥)
-        → Decoding values elements (written rows i kind a b) count (i + 1) (at + 12)
-    decode-more kind a b h most r known =
-        let room : 3 * i + 2 < length rows = omega (arith, d .size) in
-        let rows′ : List ℕ = written rows i kind a b in
+    -- the row at this place is row i
+    here : rowAt elements at ≡ rowElement elements i
+    unfolding rowElement
+    here = ap (rowAt elements) (d .place)
+
+    -- it is one of the pattern's
+    pub read-good : RowSays values elements at true → Good values (rowElement elements i)
+    read-good r = subst (Good values) here (r .good refl)
+
+    pub read-more : (v : ℕ) → i < count → count ≤ 20 → RowSays values elements at true → v ≡ sizeOf (rowElement elements i)
+        → Reading values elements count (set answer (4 + i) v) (i + 1) (at + 12)
+    read-more v h most r size =
         let o : Option (List Splits.Element) = elementsFrom values elements (count - (i + 1)) (at + 12) in
-        let this = elementOf values (rowOf kind a b) in
+        let this = elementOf values (rowElement elements i) in
         let one : i + 1 ≡ suc i = omega arith in
-        let kept : elementsAt values rows′ i 0 ≡ elementsAt values rows i 0 =
-        elements-same values rows rows′ i 0 (λ j l. row-kept rows i kind a b room j (omega arith)) in
-        let here : rowElement rows′ (0 + i) ≡ rowOf kind a b =
-        ap (rowElement rows′) (omega arith) ∙ row-written rows i kind a b room in
-        let all : elementsAt values rows′ (i + 1) 0 ≡ elementsAt values rows i 0 ++ (this ∷ []) =
-        ap (λ (n : ℕ). elementsAt values rows′ n 0) one
-        ∙ elements-more values rows′ i 0
-        ∙ ap (λ (p : List Splits.Element). p ++ (elementOf values (rowElement rows′ (0 + i)) ∷ [])) kept
-        ∙ ap (λ (e : Element). elementsAt values rows i 0 ++ (elementOf values e ∷ [])) here in
+        let all : elementsAt values elements (i + 1) 0 ≡ elementsAt values elements i 0 ++ (this ∷ []) =
+        ap (λ (n : ℕ). elementsAt values elements n 0) one
+        ∙ elements-more values elements i 0
+        ∙ ap (λ (n : ℕ). elementsAt values elements i 0 ++ (elementOf values (rowElement elements n) ∷ [])) (omega arith) in
         record {
           place = omega (arith, d .place);
           high = omega arith;
-          size = simp length-set (d .size);
-          good =
-              below-more (λ j. Good values (rowElement rows′ j)) i
-              (λ j l. subst (Good values) (sym (row-kept rows i kind a b room j l)) (d .good j l))
-              (subst (Good values) (sym (row-written rows i kind a b room)) (r .good));
+          room = omega (arith, r .room refl, d .place);
+          good = below-more (λ j. Good values (rowElement elements j)) i (d .good) (read-good r);
           same =
               next h
-              ∙ ap (λ (e : Option Splits.Element). prefixed (elementsAt values rows i 0) (joinElement e o)) (r .same known)
-              ∙ prefixed-more (elementsAt values rows i 0) this o
+              ∙ ap (λ (e : Option Splits.Element). prefixed (elementsAt values elements i 0) (joinElement e o))
+              (r .same refl ∙ ap (λ (e : Element). some (elementOf values e)) here)
+              ∙ prefixed-more (elementsAt values elements i 0) this o
               ∙ ap (λ (p : List Splits.Element). prefixed p o) (sym all);
+          left = ap (λ (l : List ℕ). set l (4 + i) v) (d .left) ∙ row-filled elements i v (omega arith) size;
         }
 
-    pub decode-ends : count ≤ i → patternIn values elements ≡ some (patternOf values rows count)
+    pub read-ends : count ≤ i → count ≤ 20 → RowsSay values elements count answer true
     unfolding elementsFrom prefixed patternOf
-    decode-ends h =
+    read-ends h most =
         let e : i ≡ count = omega (arith, d .high) in
         let z : count - i ≡ 0 = omega arith in
-        d .same
-        ∙ ap (λ (n : ℕ). prefixed (elementsAt values rows i 0) (elementsFrom values elements n at)) z
-        ∙ ap some (append-nil (elementsAt values rows i 0))
-        ∙ ap (λ (n : ℕ). some (elementsAt values rows n 0)) e
-
-    pub decode-good : count ≤ i → count ≤ 20 → GoodRows values rows count
-    decode-good h most =
-        record { few = most; room = omega (arith, d .size); good = λ j l. d .good j (omega (arith, d .high)) }
+        record {
+          bad = λ f. absurd (true≢false f);
+          same =
+              λ t.
+              d .same
+              ∙ ap (λ (n : ℕ). prefixed (elementsAt values elements i 0) (elementsFrom values elements n at)) z
+              ∙ ap some (append-nil (elementsAt values elements i 0))
+              ∙ ap (λ (n : ℕ). some (elementsAt values elements n 0)) e;
+          good = λ t. record { few = most; room = omega (arith, d .room); good = λ j l. d .good j (omega (arith, d .high)) };
+          left = λ t. d .left ∙ ap (λ (n : ℕ). rowAnswer n (0 ∷ sizesAt elements n 0)) e;
+        }
 
 -- how many rows there are, by their bytes
 pub count-most : (elements : List ℕ) → length elements ≤ 240 → countOf elements ≤ 20

@@ -9,7 +9,8 @@ use Rattle.scanning.specs.Splits as Splits
 use Rattle.scanning.specs.Splits.{free}
 use Rattle.scanning.specs.Trials.{Tried, found, other, few, match, slide}
 use Rattle.scan.specs.Rows.{rowElement, elementOf, elementsAt, patternOf, sizeOf, sizesAt}
-use Rattle.scan.specs.Steps.{testOf, behind, resumed, groupAt, Reached, WholeGroup, FailedGroup, outcome, rowAnswer, RunFound, RunFailed, SkipSays}
+use Rattle.scan.specs.Rows.{rowAnswer}
+use Rattle.scan.specs.Steps.{testOf, behind, resumed, groupAt, Reached, WholeGroup, FailedGroup, outcome, RunFound, RunFailed, SkipSays}
 use Rattle.scan.specs.declared.Element.{Element}
 use Rattle.scan.specs.declared.Element.the-variants.{Free}
 use Rattle.scan.specs.declared.Test.the-variants.{Other}

@@ -1,14 +1,15 @@
--- A pattern as rows of three numbers: the kind, 1 a string with its part's ends, 2 a fixed filler with its length, any other a free
--- filler. Which elements the rows are, and when the scan can go through them. Assumes nothing.
-use mathlib.Core.Bool.{cond}
-use mathlib.Core.List.{List, [], _∷_}
+-- A pattern as rows of 12 bytes, laid out as the scan call's: which elements the rows are, and when the scan can go through them.
+-- Assumes nothing.
+use mathlib.Core.Bool.{Bool, true, false, cond}
+use mathlib.Core.List.{List, [], _∷_, _++_}
 use mathlib.Core.Option.{Option, none, some}
 use mathlib.Core.Path.{_≡_}
 use Prim.Native.Nat.{ℕ, zero, suc, _+_, _*_, _-_, _≤_, _<_, _^_}
 use lib.Dec.{eqb}
-use lib.ListN.{length, take, drop, getD}
+use lib.ListN.{length, take, drop, getD, replicate}
 use Rattle.scanning.specs.Splits as Splits
 use Rattle.scanning.specs.Splits.{string, fixed, free}
+use Rattle.scanning.specs.Call.{number4, elementIn, patternIn}
 use Rattle.scan.specs.declared.Element.{Element}
 use Rattle.scan.specs.declared.Element.the-variants.{Part, Fixed, Free}
 
@@ -16,9 +17,13 @@ use Rattle.scan.specs.declared.Element.the-variants.{Part, Fixed, Free}
 unfoldable pub rowOf : ℕ → ℕ → ℕ → Element
 rowOf kind a b = cond (eqb kind 1) (Part a b) (cond (eqb kind 2) (Fixed a) Free)
 
+-- the element whose row starts at a place
+unfoldable pub rowAt : List ℕ → ℕ → Element
+rowAt rows at = rowOf (getD rows at 0) (number4 rows (at + 4)) (number4 rows (at + 8))
+
 -- the element in row i
 unfoldable pub rowElement : List ℕ → ℕ → Element
-rowElement rows i = rowOf (getD rows (3 * i) 0) (getD rows (3 * i + 1) 0) (getD rows (3 * i + 2) 0)
+rowElement rows i = rowAt rows (12 * i)
 
 -- a part's ends stand for the bytes between them
 unfoldable pub elementOf : List ℕ → Element → Splits.Element
@@ -72,11 +77,23 @@ Good values Free = Unit {0}
 -- rows that can be read, each a good element
 pub record GoodRows (values rows : List ℕ) (count : ℕ) : Type 0 where
   pub few : count ≤ 20
-  pub room : 3 * count ≤ length rows
+  pub room : 12 * count ≤ length rows
   pub good : (i : ℕ) → i < count → Good values (rowElement rows i)
 
--- what a row of bytes was read as: kind 0 where it is no element
-pub record RowSays (values : List ℕ) (e : Option Splits.Element) (kind a b : ℕ) : Type 0 where
-  pub bad : kind ≡ 0 → e ≡ none
-  pub same : (kind ≡ 0 → ⊥) → e ≡ some (elementOf values (rowOf kind a b))
-  pub good : Good values (rowOf kind a b)
+-- whether a row of bytes is an element, and which
+pub record RowSays (values elements : List ℕ) (at : ℕ) (is : Bool) : Type 0 where
+  pub bad : is ≡ false → elementIn values elements at ≡ none
+  pub same : is ≡ true → elementIn values elements at ≡ some (elementOf values (rowAt elements at))
+  pub good : is ≡ true → Good values (rowAt elements at)
+  pub room : is ≡ true → at + 12 ≤ length elements
+
+-- the lengths of an answer, the start first, filled with zeros behind three numbers that are still 0
+unfoldable pub rowAnswer : ℕ → List ℕ → List ℕ
+rowAnswer count row = 0 ∷ (0 ∷ (0 ∷ (row ++ replicate (20 - count) 0)))
+
+-- whether all rows are elements, and which; their lengths stand in the answer then
+pub record RowsSay (values elements : List ℕ) (count : ℕ) (answer : List ℕ) (are : Bool) : Type 0 where
+  pub bad : are ≡ false → patternIn values elements ≡ none
+  pub same : are ≡ true → patternIn values elements ≡ some (patternOf values elements count)
+  pub good : are ≡ true → GoodRows values elements count
+  pub left : are ≡ true → answer ≡ rowAnswer count (0 ∷ sizesAt elements count 0)

@@ -10,7 +10,7 @@ use Rattle.scanning.specs.Splits as Splits
 use Rattle.scanning.specs.Splits.{string, fixed, free}
 use Rattle.scanning.specs.Trials.{Tried, found, other, few, match, slide}
 use Rattle.scanning.specs.Call.{Called}
-use Rattle.scan.specs.Rows.{rowElement, elementsAt, patternOf, sizesAt}
+use Rattle.scan.specs.Rows.{rowElement, elementsAt, patternOf, sizesAt, rowAnswer}
 use Rattle.scan.specs.declared.Element.the-variants.{Free}
 use Rattle.scan.specs.declared.Test.{Test}
 use Rattle.scan.specs.declared.Test.the-variants.{Piece, Other, Few, Filler}
@@ -81,10 +81,6 @@ pub record GroupReady (reference : List ℕ) (count g place : ℕ) : Type 0 wher
 -- the scan's outcome
 abbrev pub outcome : (reference values rows : List ℕ) → ℕ → Tried
 outcome reference values rows count = slide (match (patternOf values rows count)) reference
-
--- the lengths of an answer, the start first, filled with zeros behind three numbers that are still 0
-unfoldable pub rowAnswer : ℕ → List ℕ → List ℕ
-rowAnswer count row = 0 ∷ (0 ∷ (0 ∷ (row ++ replicate (20 - count) 0)))
 
 -- the run found a row of lengths, after n trials
 pub record RunFound (reference values rows : List ℕ) (count : ℕ) (answer : List ℕ) (n : ℕ) : Type 0 where

@@ -1,23 +1,33 @@
-// The scan of document 01 over rows of numbers, and the scan call over bytes. The contracts cite the definitions of crate scanning.
-// Assumes nothing.
+// The scan of document 01 over a pattern of rows, and the scan call. A pattern is rows of 12 bytes, as the call lends them; an element is made
+// of a row where it is matched. The contracts cite the definitions of crate scanning. Assumes nothing.
 ghost use mathlib.Core.Path.{_≡_};
-ghost use mathlib.Core.List.{_∷_, _++_};
+ghost use mathlib.Core.List.{_∷_};
 ghost use mathlib.Core.Option.{none};
-ghost use Prim.Native.Nat.{ℕ, _+_, _*_, _-_, _≤_, _<_, _^_};
-ghost use lib.ListN.{length, drop, getD, set, replicate};
+ghost use Prim.Native.Nat.{ℕ, _+_, _*_, _≤_, _<_, _^_};
+ghost use lib.ListN.{length, drop, getD, set};
 ghost use Rattle.scanning.specs.Splits.{string};
 ghost use Rattle.scanning.specs.Trials.{scan};
-ghost use Rattle.scanning.specs.Call.{number4 as Call·number4, splitNumbers, answerNumbers, countOf, stringIn, elementIn, scanWith, patternIn, ScanPromise};
-ghost use Rattle.search.specs.Passing.{Passes};
-ghost use Rattle.scan.specs.Rows.{rowElement, elementOf, patternOf, sizeOf, sizesAt, Sized, Good, GoodRows, RowSays};
-ghost use Rattle.scan.specs.Steps.{testOf, SkipSays, CallSays, GroupSays, GroupReady, rowAnswer, RunSays};
+ghost use Rattle.scanning.specs.Call.{number4 as Call·number4, splitNumbers, answerNumbers, countOf, scanWith, patternIn, ScanPromise};
+ghost use Rattle.scan.specs.Rows.{rowElement, elementOf, patternOf, sizeOf, sizesAt, Sized, Good, GoodRows, RowSays, rowAnswer, RowsSay};
+ghost use Rattle.scan.specs.Steps.{testOf, SkipSays, CallSays, GroupSays, GroupReady, RunSays};
 
+// the longest reference, the most bytes of a pattern, the bytes of a row, and the first fixed length that is negative
+const LONGEST: usize = 1024;
+
+const MOST: usize = 240;
+
+const ROW: usize = 12;
+
+const NEGATIVE: usize = 2147483648;
+
+// An element of a pattern: a string, as the ends of its part of the values; a fixed filler with its length; a free filler.
 pub enum Element {
     Part(usize, usize),
     Fixed(usize),
     Free,
 }
 
+// How one element fared at a place: its piece has this length; other bytes; too few bytes; a free filler, which is not tested.
 pub enum Test {
     Piece(usize),
     Other,
@@ -25,38 +35,53 @@ pub enum Test {
     Filler,
 }
 
+// How a group fared at a place: all of it passed, up to this row, its last piece ending here; other bytes after so many trials, so it moves on;
+// too few bytes after so many trials, so the scan ends.
 pub enum Group {
     Whole(usize, usize),
     Moves(usize),
     Ends(usize),
 }
 
+// How the scan went, with its trials.
 pub enum Ran {
     Found(usize),
     Fails(usize),
 }
 
-pub struct Three {
-    kind: usize,
-    a: usize,
-    b: usize,
+// a byte as a number
+fn wide(x: u8) -> usize
+    ensures { λ r. ⌜ (r ≡ x) × (r < 256) ⌝ }
+{
+    x as usize
+}
+
+// four bytes as a number, low byte first
+fn number4(b: &[u8], at: usize) -> usize
+    requires { ⌜ at + 3 < length (now b) ⌝ }
+    ensures { λ r. ⌜ (r ≡ Call·number4 (now (b .entry)) at) × (r < 2 ^ 32) ⌝ }
+{
+    wide(b[at]) + 256 * (wide(b[at + 1]) + 256 * (wide(b[at + 2]) + 256 * wide(b[at + 3])))
 }
 
 // the element of row i
-fn row_element(rows: &[usize], i: usize) -> Element
-    requires { ⌜ 3 * i + 2 < length (now rows) ⌝ }
+fn row_element(rows: &[u8], i: usize) -> Element
+    requires { ⌜ (12 * i + 11 < length (now rows)) × (i < 20) ⌝ }
     ensures { λ r. ⌜ r ≡ rowElement (now (rows .entry)) i ⌝ }
 {
-    let at = 3 * i;
-    if rows[at] == 1 {
-        return Element::Part(rows[at + 1], rows[at + 2]);
+    let at = ROW * i;
+    let kind = rows[at];
+    if kind == 1 {
+        let from = number4(rows, at + 4);
+        return Element::Part(from, number4(rows, at + 8));
     }
-    if rows[at] == 2 {
-        return Element::Fixed(rows[at + 1]);
+    if kind == 2 {
+        return Element::Fixed(number4(rows, at + 4));
     }
     Element::Free
 }
 
+// the test of a string at the start of rest
 fn test_string(rest: &[u8], word: &[u8]) -> Test
     ensures { λ r. ⌜ r ≡ testOf (string (now (word .entry))) (now (rest .entry)) ⌝ }
 {
@@ -70,6 +95,7 @@ fn test_string(rest: &[u8], word: &[u8]) -> Test
     }
 }
 
+// the test of an element at a place
 fn test_element(reference: &[u8], values: &[u8], e: Element, at: usize) -> Test
     requires { ⌜ at ≤ length (now reference) ⌝ }
     requires { ⌜ Good (now values) e ⌝ }
@@ -88,10 +114,11 @@ fn test_element(reference: &[u8], values: &[u8], e: Element, at: usize) -> Test
     }
 }
 
+// The test of a group at a place: the elements from row g on, one after the other, up to a free filler or the pattern's end.
 fn test_group(
     reference: &[u8],
     values: &[u8],
-    rows: &[usize],
+    rows: &[u8],
     count: usize,
     g: usize,
     place: usize,
@@ -123,6 +150,7 @@ fn test_group(
     Group::Whole(i, at)
 }
 
+// how many places from one on a group can pass over because its first element, a string, fails there: each is one trial
 fn skip(reference: &[u8], values: &[u8], e: Element, at: usize) -> usize
     requires { ⌜ (length (now reference) ≤ 1024) × (at ≤ length (now reference)) ⌝ }
     requires { ⌜ Good (now values) e ⌝ }
@@ -135,7 +163,9 @@ fn skip(reference: &[u8], values: &[u8], e: Element, at: usize) -> usize
     }
 }
 
-fn run(reference: &[u8], values: &[u8], rows: &[usize], count: usize, answer: &mut [u32; 24]) -> Ran
+// The scan, group by group. The answer holds the lengths that don't depend on the place; each turn passes over places, tests a group and, where all
+// of it passed, writes the gap before it, the start at first and then the length of a free filler. A last free filler reaches the end.
+fn run(reference: &[u8], values: &[u8], rows: &[u8], count: usize, answer: &mut [u32; 24]) -> Ran
     requires { ⌜ GoodRows (now values) (now rows) count ⌝ }
     requires { ⌜ (length (now reference) ≤ 1024) × (0 < count) ⌝ }
     requires { ⌜ now answer ≡ rowAnswer count (0 ∷ sizesAt (now rows) count 0) ⌝ }
@@ -179,6 +209,7 @@ fn run(reference: &[u8], values: &[u8], rows: &[usize], count: usize, answer: &m
     }
 }
 
+// the length of an element's piece, a free filler's left 0
 fn length_of(e: Element) -> usize
     requires { ⌜ Sized e ⌝ }
     ensures { λ r. ⌜ (r ≡ sizeOf e) × (r < 2 ^ 32) ⌝ }
@@ -190,8 +221,9 @@ fn length_of(e: Element) -> usize
     }
 }
 
-fn fill(rows: &[usize], count: usize, answer: &mut [u32; 24])
-    requires { ⌜ (count ≤ 20) × (3 * count ≤ length (now rows)) ⌝ }
+// the answer with the lengths of a pattern's pieces, behind the start's place
+fn fill(rows: &[u8], count: usize, answer: &mut [u32; 24])
+    requires { ⌜ (count ≤ 20) × (12 * count ≤ length (now rows)) ⌝ }
     requires { ⌜ ((i : ℕ) → i < count → Sized (rowElement (now rows) i)) ⌝ }
     ensures { λ r. ⌜ now (answer .exit) ≡ rowAnswer count (0 ∷ sizesAt (now (rows .entry)) count 0) ⌝ }
 {
@@ -204,6 +236,7 @@ fn fill(rows: &[usize], count: usize, answer: &mut [u32; 24])
     }
 }
 
+// the answer of a scan that found no split
 fn fail(trials: usize, answer: &mut [u32; 24])
     requires { ⌜ trials < 2 ^ 32 ⌝ }
     ensures { λ r. ⌜ now (answer .exit) ≡ splitNumbers none trials 0 ⌝ }
@@ -212,6 +245,7 @@ fn fail(trials: usize, answer: &mut [u32; 24])
     answer[2] = trials as u32;
 }
 
+// the answer of a scan that found one: the start moves from before the lengths to its own place
 fn finish(trials: usize, answer: &mut [u32; 24])
     requires { ⌜ trials < 2 ^ 32 ⌝ }
     ensures { λ r. ⌜ now (answer .exit) ≡ set (set (set (set (now (answer .entry)) 0 1) 1 (getD (now (answer .entry)) 3 0)) 2 trials) 3 0 ⌝ }
@@ -223,18 +257,13 @@ fn finish(trials: usize, answer: &mut [u32; 24])
     answer[3] = 0;
 }
 
-pub fn scan_into(
-    reference: &[u8],
-    values: &[u8],
-    rows: &[usize],
-    count: usize,
-    answer: &mut [u32; 24],
-)
+// the scan by rows whose lengths stand in the answer
+fn scan_filled(reference: &[u8], values: &[u8], rows: &[u8], count: usize, answer: &mut [u32; 24])
     requires { ⌜ GoodRows (now values) (now rows) count ⌝ }
     requires { ⌜ length (now reference) ≤ 1024 ⌝ }
+    requires { ⌜ now answer ≡ rowAnswer count (0 ∷ sizesAt (now rows) count 0) ⌝ }
     ensures { λ r. ⌜ now (answer .exit) ≡ answerNumbers 0 (scan (patternOf (now (values .entry)) (now (rows .entry)) count) (now (reference .entry))) ⌝ }
 {
-    fill(rows, count, answer);
     if count == 0 {
         finish(0, answer);
         return;
@@ -245,92 +274,60 @@ pub fn scan_into(
     }
 }
 
-fn wide(x: u8) -> usize
-    ensures { λ r. ⌜ (r ≡ x) × (r < 256) ⌝ }
+// The scan by a pattern of count rows. Its answer is that of the definition.
+pub fn scan_into(reference: &[u8], values: &[u8], rows: &[u8], count: usize, answer: &mut [u32; 24])
+    requires { ⌜ GoodRows (now values) (now rows) count ⌝ }
+    requires { ⌜ length (now reference) ≤ 1024 ⌝ }
+    ensures { λ r. ⌜ now (answer .exit) ≡ answerNumbers 0 (scan (patternOf (now (values .entry)) (now (rows .entry)) count) (now (reference .entry))) ⌝ }
 {
-    x as usize
+    fill(rows, count, answer);
+    scan_filled(reference, values, rows, count, answer);
 }
 
-fn number4(b: &[u8], at: usize) -> usize
-    requires { ⌜ at + 3 < length (now b) ⌝ }
-    ensures { λ r. ⌜ (r ≡ Call·number4 (now (b .entry)) at) × (r < 2 ^ 32) ⌝ }
-{
-    wide(b[at]) + 256 * (wide(b[at + 1]) + 256 * (wide(b[at + 2]) + 256 * wide(b[at + 3])))
-}
-
-// a string's row, where its ends lie in the values
-fn part_row(values: &[u8], from: usize, to: usize) -> Three
-    requires { ⌜ to < 2 ^ 32 ⌝ }
-    ensures { λ r. ⌜ RowSays (now (values .entry)) (stringIn (now (values .entry)) from to) (r .kind) (r .a) (r .b) ⌝ }
-{
-    if to < from {
-        return Three {
-            kind: 0,
-            a: 0,
-            b: 0,
-        };
-    }
-    if values.len() < to {
-        return Three {
-            kind: 0,
-            a: 0,
-            b: 0,
-        };
-    }
-    Three {
-        kind: 1,
-        a: from,
-        b: to,
-    }
-}
-
-// the row of bytes at a place, of kind 0 where it is no element
-fn row_at(values: &[u8], elements: &[u8], at: usize) -> Three
+// whether the row of bytes at a place is an element
+fn is_element(values: &[u8], elements: &[u8], at: usize) -> bool
     requires { ⌜ (at ≤ length (now elements)) × (length (now elements) ≤ 240) ⌝ }
-    ensures { λ r. ⌜ RowSays (now (values .entry)) (elementIn (now (values .entry)) (now (elements .entry)) at) (r .kind) (r .a) (r .b) ⌝ }
+    ensures { λ r. ⌜ RowSays (now (values .entry)) (now (elements .entry)) at r ⌝ }
 {
-    if elements.len() - at < 12 {
-        return Three {
-            kind: 0,
-            a: 0,
-            b: 0,
-        };
+    if elements.len() - at < ROW {
+        return false;
     }
     let kind = elements[at];
     if kind == 1 {
         let from = number4(elements, at + 4);
         let to = number4(elements, at + 8);
-        return part_row(values, from, to);
+        if to < from {
+            return false;
+        }
+        return to <= values.len();
     }
     if kind == 2 {
-        let n = number4(elements, at + 4);
-        if n < 2147483648 {
-            return Three {
-                kind: 2,
-                a: n,
-                b: 0,
-            };
-        }
-        return Three {
-            kind: 0,
-            a: 0,
-            b: 0,
-        };
+        return number4(elements, at + 4) < NEGATIVE;
     }
-    if kind == 3 {
-        return Three {
-            kind: 3,
-            a: 0,
-            b: 0,
-        };
-    }
-    Three {
-        kind: 0,
-        a: 0,
-        b: 0,
-    }
+    kind == 3
 }
 
+// whether all rows are elements; their lengths stand in the answer then
+fn read_rows(values: &[u8], elements: &[u8], count: usize, answer: &mut [u32; 24]) -> bool
+    requires { ⌜ (length (now elements) ≤ 240) × (count ≡ countOf (now elements)) ⌝ }
+    ensures { λ r. ⌜ RowsSay (now (values .entry)) (now (elements .entry)) count (now (answer .exit)) r ⌝ }
+{
+    *answer = [0u32; 24];
+    let mut i: usize = 0;
+    let mut at: usize = 0;
+    while i < count {
+        if !is_element(values, elements, at) {
+            return false;
+        }
+        let e = row_element(elements, i);
+        answer[4 + i] = length_of(e) as u32;
+        i += 1;
+        at += ROW;
+    }
+    true
+}
+
+// the call on a reference and a pattern that are not too long
 fn scan_rows(
     reference: &[u8],
     values: &[u8],
@@ -342,26 +339,15 @@ fn scan_rows(
     requires { ⌜ count ≡ countOf (now elements) ⌝ }
     ensures { λ r. ⌜ CallSays (scanWith (patternIn (now (values .entry)) (now (elements .entry))) (now (reference .entry))) r (now (answer .exit)) ⌝ }
 {
-    let mut rows = [0usize; 60];
-    let mut i: usize = 0;
-    let mut at: usize = 0;
-    while i < count {
-        let row = row_at(values, elements, at);
-        if row.kind == 0 {
-            fail(0, answer);
-            return 24;
-        }
-        let to = 3 * i;
-        rows[to] = row.kind;
-        rows[to + 1] = row.a;
-        rows[to + 2] = row.b;
-        i += 1;
-        at += 12;
+    if read_rows(values, elements, count, answer) {
+        scan_filled(reference, values, elements, count, answer);
+        return 0;
     }
-    scan_into(reference, values, &rows, count, answer);
-    0
+    fail(0, answer);
+    24
 }
 
+// The scan call: 0 and the scan's answer, or 22, 23 or 24 and no split.
 #[no_mangle]
 pub extern "C" fn strigol_scan(
     reference: &[u8],
@@ -371,11 +357,11 @@ pub extern "C" fn strigol_scan(
 ) -> u32
     ensures { λ r. ⌜ ScanPromise (now (reference .entry)) (now (values .entry)) (now (elements .entry)) r (now (answer .exit)) ⌝ }
 {
-    if 1024 < reference.len() {
+    if LONGEST < reference.len() {
         fail(0, answer);
         return 22;
     }
-    if 240 < elements.len() {
+    if MOST < elements.len() {
         fail(0, answer);
         return 23;
     }
@@ -383,7 +369,7 @@ pub extern "C" fn strigol_scan(
         reference,
         values,
         elements,
-        (elements.len() + 11) / 12,
+        (elements.len() + 11) / ROW,
         answer,
     )
 }

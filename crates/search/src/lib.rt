@@ -151,6 +151,9 @@ fn passed_byte(text: &[u8], byte: u8) -> usize
     requires { ⌜ length (now text) ≤ 1024 ⌝ }
     ensures { λ r. ⌜ Without (now (text .entry)) byte byte 0 (length (now (text .entry))) 0 r ⌝ }
 {
+    if text.len() < 32 {
+        return pass_bytes(text, byte, byte, 0, text.len(), 0);
+    }
     let k = byte_blocks(text, byte);
     let k2 = pass_eights(text, byte, byte, 0, text.len(), k);
     pass_bytes(text, byte, byte, 0, text.len(), k2)

@@ -6,7 +6,7 @@ use lib.ListN.{set}
 use Rattle.scan.specs.Rows.{sizeOf, Sized}
 use mathlib.Core.Path.{refl, sym, _∙_, ap, subst}
 use Rattle.scan.proofs.Answers.{row-filled}
-use Rattle.scan.specs.Steps.{rowAnswer}
+use Rattle.scan.specs.Rows.{rowAnswer}
 use Rattle.scan.specs.Rows.{sizesAt}
 use Prim.Native.Nat.{_+_, _-_, _≤_}
 use mathlib.Core.List.{_∷_}
@@ -15,10 +15,6 @@ use native.Mathlib.Omega.{arith}
 use borrow.Author.Needs.{needs}
 use Rattle.scan.proofs.fill.Statement.{statement}
 use Rattle.scan.proofs.fill.Tie as tie
-use Rattle.scan.proofs.fill.Reads as reads
-use Rattle.scan.proofs.fill.Lts as lts
-use Rattle.scan.proofs.length_of.Reads as length-of-reads
-use Rattle.scan.proofs.row_element.Reads as row-element-reads
 
 abbrev Inv-loop : tie.InvT-loop
 Inv-loop rows count answer₀ i₀ answer i = (i ≤ count) × (answer ≡ rowAnswer i (0 ∷ sizesAt rows i 0))
@@ -26,44 +22,34 @@ Inv-loop rows count answer₀ i₀ answer i = (i ≤ count) × (answer ≡ rowAn
 abbrev μ-loop : tie.MeasureT-loop
 μ-loop rows count answer₀ i₀ answer i = count - i
 
--- src/lib.rt:200:5
 loop-holds : tie.Need-loop-holds Inv-loop μ-loop
 unfolding rowAnswer sizesAt
 loop-holds c = (omega arith, refl)
 
--- src/lib.rt:201:13
 row-element-requires : tie.Need-row-element-requires Inv-loop μ-loop
 row-element-requires c κs = search needs
 
--- src/lib.rt:202:25
 length-of-requires : tie.Need-length-of-requires Inv-loop μ-loop
 length-of-requires c κs = subst Sized (sym (c .row-element .ensures)) (c .before .before .before .before .before .pre .1 (c .before .before .loop .i) (c .before .loop-test .taken))
 
--- src/lib.rt:202:25
 cast-answer : tie.Need-cast-answer Inv-loop μ-loop
 cast-answer c = search needs
 
--- src/lib.rt:202:16
 add-answer : tie.Need-add-answer Inv-loop μ-loop
 add-answer c = search needs
 
--- src/lib.rt:202:9
 mul-answer : tie.Need-mul-answer Inv-loop μ-loop
 mul-answer c = search needs
 
--- src/lib.rt:202:9
 element-write-answer : tie.Need-element-write-answer Inv-loop μ-loop
 element-write-answer c = search needs
 
--- src/lib.rt:203:9
 add-i : tie.Need-add-i Inv-loop μ-loop
 add-i c = search needs
 
--- src/lib.rt:200:5
 loop-less : tie.Need-loop-less Inv-loop μ-loop
 loop-less c = search needs
 
--- src/lib.rt:200:5
 loop-again : tie.Need-loop-again Inv-loop μ-loop
 loop-again c =
     let s = c .before .before .before .loop in
@@ -73,7 +59,6 @@ loop-again c =
       ap (λ (l : List ℕ). set l (4 + s .i) (c .length-of .result)) (s .inv .1) ∙ row-filled rows (s .i) (c .length-of .result) (omega arith) told,
     )
 
--- src/lib.rt:193:1
 returns : tie.Need-returns Inv-loop μ-loop
 returns c =
     let s = c .before .loop in

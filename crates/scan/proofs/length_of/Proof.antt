@@ -5,36 +5,27 @@ use native.Mathlib.Omega.{arith}
 use borrow.Author.Needs.{needs}
 use Rattle.scan.proofs.length_of.Statement.{statement}
 use Rattle.scan.proofs.length_of.Tie as tie
-use Rattle.scan.proofs.length_of.Reads as reads
-use Rattle.scan.proofs.length_of.Lts as lts
 
--- src/lib.rt:187:23
 enum-known-e : tie.Need-enum-known-e
 enum-known-e c = search needs
 
--- src/lib.rt:187:36
 sub-result : tie.Need-sub-result
 sub-result c = sized-part (c .before .before .before .args .e) _ _ (c .before .e .given .1) (c .before .before .before .pre) .0
 
--- src/lib.rt:188:24
 enum-known-e-2 : tie.Need-enum-known-e-2
 enum-known-e-2 c = search needs
 
--- src/lib.rt:189:26
 enum-told : tie.Need-enum-told
 enum-told c = search needs
 
--- src/lib.rt:182:1
 returns : tie.Need-returns
 returns c =
     let s = sized-part (c .before .before .before .args .e) _ _ (c .before .e .given .1) (c .before .before .before .pre) in
     (s .1, s .2)
 
--- src/lib.rt:182:1
 returns-2 : tie.Need-returns-2
 returns-2 c = sized-fixed (c .before .before .before .args .e) _ (c .before .e2 .given .1) (c .before .before .before .pre)
 
--- src/lib.rt:182:1
 returns-3 : tie.Need-returns-3
 returns-3 c = (sized-free (c .before .before .args .e) (c .enum-told .given .1), omega arith)
 

@@ -1,113 +1,72 @@
 -- `scan::row_element` reads the element of a row.
 -- Assumes nothing.
-use Rattle.scan.specs.Rows.{rowElement}
-use lib.ListN.{getD}
-use Prim.Native.Nat.{_+_, _*_}
 use Rattle.scan.proofs.Tests.{row-part, row-fixed, row-free}
+use Rattle.scan.specs.declared.Element.the-variants.{Part, Fixed}
+use Rattle.scan.specs.Rows.{rowAt, rowElement}
+use Rattle.scanning.specs.Call.{number4}
+use lib.ListN.{getD}
+use Prim.Native.Nat.{ℕ, _+_, _*_}
+use mathlib.Core.Path.{_∙_, ap}
 use borrow.Author.Needs.{needs}
 use Rattle.scan.proofs.row_element.Statement.{statement}
 use Rattle.scan.proofs.row_element.Tie as tie
-use Rattle.scan.proofs.row_element.Reads as reads
-use Rattle.scan.proofs.row_element.Lts as lts
 
--- src/lib.rt:50:14
 mul-at : tie.Need-mul-at
 mul-at c = search needs
 
--- src/lib.rt:51:8
-mul-if1 : tie.Need-mul-if1
-mul-if1 c = search needs
+shared-slice-read-kind : tie.Need-shared-slice-read-kind
+shared-slice-read-kind c = search needs
 
--- src/lib.rt:51:8
-shared-slice-read-if1 : tie.Need-shared-slice-read-if1
-shared-slice-read-if1 c = search needs
+add-number4 : tie.Need-add-number4
+add-number4 c = search needs
 
--- src/lib.rt:52:35
-add-t8 : tie.Need-add-t8
-add-t8 c = search needs
+number4-requires : tie.Need-number4-requires
+number4-requires c κs = search needs
 
--- src/lib.rt:52:30
-mul-t9 : tie.Need-mul-t9
-mul-t9 c = search needs
+add-number4-2 : tie.Need-add-number4-2
+add-number4-2 c = search needs
 
--- src/lib.rt:52:30
-shared-slice-read-t11 : tie.Need-shared-slice-read-t11
-shared-slice-read-t11 c = search needs
+number4-requires-2 : tie.Need-number4-requires-2
+number4-requires-2 c κs = search needs
 
--- src/lib.rt:52:49
-add-t12 : tie.Need-add-t12
-add-t12 c = search needs
-
--- src/lib.rt:52:44
-mul-t13 : tie.Need-mul-t13
-mul-t13 c = search needs
-
--- src/lib.rt:52:44
-shared-slice-read-t15 : tie.Need-shared-slice-read-t15
-shared-slice-read-t15 c = search needs
-
--- src/lib.rt:52:9
 returns : tie.Need-returns
-unfolding rowElement
+unfolding rowElement rowAt
 returns c =
-    let a = c .before .before .before .before .args in
-    row-part (getD (a .rows .now) (3 * a .i + 1) 0) (getD (a .rows .now) (3 * a .i + 2) 0) (getD (a .rows .now) (3 * a .i) 0)
-    (c .before .before .if1 .taken)
+    let a = c .before .before .before .before .before .args in
+    ap (λ (n : ℕ). Part n (c .number42 .result)) (c .before .number4 .ensures .0)
+    ∙ ap (Part (number4 (a .rows .now) (12 * a .i + 4))) (c .number42 .ensures .0)
+    ∙ row-part (number4 (a .rows .now) (12 * a .i + 4)) (number4 (a .rows .now) (12 * a .i + 8)) (getD (a .rows .now) (12 * a .i) 0) (c .before .before .if1 .taken)
 
--- src/lib.rt:54:8
-mul-if2 : tie.Need-mul-if2
-mul-if2 c = search needs
+add-number4-3 : tie.Need-add-number4-3
+add-number4-3 c = search needs
 
--- src/lib.rt:54:8
-shared-slice-read-if2 : tie.Need-shared-slice-read-if2
-shared-slice-read-if2 c = search needs
+number4-requires-3 : tie.Need-number4-requires-3
+number4-requires-3 c κs = search needs
 
--- src/lib.rt:55:36
-add-t17 : tie.Need-add-t17
-add-t17 c = search needs
-
--- src/lib.rt:55:31
-mul-t18 : tie.Need-mul-t18
-mul-t18 c = search needs
-
--- src/lib.rt:55:31
-shared-slice-read-t20 : tie.Need-shared-slice-read-t20
-shared-slice-read-t20 c = search needs
-
--- src/lib.rt:55:9
 returns-2 : tie.Need-returns-2
-unfolding rowElement
+unfolding rowElement rowAt
 returns-2 c =
     let a = c .before .before .before .before .before .args in
-    row-fixed (getD (a .rows .now) (3 * a .i + 1) 0) (getD (a .rows .now) (3 * a .i + 2) 0) (getD (a .rows .now) (3 * a .i) 0)
-    (c .before .before .before .if1 .left) (c .before .if2 .taken)
+    ap Fixed (c .number43 .ensures .0) ∙ row-fixed (number4 (a .rows .now) (12 * a .i + 4)) (number4 (a .rows .now) (12 * a .i + 8)) (getD (a .rows .now) (12 * a .i) 0) (c .before .before .if1 .left) (c .before .if2 .taken)
 
--- src/lib.rt:46:1
 returns-3 : tie.Need-returns-3
-unfolding rowElement
+unfolding rowElement rowAt
 returns-3 c =
     let a = c .before .before .before .before .args in
-    row-free (getD (a .rows .now) (3 * a .i + 1) 0) (getD (a .rows .now) (3 * a .i + 2) 0) (getD (a .rows .now) (3 * a .i) 0)
-    (c .before .before .if1 .left) (c .if2 .left)
+    row-free (number4 (a .rows .now) (12 * a .i + 4)) (number4 (a .rows .now) (12 * a .i + 8)) (getD (a .rows .now) (12 * a .i) 0) (c .before .if1 .left) (c .if2 .left)
 
 pub row-element-spec : {M : Type 1} → statement M
 row-element-spec =
     tie.close
     (tie.spec
     mul-at
-    mul-if1
-    shared-slice-read-if1
-    add-t8
-    mul-t9
-    shared-slice-read-t11
-    add-t12
-    mul-t13
-    shared-slice-read-t15
+    shared-slice-read-kind
+    add-number4
+    number4-requires
+    add-number4-2
+    number4-requires-2
     returns
-    mul-if2
-    shared-slice-read-if2
-    add-t17
-    mul-t18
-    shared-slice-read-t20
+    add-number4-3
+    number4-requires-3
     returns-2
     returns-3)

@@ -12,11 +12,6 @@ use native.Mathlib.Omega.{arith}
 use borrow.Author.Needs.{needs}
 use Rattle.scan.proofs.run.Statement.{statement}
 use Rattle.scan.proofs.run.Tie as tie
-use Rattle.scan.proofs.run.Reads as reads
-use Rattle.scan.proofs.run.Lts as lts
-use Rattle.scan.proofs.row_element.Reads as row-element-reads
-use Rattle.scan.proofs.skip.Reads as skip-reads
-use Rattle.scan.proofs.test_group.Reads as test-group-reads
 
 abbrev Inv-loop : tie.InvT-loop
 Inv-loop reference values rows count answer₀ g₀ from₀ place₀ trials₀ answer g from place trials = Running reference values rows count answer g from place trials
@@ -69,20 +64,17 @@ whole c =
     subst (GroupSays (a .reference .now) (a .values .now) (a .rows .now) (a .count) (s .g) (s .place + c .before .before .before .before .skip .result)) (c .before .j .given .1)
     (c .before .before .before .test-group .ensures)
 
--- src/lib.rt:148:5
 loop-holds : tie.Need-loop-holds Inv-loop μ-loop
 loop-holds c =
     let a = c .before .before .before .args in
     run-begins (a .reference .now) (a .values .now) (a .rows .now) (a .count) (a .answer .now) (c .before .before .before .pre .1 .0 .1) (c .before .before .before .pre .1 .1)
 
--- src/lib.rt:149:13
 row-element-requires : tie.Need-row-element-requires Inv-loop μ-loop
 row-element-requires c κs =
     let i = c .loop .inv in
     let p = c .before .before .before .before .pre .0 in
     omega arith
 
--- src/lib.rt:150:13
 skip-requires : tie.Need-skip-requires Inv-loop μ-loop
 skip-requires c κs =
     let a = c .before .before .before .before .before .args in
@@ -90,7 +82,6 @@ skip-requires c κs =
     let s = c .before .loop in
     ((p .1 .0 .0, s .inv .inside), subst (Good (a .values .now)) (sym (c .row-element .ensures)) (p .0 .good (s .g) (s .inv .more)))
 
--- src/lib.rt:151:9
 add-place : tie.Need-add-place Inv-loop μ-loop
 add-place c =
     let a = c .before .before .before .before .before .before .args in
@@ -100,7 +91,6 @@ add-place c =
     let r = skipped (c) in
     omega arith
 
--- src/lib.rt:152:9
 add-trials : tie.Need-add-trials Inv-loop μ-loop
 add-trials c =
     let a = c .before .before .before .before .before .before .args in
@@ -110,7 +100,6 @@ add-trials c =
     let r = skipped (c) in
     omega arith
 
--- src/lib.rt:153:15
 test-group-requires : tie.Need-test-group-requires Inv-loop μ-loop
 test-group-requires c κs =
     let a = c .before .before .before .before .before .before .args in
@@ -120,11 +109,9 @@ test-group-requires c κs =
     let r = skipped (c) in
     (p .0, record { short = p .1 .0 .0; start = omega arith; inside = r .inside })
 
--- src/lib.rt:154:25
 enum-known-n : tie.Need-enum-known-n Inv-loop μ-loop
 enum-known-n c = search needs
 
--- src/lib.rt:155:35
 add-t17 : tie.Need-add-t17 Inv-loop μ-loop
 add-t17 c =
     let a = c .before .before .before .before .before .before .before .before .before .before .args in
@@ -135,7 +122,6 @@ add-t17 c =
     let f = ended c in
     omega arith
 
--- src/lib.rt:155:17
 returns : tie.Need-returns Inv-loop μ-loop
 unfolding RunSays
 returns c =
@@ -146,11 +132,9 @@ returns c =
     let r = skipped (c .before .before .before .before) in
     run-ends (a .reference .now) (a .values .now) (a .rows .now) (a .count) (s .answer) (s .g) (s .from) (s .place + k) (s .trials + k) r (c .before .n .given .0 .0) (p .1 .0 .0) (p .0 .few) (ended c)
 
--- src/lib.rt:157:26
 enum-known-n-2 : tie.Need-enum-known-n-2 Inv-loop μ-loop
 enum-known-n-2 c = search needs
 
--- src/lib.rt:158:17
 add-trials-2 : tie.Need-add-trials-2 Inv-loop μ-loop
 add-trials-2 c =
     let a = c .before .before .before .before .before .before .before .before .before .before .args in
@@ -161,7 +145,6 @@ add-trials-2 c =
     let f = differed c in
     omega arith
 
--- src/lib.rt:160:21
 returns-2 : tie.Need-returns-2 Inv-loop μ-loop
 unfolding RunSays
 returns-2 c =
@@ -172,7 +155,6 @@ returns-2 c =
     let r = skipped (c .before .before .before .before .before) in
     run-stops (a .reference .now) (a .values .now) (a .rows .now) (a .count) (s .answer) (s .g) (s .from) (s .place + k) (s .trials + k) r (c .before .before .n2 .given .0 .0) (p .1 .0 .0) (p .0 .few) (differed (c .before)) (c .if1 .taken)
 
--- src/lib.rt:162:17
 add-place-2 : tie.Need-add-place-2 Inv-loop μ-loop
 add-place-2 c =
     let a = c .before .before .before .before .before .before .before .before .before .before .before .args in
@@ -182,7 +164,6 @@ add-place-2 c =
     let r = skipped (c .before .before .before .before .before) in
     omega arith
 
--- src/lib.rt:148:5
 loop-less : tie.Need-loop-less Inv-loop μ-loop
 loop-less c =
     let a = c .before .before .before .before .before .before .before .before .before .before .before .args in
@@ -192,7 +173,6 @@ loop-less c =
     let r = skipped (c .before .before .before .before .before) in
     omega (arith, r .inside, c .if1 .left)
 
--- src/lib.rt:148:5
 loop-again : tie.Need-loop-again Inv-loop μ-loop
 loop-again c =
     let a = c .before .before .before .before .before .before .before .before .before .before .before .args in
@@ -202,11 +182,9 @@ loop-again c =
     let r = skipped (c .before .before .before .before .before) in
     run-moves (a .reference .now) (a .values .now) (a .rows .now) (a .count) (s .answer) (s .g) (s .from) (s .place + k) (s .trials + k) r (c .before .before .n2 .given .0 .0) (differed (c .before)) (omega (arith, r .inside, c .if1 .left))
 
--- src/lib.rt:164:26
 enum-known-j : tie.Need-enum-known-j Inv-loop μ-loop
 enum-known-j c = search needs
 
--- src/lib.rt:165:34
 sub-answer : tie.Need-sub-answer Inv-loop μ-loop
 sub-answer c =
     let a = c .before .before .before .before .before .before .before .before .before .before .args in
@@ -217,7 +195,6 @@ sub-answer c =
     let w = whole c .reached in
     omega arith
 
--- src/lib.rt:165:33
 cast-answer : tie.Need-cast-answer Inv-loop μ-loop
 cast-answer c =
     let a = c .before .before .before .before .before .before .before .before .before .before .args in
@@ -228,7 +205,6 @@ cast-answer c =
     let w = whole c .reached in
     omega arith
 
--- src/lib.rt:165:24
 add-answer : tie.Need-add-answer Inv-loop μ-loop
 add-answer c =
     let a = c .before .before .before .before .before .before .before .before .before .before .args in
@@ -239,7 +215,6 @@ add-answer c =
     let w = whole c .reached in
     omega arith
 
--- src/lib.rt:165:17
 mul-answer : tie.Need-mul-answer Inv-loop μ-loop
 mul-answer c =
     let a = c .before .before .before .before .before .before .before .before .before .before .args in
@@ -250,7 +225,6 @@ mul-answer c =
     let w = whole c .reached in
     omega arith
 
--- src/lib.rt:165:17
 element-write-answer : tie.Need-element-write-answer Inv-loop μ-loop
 element-write-answer c =
     let a = c .before .before .before .before .before .before .before .before .before .before .args in
@@ -261,7 +235,6 @@ element-write-answer c =
     let w = whole c .reached in
     omega arith
 
--- src/lib.rt:166:27
 sub-trials : tie.Need-sub-trials Inv-loop μ-loop
 sub-trials c =
     let a = c .before .before .before .before .before .before .before .before .before .before .args in
@@ -272,7 +245,6 @@ sub-trials c =
     let w = whole c .reached in
     omega arith
 
--- src/lib.rt:166:17
 add-trials-3 : tie.Need-add-trials-3 Inv-loop μ-loop
 add-trials-3 c =
     let a = c .before .before .before .before .before .before .before .before .before .before .args in
@@ -283,7 +255,6 @@ add-trials-3 c =
     let w = whole c .reached in
     omega arith
 
--- src/lib.rt:168:21
 returns-3 : tie.Need-returns-3 Inv-loop μ-loop
 unfolding RunSays
 returns-3 c =
@@ -294,7 +265,6 @@ returns-3 c =
     let r = skipped (c .before .before .before .before .before) in
     run-done (a .reference .now) (a .values .now) (a .rows .now) (a .count) (s .answer) (s .g) (s .from) (s .place + k) (s .trials + k) r (c .before .before .j .given .0 .0) (c .before .before .j .given .0 .1 .0) (whole (c .before)) (p .1 .0 .0) (p .0 .few) (c .if2 .taken)
 
--- src/lib.rt:170:21
 add-g : tie.Need-add-g Inv-loop μ-loop
 add-g c =
     let a = c .before .before .before .before .before .before .before .before .before .before .before .args in
@@ -305,7 +275,6 @@ add-g c =
     let w = whole (c .before) .reached in
     omega arith
 
--- src/lib.rt:172:38
 sub-answer-2 : tie.Need-sub-answer-2 Inv-loop μ-loop
 sub-answer-2 c =
     let a = c .before .before .before .before .before .before .before .before .before .before .before .before .args in
@@ -316,7 +285,6 @@ sub-answer-2 c =
     let w = whole (c .before .before) .reached in
     omega arith
 
--- src/lib.rt:172:37
 cast-answer-2 : tie.Need-cast-answer-2 Inv-loop μ-loop
 cast-answer-2 c =
     let a = c .before .before .before .before .before .before .before .before .before .before .before .before .args in
@@ -327,7 +295,6 @@ cast-answer-2 c =
     let w = whole (c .before .before) .reached in
     omega arith
 
--- src/lib.rt:172:28
 add-answer-2 : tie.Need-add-answer-2 Inv-loop μ-loop
 add-answer-2 c =
     let a = c .before .before .before .before .before .before .before .before .before .before .before .before .args in
@@ -338,7 +305,6 @@ add-answer-2 c =
     let w = whole (c .before .before) .reached in
     omega arith
 
--- src/lib.rt:172:21
 mul-answer-2 : tie.Need-mul-answer-2 Inv-loop μ-loop
 mul-answer-2 c =
     let a = c .before .before .before .before .before .before .before .before .before .before .before .before .args in
@@ -349,7 +315,6 @@ mul-answer-2 c =
     let w = whole (c .before .before) .reached in
     omega arith
 
--- src/lib.rt:172:21
 element-write-answer-2 : tie.Need-element-write-answer-2 Inv-loop μ-loop
 element-write-answer-2 c =
     let a = c .before .before .before .before .before .before .before .before .before .before .before .before .args in
@@ -360,7 +325,6 @@ element-write-answer-2 c =
     let w = whole (c .before .before) .reached in
     omega arith
 
--- src/lib.rt:173:21
 returns-4 : tie.Need-returns-4 Inv-loop μ-loop
 unfolding RunSays
 returns-4 c =
@@ -371,7 +335,6 @@ returns-4 c =
     let r = skipped (c .before .before .before .before .before .before) in
     run-last (a .reference .now) (a .values .now) (a .rows .now) (a .count) (s .answer) (s .g) (s .from) (s .place + k) (s .trials + k) r (c .before .before .before .j .given .0 .0) (c .before .before .before .j .given .0 .1 .0) (whole (c .before .before)) (p .1 .0 .0) (p .0 .few) (c .if3 .taken)
 
--- src/lib.rt:148:5
 loop-less-2 : tie.Need-loop-less-2 Inv-loop μ-loop
 loop-less-2 c =
     let a = c .before .before .before .before .before .before .before .before .before .before .before .before .args in
@@ -382,7 +345,6 @@ loop-less-2 c =
     let w = whole (c .before .before) .reached in
     omega (arith, w .high, w .low, w .forth, w .inside, c .if3 .left, c .before .if2 .left)
 
--- src/lib.rt:148:5
 loop-again-2 : tie.Need-loop-again-2 Inv-loop μ-loop
 loop-again-2 c =
     let a = c .before .before .before .before .before .before .before .before .before .before .before .before .args in

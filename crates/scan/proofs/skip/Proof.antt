@@ -5,62 +5,46 @@ use mathlib.Core.Path.{refl}
 use borrow.Author.Needs.{needs}
 use Rattle.scan.proofs.skip.Statement.{statement}
 use Rattle.scan.proofs.skip.Tie as tie
-use Rattle.scan.proofs.skip.Reads as reads
-use Rattle.scan.proofs.skip.Lts as lts
-use Rattle.search.proofs.passed.Reads as passed-reads
 
--- src/lib.rt:132:23
 enum-known-e : tie.Need-enum-known-e
 enum-known-e c = search needs
 
--- src/lib.rt:132:51
 sub-passed : tie.Need-sub-passed
 sub-passed c = search needs
 
--- src/lib.rt:132:51
 part-passed-start : tie.Need-part-passed-start
 part-passed-start c = search needs
 
--- src/lib.rt:132:51
 part-passed-end : tie.Need-part-passed-end
 part-passed-end c = search needs
 
--- src/lib.rt:132:69
 sub-passed-2 : tie.Need-sub-passed-2
 sub-passed-2 c = good-part (c .before .before .before .before .before .before .args .e) (c .before .before .before .before .before .before .args .values .now) _ _ (c .before .before .e .given .1) (c .before .before .before .before .before .before .pre .1) .order
 
--- src/lib.rt:132:69
 part-passed-start-2 : tie.Need-part-passed-start-2
 part-passed-start-2 c = good-part (c .before .before .before .before .before .before .args .e) (c .before .before .before .before .before .before .args .values .now) _ _ (c .before .before .e .given .1) (c .before .before .before .before .before .before .pre .1) .order
 
--- src/lib.rt:132:69
 part-passed-end-2 : tie.Need-part-passed-end-2
 part-passed-end-2 c = good-part (c .before .before .before .before .before .before .args .e) (c .before .before .before .before .before .before .args .values .now) _ _ (c .before .before .e .given .1) (c .before .before .before .before .before .before .pre .1) .inside
 
--- src/lib.rt:132:36
 passed-requires : tie.Need-passed-requires
 passed-requires c κs = search needs
 
--- src/lib.rt:133:30
 enum-told : tie.Need-enum-told
 enum-told c = search needs
 
--- src/lib.rt:134:26
 enum-told-2 : tie.Need-enum-told-2
 enum-told-2 c = search needs
 
--- src/lib.rt:126:1
 returns : tie.Need-returns
 returns c =
     let a = c .before .before .before .before .before .before .before .before .args in
     skip-part (a .values .now) (a .reference .now) (a .at) (a .e) _ _ _ _ (c .passed .result)
     (c .before .before .before .before .e .given .1) refl refl (c .passed .ensures)
 
--- src/lib.rt:126:1
 returns-2 : tie.Need-returns-2
 returns-2 c = let a = c .before .before .before .before .args in skip-none (a .values .now) (a .reference .now) (a .at) (a .e)
 
--- src/lib.rt:126:1
 returns-3 : tie.Need-returns-3
 returns-3 c = let a = c .before .before .before .before .args in skip-none (a .values .now) (a .reference .now) (a .at) (a .e)
 

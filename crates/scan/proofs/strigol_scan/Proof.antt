@@ -7,43 +7,32 @@ use native.Mathlib.Omega.{arith}
 use borrow.Author.Needs.{needs}
 use Rattle.scan.proofs.strigol_scan.Statement.{statement}
 use Rattle.scan.proofs.strigol_scan.Tie as tie
-use Rattle.scan.proofs.strigol_scan.Reads as reads
-use Rattle.scan.proofs.strigol_scan.Lts as lts
-use Rattle.scan.proofs.fail.Reads as fail-reads
-use Rattle.scan.proofs.scan_rows.Reads as scan-rows-reads
 
--- src/lib.rt:375:9
 fail-requires : tie.Need-fail-requires
 fail-requires c κs = search needs
 
--- src/lib.rt:376:9
 returns : tie.Need-returns
 unfolding longestReference
 returns c =
     let a = c .before .before .before .before .before .before .args in
     promise-long (a .reference .now) (a .values .now) (a .elements .now) 22 (c .fail .last .1 .0) (c .before .before .if1 .taken) refl (c .fail .ensures)
 
--- src/lib.rt:379:9
 fail-requires-2 : tie.Need-fail-requires-2
 fail-requires-2 c κs = search needs
 
--- src/lib.rt:380:9
 returns-2 : tie.Need-returns-2
 unfolding longestReference mostElements countOf rowBytes
 returns-2 c =
     let a = c .before .before .before .before .before .before .before .args in
     promise-many (a .reference .now) (a .values .now) (a .elements .now) 23 (c .fail2 .last .1 .0) (c .before .before .before .if1 .left) (omega arith) refl (c .fail2 .ensures)
 
--- src/lib.rt:386:10
 add-scan-rows : tie.Need-add-scan-rows
 add-scan-rows c = search needs
 
--- src/lib.rt:382:5
 scan-rows-requires : tie.Need-scan-rows-requires
 unfolding countOf rowBytes
 scan-rows-requires c κs = ((c .before .before .if1 .left, c .before .if2 .left), refl)
 
--- src/lib.rt:365:1
 returns-3 : tie.Need-returns-3
 unfolding longestReference mostElements
 returns-3 c =

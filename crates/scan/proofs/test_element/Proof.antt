@@ -6,74 +6,56 @@ use native.Mathlib.Omega.{arith}
 use borrow.Author.Needs.{needs}
 use Rattle.scan.proofs.test_element.Statement.{statement}
 use Rattle.scan.proofs.test_element.Tie as tie
-use Rattle.scan.proofs.test_element.Reads as reads
-use Rattle.scan.proofs.test_element.Lts as lts
-use Rattle.scan.proofs.test_string.Reads as test-string-reads
 
--- src/lib.rt:79:23
 enum-known-e : tie.Need-enum-known-e
 enum-known-e c = search needs
 
--- src/lib.rt:79:48
 sub-test-string : tie.Need-sub-test-string
 sub-test-string c = search needs
 
--- src/lib.rt:79:48
 part-test-string-start : tie.Need-part-test-string-start
 part-test-string-start c = search needs
 
--- src/lib.rt:79:48
 part-test-string-end : tie.Need-part-test-string-end
 part-test-string-end c = search needs
 
--- src/lib.rt:79:66
 sub-test-string-2 : tie.Need-sub-test-string-2
 sub-test-string-2 c = good-part (c .before .before .before .before .before .before .args .e) (c .before .before .before .before .before .before .args .values .now) _ _ (c .before .before .e .given .1) (c .before .before .before .before .before .before .pre .1) .order
 
--- src/lib.rt:79:66
 part-test-string-start-2 : tie.Need-part-test-string-start-2
 part-test-string-start-2 c = good-part (c .before .before .before .before .before .before .args .e) (c .before .before .before .before .before .before .args .values .now) _ _ (c .before .before .e .given .1) (c .before .before .before .before .before .before .pre .1) .order
 
--- src/lib.rt:79:66
 part-test-string-end-2 : tie.Need-part-test-string-end-2
 part-test-string-end-2 c = good-part (c .before .before .before .before .before .before .args .e) (c .before .before .before .before .before .before .args .values .now) _ _ (c .before .before .e .given .1) (c .before .before .before .before .before .before .pre .1) .inside
 
--- src/lib.rt:79:36
 test-string-requires : tie.Need-test-string-requires
 test-string-requires c κs = search needs
 
--- src/lib.rt:80:24
 enum-known-e-2 : tie.Need-enum-known-e-2
 enum-known-e-2 c = search needs
 
--- src/lib.rt:81:16
 sub-if1 : tie.Need-sub-if1
 sub-if1 c = search needs
 
--- src/lib.rt:87:26
 enum-told : tie.Need-enum-told
 enum-told c = search needs
 
--- src/lib.rt:73:1
 returns : tie.Need-returns
 returns c =
     let a = c .before .before .before .before .before .before .before .before .args in
     test-part (a .values .now) (a .reference .now) (a .at) (a .e) _ _ _ _ (c .test-string .result)
     (c .before .before .before .before .e .given .1) refl refl (c .test-string .ensures)
 
--- src/lib.rt:73:1
 returns-2 : tie.Need-returns-2
 returns-2 c =
     let a = c .before .before .before .before .before .before .args in
     test-fixed-few (a .values .now) (a .reference .now) (a .at) (a .e) _ (c .before .before .e2 .given .1) (c .if1 .taken)
 
--- src/lib.rt:73:1
 returns-3 : tie.Need-returns-3
 returns-3 c =
     let a = c .before .before .before .before .before .before .args in
     test-fixed-piece (a .values .now) (a .reference .now) (a .at) (a .e) _ (c .before .before .e2 .given .1) (c .if1 .left)
 
--- src/lib.rt:73:1
 returns-4 : tie.Need-returns-4
 returns-4 c =
     let a = c .before .before .before .before .args in

@@ -14,10 +14,6 @@ use native.Mathlib.Omega.{arith}
 use borrow.Author.Needs.{needs}
 use Rattle.scan.proofs.test_group.Statement.{statement}
 use Rattle.scan.proofs.test_group.Tie as tie
-use Rattle.scan.proofs.test_group.Reads as reads
-use Rattle.scan.proofs.test_group.Lts as lts
-use Rattle.scan.proofs.row_element.Reads as row-element-reads
-use Rattle.scan.proofs.test_element.Reads as test-element-reads
 
 abbrev Inv-loop : tie.InvT-loop
 Inv-loop reference values rows count g place i₀ at₀ i at = Reached reference values rows count g place i at
@@ -25,17 +21,14 @@ Inv-loop reference values rows count g place i₀ at₀ i at = Reached reference
 abbrev μ-loop : tie.MeasureT-loop
 μ-loop reference values rows count g place i₀ at₀ i at = count - i
 
--- src/lib.rt:105:5
 loop-holds : tie.Need-loop-holds Inv-loop μ-loop
 loop-holds c =
     let a = c .before .before .before .args in
     group-begins (a .reference .now) (a .values .now) (a .rows .now) (a .count) (a .g) (a .place) (c .before .before .before .pre .1 .start) (c .before .before .before .pre .1 .inside)
 
--- src/lib.rt:106:13
 row-element-requires : tie.Need-row-element-requires Inv-loop μ-loop
 row-element-requires c κs = search needs
 
--- src/lib.rt:107:15
 test-element-requires : tie.Need-test-element-requires Inv-loop μ-loop
 test-element-requires c κs =
     let a = c .before .before .before .before .before .before .args in (
@@ -43,11 +36,9 @@ test-element-requires c κs =
       subst (Good (a .values .now)) (sym (c .row-element .ensures)) (c .before .before .before .before .before .before .pre .0 .good (c .before .before .loop .i) (c .before .loop-test .taken)),
     )
 
--- src/lib.rt:108:25
 enum-known-n : tie.Need-enum-known-n Inv-loop μ-loop
 enum-known-n c = search needs
 
--- src/lib.rt:109:17
 add-at : tie.Need-add-at Inv-loop μ-loop
 add-at c =
     let a = c .before .before .before .before .before .before .before .before .before .before .args in
@@ -56,15 +47,12 @@ add-at c =
     let size = piece-size (a .values .now) (drop (s .at) (a .reference .now)) _ _ (c .before .before .before .before .before .before .before .before .before .before .pre .0 .good (s .i) (c .before .before .before .before .before .loop-test .taken)) h in
     omega (arith, size .1, length-drop (s .at) (a .reference .now), s .inv .inside, c .before .before .before .before .before .before .before .before .before .before .pre .1 .short)
 
--- src/lib.rt:110:17
 add-i : tie.Need-add-i Inv-loop μ-loop
 add-i c = search needs
 
--- src/lib.rt:105:5
 loop-less : tie.Need-loop-less Inv-loop μ-loop
 loop-less c = search needs
 
--- src/lib.rt:105:5
 loop-again : tie.Need-loop-again Inv-loop μ-loop
 loop-again c =
     let a = c .before .before .before .before .before .before .before .before .before .before .args in
@@ -73,19 +61,15 @@ loop-again c =
     group-piece (a .reference .now) (a .values .now) (a .rows .now) (a .count) (a .g) (a .place) (s .i) (s .at) (s .inv)
     (c .before .before .before .before .before .loop-test .taken) (c .before .n .given .0 .0) (c .before .before .before .before .before .before .before .before .before .before .pre .0 .good (s .i) (c .before .before .before .before .before .loop-test .taken)) h
 
--- src/lib.rt:113:37
 enum-told : tie.Need-enum-told Inv-loop μ-loop
 enum-told c = search needs
 
--- src/lib.rt:113:37
 sub-t13 : tie.Need-sub-t13 Inv-loop μ-loop
 sub-t13 c = search needs
 
--- src/lib.rt:113:37
 add-t14 : tie.Need-add-t14 Inv-loop μ-loop
 add-t14 c = search needs
 
--- src/lib.rt:113:17
 returns : tie.Need-returns Inv-loop μ-loop
 unfolding GroupSays
 returns c =
@@ -99,19 +83,15 @@ returns c =
           (c .before .before .before .before .loop-test .taken) h;
     }
 
--- src/lib.rt:116:36
 enum-told-2 : tie.Need-enum-told-2 Inv-loop μ-loop
 enum-told-2 c = search needs
 
--- src/lib.rt:116:36
 sub-t15 : tie.Need-sub-t15 Inv-loop μ-loop
 sub-t15 c = search needs
 
--- src/lib.rt:116:36
 add-t16 : tie.Need-add-t16 Inv-loop μ-loop
 add-t16 c = search needs
 
--- src/lib.rt:116:17
 returns-2 : tie.Need-returns-2 Inv-loop μ-loop
 unfolding GroupSays
 returns-2 c =
@@ -125,11 +105,9 @@ returns-2 c =
           (c .before .before .before .before .loop-test .taken) h;
     }
 
--- src/lib.rt:119:17
 enum-told-3 : tie.Need-enum-told-3 Inv-loop μ-loop
 enum-told-3 c = search needs
 
--- src/lib.rt:119:17
 returns-3 : tie.Need-returns-3 Inv-loop μ-loop
 unfolding GroupSays
 returns-3 c =
@@ -138,7 +116,6 @@ returns-3 c =
     let h = test-told (a .values .now) (a .rows .now) (drop (s .at) (a .reference .now)) (s .i) (c .before .before .before .row-element .result) (c .before .before .test-element .result) (Filler) (c .before .before .before .row-element .ensures) (c .before .before .test-element .ensures) (c .enum-told3 .given .1) in
     record { reached = s .inv; filler = λ more. filler-free (a .values .now) (drop (s .at) (a .reference .now)) _ h }
 
--- src/lib.rt:91:1
 returns-4 : tie.Need-returns-4 Inv-loop μ-loop
 unfolding GroupSays
 returns-4 c = record { reached = c .before .loop .inv; filler = λ more. absurd (omega (arith, c .loop-test .left, more)) }

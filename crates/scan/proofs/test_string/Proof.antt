@@ -5,25 +5,18 @@ use mathlib.Core.Path.{sym, _∙_}
 use borrow.Author.Needs.{needs}
 use Rattle.scan.proofs.test_string.Statement.{statement}
 use Rattle.scan.proofs.test_string.Tie as tie
-use Rattle.scan.proofs.test_string.Reads as reads
-use Rattle.scan.proofs.test_string.Lts as lts
-use Rattle.search.proofs.begins_with.Reads as begins-with-reads
 
--- src/lib.rt:64:9
 returns : tie.Need-returns
 returns c = test-few (c .before .before .before .args .word .now) (c .before .before .before .args .rest .now) (c .if1 .taken)
 
--- src/lib.rt:66:8
 begins-with-requires : tie.Need-begins-with-requires
 begins-with-requires c κs = search needs
 
--- src/lib.rt:60:1
 returns-2 : tie.Need-returns-2
 returns-2 c =
     let a = c .before .before .before .before .before .args in
     test-piece (a .word .now) (a .rest .now) (c .before .before .if1 .left) (sym (c .before .begins-with .ensures) ∙ c .if2 .taken)
 
--- src/lib.rt:60:1
 returns-3 : tie.Need-returns-3
 returns-3 c =
     let a = c .before .before .before .before .before .args in

@@ -9,9 +9,6 @@ use native.Mathlib.Omega.{arith}
 use borrow.Author.Needs.{needs}
 use Rattle.search.proofs.byte_blocks.Statement.{statement}
 use Rattle.search.proofs.byte_blocks.Tie as tie
-use Rattle.search.proofs.byte_blocks.Reads as reads
-use Rattle.search.proofs.byte_blocks.Lts as lts
-use Rattle.search.proofs.byte_hit.Reads as byte-hit-reads
 
 abbrev Inv-loop : tie.InvT-loop
 Inv-loop text byte k₀ k = Without text byte byte 0 (length text) 0 k
@@ -19,47 +16,36 @@ Inv-loop text byte k₀ k = Without text byte byte 0 (length text) 0 k
 abbrev μ-loop : tie.MeasureT-loop
 μ-loop text byte k₀ k = length text - k
 
--- src/lib.rt:104:5
 loop-holds : tie.Need-loop-holds Inv-loop μ-loop
 loop-holds c = let a = c .before .args in without-none (a .text .now) (a .byte) (a .byte) 0 (length (a .text .now)) 0 (omega arith)
 
--- src/lib.rt:104:17
 sub-loop : tie.Need-sub-loop Inv-loop μ-loop
 sub-loop c = omega arith
 
--- src/lib.rt:105:30
 add-block : tie.Need-add-block Inv-loop μ-loop
 add-block c = omega arith
 
--- src/lib.rt:105:21
 sub-block : tie.Need-sub-block Inv-loop μ-loop
 sub-block c = omega arith
 
--- src/lib.rt:105:21
 part-block-start : tie.Need-part-block-start Inv-loop μ-loop
 part-block-start c = omega arith
 
--- src/lib.rt:105:21
 part-block-end : tie.Need-part-block-end Inv-loop μ-loop
 part-block-end c = omega arith
 
--- src/lib.rt:106:12
 byte-hit-requires : tie.Need-byte-hit-requires Inv-loop μ-loop
 byte-hit-requires c κs = let k = c .before .before .loop .k in part-length (c .before .before .before .before .args .text .now) k (k + 32 - k) (omega arith) ∙ omega arith
 
--- src/lib.rt:107:13
 returns : tie.Need-returns Inv-loop μ-loop
 returns c = search needs
 
--- src/lib.rt:109:9
 add-k : tie.Need-add-k Inv-loop μ-loop
 add-k c = omega arith
 
--- src/lib.rt:104:5
 loop-less : tie.Need-loop-less Inv-loop μ-loop
 loop-less c = omega arith
 
--- src/lib.rt:104:5
 loop-again : tie.Need-loop-again Inv-loop μ-loop
 loop-again c =
     let a = c .before .before .before .before .before .before .args in
@@ -67,7 +53,6 @@ loop-again c =
     without-block (a .text .now) (a .byte) (a .byte) 0 (length (a .text .now)) 0 (s .k) (s .inv) 32 (s .k + 32 - s .k) 32 (omega arith)
     (omega arith) (omega arith) (λ j h b. c .before .byte-hit .ensures (c .if1 .left) j h (b .0))
 
--- src/lib.rt:99:1
 returns-2 : tie.Need-returns-2 Inv-loop μ-loop
 returns-2 c = search needs
 

@@ -9,8 +9,6 @@ use native.Mathlib.Omega.{arith}
 use borrow.Author.Needs.{needs}
 use Rattle.search.proofs.byte_hit.Statement.{statement}
 use Rattle.search.proofs.byte_hit.Tie as tie
-use Rattle.search.proofs.byte_hit.Reads as reads
-use Rattle.search.proofs.byte_hit.Lts as lts
 
 abbrev Inv-loop : tie.InvT-loop
 Inv-loop block byte found₀ j₀ found j = (j ≤ 32) × (found ≡ false → (i : ℕ) → i < j → getD block i 0 ≡ byte → ⊥)
@@ -18,30 +16,24 @@ Inv-loop block byte found₀ j₀ found j = (j ≤ 32) × (found ≡ false → (
 abbrev μ-loop : tie.MeasureT-loop
 μ-loop block byte found₀ j₀ found j = 32 - j
 
--- src/lib.rt:56:5
 loop-holds : tie.Need-loop-holds Inv-loop μ-loop
 loop-holds c = search needs
 
--- src/lib.rt:57:17
 shared-slice-read-x : tie.Need-shared-slice-read-x Inv-loop μ-loop
 shared-slice-read-x c = search needs
 
--- src/lib.rt:59:9
 add-j : tie.Need-add-j Inv-loop μ-loop
 add-j c = search needs
 
--- src/lib.rt:56:5
 loop-less : tie.Need-loop-less Inv-loop μ-loop
 loop-less c = search needs
 
--- src/lib.rt:56:5
 loop-again : tie.Need-loop-again Inv-loop μ-loop
 loop-again c =
     let a = c .before .before .before .args in
     let s = c .before .before .loop in
     (omega arith, byte-more (a .block .now) (a .byte) (s .found) (s .j) (s .inv .1))
 
--- src/lib.rt:50:1
 returns : tie.Need-returns Inv-loop μ-loop
 returns c = λ e j h. c .before .loop .inv .1 e j (omega arith)
 

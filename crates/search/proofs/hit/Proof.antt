@@ -9,8 +9,6 @@ use native.Mathlib.Omega.{arith}
 use borrow.Author.Needs.{needs}
 use Rattle.search.proofs.hit.Statement.{statement}
 use Rattle.search.proofs.hit.Tie as tie
-use Rattle.search.proofs.hit.Reads as reads
-use Rattle.search.proofs.hit.Lts as lts
 
 abbrev Inv-loop : tie.InvT-loop
 Inv-loop fronts backs first last found₀ j₀ found j = (j ≤ 32) × (found ≡ false → (i : ℕ) → i < j → Both fronts backs first last i → ⊥)
@@ -18,34 +16,27 @@ Inv-loop fronts backs first last found₀ j₀ found j = (j ≤ 32) × (found �
 abbrev μ-loop : tie.MeasureT-loop
 μ-loop fronts backs first last found₀ j₀ found j = 32 - j
 
--- src/lib.rt:40:5
 loop-holds : tie.Need-loop-holds Inv-loop μ-loop
 loop-holds c = search needs
 
--- src/lib.rt:41:17
 shared-slice-read-x : tie.Need-shared-slice-read-x Inv-loop μ-loop
 shared-slice-read-x c = search needs
 
--- src/lib.rt:42:17
 shared-slice-read-y : tie.Need-shared-slice-read-y Inv-loop μ-loop
 shared-slice-read-y c = search needs
 
--- src/lib.rt:44:9
 add-j : tie.Need-add-j Inv-loop μ-loop
 add-j c = search needs
 
--- src/lib.rt:40:5
 loop-less : tie.Need-loop-less Inv-loop μ-loop
 loop-less c = search needs
 
--- src/lib.rt:40:5
 loop-again : tie.Need-loop-again Inv-loop μ-loop
 loop-again c =
     let a = c .before .before .before .before .args in
     let s = c .before .before .before .loop in
     (omega arith, hit-more (a .fronts .now) (a .backs .now) (a .first) (a .last) (s .found) (s .j) (s .inv .1))
 
--- src/lib.rt:34:1
 returns : tie.Need-returns Inv-loop μ-loop
 returns c = λ e j h. c .before .loop .inv .1 e j (omega arith)
 

@@ -8,9 +8,6 @@ use native.Mathlib.Omega.{arith}
 use borrow.Author.Needs.{needs}
 use Rattle.search.proofs.pass_blocks.Statement.{statement}
 use Rattle.search.proofs.pass_blocks.Tie as tie
-use Rattle.search.proofs.pass_blocks.Reads as reads
-use Rattle.search.proofs.pass_blocks.Lts as lts
-use Rattle.search.proofs.hit.Reads as hit-reads
 
 abbrev Inv-loop : tie.InvT-loop
 Inv-loop text first last span places from k₀ k = Without text first last span places from k
@@ -18,51 +15,39 @@ Inv-loop text first last span places from k₀ k = Without text first last span 
 abbrev μ-loop : tie.MeasureT-loop
 μ-loop text first last span places from k₀ k = places - k
 
--- src/lib.rt:86:5
 loop-holds : tie.Need-loop-holds Inv-loop μ-loop
 loop-holds c = let a = c .before .args in without-none (a .text .now) (a .first) (a .last) (a .span) (a .places) (a .from) (c .before .pre .start)
 
--- src/lib.rt:86:17
 sub-loop : tie.Need-sub-loop Inv-loop μ-loop
 sub-loop c = omega arith
 
--- src/lib.rt:87:22
 add-behind : tie.Need-add-behind Inv-loop μ-loop
 add-behind c = omega arith
 
--- src/lib.rt:88:31
 add-fronts : tie.Need-add-fronts Inv-loop μ-loop
 add-fronts c = omega arith
 
--- src/lib.rt:88:22
 sub-fronts : tie.Need-sub-fronts Inv-loop μ-loop
 sub-fronts c = omega arith
 
--- src/lib.rt:88:22
 part-fronts-start : tie.Need-part-fronts-start Inv-loop μ-loop
 part-fronts-start c = omega arith
 
--- src/lib.rt:88:22
 part-fronts-end : tie.Need-part-fronts-end Inv-loop μ-loop
 part-fronts-end c = omega arith
 
--- src/lib.rt:89:35
 add-backs : tie.Need-add-backs Inv-loop μ-loop
 add-backs c = omega arith
 
--- src/lib.rt:89:21
 sub-backs : tie.Need-sub-backs Inv-loop μ-loop
 sub-backs c = omega arith
 
--- src/lib.rt:89:21
 part-backs-start : tie.Need-part-backs-start Inv-loop μ-loop
 part-backs-start c = omega arith
 
--- src/lib.rt:89:21
 part-backs-end : tie.Need-part-backs-end Inv-loop μ-loop
 part-backs-end c = omega arith
 
--- src/lib.rt:90:12
 hit-requires : tie.Need-hit-requires Inv-loop μ-loop
 hit-requires c κs =
     let text = c .before .before .before .before .before .args .text .now in
@@ -73,19 +58,15 @@ hit-requires c κs =
       back = part-length text (k + span) (k + span + 32 - (k + span)) (omega arith) ∙ omega arith;
     }
 
--- src/lib.rt:91:13
 returns : tie.Need-returns Inv-loop μ-loop
 returns c = search needs
 
--- src/lib.rt:93:9
 add-k : tie.Need-add-k Inv-loop μ-loop
 add-k c = omega arith
 
--- src/lib.rt:86:5
 loop-less : tie.Need-loop-less Inv-loop μ-loop
 loop-less c = omega arith
 
--- src/lib.rt:86:5
 loop-again : tie.Need-loop-again Inv-loop μ-loop
 loop-again c =
     let a = c .before .before .before .before .before .before .before .args in
@@ -93,7 +74,6 @@ loop-again c =
     without-block (a .text .now) (a .first) (a .last) (a .span) (a .places) (a .from) (s .k) (s .inv) 32 (s .k + 32 - s .k)
     (s .k + a .span + 32 - (s .k + a .span)) (omega arith) (omega arith) (omega arith) (c .before .hit .ensures (c .if1 .left))
 
--- src/lib.rt:81:1
 returns-2 : tie.Need-returns-2 Inv-loop μ-loop
 returns-2 c = search needs
 

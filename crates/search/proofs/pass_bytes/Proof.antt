@@ -8,8 +8,6 @@ use native.Mathlib.Omega.{arith}
 use borrow.Author.Needs.{needs}
 use Rattle.search.proofs.pass_bytes.Statement.{statement}
 use Rattle.search.proofs.pass_bytes.Tie as tie
-use Rattle.search.proofs.pass_bytes.Reads as reads
-use Rattle.search.proofs.pass_bytes.Lts as lts
 
 abbrev Inv-loop : tie.InvT-loop
 Inv-loop text first last span places from k₀ k = Without text first last span places from k
@@ -17,35 +15,27 @@ Inv-loop text first last span places from k₀ k = Without text first last span 
 abbrev μ-loop : tie.MeasureT-loop
 μ-loop text first last span places from k₀ k = places - k
 
--- src/lib.rt:138:5
 loop-holds : tie.Need-loop-holds Inv-loop μ-loop
 loop-holds c = let a = c .args in without-none (a .text .now) (a .first) (a .last) (a .span) (a .places) (a .from) (c .pre .start)
 
--- src/lib.rt:139:12
 shared-slice-read-if1 : tie.Need-shared-slice-read-if1 Inv-loop μ-loop
 shared-slice-read-if1 c = search needs
 
--- src/lib.rt:140:21
 add-if2 : tie.Need-add-if2 Inv-loop μ-loop
 add-if2 c = search needs
 
--- src/lib.rt:140:16
 shared-slice-read-if2 : tie.Need-shared-slice-read-if2 Inv-loop μ-loop
 shared-slice-read-if2 c = search needs
 
--- src/lib.rt:141:17
 returns : tie.Need-returns Inv-loop μ-loop
 returns c = search needs
 
--- src/lib.rt:144:9
 add-k : tie.Need-add-k Inv-loop μ-loop
 add-k c = search needs
 
--- src/lib.rt:138:5
 loop-less : tie.Need-loop-less Inv-loop μ-loop
 loop-less c = search needs
 
--- src/lib.rt:138:5
 loop-again : tie.Need-loop-again Inv-loop μ-loop
 loop-again c =
     let a = c .before .before .before .before .args in
@@ -53,7 +43,6 @@ loop-again c =
     without-one (a .text .now) (a .first) (a .last) (a .span) (a .places) (a .from) (s .k) (s .inv) (c .before .before .loop-test .taken)
     (⊎-elim (λ w f l. w .2 .left l) (λ w f l. w .left f) (c .if1 .came))
 
--- src/lib.rt:133:1
 returns-2 : tie.Need-returns-2 Inv-loop μ-loop
 returns-2 c = search needs
 

@@ -6,28 +6,19 @@ use native.Mathlib.Omega.{arith}
 use borrow.Author.Needs.{needs}
 use Rattle.search.proofs.passed.Statement.{statement}
 use Rattle.search.proofs.passed.Tie as tie
-use Rattle.search.proofs.passed.Reads as reads
-use Rattle.search.proofs.passed.Lts as lts
-use Rattle.search.proofs.passed_byte.Reads as passed-byte-reads
-use Rattle.search.proofs.passed_word.Reads as passed-word-reads
 
--- src/lib.rt:194:9
 returns : tie.Need-returns
 returns c = let a = c .before .before .before .args in passes-none (a .text .now) (a .word .now)
 
--- src/lib.rt:197:9
 returns-2 : tie.Need-returns-2
 returns-2 c = let a = c .before .before .before .before .args in passes-none (a .text .now) (a .word .now)
 
--- src/lib.rt:200:34
 shared-slice-read-passed-byte : tie.Need-shared-slice-read-passed-byte
 shared-slice-read-passed-byte c = search needs
 
--- src/lib.rt:200:9
 passed-byte-requires : tie.Need-passed-byte-requires
 passed-byte-requires c κs = search needs
 
--- src/lib.rt:200:9
 returns-3 : tie.Need-returns-3
 returns-3 c =
     let a = c .before .before .before .before .before .before .before .args in
@@ -35,11 +26,9 @@ returns-3 c =
     let word = a .word .now in
     passes-more text word 0 (length text) 0 (c .passed-byte .result) (omega arith) (omega arith) (passes-none text word) (c .passed-byte .ensures)
 
--- src/lib.rt:202:5
 passed-word-requires : tie.Need-passed-word-requires
 passed-word-requires c κs = search needs
 
--- src/lib.rt:188:1
 returns-4 : tie.Need-returns-4
 returns-4 c = search needs
 

@@ -9,12 +9,6 @@ use native.Mathlib.Omega.{arith}
 use borrow.Author.Needs.{needs}
 use Rattle.search.proofs.passed_word.Statement.{statement}
 use Rattle.search.proofs.passed_word.Tie as tie
-use Rattle.search.proofs.passed_word.Reads as reads
-use Rattle.search.proofs.passed_word.Lts as lts
-use Rattle.search.proofs.pass_blocks.Reads as pass-blocks-reads
-use Rattle.search.proofs.pass_bytes.Reads as pass-bytes-reads
-use Rattle.search.proofs.pass_eights.Reads as pass-eights-reads
-use Rattle.search.proofs.same_until.Reads as same-until-reads
 
 abbrev Inv-loop : tie.InvT-loop
 Inv-loop text word places first span₀ k₀ span k = (span < length word) × (k ≤ places) × Passes text word k
@@ -40,34 +34,27 @@ gone c =
     (without-join text first last (s .span) places (s .k) (e .result)
     (without-join text first last (s .span) places (s .k) (b .result) (b .ensures) (e .result) (e .ensures)) (w .result) (w .ensures))
 
--- src/lib.rt:165:32
 sub-places : tie.Need-sub-places Inv-loop μ-loop
 sub-places c = omega arith
 
--- src/lib.rt:165:18
 sub-places-2 : tie.Need-sub-places-2 Inv-loop μ-loop
 sub-places-2 c = omega arith
 
--- src/lib.rt:166:17
 shared-slice-read-first : tie.Need-shared-slice-read-first Inv-loop μ-loop
 shared-slice-read-first c = omega arith
 
--- src/lib.rt:167:20
 sub-span : tie.Need-sub-span Inv-loop μ-loop
 sub-span c = omega arith
 
--- src/lib.rt:169:5
 loop-holds : tie.Need-loop-holds Inv-loop μ-loop
 loop-holds c =
     let a = c .before .before .before .args in
     let p = c .before .before .before .pre in
     (omega arith, omega arith, passes-none (a .text .now) (a .word .now))
 
--- src/lib.rt:170:20
 shared-slice-read-last : tie.Need-shared-slice-read-last Inv-loop μ-loop
 shared-slice-read-last c = omega arith
 
--- src/lib.rt:171:13
 pass-blocks-requires : tie.Need-pass-blocks-requires Inv-loop μ-loop
 pass-blocks-requires c κs =
     let a = c .before .before .before .before .before .before .args in
@@ -75,7 +62,6 @@ pass-blocks-requires c κs =
     let s = c .before .before .loop in
     record { short = p .short; room = omega arith; start = omega arith }
 
--- src/lib.rt:172:13
 pass-eights-requires : tie.Need-pass-eights-requires Inv-loop μ-loop
 pass-eights-requires c κs =
     let a = c .before .before .before .before .before .before .before .args in
@@ -84,7 +70,6 @@ pass-eights-requires c κs =
     let w = c .pass-blocks .ensures in
     record { short = p .short; room = omega arith; start = w .high }
 
--- src/lib.rt:173:9
 pass-bytes-requires : tie.Need-pass-bytes-requires Inv-loop μ-loop
 pass-bytes-requires c κs =
     let a = c .before .before .before .before .before .before .before .before .args in
@@ -93,11 +78,9 @@ pass-bytes-requires c κs =
     let w = c .pass-eights .ensures in
     record { short = p .short; room = omega arith; start = w .high }
 
--- src/lib.rt:175:13
 returns : tie.Need-returns Inv-loop μ-loop
 returns c = gone (c .before)
 
--- src/lib.rt:177:28
 sub-same-until : tie.Need-sub-same-until Inv-loop μ-loop
 sub-same-until c =
     let a = c .before .before .before .before .before .before .before .before .before .before .args in
@@ -106,7 +89,6 @@ sub-same-until c =
     let w = c .before .pass-bytes .ensures in
     omega arith
 
--- src/lib.rt:177:28
 part-same-until-start : tie.Need-part-same-until-start Inv-loop μ-loop
 part-same-until-start c =
     let a = c .before .before .before .before .before .before .before .before .before .before .args in
@@ -115,7 +97,6 @@ part-same-until-start c =
     let w = c .before .pass-bytes .ensures in
     omega arith
 
--- src/lib.rt:177:28
 part-same-until-end : tie.Need-part-same-until-end Inv-loop μ-loop
 part-same-until-end c =
     let a = c .before .before .before .before .before .before .before .before .before .before .args in
@@ -124,7 +105,6 @@ part-same-until-end c =
     let w = c .before .pass-bytes .ensures in
     omega arith
 
--- src/lib.rt:177:13
 same-until-requires : tie.Need-same-until-requires Inv-loop μ-loop
 same-until-requires c κs =
     let a = c .before .before .before .before .before .before .before .before .before .before .before .args in
@@ -134,11 +114,9 @@ same-until-requires c κs =
     let k = c .before .before .pass-bytes .result in
     omega (arith, part-length (a .text .now) k (length (a .text .now) - k) (omega arith), c .before .if1 .left)
 
--- src/lib.rt:179:13
 returns-2 : tie.Need-returns-2 Inv-loop μ-loop
 returns-2 c = gone (c .before .before .before .before)
 
--- src/lib.rt:182:9
 add-k : tie.Need-add-k Inv-loop μ-loop
 add-k c =
     let a = c .before .before .before .before .before .before .before .before .before .before .before .before .before .args in
@@ -147,7 +125,6 @@ add-k c =
     let w = c .before .before .before .before .pass-bytes .ensures in
     omega arith
 
--- src/lib.rt:169:5
 loop-less : tie.Need-loop-less Inv-loop μ-loop
 loop-less c =
     let a = c .before .before .before .before .before .before .before .before .before .before .before .before .before .args in
@@ -158,7 +135,6 @@ loop-less c =
     let b = c .before .before .before .before .before .before .pass-blocks .ensures in
     omega (arith, w .low, w .high, e .low, b .low, c .before .before .before .if1 .left)
 
--- src/lib.rt:169:5
 loop-again : tie.Need-loop-again Inv-loop μ-loop
 loop-again c =
     let a = c .before .before .before .before .before .before .before .before .before .before .before .before .before .args in
@@ -173,7 +149,6 @@ loop-again c =
           (length (a .text .now) - k) (omega arith) (omega (arith, w .high, c .before .before .before .if1 .left)) (gone (c .before .before .before .before)) refl g (omega (arith, g .inside, c .if2 .left)),
     )
 
--- src/lib.rt:161:1
 returns-3 : tie.Need-returns-3 Inv-loop μ-loop
 returns-3 c = c .before .loop .inv .2
 

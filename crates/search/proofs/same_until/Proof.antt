@@ -8,8 +8,6 @@ use native.Mathlib.Omega.{arith}
 use borrow.Author.Needs.{needs}
 use Rattle.search.proofs.same_until.Statement.{statement}
 use Rattle.search.proofs.same_until.Tie as tie
-use Rattle.search.proofs.same_until.Reads as reads
-use Rattle.search.proofs.same_until.Lts as lts
 
 abbrev Inv-loop : tie.InvT-loop
 Inv-loop rest word i₀ i = (i ≤ length word) × ((k : ℕ) → k < i → getD rest k 0 ≡ getD word k 0)
@@ -17,35 +15,27 @@ Inv-loop rest word i₀ i = (i ≤ length word) × ((k : ℕ) → k < i → getD
 abbrev μ-loop : tie.MeasureT-loop
 μ-loop rest word i₀ i = length word - i
 
--- src/lib.rt:16:5
 loop-holds : tie.Need-loop-holds Inv-loop μ-loop
 loop-holds c = search needs
 
--- src/lib.rt:17:12
 shared-slice-read-if1 : tie.Need-shared-slice-read-if1 Inv-loop μ-loop
 shared-slice-read-if1 c = search needs
 
--- src/lib.rt:17:23
 shared-slice-read-if1-2 : tie.Need-shared-slice-read-if1-2 Inv-loop μ-loop
 shared-slice-read-if1-2 c = search needs
 
--- src/lib.rt:18:13
 returns : tie.Need-returns Inv-loop μ-loop
 returns c = record { inside = omega arith; same = c .before .before .before .before .loop .inv .1; differ = λ h. c .if1 .taken }
 
--- src/lib.rt:20:9
 add-i : tie.Need-add-i Inv-loop μ-loop
 add-i c = search needs
 
--- src/lib.rt:16:5
 loop-less : tie.Need-loop-less Inv-loop μ-loop
 loop-less c = search needs
 
--- src/lib.rt:16:5
 loop-again : tie.Need-loop-again Inv-loop μ-loop
 loop-again c = (omega arith, below-more _ _ (c .before .before .before .before .loop .inv .1) (c .if1 .left))
 
--- src/lib.rt:11:1
 returns-2 : tie.Need-returns-2 Inv-loop μ-loop
 returns-2 c = record { inside = omega arith; same = c .before .loop .inv .1; differ = λ h. absurd (omega (arith, c .loop-test .left, h)) }
 

@@ -1,0 +1,72 @@
+-- The text of STRING(n,m), way by way. Assumes nothing.
+use mathlib.Core.Bool.{true, false, cond}
+use mathlib.Core.List.{List, [], _∷_}
+use mathlib.Core.Path.{_≡_, refl}
+use Prim.Native.Nat.{ℕ, _+_, _-_, _≤_, _<_}
+use native.Mathlib.Omega.{arith}
+use lib.IntN.{ℤ, natAbs}
+use lib.ListN.{length, take, length-append, length-replicate}
+use borrow.Author.Tests.{eq-eqb, ne-eqb, lt-ltb, le-ltb, le-leb, lt-leb}
+use Rattle.base.specs.Choice.{cond-cases}
+use Rattle.base.specs.Text.{bytes}
+use Rattle.values.specs.Conversion.{signOf, digits, filled, textOf}
+use Rattle.values.specs.Laws.{digits-length}
+use Rattle.values.specs.Numbers.{isNegative}
+use Rattle.values.specs.Work.{Work, done, stop}
+use Rattle.convert.specs.Laws.{longest-is}
+use Rattle.convert.specs.Numbers.{limit, InRange}
+use Rattle.convert.specs.Text.{longest, filledText, Room}
+use Rattle.convert.specs.declared.Int.{Int}
+
+-- ---- its parts
+
+pub sign-below : (m : ℤ) → isNegative m ≡ true → signOf m ≡ 45 ∷ []
+unfolding signOf bytes
+sign-below m e = rw e
+
+pub sign-from : (m : ℤ) → isNegative m ≡ false → signOf m ≡ []
+unfolding signOf
+sign-from m e = rw e
+
+-- a number in range has at most 7 digits
+pub few-digits : (m : ℤ) → natAbs m ≤ limit → length (digits (natAbs m)) ≤ 7
+few-digits m h = digits-length 6 (natAbs m) (omega arith)
+
+pub text-size : (m : ℤ) (b k : ℕ) → length (filledText m b k) ≡ length (signOf m) + (k + length (digits (natAbs m)))
+unfolding filledText
+text-size m b k = simp (length-append, length-replicate)
+
+pub short-sign : (m : ℤ) → length (signOf m) ≤ 1
+unfolding signOf bytes
+short-sign m = cond-cases (λ (s : List ℕ). length s ≤ 1) (isNegative m) (λ e. omega arith) (λ e. omega arith)
+
+-- STRING(m) has room
+pub plain-room : (m : Int) → InRange m → Room m 48 0
+plain-room m h =
+    let z = m .value in
+    record { number = h; room = omega (arith, text-size z 48 0, short-sign z, few-digits z h) }
+
+-- ---- the ways it may go
+
+pub text-plain : (n m : ℤ) → natAbs n ≡ 0 → textOf n m ≡ done (filledText m 48 0) 0
+unfolding textOf filledText
+text-plain n m zero = rw (eq-eqb (natAbs n) 0 zero)
+
+module _ (n m : ℤ) (nonzero : natAbs n ≡ 0 → ⊥) where
+  pub text-stops : longest < natAbs n → textOf n m ≡ stop 20
+  unfolding textOf
+  text-stops h = rw (ne-eqb (natAbs n) 0 nonzero, longest-is, lt-ltb longest (natAbs n) h)
+
+  abbrev plain : ℕ
+  plain = length (signOf m) + length (digits (natAbs m))
+
+  pub text-fills : natAbs n ≤ longest → (k : ℕ) → plain ≤ natAbs n → k ≡ natAbs n - plain
+      → textOf n m ≡ done (filledText m (cond (isNegative n) 32 48) k) 0
+  unfolding textOf filled filledText
+  text-fills h k fits e =
+      rw (ne-eqb (natAbs n) 0 nonzero, longest-is, le-ltb longest (natAbs n) h, le-leb plain (natAbs n) fits, e)
+
+  pub text-cut : natAbs n ≤ longest → natAbs n < plain → textOf n m ≡ done (take (natAbs n) (filledText m 48 0)) 1
+  unfolding textOf filled filledText
+  text-cut h short =
+      rw (ne-eqb (natAbs n) 0 nonzero, longest-is, le-ltb longest (natAbs n) h, lt-leb plain (natAbs n) short)
