@@ -1,5 +1,5 @@
 -- The customer's third demand, proved; with it, that the table of an accepted deck holds its program, and that a run of calls is the run
--- of the machine. They assume that the program of an accepted deck is in range: acceptedHolds, a parameter.
+-- of the machine. Assumes nothing; every edition whose sizes fit is covered, and edition 1 is one.
 use mathlib.Core.Bool.{Bool, true, false}
 use mathlib.Core.List.{List}
 use mathlib.Core.Option.{Option}
@@ -17,8 +17,9 @@ use Rattle.machine.specs.Run.{after, run}
 use Rattle.machine.specs.State.{State, fresh}
 use Rattle.machine.specs.Step.{carrying, statementAt, turnedDownBy, concluded, step}
 use Rattle.values.specs.Conversion.{longestString}
+use Rattle.calls.specs.Accepted.{accepted-isProgram}
 use Rattle.calls.specs.Buffers.{storeSize, stateIn}
-use Rattle.calls.specs.Calls.{readCall, Buffers, givenIn}
+use Rattle.calls.specs.Calls.{longestDeck, readCall, Buffers, givenIn}
 use Rattle.calls.specs.Calls.{carried, stepCall, buffersAfter, runCall}
 use Rattle.calls.specs.Demands.{Scans, StepClaim, HoldsProgram, startedWith, Demand3}
 use Rattle.calls.specs.Holding.{Holding}
@@ -28,7 +29,7 @@ use Rattle.calls.specs.Numerals.{bias}
 use Rattle.calls.specs.Rules.{isProgram}
 use Rattle.calls.specs.ScanLaws.{concluded-scans}
 use Rattle.calls.specs.RunLaws.{RunSame, run-same}
-use Rattle.calls.specs.StartLaws.{read-tabled, started-small, started-holds}
+use Rattle.calls.specs.StartLaws.{read-short, read-tabled, started-small, started-holds}
 use Rattle.calls.specs.StepLaws.{Tabled, small-refused, small-called, small-after, refusal-held, call-held, step-holds, after-holds}
 use Rattle.calls.specs.Table.{literalsAt}
 
@@ -113,21 +114,26 @@ module _ (e : Edition) (limit : e .limit < bias) (wide : longestString ≤ e .li
           let both = after-holds e p table input t limit wide runs lent k (fresh input) (startedWith store output) sound started in
           claim-held lent c b (both .0) (both .1) store
 
--- numbers fit their places, tables and string lengths their sizes, and the program of an accepted deck is in range
-module _ (e : Edition) (limit : e .limit < bias) (wide : longestString ≤ e .limit) (size : literalsAt + 4096 ≤ e .tableSize)
-    (acceptedHolds : (deck : List ℕ) (p : Program) → judge e deck ≡ accepted p → isProgram e p ≡ true) where
+-- the program of a deck that the deck call accepts is in range
+accepted-inside : (e : Edition) (deck table : List ℕ) (p : Program) → judge e deck ≡ accepted p → readCall e deck table .number ≡ 0
+    → isProgram e p ≡ true
+unfolding longestDeck
+accepted-inside e deck table p judged h = accepted-isProgram e deck p (read-short e deck table h) judged
+
+-- numbers fit their places, and tables and string lengths their sizes
+module _ (e : Edition) (limit : e .limit < bias) (wide : longestString ≤ e .limit) (size : literalsAt + 4096 ≤ e .tableSize) where
   -- R14, Q13 of every deck and table
   pub holds-program : (deck table : List ℕ) → HoldsProgram e deck table
   unfolding HoldsProgram
   holds-program deck table p judged h =
-      let t = read-tabled e limit size deck table p (acceptedHolds deck p judged) judged h in
+      let t = read-tabled e limit size deck table p (accepted-inside e deck table p judged h) judged h in
       (t .keeps, t .reads)
 
   -- demand 3 of every deck, table, store, input and output
   pub demand3 : (deck table store input output : List ℕ) → Demand3 e deck table store input output
   unfolding Demand3
   demand3 deck table store input output p judged h k =
-      let inside = acceptedHolds deck p judged in
+      let inside = accepted-inside e deck table p judged h in
       claim-after e limit wide p (program-runs e p inside) (readCall e deck table .table) input
       (read-tabled e limit size deck table p inside judged h) store output k
 
@@ -137,7 +143,7 @@ module _ (e : Edition) (limit : e .limit < bias) (wide : longestString ≤ e .li
       → RunSame e p (length output) input (run e p (length output) k (fresh input))
       (runCall e (readCall e deck table .table) input k (startedWith store output))
   accepted-run deck table store input output p judged h large k =
-      let inside = acceptedHolds deck p judged in
+      let inside = accepted-inside e deck table p judged h in
       let runs = program-runs e p inside in
       let lent = length output in
       run-same e limit wide p runs (readCall e deck table .table) input (read-tabled e limit size deck table p inside judged h) lent k
@@ -158,3 +164,7 @@ edition1-wide = lit≤ tt
 pub edition1-size : literalsAt + 4096 ≤ edition1 .tableSize
 unfolding edition1 literalsAt
 edition1-size = lit≤ tt
+
+-- demand 3 of edition 1
+pub demand3-edition1 : (deck table store input output : List ℕ) → Demand3 edition1 deck table store input output
+demand3-edition1 = demand3 edition1 edition1-limit edition1-wide edition1-size

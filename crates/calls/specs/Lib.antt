@@ -3,6 +3,9 @@
 -- Laws: numbers (NumeralLaws), cells (CellLaws), rows (RowLaws) and programs (TableLaws) are read back from their bytes (ByteLaws).
 -- Demand 3 proved (DemandLaws): programs in range run (ProgramLaws, NumberBounds, Invariant), buffers hold the machine (Holding, GivenLaws,
 -- StartLaws), calls on them do what it does (StepLaws, ScanLaws, RunLaws), and stopped steps change the status alone (StopLaws).
+-- The program of an accepted deck is in range (Accepted): literals are whole (Literals), and what is read is what was met (Yielding, for
+-- YieldingWords, YieldingNumeric, YieldingStrings, YieldingForms).
+pub mod Accepted
 pub mod BufferLaws
 pub mod Buffers
 pub mod ByteLaws
@@ -13,6 +16,7 @@ pub mod Demands
 pub mod GivenLaws
 pub mod Holding
 pub mod Invariant
+pub mod Literals
 pub mod NumberBounds
 pub mod NumeralLaws
 pub mod Numerals
@@ -29,3 +33,8 @@ pub mod Strigol
 pub mod Table
 pub mod TableLaws
 pub mod TableReading
+pub mod Yielding
+pub mod YieldingForms
+pub mod YieldingNumeric
+pub mod YieldingStrings
+pub mod YieldingWords

@@ -7,7 +7,7 @@ use Prim.Native.Nat.{ℕ, _+_, _*_, _-_, _≤_, _<_}
 use native.Mathlib.Omega.{arith}
 use lib.Dec.{ltb}
 use lib.ListN.{length, drop, replicate, length-append, length-replicate}
-use borrow.Author.Tests.{le-ltb}
+use borrow.Author.Tests.{ltb-false, le-ltb}
 use Rattle.base.specs.Edition.{Edition}
 use Rattle.judgement.specs.Deck.{Judgement, accepted, judge}
 use Rattle.language.specs.Program as Program
@@ -41,6 +41,15 @@ unfolding readJudged
 accepted-table e table true short p h = absurd (omega arith)
 accepted-table e table false true p h = absurd (omega arith)
 accepted-table e table false false p h = refl
+
+-- a deck that the deck call accepts is not too long
+pub read-short : (e : Edition) (deck table : List ℕ) → readCall e deck table .number ≡ 0 → length deck ≤ longestDeck
+unfolding readCall
+read-short e deck table h = ltb-false longestDeck (length deck) (short (ltb longestDeck (length deck)) h)
+  where
+    short : (long : Bool) → readBy e table long (ltb (length table) (e .tableSize)) (judge e deck) .number ≡ 0 → long ≡ false
+    short true h = absurd (omega arith)
+    short false h = refl
 
 -- what the deck call leaves of an accepted deck
 read-table : (e : Edition) (deck table : List ℕ) (p : Program) → judge e deck ≡ accepted p → readCall e deck table .number ≡ 0

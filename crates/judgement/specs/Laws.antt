@@ -37,6 +37,7 @@ use Rattle.judgement.specs.Rules.{
   refuses11,
 }
 use Rattle.judgement.specs.Rules.{refuses12, concluding, accepted-program}
+pub mod Cards
 
 -- the cards are lines 1 to n
 data CardsIn (n : ℕ) : List Entry → Type 0 where

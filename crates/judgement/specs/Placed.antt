@@ -47,6 +47,7 @@ use Rattle.judgement.specs.Names.{Has, same-naming-refl, any-append, nam
 use Rattle.judgement.specs.Names.{passed-one-purpose, used-known}
 use Rattle.judgement.specs.Targets.{isInner, LabelBelow, RoutineBelow, TargetsBelow, passed-goes-on, passed-below}
 use Rattle.judgement.specs.Rules.{Judging, ended, skips, learns, accepted-program}
+pub mod Again
 
 -- what is read uses a name
 Uses : {A : Type 0} → Naming → Read A → Type 0

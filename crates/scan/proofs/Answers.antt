@@ -1,10 +1,10 @@
 -- The answer's numbers while the scan fills them in, and when it ends. Assumes nothing.
 use mathlib.Core.List.{List, [], _∷_, _++_, append-assoc}
-use mathlib.Core.Option.{none, some}
+use mathlib.Core.Option.{none}
 use mathlib.Core.Path.{_≡_, refl, sym, _∙_, ap}
-use Prim.Native.Nat.{ℕ, zero, suc, _+_, _-_, _≤_, _<_}
+use Prim.Native.Nat.{ℕ, suc, _+_, _-_, _≤_, _<_}
 use native.Mathlib.Omega.{arith}
-use lib.ListN.{length, drop, set, getD, replicate, length-append}
+use lib.ListN.{length, set, getD, replicate}
 use lib.Seq.{set-at}
 use Rattle.scanning.specs.Trials.{Tried, found, few, settled, slide, match, answered, scan}
 use Rattle.scanning.specs.Call.{mostElements, splitNumbers, answerNumbers}

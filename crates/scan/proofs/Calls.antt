@@ -3,22 +3,22 @@ use mathlib.Core.Bool.{Bool, true, false, cond, true≢false, false≢true}
 use mathlib.Core.List.{List, [], _∷_, _++_, append-assoc, append-nil}
 use mathlib.Core.Option.{Option, none, some}
 use mathlib.Core.Path.{_≡_, refl, sym, _∙_, ap, subst}
-use Prim.Native.Nat.{ℕ, zero, suc, _+_, _*_, _-_, _≤_, _<_, _^_, _/_}
+use Prim.Native.Nat.{ℕ, zero, suc, _+_, _*_, _-_, _≤_, _<_, _^_}
 use native.Mathlib.Omega.{arith}
 use lib.Dec.{leb, ltb, eqb}
-use lib.ListN.{length, take, drop, getD, set, replicate, length-set}
-use lib.Seq.{getD-set-same, getD-set-other, take-at}
+use lib.ListN.{length, getD, set, replicate}
+use lib.Seq.{take-at}
 use borrow.Author.Count.{below-more}
 use borrow.Author.Tests.{eq-eqb, ne-eqb, le-leb, lt-leb, lt-ltb, le-ltb, leb-true, ltb-true}
 use Rattle.scanning.specs.Splits as Splits
-use Rattle.scanning.specs.Splits.{string, fixed, free, Split, FirstFit, AnswersFirstFit}
-use Rattle.scanning.specs.Trials.{Scanned, scan}
+use Rattle.scanning.specs.Splits.{Split, FirstFit, AnswersFirstFit}
+use Rattle.scanning.specs.Trials.{scan}
 use Rattle.scanning.specs.Laws.{fits-count}
 use Rattle.scanning.specs.FirstFit.{scan-first-fit}
 use Rattle.scanning.specs.Call.{longestReference, mostElements, rowBytes, number4, countOf, stringIn, fixedBy, elementIn}
 use Rattle.scanning.specs.Call.{noAnswer, joinElement, elementsFrom, patternIn, splitNumbers, answerNumbers, Called, turnedDown, scanWith, scanCall}
 use Rattle.scanning.specs.Call.{splitIn, ScanPromise}
-use Rattle.scan.specs.Rows.{rowOf, rowAt, rowElement, elementOf, elementsAt, patternOf, sizeOf, sizesAt, Good, GoodRows, RowSays, rowAnswer, RowsSay}
+use Rattle.scan.specs.Rows.{rowOf, rowAt, rowElement, elementOf, elementsAt, patternOf, sizeOf, sizesAt, Good, RowSays, rowAnswer, RowsSay}
 use Rattle.scan.proofs.Answers.{row-filled}
 use Rattle.scan.specs.Steps.{CallSays}
 use Rattle.scan.specs.declared.Element.{Element}
@@ -85,7 +85,7 @@ module _ (values elements : List ℕ) (at : ℕ) where
         by false e = row-bad (rw (in-row, ne-eqb kind 1 i, ne-eqb kind 2 j, e))
 
 -- one row more
-elements-more : (values rows : List ℕ) (n i : ℕ)
+pub elements-more : (values rows : List ℕ) (n i : ℕ)
     → elementsAt values rows (suc n) i ≡ elementsAt values rows n i ++ (elementOf values (rowElement rows (i + n)) ∷ [])
 unfolding elementsAt
 elements-more values rows zero i =

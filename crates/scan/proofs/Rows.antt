@@ -16,7 +16,6 @@ use Rattle.scan.specs.Rows.{rowElement, elementOf, elementsAt, sizeOf, s
 use Rattle.scan.specs.Steps.{judged, testOf, behind, groupAt, Reached}
 use Rattle.scan.specs.declared.Element.{Element}
 use Rattle.scan.specs.declared.Element.the-variants.{Part, Fixed, Free}
-use Rattle.scan.specs.declared.Test.{Test}
 use Rattle.scan.specs.declared.Test.the-variants.{Piece, Other, Few, Filler}
 
 -- a good element's length can be told

@@ -1,21 +1,19 @@
 -- The run from group to group: what holds between two turns, and what each turn makes of it. Assumes nothing.
 use mathlib.Core.List.{List, [], _∷_, _++_, append-nil, append-assoc}
-use mathlib.Core.Path.{_≡_, refl, sym, _∙_, ap, subst}
-use Prim.Native.Nat.{ℕ, zero, suc, _+_, _*_, _-_, _≤_, _<_, _^_}
+use mathlib.Core.Path.{_≡_, refl, sym, _∙_, ap}
+use Prim.Native.Nat.{ℕ, _+_, _*_, _-_, _≤_, _<_}
 use native.Mathlib.Omega.{arith}
-use lib.ListN.{length, drop, set, replicate, length-append, length-drop}
+use lib.ListN.{length, drop, set, length-append, length-drop}
 use lib.Seq.{drop-drop}
 use Rattle.scanning.specs.Splits as Splits
 use Rattle.scanning.specs.Splits.{free}
 use Rattle.scanning.specs.Trials.{Tried, found, other, few, match, slide}
-use Rattle.scan.specs.Rows.{rowElement, elementOf, elementsAt, patternOf, sizeOf, sizesAt}
+use Rattle.scan.specs.Rows.{rowElement, elementOf, elementsAt, patternOf, sizesAt}
 use Rattle.scan.specs.Rows.{rowAnswer}
-use Rattle.scan.specs.Steps.{testOf, behind, resumed, groupAt, Reached, WholeGroup, FailedGroup, outcome, RunFound, RunFailed, SkipSays}
+use Rattle.scan.specs.Steps.{testOf, behind, resumed, groupAt, WholeGroup, FailedGroup, outcome, RunFound, RunFailed, SkipSays}
 use Rattle.scan.specs.declared.Element.{Element}
-use Rattle.scan.specs.declared.Element.the-variants.{Free}
-use Rattle.scan.specs.declared.Test.the-variants.{Other}
 use Rattle.scan.proofs.Answers.{row-set, row-settled}
-use Rattle.scan.proofs.Rows.{elements-cons, elements-none, sizes-split, sizes-length, match-other}
+use Rattle.scan.proofs.Rows.{elements-cons, elements-none, sizes-length, match-other}
 use Rattle.scan.proofs.Slides.{resumed-none, slide-slid, slides-on, slides-off, slides-few, slides-over, slides-found, slides-whole}
 
 -- the group from row g on is tried at place, having come from the end of the group before; the lengths before it are settled
@@ -29,6 +27,11 @@ pub record Running (reference values rows : List ℕ) (count : ℕ) (answer : Li
   pub low : from ≤ place
   pub inside : place ≤ length reference
   pub bound : trials ≤ 20 * place + g
+
+-- the next group leaves less to do
+pub run-less : (size count place g end j : ℕ) → place ≤ end → end ≤ size → g ≤ j → j + 1 < count
+    → size - end + (count - (j + 1)) < size - place + (count - g)
+run-less size count place g end j forth inside low more = omega arith
 
 module _ (reference values rows : List ℕ) (count : ℕ) where
   pub run-begins : (answer : List ℕ) → 0 < count → answer ≡ rowAnswer count (0 ∷ sizesAt rows count 0)

@@ -1,10 +1,10 @@
 -- What the code's cases say: a row read as an element, an element tested, its length told, places passed over. Assumes nothing.
 use mathlib.Core.Bool.{true, false}
 use mathlib.Core.List.{List}
-use mathlib.Core.Path.{_≡_, refl, sym, _∙_, ap, subst}
-use Prim.Native.Nat.{ℕ, _+_, _*_, _-_, _≤_, _<_, _^_}
+use mathlib.Core.Path.{_≡_, sym, _∙_, ap, subst}
+use Prim.Native.Nat.{ℕ, _-_, _≤_, _<_, _^_}
 use native.Mathlib.Omega.{arith}
-use lib.ListN.{length, take, drop, getD, length-drop}
+use lib.ListN.{length, take, drop, length-drop}
 use lib.Seq.{take-all}
 use borrow.Author.Tests.{eq-eqb, ne-eqb, le-leb, lt-leb}
 use Rattle.base.specs.Lists.{begins}

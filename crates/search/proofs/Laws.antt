@@ -12,7 +12,7 @@ use borrow.Author.Count.{below-more}
 use borrow.Author.Tests.{eq-eqb, ne-eqb}
 use Rattle.base.specs.Lists.{begins}
 use Rattle.base.specs.ListLaws.{begins-iff}
-use Rattle.search.specs.Passing.{Agrees, Both, Blocks, Without, Room, Passes}
+use Rattle.search.specs.Passing.{Agrees, Both, Without, Passes}
 
 -- a test that is not true is false
 not-true : (b : Bool) → (b ≡ true → ⊥) → b ≡ false

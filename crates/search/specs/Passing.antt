@@ -1,5 +1,5 @@
 -- Places that a string can't stand at: told by two of its bytes, and what that says of the whole string. Assumes nothing.
-use mathlib.Core.Bool.{Bool, false}
+use mathlib.Core.Bool.{false}
 use mathlib.Core.List.{List}
 use mathlib.Core.Path.{_≡_}
 use Prim.Native.Nat.{ℕ, _+_, _≤_, _<_}

@@ -1,6 +1,6 @@
 -- `scan::run` scans group by group. The invariant: what is left of the slide, behind what is settled, is the whole scan's outcome.
 -- Assumes nothing.
-use Rattle.scan.proofs.Running.{run-begins, run-skips, run-moves, run-stops, run-ends, run-done, run-last, run-next}
+use Rattle.scan.proofs.Running.{run-begins, run-skips, run-moves, run-stops, run-ends, run-done, run-last, run-next, run-less}
 use Rattle.scan.specs.Steps.{WholeGroup, FailedGroup, GroupSays, RunSays}
 use Rattle.scan.specs.Rows.{Good}
 use Rattle.scanning.specs.Trials.{other, few}
@@ -339,11 +339,10 @@ loop-less-2 : tie.Need-loop-less-2 Inv-loop μ-loop
 loop-less-2 c =
     let a = c .before .before .before .before .before .before .before .before .before .before .before .before .args in
     let s = c .before .before .before .before .before .before .before .before .loop in
-    let k = c .before .before .before .before .before .before .skip .result in
-    let p = c .before .before .before .before .before .before .before .before .before .before .before .before .pre in
-    let r = skipped (c .before .before .before .before .before .before) in
     let w = whole (c .before .before) .reached in
-    omega (arith, w .high, w .low, w .forth, w .inside, c .if3 .left, c .before .if2 .left)
+    let given = c .before .before .before .j .given in
+    run-less (length (a .reference .now)) (a .count) (s .place) (s .g) (given .0 .1 .0) (given .0 .0) (omega (arith, w .forth)) (w .inside) (w .low)
+    (omega (arith, w .high, c .if3 .left, c .before .if2 .left))
 
 loop-again-2 : tie.Need-loop-again-2 Inv-loop μ-loop
 loop-again-2 c =

@@ -2,7 +2,6 @@
 -- Assumes nothing.
 use Rattle.scan.proofs.Tests.{good-part, test-part, test-fixed-few, test-fixed-piece, test-free}
 use mathlib.Core.Path.{refl}
-use native.Mathlib.Omega.{arith}
 use borrow.Author.Needs.{needs}
 use Rattle.scan.proofs.test_element.Statement.{statement}
 use Rattle.scan.proofs.test_element.Tie as tie

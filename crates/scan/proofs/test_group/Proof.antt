@@ -4,7 +4,7 @@ use Rattle.scan.proofs.Rows.{piece-size}
 use Rattle.scan.specs.declared.Test.the-variants.{Piece, Other, Few, Filler}
 use Rattle.scan.proofs.Tests.{test-told}
 use Rattle.scan.specs.Steps.{GroupSays}
-use Rattle.scan.specs.Rows.{Good, GoodRows}
+use Rattle.scan.specs.Rows.{Good}
 use lib.ListN.{drop, length-drop}
 use mathlib.Core.Path.{sym, subst}
 use Rattle.scan.proofs.Rows.{group-begins, group-piece, group-other, group-few, filler-free}

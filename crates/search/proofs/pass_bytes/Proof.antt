@@ -4,7 +4,6 @@ use Rattle.search.proofs.Laws.{without-none, without-one}
 use Rattle.search.specs.Passing.{Without}
 use Prim.Native.Nat.{_-_}
 use mathlib.Core.Logic.{⊎-elim}
-use native.Mathlib.Omega.{arith}
 use borrow.Author.Needs.{needs}
 use Rattle.search.proofs.pass_bytes.Statement.{statement}
 use Rattle.search.proofs.pass_bytes.Tie as tie

@@ -6,7 +6,6 @@ use lib.ListN.{length, getD}
 use Prim.Native.Nat.{_-_, _≤_, _<_}
 use mathlib.Core.Path.{refl}
 use native.Mathlib.Omega.{arith}
-use borrow.Author.Needs.{needs}
 use Rattle.search.proofs.passed_word.Statement.{statement}
 use Rattle.search.proofs.passed_word.Tie as tie
 

@@ -1,0 +1,198 @@
+-- The program of every accepted deck is in range: a table can hold it. Assumes nothing.
+use mathlib.Core.Bool.{Bool, true, false, cond, _||_, true≢false, false≢true, and-eq-true-iff}
+use mathlib.Core.List.{List, [], _∷_, _++_}
+use mathlib.Core.Option.{Option, none, some}
+use mathlib.Core.Path.{_≡_, refl, sym, _∙_, ap, subst}
+use Prim.Native.Nat.{ℕ, suc, _+_, _^_, _≤_}
+use native.Mathlib.Omega.{arith}
+use lib.Dec.{ltb, eqb}
+use lib.ListN.{length, length-append}
+use borrow.Author.Tests.{ltb-false, lt-ltb, le-leb, ne-eqb}
+use Rattle.base.specs.Choice.{test-cases, neither-true}
+use Rattle.base.specs.Edition.{Edition}
+use Rattle.base.specs.Limits as Limits
+use Rattle.base.specs.Lists.{same, any, all, total}
+use Rattle.base.specs.ListLaws.{same-true, same-refl}
+use Rattle.cards.specs.Cards.{Entry, entries}
+use Rattle.cards.specs.Packing.{packed}
+use Rattle.judgement.specs.Deck.{indexOf, placesOf, stepRead, stepsFrom, programOf, accepted, judge}
+use Rattle.judgement.specs.Known.{Known, nothingKnown, strings, numbers, namesFor, isStep, learn}
+use Rattle.judgement.specs.Laws.{LastFinishes, accepted-counts, accepted-finishes}
+use Rattle.judgement.specs.Laws.Cards.{deck-counts, accepted-cards}
+use Rattle.judgement.specs.Names.{Has, names-for}
+use Rattle.judgement.specs.Placed.Again.{IsStep, Again, ends, past, reads, deckSizes, passed-again}
+use Rattle.judgement.specs.Refusals.{is8, is10}
+use Rattle.judgement.specs.Rules.{accepted-program}
+use Rattle.language.specs.Alike.{PlacedBy}
+use Rattle.language.specs.Keywords.{leading}
+use Rattle.language.specs.Placed.{Each}
+use Rattle.language.specs.Program.{Statement, Step, Program}
+use Rattle.language.specs.Reading.{string, Met, Read, got}
+use Rattle.calls.specs.Rules.{statementHolds, stepHolds, isFinish, lastFinishes, isProgram}
+use Rattle.calls.specs.Table.{elementsOf, itemsOf, allElements, allItems, allLiterals}
+use Rattle.calls.specs.Yielding.{viewOf, Fit}
+use Rattle.calls.specs.YieldingForms.{FormedOrNone, Distinct, literals-append, statement-yields}
+use Rattle.calls.specs.YieldingWords.{both-pass}
+
+-- names that stand at one place in a list are equal
+index-injective : (ws : List (List ℕ)) (m n : List ℕ) → any (same m) ws ≡ true → any (same n) ws ≡ true → indexOf m ws ≡ indexOf n ws
+    → m ≡ n
+unfolding indexOf any
+index-injective [] m n h g q = absurd (false≢true h)
+index-injective (w ∷ ws) m n h g q =
+    let i = indexOf m ws in
+    let j = indexOf n ws in
+    test-cases
+    (λ t. (t || any (same m) ws) ≡ true
+    → _≡_ {A = ℕ} (elim t [ true ↦ 0 | false ↦ suc i ]) (elim (same n w) [ true ↦ 0 | false ↦ suc j ]) → m ≡ n)
+    (same m w)
+    (λ mw _. test-cases (λ t. _≡_ {A = ℕ} 0 (elim t [ true ↦ 0 | false ↦ suc j ]) → m ≡ n) (same n w)
+    (λ nw _. same-true m w mw ∙ sym (same-true n w nw)) (λ _ q. absurd (omega arith)))
+    (λ _ h. test-cases
+    (λ t. (t || any (same n) ws) ≡ true → _≡_ {A = ℕ} (suc i) (elim t [ true ↦ 0 | false ↦ suc j ]) → m ≡ n) (same n w)
+    (λ _ _ q. absurd (omega arith)) (λ _ g q. index-injective ws m n h g (omega arith)) g)
+    h q
+
+-- strings of other names have other places
+places-distinct : (k : Known) (i : ℕ) → Distinct (λ x. Has x (k .names)) (placesOf k i)
+unfolding placesOf strings
+places-distinct k i m n h g differ =
+    let ws = namesFor string (k .names) in
+    ne-eqb (indexOf m ws) (indexOf n ws) (λ q.
+    let equal = index-injective ws m n (names-for string m (k .names) ∙ h) (names-for string n (k .names) ∙ g) q in
+    true≢false (sym (same-refl n) ∙ ap (same n) (sym equal) ∙ differ))
+
+-- rows that do not pass their limit
+rows-few : (ns : List ℕ) → any (ltb Limits.row) ns ≡ false → Each (λ n. n ≤ Limits.row) ns
+unfolding any Each
+rows-few [] h = tt
+rows-few (n ∷ ns) h =
+    let parts = neither-true (ltb Limits.row n) (any (ltb Limits.row) ns) h in
+    (ltb-false Limits.row n (parts .0), rows-few ns (parts .1))
+
+-- where 10 does not apply no expression has too many elements
+not10-rows : (k : Known) (m : Met) → is10 k m ≡ false → Each (λ n. n ≤ Limits.row) (m .rows)
+unfolding is10
+not10-rows k m h =
+    let h1 = neither-true (ltb Limits.statements (k .statements)) _ h .1 in
+    let h2 = neither-true (ltb Limits.strings (length (strings k))) _ h1 .1 in
+    let h3 = neither-true (ltb Limits.numbers (length (numbers k))) _ h2 .1 in
+    let h4 = neither-true (ltb Limits.labels (length (k .labels))) _ h3 .1 in
+    let h5 = neither-true (ltb Limits.routines (length (k .routines))) _ h4 .1 in
+    rows-few (m .rows) (neither-true (any (ltb Limits.row) (m .rows)) _ h5 .0)
+
+abbrev StatementsHold : Edition → (strings numbers steps : ℕ) → List Step → Type 0
+StatementsHold e s n k ss = all (λ (a : Step). statementHolds e s n k (a .statement)) ss ≡ true
+
+-- steps that come behind these counts, make up the deck's and hold
+record Sound (e : Edition) (whole : Known) (steps elements items literals : ℕ) (ss : List Step) : Type 0 where
+  all-steps : steps + length ss ≡ whole .steps
+  all-elements : elements + length (allElements ss) ≡ whole .elements
+  all-items : items + length (allItems ss) ≡ whole .items
+  all-literals : literals + length (allLiterals (allElements ss)) ≡ whole .literals
+  holds : StatementsHold e (length (strings whole)) (length (numbers whole)) (whole .steps) ss
+
+-- a statement goes before the steps behind it
+statement-sound : (e : Edition) (whole : Known) (step : Bool) (s : Option Statement) (m : Met) (rest : List ℕ) (card n el it li : ℕ)
+    (more : ℕ → List Step) → IsStep step s → FormedOrNone e (deckSizes whole) s (viewOf m) → is8 m ≡ false
+    → Sound e whole (cond step (suc n) n) (el + total (λ n. n) (m .rows)) (it + m .items) (li + m .literals) (more (cond step (suc n) n))
+    → Sound e whole n el it li (stepRead card (got s m rest) ++ more (elim (stepRead card (got s m rest)) [ [] ↦ n | s ∷ ss ↦ suc n ]))
+unfolding stepRead viewOf is8 allElements allItems all
+statement-sound e whole true none m rest card n el it li more step h not8 sound = absurd step
+statement-sound e whole true (some a) m rest card n el it li more step h not8 sound =
+    let ss = more (suc n) in
+    let elements = length-append (elementsOf a) (allElements ss) in
+    let literals =
+    ap length (literals-append (elementsOf a) (allElements ss))
+    ∙ length-append (allLiterals (elementsOf a)) (allLiterals (allElements ss)) in
+    let items = length-append (itemsOf a) (allItems ss) in
+    record {
+      all-steps = omega arith;
+      all-elements = omega arith;
+      all-items = omega arith;
+      all-literals = omega arith;
+      holds = both-pass (h .3 not8) (sound .holds);
+    }
+statement-sound e whole false none m rest card n el it li more step h not8 sound =
+    record {
+      all-steps = omega arith;
+      all-elements = omega arith;
+      all-items = omega arith;
+      all-literals = omega arith;
+      holds = sound .holds;
+    }
+statement-sound e whole false (some a) m rest card n el it li more step h not8 sound = absurd step
+
+-- entries that pass make steps that hold, with as many elements, items and literal bytes as were counted
+again-sound : {e : Edition} {whole k : Known} {es : List Entry}
+    → ((n : ℕ) → PlacedBy (λ x. Has x (whole .names)) (deckSizes whole) (placesOf whole n)) → Again e whole k es
+    → Sound e whole (k .steps) (k .elements) (k .items) (k .literals) (stepsFrom e whole (k .steps) es)
+unfolding stepsFrom learn placesOf allElements allItems allLiterals all
+again-sound placed ends =
+    record { all-steps = omega arith; all-elements = omega arith; all-items = omega arith; all-literals = omega arith; holds = refl }
+again-sound placed (past j) = again-sound placed j
+again-sound {e} {whole} placed (reads {k} {card} {label} {text} {es} s m rest q step p used next j) =
+    let kind = leading (packed text) .kind in
+    let fit : Fit (λ x. Has x (whole .names)) m = record { used = used; rows = not10-rows (learn k kind m) m (p .not10) } in
+    let form = statement-yields e (placed (suc (k .steps))) _ label text s m rest next (places-distinct whole (suc (k .steps))) q fit in
+    subst
+    (λ (read : Read (Option Statement)).
+    Sound e whole (k .steps) (k .elements) (k .items) (k .literals)
+    (stepRead card read ++ stepsFrom e whole (elim (stepRead card read) [ [] ↦ k .steps | s ∷ ss ↦ suc (k .steps) ]) es))
+    (sym q)
+    (statement-sound e whole (isStep kind) s m rest card (k .steps) (k .elements) (k .items) (k .literals) (λ n. stepsFrom e whole n es)
+    step form (p .not8) (again-sound placed j))
+
+-- a program's totals and statements are in range
+record InRange (e : Edition) (p : Program) : Type 0 where
+  elements : length (allElements (p .steps)) ≤ Limits.elements
+  items : length (allItems (p .steps)) ≤ Limits.items
+  literals : length (allLiterals (allElements (p .steps))) ≤ Limits.literals
+  holds : StatementsHold e (p .strings) (p .numbers) (length (p .steps)) (p .steps)
+
+-- those of an accepted program are
+accepted-inRange : (e : Edition) (deck : List ℕ) (p : Program) → judge e deck ≡ accepted p → InRange e p
+unfolding programOf nothingKnown
+accepted-inRange e deck p q =
+    accepted-program e deck p q (InRange e) (λ k j _ _.
+    let again = passed-again j in
+    let few = deck-counts j in
+    let sound = again-sound (again .0) (again .1) in
+    let ss = stepsFrom e k 0 (entries e deck) in
+    let count : k .steps ≡ length ss = omega arith in
+    record {
+      elements = omega arith;
+      items = omega arith;
+      literals = omega arith;
+      holds = subst (λ n. StatementsHold e (length (strings k)) (length (numbers k)) n ss) count (sound .holds);
+    })
+
+-- the test that a last step finishes
+finishes-test : (ss : List Step) → LastFinishes ss → lastFinishes ss ≡ true
+unfolding LastFinishes lastFinishes isFinish
+finishes-test [] h = absurd h
+finishes-test (s ∷ []) h = ap isFinish h
+finishes-test (s ∷ (t ∷ ss)) h = finishes-test (t ∷ ss) h
+
+-- steps hold where their cards are below 2 ^ 16 and their statements hold
+steps-hold : (e : Edition) (s n k size : ℕ) → size ≤ 32768 → (ss : List Step) → Each (λ (a : Step). a .card ≤ size) ss
+    → StatementsHold e s n k ss → all (stepHolds e s n k) ss ≡ true
+unfolding all stepHolds Each
+steps-hold e s n k size short [] cards h = refl
+steps-hold e s n k size short (a ∷ ss) cards h =
+    let parts = and-eq-true-iff (statementHolds e s n k (a .statement)) _ .0 h in
+    let first = cards .0 in
+    both-pass (both-pass (lt-ltb (a .card) (2 ^ 16) (omega arith)) (parts .0)) (steps-hold e s n k size short ss (cards .1) (parts .1))
+
+-- the program of every accepted deck is in range
+pub accepted-isProgram : (e : Edition) (deck : List ℕ) (p : Program) → length deck ≤ 32768 → judge e deck ≡ accepted p
+    → isProgram e p ≡ true
+unfolding isProgram
+accepted-isProgram e deck p short q =
+    let counts = accepted-counts e deck p q in
+    let range = accepted-inRange e deck p q in
+    let steps =
+    steps-hold e (p .strings) (p .numbers) (length (p .steps)) (length deck) short (p .steps) (accepted-cards e deck p q) (range .holds) in
+    both-pass (le-leb _ _ (counts .1)) (both-pass (le-leb _ _ (counts .2)) (both-pass (le-leb _ _ (counts .0))
+    (both-pass (le-leb _ _ (range .elements)) (both-pass (le-leb _ _ (range .items)) (both-pass (le-leb _ _ (range .literals))
+    (both-pass (finishes-test (p .steps) (accepted-finishes e deck p q)) steps))))))

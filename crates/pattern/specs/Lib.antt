@@ -1,0 +1,2 @@
+-- What writing a row of a pattern promises.
+pub mod Putting
