@@ -3,22 +3,21 @@ use mathlib.Core.Bool.{true}
 use mathlib.Core.List.{List, map}
 use mathlib.Core.Option.{Option, none, some}
 use mathlib.Core.Path.{_≡_}
-use Prim.Native.Nat.{ℕ, _≤_, _<_}
+use Prim.Native.Nat.{ℕ, zero, suc, _≤_, _<_}
 use lib.ListN.{length, drop, getD}
 use Rattle.base.specs.Edition.{Edition}
 use Rattle.judgement.specs.Deck.{accepted, judge}
 use Rattle.language.specs.Program as Program
 use Rattle.language.specs.Program.{Part, PatternElement, Direction, Branch, Program}
-use Rattle.machine.specs.Run.{after}
 use Rattle.machine.specs.Scanning.{Searched, searchedIn, turned, Valued, patternIn, withoutFillers, naming, replacing}
-use Rattle.machine.specs.State.{Memory, State, fresh}
-use Rattle.machine.specs.Step.{statementAt, turnedDownBy}
+use Rattle.machine.specs.State.{Memory, State, stringAt, fresh}
+use Rattle.machine.specs.Step.{statementAt, turnedDownBy, step}
 use Rattle.scanning.specs.Call.{splitIn}
 use Rattle.scanning.specs.Splits.{Split, AnswersFirstFit}
 use Rattle.values.specs.Work.{done}
 use Rattle.calls.specs.Buffers.{storeSize}
-use Rattle.calls.specs.Calls.{readCall, startCall, Buffers, StepCalled, givenIn, stepCall, stepRefusal, buffersAfter}
-use Rattle.calls.specs.Rules.{keepsRules}
+use Rattle.calls.specs.Calls.{readCall, startCall, Buffers, givenIn, stepCall, stepRefusal}
+use Rattle.calls.specs.Rules.{placeOf, keepsRules}
 use Rattle.calls.specs.TableReading.{programIn}
 
 -- "The fillers and the reference that it leaves are those that document 01's naming and replacement make from the first fit": after is the
@@ -42,20 +41,33 @@ pub record Scans (e : Edition) (m : Memory) (d : Direction) (p : Part) (xs : Lis
   pub firstFit : AnswersFirstFit (map (λ v. v .element) valued) (turned d (searched .reference)) (splitIn (length valued) answer)
   pub leaves : LeftBy e m d xs r searched valued (splitIn (length valued) answer) left
 
--- what a step given these buffers is to satisfy, where c is what the paper makes of deck, input and output before it; store is the one lent
--- for starting
+-- What a step given these buffers is to satisfy, where c is what the paper makes of deck, input and output before it, and store is the one
+-- lent for starting. With a store too small each step is turned down by 14; with another only the machine itself turns a step down.
 pub record StepClaim (e : Edition) (p : Program) (table store input : List ℕ) (c : State) (b : Buffers) : Type 0 where
-  -- with a store that is large enough only the machine itself turns a step down, once the run has finished or stopped
+  pub small : length store < storeSize → stepRefusal e table input b ≡ 14
   pub refusal : storeSize ≤ length store → stepRefusal e table input b ≡ turnedDownBy p c
   -- R9 "The statement that each step not turned down carries out, and the strings and numbers it is given, are those that this paper makes of
   -- the deck, the input and the output lent."
-  pub statement : stepRefusal e table input b ≡ 0 → statementAt (programIn table) (getD (b .state) 1 0) ≡ statementAt p (c .next)
-  pub given : stepRefusal e table input b ≡ 0 → givenIn e table input b ≡ c
+  pub statement : storeSize ≤ length store → statementAt (programIn table) (getD (b .state) 1 0) ≡ statementAt p (c .next)
+  pub given : storeSize ≤ length store → givenIn e table input b ≡ c
   -- each SCAN and BACKSCAN step that is neither stopped nor turned down
   pub scans : (d : Direction) (q : Part) (xs : List PatternElement) (r : Option (List Program.Element)) (f : Branch)
       → statementAt p (c .next) ≡ Program.scan d q xs r f
       → stepCall e table input b .number ≡ 0
       → Scans e (c .memory) d q xs r (stepCall e table input b .answer) (givenIn e table input (stepCall e table input b .left) .memory)
+  -- "after a failure .. the reference is as before": no split is answered
+  pub failure : (d : Direction) (q : Part) (xs : List PatternElement) (r : Option (List Program.Element)) (f : Branch)
+      → statementAt p (c .next) ≡ Program.scan d q xs r f
+      → stepCall e table input b .number ≡ 0
+      → getD (stepCall e table input b .answer) 0 0 ≡ 0
+      → stringAt (givenIn e table input (stepCall e table input b .left) .memory) (placeOf q) ≡ stringAt (c .memory) (placeOf q)
+
+-- R10 "It is one claim about the list": each of k steps is as claimed, R8 given all that the last one left
+unfoldable pub ListClaim : Edition → Program → (table store input : List ℕ) (lent k : ℕ) → State → Buffers → Type 0
+ListClaim e p table store input lent zero c b = Unit {0}
+ListClaim e p table store input lent (suc k) c b =
+    StepClaim e p table store input c b
+    × ListClaim e p table store input lent k (step e p lent c .state) (stepCall e table input b .left)
 
 -- R14, Q13: the table that an accepted deck leaves keeps its rules and holds the deck's program
 unfoldable pub HoldsProgram : Edition → (deck table : List ℕ) → Type 0
@@ -71,12 +83,11 @@ startedWith store output =
     record { store = startCall store .store; state = startCall store .state; output = output }
 
 -- Demand 3: "Take any accepted deck, any input and any output lent. For every list of steps from a fresh start, stopped and turned-down
--- ones included", the claim holds of the step behind it.
+-- ones included", of k steps for any k
 unfoldable pub Demand3 : Edition → (deck table store input output : List ℕ) → Type 0
 Demand3 e deck table store input output =
     (p : Program)
     → judge e deck ≡ accepted p
     → readCall e deck table .number ≡ 0
     → (k : ℕ)
-    → let t = readCall e deck table .table in
-    StepClaim e p t store input (after e p (length output) k (fresh input)) (buffersAfter e t input k (startedWith store output))
+    → ListClaim e p (readCall e deck table .table) store input (length output) k (fresh input) (startedWith store output)
