@@ -1,7 +1,7 @@
 -- Rows of a pattern one after the other, and what the test of one element says of the scan. Assumes nothing.
 use mathlib.Core.Bool.{Bool, true, false, true≢false}
 use mathlib.Core.List.{List, [], _∷_, _++_, append-assoc}
-use mathlib.Core.Path.{_≡_, refl, sym, _∙_, ap}
+use mathlib.Core.Path.{_≡_, refl, sym, _∙_, ap, subst}
 use Prim.Native.Nat.{ℕ, zero, suc, _+_, _-_, _≤_, _<_}
 use native.Mathlib.Omega.{arith}
 use lib.Dec.{leb}
@@ -238,3 +238,17 @@ module _ (reference values rows : List ℕ) (count g place : ℕ) where
     unfolding behind
     group-few h =
         reach (few 1) (match-few rest (drop at reference) here h) ∙ ap (λ (n : ℕ). few (n + 1)) (sizes-length rows (i - g) g)
+
+-- the first element may be known to pass with a byte
+pub group-known : (reference values rows : List ℕ) (count g place known : ℕ) → g < count → place ≤ length reference
+    → Good values (rowElement rows g) → known ≤ 1 → (known ≡ 1 → testOf (elementOf values (rowElement rows g)) (drop place reference) ≡ Piece 1)
+    → Reached reference values rows count g place (g + known) (place + known)
+group-known reference values rows count g place zero more inside good most passes =
+    let e : g ≡ g + 0 = omega arith in
+    let f : place ≡ place + 0 = omega arith in
+    subst (λ (n : ℕ). Reached reference values rows count g place n (place + 0)) e
+    (subst (Reached reference values rows count g place g) f (group-begins reference values rows count g place (omega arith) inside))
+group-known reference values rows count g place (suc zero) more inside good most passes =
+    group-piece reference values rows count g place g place (group-begins reference values rows count g place (omega arith) inside) more 1 good
+    (passes refl)
+group-known reference values rows count g place (suc (suc k)) more inside good most passes = absurd (omega arith)

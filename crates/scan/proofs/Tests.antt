@@ -1,18 +1,18 @@
 -- What the code's cases say: a row read as an element, an element tested, its length told, places passed over. Assumes nothing.
 use mathlib.Core.Bool.{true, false}
-use mathlib.Core.List.{List}
+use mathlib.Core.List.{List, [], _∷_}
 use mathlib.Core.Path.{_≡_, sym, _∙_, ap, subst}
-use Prim.Native.Nat.{ℕ, _-_, _≤_, _<_, _^_}
+use Prim.Native.Nat.{ℕ, suc, _-_, _≤_, _<_, _^_}
 use native.Mathlib.Omega.{arith}
-use lib.ListN.{length, take, drop, length-drop}
-use lib.Seq.{take-all}
+use lib.ListN.{length, take, drop, length-drop, getD}
+use lib.Seq.{take-all, drop-cons}
 use borrow.Author.Tests.{eq-eqb, ne-eqb, le-leb, lt-leb}
-use Rattle.base.specs.Lists.{begins}
+use Rattle.base.specs.Lists.{same, begins}
 use Rattle.scanning.specs.Splits as Splits
 use Rattle.scanning.specs.Splits.{string}
 use Rattle.search.specs.Passing.{Passes}
 use Rattle.scan.specs.Rows.{rowOf, rowElement, elementOf, sizeOf, Sized, SizedPart, Good, GoodPart}
-use Rattle.scan.specs.Steps.{judged, testOf, SkipSays}
+use Rattle.scan.specs.Steps.{judged, testOf, SkipSays, StandsSays}
 use Rattle.scan.specs.declared.Element.{Element}
 use Rattle.scan.specs.declared.Element.the-variants.{Part, Fixed, Free}
 use Rattle.scan.specs.declared.Test.{Test}
@@ -114,3 +114,30 @@ pub test-told : (values rows s : List ℕ) (i : ℕ) (e : Element) (t t′ : Tes
     → t ≡ t′ → testOf (elementOf values (rowElement rows i)) s ≡ t′
 test-told values rows s i e t t′ read tested is =
     ap (λ (x : Element). testOf (elementOf values x) s) (sym read) ∙ sym tested ∙ is
+
+-- a string of one byte that stands there
+single-piece : (x y : ℕ) (l : List ℕ) → y ≡ x → testOf (string (x ∷ [])) (y ∷ l) ≡ Piece 1
+unfolding testOf judged begins same
+single-piece x y l e = rw (le-leb 1 (suc (length l)) (omega arith), eq-eqb y x e)
+
+module _ (values s : List ℕ) (at : ℕ) (e : Element) where
+  pub stands-not : StandsSays (drop at s) (elementOf values e) 0
+  stands-not = record { few = omega arith; passes = λ h. absurd (omega arith) }
+
+  pub stands-one : (from to : ℕ) → e ≡ Part from to → Good values e → to - from ≡ 1 → at < length s → getD s at 0 ≡ getD values from 0
+      → StandsSays (drop at s) (elementOf values e) 1
+  unfolding elementOf
+  stands-one from to h good one inside same =
+      let part = good-part e values from to h good in
+      let x : ℕ = getD values from 0 in
+      let word : take (to - from) (drop from values) ≡ x ∷ [] =
+      ap (λ (n : ℕ). take n (drop from values)) one ∙ ap (take 1) (drop-cons values from 0 (omega (arith, part .inside, part .order))) in
+      record {
+        few = omega arith;
+        passes =
+            λ k.
+            ap (λ (y : Element). testOf (elementOf values y) (drop at s)) h
+            ∙ ap (λ (w : List ℕ). testOf (string w) (drop at s)) word
+            ∙ ap (testOf (string (x ∷ []))) (drop-cons s at 0 inside)
+            ∙ single-piece x (getD s at 0) (drop (suc at) s) same;
+      }

@@ -72,11 +72,11 @@ GroupSays reference values rows count g place (Whole j end) = WholeGroup referen
 GroupSays reference values rows count g place (Moves n) = FailedGroup reference values rows count g place n (other n)
 GroupSays reference values rows count g place (Ends n) = FailedGroup reference values rows count g place n (few n)
 
--- where a group can be tested
-pub record GroupReady (reference : List ℕ) (count g place : ℕ) : Type 0 where
+-- where a group can be tested, its first elements, as many as known, having passed with a byte each
+pub record GroupReady (reference values rows : List ℕ) (count g place known : ℕ) : Type 0 where
   pub short : length reference ≤ 1024
-  pub start : g ≤ count
-  pub inside : place ≤ length reference
+  pub few : known ≤ 1
+  pub reached : Reached reference values rows count g place (g + known) (place + known)
 
 -- the scan's outcome
 abbrev pub outcome : (reference values rows : List ℕ) → ℕ → Tried
@@ -103,6 +103,11 @@ RunSays reference values rows count answer (Fails n) = RunFailed reference value
 pub record SkipSays (rest : List ℕ) (e : Splits.Element) (n : ℕ) : Type 0 where
   pub inside : n ≤ length rest
   pub fails : (j : ℕ) → j < n → testOf e (drop j rest) ≡ Other
+
+-- 1 only where the element passes with a piece of one byte
+pub record StandsSays (rest : List ℕ) (e : Splits.Element) (known : ℕ) : Type 0 where
+  pub few : known ≤ 1
+  pub passes : known ≡ 1 → testOf e rest ≡ Piece 1
 
 -- the number and the numbers left are those of a call
 pub record CallSays (called : Called) (number : ℕ) (answer : List ℕ) : Type 0 where

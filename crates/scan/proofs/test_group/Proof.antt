@@ -1,30 +1,32 @@
 -- `scan::test_group` tests the elements of a group. The invariant: those passed took their pieces.
 -- Assumes nothing.
-use Rattle.scan.proofs.Rows.{piece-size}
-use Rattle.scan.specs.declared.Test.the-variants.{Piece, Other, Few, Filler}
 use Rattle.scan.proofs.Tests.{test-told}
-use Rattle.scan.specs.Steps.{GroupSays}
+use Rattle.scan.proofs.Rows.{group-piece, group-other, group-few, filler-free, piece-size}
+use Rattle.scan.specs.declared.Test.the-variants.{Piece, Other, Few, Filler}
+use Rattle.scan.specs.Steps.{Reached, GroupSays}
 use Rattle.scan.specs.Rows.{Good}
 use lib.ListN.{drop, length-drop}
-use mathlib.Core.Path.{sym, subst}
-use Rattle.scan.proofs.Rows.{group-begins, group-piece, group-other, group-few, filler-free}
-use Rattle.scan.specs.Steps.{Reached}
 use Prim.Native.Nat.{_-_}
+use mathlib.Core.Path.{sym, subst}
 use native.Mathlib.Omega.{arith}
 use borrow.Author.Needs.{needs}
 use Rattle.scan.proofs.test_group.Statement.{statement}
 use Rattle.scan.proofs.test_group.Tie as tie
 
 abbrev Inv-loop : tie.InvT-loop
-Inv-loop reference values rows count g place i₀ at₀ i at = Reached reference values rows count g place i at
+Inv-loop reference values rows count g place known i₀ at₀ i at = Reached reference values rows count g place i at
 
 abbrev μ-loop : tie.MeasureT-loop
-μ-loop reference values rows count g place i₀ at₀ i at = count - i
+μ-loop reference values rows count g place known i₀ at₀ i at = count - i
+
+add-i : tie.Need-add-i Inv-loop μ-loop
+add-i c = let r = c .before .before .before .pre .1 .reached in omega (arith, r .high, c .before .before .before .pre .0 .few)
+
+add-at : tie.Need-add-at Inv-loop μ-loop
+add-at c = let r = c .before .before .before .pre .1 .reached in omega (arith, r .inside, c .before .before .before .pre .1 .short)
 
 loop-holds : tie.Need-loop-holds Inv-loop μ-loop
-loop-holds c =
-    let a = c .before .before .before .args in
-    group-begins (a .reference .now) (a .values .now) (a .rows .now) (a .count) (a .g) (a .place) (c .before .before .before .pre .1 .start) (c .before .before .before .pre .1 .inside)
+loop-holds c = c .before .before .before .pre .1 .reached
 
 row-element-requires : tie.Need-row-element-requires Inv-loop μ-loop
 row-element-requires c κs = search needs
@@ -39,16 +41,16 @@ test-element-requires c κs =
 enum-known-n : tie.Need-enum-known-n Inv-loop μ-loop
 enum-known-n c = search needs
 
-add-at : tie.Need-add-at Inv-loop μ-loop
-add-at c =
+add-at-2 : tie.Need-add-at-2 Inv-loop μ-loop
+add-at-2 c =
     let a = c .before .before .before .before .before .before .before .before .before .before .args in
     let s = c .before .before .before .before .before .before .loop in
     let h = test-told (a .values .now) (a .rows .now) (drop (s .at) (a .reference .now)) (s .i) (c .before .before .before .before .row-element .result) (c .before .before .before .test-element .result) (Piece (c .before .n .given .0 .0)) (c .before .before .before .before .row-element .ensures) (c .before .before .before .test-element .ensures) (c .before .n .given .1) in
     let size = piece-size (a .values .now) (drop (s .at) (a .reference .now)) _ _ (c .before .before .before .before .before .before .before .before .before .before .pre .0 .good (s .i) (c .before .before .before .before .before .loop-test .taken)) h in
     omega (arith, size .1, length-drop (s .at) (a .reference .now), s .inv .inside, c .before .before .before .before .before .before .before .before .before .before .pre .1 .short)
 
-add-i : tie.Need-add-i Inv-loop μ-loop
-add-i c = search needs
+add-i-2 : tie.Need-add-i-2 Inv-loop μ-loop
+add-i-2 c = search needs
 
 loop-less : tie.Need-loop-less Inv-loop μ-loop
 loop-less c = search needs
@@ -64,11 +66,11 @@ loop-again c =
 enum-told : tie.Need-enum-told Inv-loop μ-loop
 enum-told c = search needs
 
-sub-t13 : tie.Need-sub-t13 Inv-loop μ-loop
-sub-t13 c = search needs
+sub-t14 : tie.Need-sub-t14 Inv-loop μ-loop
+sub-t14 c = search needs
 
-add-t14 : tie.Need-add-t14 Inv-loop μ-loop
-add-t14 c = search needs
+add-t15 : tie.Need-add-t15 Inv-loop μ-loop
+add-t15 c = search needs
 
 returns : tie.Need-returns Inv-loop μ-loop
 unfolding GroupSays
@@ -86,11 +88,11 @@ returns c =
 enum-told-2 : tie.Need-enum-told-2 Inv-loop μ-loop
 enum-told-2 c = search needs
 
-sub-t15 : tie.Need-sub-t15 Inv-loop μ-loop
-sub-t15 c = search needs
+sub-t16 : tie.Need-sub-t16 Inv-loop μ-loop
+sub-t16 c = search needs
 
-add-t16 : tie.Need-add-t16 Inv-loop μ-loop
-add-t16 c = search needs
+add-t17 : tie.Need-add-t17 Inv-loop μ-loop
+add-t17 c = search needs
 
 returns-2 : tie.Need-returns-2 Inv-loop μ-loop
 unfolding GroupSays
@@ -126,21 +128,23 @@ test-group-spec =
     (tie.spec
     Inv-loop
     μ-loop
+    add-i
+    add-at
     loop-holds
     row-element-requires
     test-element-requires
     enum-known-n
-    add-at
-    add-i
+    add-at-2
+    add-i-2
     loop-less
     loop-again
     enum-told
-    sub-t13
-    add-t14
+    sub-t14
+    add-t15
     returns
     enum-told-2
-    sub-t15
-    add-t16
+    sub-t16
+    add-t17
     returns-2
     enum-told-3
     returns-3
