@@ -1,0 +1,216 @@
+-- Laws of joined lines: the definition goes from the right, the code from the left, and both make up the same entries.
+-- Assumes nothing.
+use mathlib.Core.Bool.{Bool, true, false, cond, not, _&&_, _||_, false≢true}
+use mathlib.Core.List.{List, [], _∷_, _++_, append-assoc}
+use mathlib.Core.Path.{_≡_, refl, ap, sym, subst, _∙_}
+use Prim.Native.Nat.{ℕ, suc, _+_}
+use native.Mathlib.Nat.{add-zero}
+use native.Mathlib.Omega.{arith}
+use lib.Dec.{eqb}
+use borrow.Author.Tests.{eqb-true, ne-eqb}
+use Rattle.base.specs.Edition.{edition1}
+use Rattle.cards.specs.Bytes.{isBlank, slash}
+use Rattle.cards.specs.Cards.{
+  Entry,
+  skipped,
+  statement,
+  isComment,
+  isBlankLine,
+  column9,
+  soundLine,
+  labelOf,
+  textOf,
+  joined,
+  entriesFrom,
+}
+use Rattle.packer.proofs.Bools.{and-assoc, and-false, and-true}
+use Rattle.packer.specs.KeyLaws.{both}
+use Rattle.packer.specs.Joins.{Part, addLine, breakOff, joinLine, before, told, nothingOf}
+use Rattle.packer.specs.Lines.{isSkipped, joins}
+
+before-joined : (n : ℕ) (line : List ℕ) (rest : List Entry) →
+    joined edition1 n line rest ≡ before n (soundLine line) (labelOf edition1 line) (textOf edition1 line) rest
+unfolding joined before
+before-joined n line [] = refl
+before-joined n line (skipped c s ∷ rest) = refl
+before-joined n line (statement c s l t ∷ rest) = refl
+
+-- the entries that a line begins, by what it is: skipped, blank in column 9, or `/` there
+unfoldable entry : ℕ → Bool → List ℕ → List ℕ → Bool → Bool → Bool → List Entry → List Entry
+entry m sound label text skip blank over rest =
+    cond skip (skipped m sound ∷ rest)
+    (cond blank (statement m sound label text ∷ rest)
+    (cond over (statement m false label text ∷ rest)
+    (before m sound label text rest)))
+
+module _ (n m : ℕ) (s₁ s₂ : Bool) (label l raw t : List ℕ) where
+  -- lines put before lines
+  before-before : (rest : List Entry) → before n s₁ label raw (before m s₂ l t rest) ≡ before n (s₁ && s₂) label (raw ++ t) rest
+  unfolding before
+  before-before [] = ap (λ b. statement n b label (raw ++ t) ∷ []) (and-false s₁)
+  before-before (skipped c s ∷ rest) = ap (λ b. statement n b label (raw ++ t) ∷ (skipped c s ∷ rest)) (and-false s₁)
+  before-before (statement c s l′ text ∷ rest) = rw (and-assoc s₁ s₂ s, append-assoc raw t text)
+
+  -- lines put before the entries that a line begins
+  before-entry : (skip blank over : Bool) → (blank ≡ true → over ≡ false) → (rest : List Entry) →
+      before n s₁ label raw (entry m s₂ l t skip blank over rest)
+      ≡ cond skip (statement n false label raw ∷ entry m s₂ l t skip blank over rest)
+      (cond (not blank && not over)
+      (before n (s₁ && (s₂ && not over)) label (raw ++ t) rest)
+      (statement n (s₁ && (s₂ && not over)) label (raw ++ t) ∷ rest))
+  unfolding entry before
+  before-entry true blank over h rest = refl
+  before-entry false true true h rest = absurd (false≢true (sym (h refl)))
+  before-entry false true false h rest = rw (and-true s₂)
+  before-entry false false true h rest = rw (and-false s₂)
+  before-entry false false false h rest = rw (and-true s₂) (before-before rest)
+
+-- a statement's own first line, put before nothing
+before-first : (n : ℕ) (sound : Bool) (label text : List ℕ) (blank over : Bool) (rest : List Entry) →
+    before n true label [] (entry n sound label text false blank over rest) ≡ entry n sound label text false blank over rest
+unfolding entry before
+before-first n sound label text true over rest = refl
+before-first n sound label text false true rest = refl
+before-first n sound label text false false rest = before-before n n true sound label label [] text rest
+
+module _ (line : List ℕ) where
+  -- the entries from a line on, by what the line is
+  entries-line : (m : ℕ) (ls : List (List ℕ)) →
+      entriesFrom edition1 m (line ∷ ls)
+      ≡ entry m (soundLine line) (labelOf edition1 line) (textOf edition1 line) (isSkipped line)
+      (isBlank (column9 edition1 line)) (eqb (column9 edition1 line) slash) (entriesFrom edition1 (suc m) ls)
+  unfolding entriesFrom entry isSkipped
+  entries-line m ls =
+      ap
+      (λ (es : List Entry).
+      cond (isComment line || isBlankLine edition1 line)
+      (skipped m (soundLine line) ∷ entriesFrom edition1 (suc m) ls)
+      (cond (isBlank (column9 edition1 line))
+      (statement m (soundLine line) (labelOf edition1 line) (textOf edition1 line) ∷ entriesFrom edition1 (suc m) ls)
+      (cond (eqb (column9 edition1 line) slash)
+      (statement m false (labelOf edition1 line) (textOf edition1 line) ∷ entriesFrom edition1 (suc m) ls)
+      es)))
+      (before-joined m line (entriesFrom edition1 (suc m) ls))
+
+  blank-only : isBlank (column9 edition1 line) ≡ true → eqb (column9 edition1 line) slash ≡ false
+  unfolding isBlank slash
+  blank-only e = ne-eqb _ _ (λ over.
+      let blank : column9 edition1 line ≡ 32 = eqb-true (column9 edition1 line) 32 e in
+      let slashed : column9 edition1 line ≡ 47 = over in
+      omega arith)
+
+told-cond : (n : ℕ) (label : List ℕ) (t : Bool) (p q : Part) → cond t (told n label p) (told n label q) ≡ told n label (cond t p q)
+told-cond n label true p q = refl
+told-cond n label false p q = refl
+
+-- one line more from the left makes up the same entries
+lines-told : (n : ℕ) (label : List ℕ) (p : Part) (rest : List (List ℕ)) →
+    before n (p .sound) label (p .raw) (entriesFrom edition1 (n + p .count) rest) ≡ told n label (joinLine p rest)
+unfolding told joinLine breakOff addLine before entriesFrom joins
+lines-told n label p [] = refl
+lines-told n label p (line ∷ ls) =
+    let m = n + p .count in
+    let text = p .raw ++ textOf edition1 line in
+    let whole = p .sound && (soundLine line && not (eqb (column9 edition1 line) slash)) in
+    let next : suc m ≡ n + (p .count + 1) = omega arith in
+    ap (before n (p .sound) label (p .raw)) (entries-line line m ls)
+    ∙ before-entry n m (p .sound) (soundLine line) label (labelOf edition1 line) (p .raw) (textOf edition1 line)
+    (isSkipped line) (isBlank (column9 edition1 line)) (eqb (column9 edition1 line) slash) (blank-only line)
+    (entriesFrom edition1 (suc m) ls)
+    ∙ ap
+    (λ (es : List Entry).
+    cond (isSkipped line) (statement n false label (p .raw) ∷ es)
+    (cond (joins (column9 edition1 line)) (before n whole label text (entriesFrom edition1 (suc m) ls))
+    (statement n whole label text ∷ entriesFrom edition1 (suc m) ls)))
+    (sym (entries-line line m ls))
+    ∙ ap
+    (λ (k : ℕ).
+    cond (isSkipped line) (statement n false label (p .raw) ∷ entriesFrom edition1 m (line ∷ ls))
+    (cond (joins (column9 edition1 line)) (before n whole label text (entriesFrom edition1 k ls))
+    (statement n whole label text ∷ entriesFrom edition1 k ls)))
+    next
+    ∙ told-cond n label (isSkipped line) (breakOff p (line ∷ ls)) (addLine p line ls)
+
+pub join-told : (n : ℕ) (label : List ℕ) (p : Part) → p .more ≡ true → told n label p ≡ told n label (joinLine p (p .rest))
+unfolding told
+join-told n label p more =
+    ap
+    (λ t.
+    cond t (before n (p .sound) label (p .raw) (entriesFrom edition1 (n + p .count) (p .rest)))
+    (statement n (p .sound) label (p .raw) ∷ entriesFrom edition1 (n + p .count) (p .rest)))
+    more
+    ∙ lines-told n label p (p .rest)
+
+-- how a line is joined
+pub joined-none : (p : Part) (rest : List (List ℕ)) → [] ≡ rest → breakOff p rest ≡ joinLine p rest
+unfolding joinLine
+joined-none p rest e = subst (λ (ls : List (List ℕ)). breakOff p ls ≡ joinLine p ls) e refl
+
+pub joined-skipped : (p : Part) (line : List ℕ) (ls rest : List (List ℕ)) → line ∷ ls ≡ rest → isSkipped line ≡ true →
+    breakOff p rest ≡ joinLine p rest
+unfolding joinLine
+joined-skipped p line ls rest e skip =
+    subst (λ (ls : List (List ℕ)). breakOff p ls ≡ joinLine p ls) e
+    (ap (λ t. cond t (breakOff p (line ∷ ls)) (addLine p line ls)) (sym skip))
+
+pub joined-line : (p : Part) (line : List ℕ) (ls rest : List (List ℕ)) → line ∷ ls ≡ rest → isSkipped line ≡ false →
+    addLine p line ls ≡ joinLine p rest
+unfolding joinLine
+joined-line p line ls rest e skip =
+    subst (λ (rest : List (List ℕ)). addLine p line ls ≡ joinLine p rest) e
+    (ap (λ t. cond t (breakOff p (line ∷ ls)) (addLine p line ls)) (sym skip))
+
+-- a statement's first line from the left, and a line that is skipped
+module _ (n : ℕ) (line : List ℕ) (ls : List (List ℕ)) where
+  pub first-told : isSkipped line ≡ false →
+      entriesFrom edition1 n (line ∷ ls) ≡ told n (labelOf edition1 line) (addLine (nothingOf (line ∷ ls)) line ls)
+  unfolding nothingOf
+  first-told skip =
+      let label = labelOf edition1 line in
+      let blank = isBlank (column9 edition1 line) in
+      let over = eqb (column9 edition1 line) slash in
+      let rest = entriesFrom edition1 (suc n) ls in
+      let first : entriesFrom edition1 n (line ∷ ls) ≡ entry n (soundLine line) label (textOf edition1 line) false blank over rest =
+      entries-line line n ls ∙ ap (λ t. entry n (soundLine line) label (textOf edition1 line) t blank over rest) skip in
+      first
+      ∙ sym (before-first n (soundLine line) label (textOf edition1 line) blank over rest)
+      ∙ ap (before n true label []) (sym first)
+      ∙ ap (λ (k : ℕ). before n true label [] (entriesFrom edition1 k (line ∷ ls))) (sym (add-zero n))
+      ∙ lines-told n label (nothingOf (line ∷ ls)) (line ∷ ls)
+      ∙ ap (told n label) (sym (joined-line (nothingOf (line ∷ ls)) line ls (line ∷ ls) refl skip))
+
+  pub skipped-told : isSkipped line ≡ true →
+      entriesFrom edition1 n (line ∷ ls) ≡ skipped n (soundLine line) ∷ entriesFrom edition1 (n + 1) ls
+  unfolding entry
+  skipped-told skip =
+      let next : suc n ≡ n + 1 = omega arith in
+      entries-line line n ls
+      ∙ ap
+      (λ t.
+      entry n (soundLine line) (labelOf edition1 line) (textOf edition1 line) t (isBlank (column9 edition1 line))
+      (eqb (column9 edition1 line) slash) (entriesFrom edition1 (suc n) ls))
+      skip
+      ∙ ap (λ (k : ℕ). skipped n (soundLine line) ∷ entriesFrom edition1 k ls) next
+
+-- the first line of a sound statement is sound
+entry-sound : (m n : ℕ) (sound : Bool) (l t label raw : List ℕ) (blank over : Bool) (rest others : List Entry) →
+    entry m sound l t false blank over rest ≡ statement n true label raw ∷ others → sound ≡ true
+unfolding entry before
+entry-sound m n sound l t label raw true over rest others e = cc
+entry-sound m n sound l t label raw false true rest others e = absurd (false≢true (cc))
+entry-sound m n sound l t label raw false false [] others e = absurd (false≢true (cc))
+entry-sound m n sound l t label raw false false (skipped c s ∷ rest) others e = absurd (false≢true (cc))
+entry-sound m n sound l t label raw false false (statement c s l′ t′ ∷ rest) others e =
+    let sounds : (sound && s) ≡ true = cc in
+    both sound s sounds .0
+
+pub first-sound : (n : ℕ) (line : List ℕ) (ls : List (List ℕ)) (label raw : List ℕ) (rest : List Entry) → isSkipped line ≡ false →
+    entriesFrom edition1 n (line ∷ ls) ≡ statement n true label raw ∷ rest → soundLine line ≡ true
+first-sound n line ls label raw rest skip e =
+    let blank = isBlank (column9 edition1 line) in
+    let over = eqb (column9 edition1 line) slash in
+    let behind = entriesFrom edition1 (suc n) ls in
+    entry-sound n n (soundLine line) (labelOf edition1 line) (textOf edition1 line) label raw blank over behind rest
+    (ap (λ t. entry n (soundLine line) (labelOf edition1 line) (textOf edition1 line) t blank over behind) (sym skip)
+    ∙ sym (entries-line line n ls)
+    ∙ e)

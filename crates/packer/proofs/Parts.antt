@@ -1,0 +1,341 @@
+-- Laws of what the code holds of a statement while it joins lines.
+-- Assumes nothing.
+use mathlib.Core.Bool.{Bool, true, false, cond, not, _&&_, false≢true}
+use mathlib.Core.List.{List, [], _∷_, _++_}
+use mathlib.Core.Path.{_≡_, refl, ap, sym, subst, _∙_}
+use Prim.Native.Nat.{ℕ, _+_, _-_, _≤_, _<_}
+use native.Mathlib.Nat.{le-trans, min-le-left, min-le-right}
+use native.Mathlib.Omega.{arith}
+use lib.Dec.{eqb}
+use lib.ListN.{length, take, drop, length-take, length-drop}
+use lib.Seq.{take-take}
+use Rattle.base.specs.Choice.{test-cases}
+use Rattle.base.specs.Edition.{edition1}
+use Rattle.base.specs.Lists.{all}
+use Rattle.cards.specs.Bytes.{slash}
+use Rattle.cards.specs.Cards.{Entry, lines, soundLine, column9, labelOf, textOf, entriesFrom, statement, withoutBlanks}
+use Rattle.cards.specs.Packing.{Place, outside, packFrom, packed, literalsFrom, literalsWhole}
+use Rattle.packer.proofs.Chains.{first-sound, first-told, join-told, joined-line, skipped-told}
+use Rattle.packer.proofs.Labels.{blanks-less, front-short}
+use Rattle.packer.proofs.Packing.{packed-parts, place-parts, unbroken-parts, literals-end}
+use Rattle.packer.specs.declared.Gathered.{Gathered}
+use Rattle.packer.specs.declared.Joining.{Joining}
+use Rattle.packer.specs.declared.packed.Packing.{Packing}
+use Rattle.packer.specs.Gathering.{
+  Holds,
+  Room,
+  Adding,
+  Added,
+  Joined,
+  Complete,
+  JoinedAll,
+  brokenOff,
+  nothingFrom,
+  skippedLine,
+  entryOf,
+  Readable,
+  Gathers,
+}
+use Rattle.packer.specs.Joins.{Part, addLine, breakOff, joinLine, nothingOf, told}
+use Rattle.packer.specs.KeyLaws.{sound-label}
+use Rattle.packer.specs.Keys.{keyOf}
+use Rattle.packer.specs.Lines.{Ends, isSkipped, joins}
+use Rattle.packer.specs.Packs.{Packs}
+use Rattle.packer.specs.Places.{isOutside, placeOf, placeBehind, unbroken}
+
+module _ (deck text : List ℕ) where
+  pub holds-nothing : (from : ℕ) → Holds deck text (nothingFrom from) (nothingOf (lines (drop from deck)))
+  unfolding nothingOf packed packFrom placeBehind unbroken
+  holds-nothing from =
+      record { sound = refl; more = refl; count = refl; rest = refl; bytes = refl; place = refl; whole = refl }
+
+  module _ (s : Joining) (p : Part) (h : Holds deck text s p) where
+    pub holds-broken : Holds deck text (brokenOff s) (breakOff p (p .rest))
+    unfolding breakOff
+    holds-broken =
+        record {
+          sound = refl;
+          more = refl;
+          count = h .count;
+          rest = h .rest;
+          bytes = h .bytes;
+          place = h .place;
+          whole = h .whole;
+        }
+
+    pub holds-line : (line : List ℕ) (next : ℕ) (text′ : List ℕ) (r : Joining) → Added line next text s text′ r →
+        Holds deck text′ r (addLine p line (lines (drop next deck)))
+    unfolding addLine packed
+    holds-line line next text′ r a =
+        let more = textOf edition1 line in
+        let k = a .packs in
+        record {
+          sound = a .sound ∙ ap (λ t. t && (soundLine line && not (eqb (column9 edition1 line) slash))) (h .sound);
+          more = a .more;
+          count = a .count ∙ ap (λ (n : ℕ). n + 1) (h .count);
+          rest = ap (λ (n : ℕ). lines (drop n deck)) (a .behind);
+          bytes =
+              k .bytes
+              ∙ ap (λ (l : List ℕ). l ++ packFrom (placeOf (s .packing .place)) more) (h .bytes)
+              ∙ ap (λ (q : Place). packFrom outside (p .raw) ++ packFrom q more) (h .place)
+              ∙ sym (packed-parts outside (p .raw) more);
+          place = k .place ∙ ap (λ (q : Place). placeBehind q more) (h .place) ∙ sym (place-parts outside (p .raw) more);
+          whole =
+              k .whole
+              ∙ ap (λ (t : Bool). t && unbroken (placeOf (s .packing .place)) more) (h .whole)
+              ∙ ap (λ (q : Place). unbroken outside (p .raw) && unbroken q more) (h .place)
+              ∙ sym (unbroken-parts outside (p .raw) more);
+        }
+
+    -- literals are whole if none is broken and the text ends outside of one
+    pub holds-literals : (flag : Bool) → flag ≡ isOutside (placeOf (s .packing .place)) →
+        (s .packing .whole && flag) ≡ literalsWhole (p .raw)
+    unfolding literalsWhole
+    holds-literals flag e =
+        ap (λ t. s .packing .whole && t) (e ∙ ap isOutside (h .place))
+        ∙ ap (λ t. t && isOutside (placeBehind outside (p .raw))) (h .whole)
+        ∙ sym (literals-end outside (p .raw))
+
+    -- a statement that is over
+    pub holds-told : s .more ≡ false → (n : ℕ) (label : List ℕ) →
+        told n label p ≡ statement n (s .sound) label (p .raw) ∷ entriesFrom edition1 (n + s .lines) (lines (drop (s .next) deck))
+    unfolding told
+    holds-told over n label = rw (h .sound, h .count, h .rest, sym (h .more) ∙ over)
+
+text-within : (line : List ℕ) → length (textOf edition1 line) ≤ length line
+unfolding textOf edition1
+text-within line = omega (arith, length-drop 9 (take 72 line), length-take 72 line, min-le-right 72 (length line))
+
+pub text-fits : (line part : List ℕ) (n most : ℕ) → part ≡ textOf edition1 line → n + length line ≤ most → n + length part ≤ most
+text-fits line part n most e h = rw e (omega (arith, text-within line))
+
+-- a line's parts put together
+module _ (line : List ℕ) (next : ℕ) (text : List ℕ) (s : Joining) (text′ : List ℕ) (packing : Packing)
+    (sound more : Bool) (mark : ℕ) (part : List ℕ) where
+  pub added : sound ≡ soundLine line → mark ≡ column9 edition1 line → more ≡ joins mark → part ≡ textOf edition1 line →
+      Packs part text (s .packing) text′ packing →
+      Added line next text s text′
+      (record { sound = s .sound && (sound && not (eqb mark 47)); more = more; packing = packing; lines = s .lines + 1; next = next })
+  unfolding slash
+  added es em ej ep k =
+      record {
+        sound =
+            ap (λ t. s .sound && (t && not (eqb mark 47))) es
+            ∙ ap (λ (n : ℕ). s .sound && (soundLine line && not (eqb n 47))) em;
+        more = ej ∙ ap joins em;
+        count = refl;
+        behind = refl;
+        packs = subst (λ (l : List ℕ). Packs l text (s .packing) text′ packing) ep k;
+      }
+
+module _ (deck text : List ℕ) (s : Joining) (room : Room deck text s) where
+  -- the statement is broken off
+  pub joined-off : ((p : Part) → Holds deck text s p → breakOff p (p .rest) ≡ joinLine p (p .rest)) → (r : Joining) → r ≡ brokenOff s →
+      Joined deck text s text r
+  joined-off off r e =
+      subst (λ (r : Joining). Joined deck text s text r) (sym e)
+      (record {
+        room =
+            record {
+              small = room .small;
+              size = room .size;
+              next = room .next;
+              lines = room .lines;
+              bytes = room .bytes;
+              within = room .within;
+            };
+        onward = omega arith;
+        paced = omega arith;
+        further = λ t. absurd (false≢true t);
+        holds = λ p h. subst (λ (q : Part). Holds deck text (brokenOff s) q) (off p h) (holds-broken deck text s p h);
+      })
+
+  module _ (end : ℕ) (ends : Ends deck (s .next) end) where
+    abbrev line : List ℕ
+    line = take (end - s .next) (drop (s .next) deck)
+
+    line-length : length line ≤ end - s .next
+    line-length =
+        let n = end - s .next in
+        omega (arith, length-take n (drop (s .next) deck), min-le-left n (length (drop (s .next) deck)))
+
+    pub adding : Adding line (end + 1) text s
+    adding =
+        let short = line-length in
+        record {
+          small = let h = ends .high in let g = room .small in omega arith;
+          size = room .size;
+          lines = let h = ends .low in let g = room .lines in omega arith;
+          bytes = let h = ends .low in let g = room .bytes in omega arith;
+        }
+
+    module _ (text′ : List ℕ) (r : Joining) (a : Added line (end + 1) text s text′ r) where
+      pub room-added : Room deck text′ r
+      room-added =
+          let short = line-length in
+          let part = text-within line in
+          let packs = a .packs .room in
+          record {
+            small = room .small;
+            size = a .packs .size ∙ room .size;
+            next = let h = ends .high in omega arith;
+            lines = let h = ends .low in omega arith;
+            bytes = let h = ends .low in omega arith;
+            within = let h = ends .low in let g = ends .high in omega arith;
+          }
+
+      -- a line is joined
+      pub joined-on : isSkipped line ≡ false → Joined deck text s text′ r
+      joined-on skip =
+          record {
+            room = room-added;
+            onward = let h = ends .low in omega arith;
+            paced = let h = ends .low in omega arith;
+            further = λ _. let h = ends .low in omega arith;
+            holds =
+                λ p h.
+                subst (λ (q : Part). Holds deck text′ r q)
+                (joined-line p line (lines (drop (end + 1) deck)) (p .rest) (sym (ends .first) ∙ h .rest) skip)
+                (holds-line deck text s p h line (end + 1) text′ r a);
+          }
+
+-- lines have been joined, from s₀ to s
+pub record Chain (deck text₀ : List ℕ) (s₀ : Joining) (text : List ℕ) (s : Joining) : Type 0 where
+  pub room : Room deck text s
+  pub onward : s₀ .next ≤ s .next
+  pub paced : s₀ .next + s .lines ≤ s .next + s₀ .lines
+  pub complete : (p : Part) → Holds deck text₀ s₀ p → Complete deck text s p
+
+-- what is left to join: nothing, or lines of the deck
+abbrev pub left : List ℕ → Joining → ℕ
+left deck s = cond (s .more) (length deck + 2 - s .next) 0
+
+module _ (deck text : List ℕ) (s : Joining) where
+  pub chain-start : Room deck text s → Chain deck text s text s
+  chain-start room =
+      record {
+        room = room;
+        onward = omega arith;
+        paced = omega arith;
+        complete = λ p h. record { part = p; holds = h; same = λ n label. refl };
+      }
+
+  pub less-left : (text′ : List ℕ) (r : Joining) → s .more ≡ true → Joined deck text s text′ r → left deck r < left deck s
+  less-left text′ r more j =
+      rw more
+      (test-cases (λ t. (r .more ≡ t) → cond t (length deck + 2 - r .next) 0 < length deck + 2 - s .next) (r .more)
+      (λ e _. let h = j .further e in let k = j .room .next in omega arith)
+      (λ _ _. let h = j .onward in let k = j .room .next in omega arith)
+      refl)
+
+  module _ (text₀ : List ℕ) (s₀ : Joining) (k : Chain deck text₀ s₀ text s) where
+    pub chain-more : (text′ : List ℕ) (r : Joining) → s .more ≡ true → Joined deck text s text′ r → Chain deck text₀ s₀ text′ r
+    chain-more text′ r more j =
+        record {
+          room = j .room;
+          onward = let h = j .onward in let g = k .onward in omega arith;
+          paced = let h = j .paced in let g = k .paced in omega arith;
+          complete =
+              λ p h.
+              let q = k .complete p h in
+              record {
+                part = joinLine (q .part) (q .part .rest);
+                holds = j .holds (q .part) (q .holds);
+                same = λ n label. q .same n label ∙ join-told n label (q .part) (sym (q .holds .more) ∙ more);
+              };
+        }
+
+    pub chain-done : s .more ≡ false → JoinedAll deck text₀ s₀ text s
+    chain-done over = record { room = k .room; onward = k .onward; paced = k .paced; over = over; complete = k .complete }
+
+pub room-nothing : (deck : List ℕ) (from : ℕ) (text : List ℕ) → Readable deck from text → Room deck text (nothingFrom from)
+room-nothing deck from text read =
+    record {
+      small = read .small;
+      size = read .size;
+      next = let h = read .start in omega arith;
+      lines = omega arith;
+      bytes = omega arith;
+      within = omega arith;
+    }
+
+label-front : (line : List ℕ) → labelOf edition1 line ≡ withoutBlanks (take 8 line)
+unfolding labelOf edition1
+label-front line = ap withoutBlanks (take-take 8 72 line (omega arith))
+
+label-short : (line : List ℕ) → length (labelOf edition1 line) ≤ 8
+label-short line = rw (label-front line) (le-trans (blanks-less (take 8 line)) (front-short 8 line (take 8 line) refl))
+
+-- an entry whose first line ends at end
+module _ (deck : List ℕ) (from : ℕ) (text : List ℕ) (read : Readable deck from text) (end : ℕ) (ends : Ends deck from end) where
+  abbrev first : List ℕ
+  first = take (end - from) (drop from deck)
+
+  pub gathers-skipped : isSkipped first ≡ true → (r : Gathered) → r ≡ skippedLine first (end + 1) → Gathers deck from text r
+  unfolding all entryOf keyOf packed packFrom literalsWhole literalsFrom
+  gathers-skipped skip r e =
+      subst (λ (r : Gathered). Gathers deck from text r) (sym e)
+      (record {
+        raw = [];
+        label = [];
+        entry =
+            λ n.
+            ap (entriesFrom edition1 n) (ends .first) ∙ skipped-told n first (lines (drop (end + 1) deck)) skip;
+        key = refl;
+        short = omega arith;
+        clean = λ _. refl;
+        bytes = refl;
+        whole = refl;
+        fits = omega arith;
+        onward = let h = ends .low in omega arith;
+        paced = let h = ends .low in omega arith;
+        inside = let h = ends .high in omega arith;
+        size = read .size;
+      })
+
+  pub gathers-statement : isSkipped first ≡ false → (key : ℕ) → key ≡ keyOf (withoutBlanks (take 8 first)) →
+      (text₁ : List ℕ) (s₁ : Joining) → Added first (end + 1) text (nothingFrom from) text₁ s₁ →
+      (text₂ : List ℕ) (s : Joining) → JoinedAll deck text₁ s₁ text₂ s → (flag : Bool) → flag ≡ isOutside (placeOf (s .packing .place)) →
+      Gathers deck from text₂
+      (record {
+        skipped = false;
+        sound = s .sound;
+        label = key;
+        length = s .packing .length;
+        whole = s .packing .whole && flag;
+        lines = s .lines;
+        next = s .next;
+      })
+  unfolding entryOf
+  gathers-statement skip key ek text₁ s₁ a text₂ s j flag ef =
+      let start = nothingOf (lines (drop from deck)) in
+      let held = holds-line deck text (nothingFrom from) start (holds-nothing deck text from) first (end + 1) text₁ s₁ a in
+      let k = j .complete (addLine start first (lines (drop (end + 1) deck))) held in
+      let label = labelOf edition1 first in
+      let others : ℕ → List Entry = λ n. entriesFrom edition1 (n + s .lines) (lines (drop (s .next) deck)) in
+      let entries : (n : ℕ) →
+      entriesFrom edition1 n (first ∷ lines (drop (end + 1) deck)) ≡ statement n (s .sound) label (k .part .raw) ∷ others n =
+      λ n.
+      first-told n first (lines (drop (end + 1) deck)) skip
+      ∙ ap (λ (rest : List (List ℕ)). told n label (addLine (nothingOf rest) first (lines (drop (end + 1) deck)))) (sym (ends .first))
+      ∙ k .same n label
+      ∙ holds-told deck text₂ s (k .part) (k .holds) (j .over) n label in
+      record {
+        raw = k .part .raw;
+        label = label;
+        entry = λ n. ap (entriesFrom edition1 n) (ends .first) ∙ entries n;
+        key = ek ∙ ap keyOf (sym (label-front first));
+        short = label-short first;
+        clean =
+            λ sound.
+            sound-label first
+            (first-sound 0 first (lines (drop (end + 1) deck)) label (k .part .raw) (others 0) skip
+            (entries 0 ∙ ap (λ t. statement 0 t label (k .part .raw) ∷ others 0) sound));
+        bytes = k .holds .bytes;
+        whole = holds-literals deck text₂ s (k .part) (k .holds) flag ef;
+        fits = let h = j .room .within in let g = read .small in omega arith;
+        onward = let h = j .onward in let g = ends .low in let b = a .behind in omega arith;
+        paced = let h = j .paced in let g = ends .low in let b = a .behind in let c = a .count in omega arith;
+        inside = j .room .next;
+        size = j .room .size;
+      }

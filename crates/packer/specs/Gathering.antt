@@ -1,0 +1,116 @@
+-- What the code holds of a statement while it joins lines, and what it says of an entry of the deck. Assumes nothing.
+use mathlib.Core.Bool.{true, false, cond, not, _&&_}
+use mathlib.Core.List.{List, _∷_}
+use mathlib.Core.Path.{_≡_}
+use Prim.Native.Nat.{ℕ, _+_, _≤_, _<_}
+use lib.Dec.{eqb}
+use lib.ListN.{length, take, drop}
+use Rattle.base.specs.Edition.{edition1}
+use Rattle.base.specs.Lists.{all}
+use Rattle.cards.specs.Bytes.{slash}
+use Rattle.cards.specs.Cards.{Entry, skipped, statement, lines, soundLine, column9, textOf, entriesFrom}
+use Rattle.cards.specs.Packing.{outside, packed, literalsWhole}
+use Rattle.packer.specs.declared.packed.Place.the-variants.{Outside}
+use Rattle.packer.specs.declared.Gathered.{Gathered}
+use Rattle.packer.specs.declared.Joining.{Joining}
+use Rattle.packer.specs.Joins.{Part, joinLine, told}
+use Rattle.packer.specs.Keys.{isKeyByte, keyOf}
+use Rattle.packer.specs.Lines.{joins}
+use Rattle.packer.specs.Packs.{Packs}
+use Rattle.packer.specs.Places.{placeOf, placeBehind, unbroken}
+
+-- the code's value and text hold a part of a statement of the deck
+pub record Holds (deck text : List ℕ) (s : Joining) (p : Part) : Type 0 where
+  pub sound : s .sound ≡ p .sound
+  pub more : s .more ≡ p .more
+  pub count : s .lines ≡ p .count
+  pub rest : lines (drop (s .next) deck) ≡ p .rest
+  pub bytes : take (s .packing .length) text ≡ packed (p .raw)
+  pub place : placeOf (s .packing .place) ≡ placeBehind outside (p .raw)
+  pub whole : s .packing .whole ≡ unbroken outside (p .raw)
+
+-- the code's numbers lie within the deck, and text is as long as the longest deck
+pub record Room (deck text : List ℕ) (s : Joining) : Type 0 where
+  pub small : length deck ≤ 32768
+  pub size : length text ≡ 32768
+  pub next : s .next ≤ length deck + 1
+  pub lines : s .lines ≤ s .next
+  pub bytes : s .packing .length ≤ s .next
+  pub within : s .packing .length ≤ length deck
+
+-- a line, with the place where the next one starts, can be added
+pub record Adding (line : List ℕ) (next : ℕ) (text : List ℕ) (s : Joining) : Type 0 where
+  pub small : next ≤ 32769
+  pub size : length text ≡ 32768
+  pub lines : s .lines < next
+  pub bytes : s .packing .length + length line < next
+
+-- the line is added
+pub record Added (line : List ℕ) (next : ℕ) (text : List ℕ) (s : Joining) (text′ : List ℕ) (r : Joining) : Type 0 where
+  pub sound : r .sound ≡ s .sound && (soundLine line && not (eqb (column9 edition1 line) slash))
+  pub more : r .more ≡ joins (column9 edition1 line)
+  pub count : r .lines ≡ s .lines + 1
+  pub behind : r .next ≡ next
+  pub packs : Packs (textOf edition1 line) text (s .packing) text′ (r .packing)
+
+-- one line is joined; a line takes a byte of the deck at least, and if the next one is to be joined, the code has gone on
+pub record Joined (deck text : List ℕ) (s : Joining) (text′ : List ℕ) (r : Joining) : Type 0 where
+  pub room : Room deck text′ r
+  pub onward : s .next ≤ r .next
+  pub paced : s .next + r .lines ≤ r .next + s .lines
+  pub further : r .more ≡ true → s .next < r .next
+  pub holds : (p : Part) → Holds deck text s p → Holds deck text′ r (joinLine p (p .rest))
+
+-- a statement that begins as p was joined whole
+pub record Complete (deck text : List ℕ) (r : Joining) (p : Part) : Type 0 where
+  pub part : Part
+  pub holds : Holds deck text r part
+  pub same : (n : ℕ) (label : List ℕ) → told n label p ≡ told n label part
+
+-- all lines are joined
+pub record JoinedAll (deck text : List ℕ) (s : Joining) (text′ : List ℕ) (r : Joining) : Type 0 where
+  pub room : Room deck text′ r
+  pub onward : s .next ≤ r .next
+  pub paced : s .next + r .lines ≤ r .next + s .lines
+  pub over : r .more ≡ false
+  pub complete : (p : Part) → Holds deck text s p → Complete deck text′ r p
+
+-- the code's values
+abbrev pub brokenOff : Joining → Joining
+brokenOff s = record { sound = false; more = false; packing = s .packing; lines = s .lines; next = s .next }
+
+abbrev pub nothingFrom : ℕ → Joining
+nothingFrom from =
+    record { sound = true; more = true; packing = record { place = Outside; whole = true; length = 0 }; lines = 0; next = from }
+
+abbrev pub skippedLine : List ℕ → ℕ → Gathered
+skippedLine line next =
+    record { skipped = true; sound = soundLine line; label = 0; length = 0; whole = true; lines = 1; next = next }
+
+-- the entry that the code's value says, with its card, the bytes of its label and of its columns 10-72
+unfoldable pub entryOf : Gathered → ℕ → List ℕ → List ℕ → Entry
+entryOf r n label raw = cond (r .skipped) (skipped n (r .sound)) (statement n (r .sound) label raw)
+
+-- a deck with a line at from, and a text for the bytes of its statements
+pub record Readable (deck : List ℕ) (from : ℕ) (text : List ℕ) : Type 0 where
+  pub start : from < length deck
+  pub small : length deck ≤ 32768
+  pub size : length text ≡ 32768
+
+-- the entry that begins with the line at from, and those behind it
+pub record Gathers (deck : List ℕ) (from : ℕ) (text : List ℕ) (r : Gathered) : Type 0 where
+  pub raw : List ℕ
+  pub label : List ℕ
+  pub entry : (n : ℕ) →
+      entriesFrom edition1 n (lines (drop from deck))
+      ≡ entryOf r n label raw ∷ entriesFrom edition1 (n + r .lines) (lines (drop (r .next) deck))
+  pub key : r .label ≡ keyOf label
+  pub short : length label ≤ 8
+  pub clean : r .sound ≡ true → all isKeyByte label ≡ true
+  pub bytes : take (r .length) text ≡ packed raw
+  pub whole : r .whole ≡ literalsWhole raw
+  pub fits : r .length ≤ 32768
+  pub onward : from < r .next
+  pub paced : from + r .lines ≤ r .next
+  pub inside : r .next ≤ length deck + 1
+  pub size : length text ≡ 32768

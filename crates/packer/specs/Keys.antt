@@ -1,0 +1,13 @@
+-- The key of a name: its bytes as one number, the first byte lowest. Assumes nothing.
+use mathlib.Core.Bool.{Bool}
+use mathlib.Core.List.{List, [], _∷_}
+use Prim.Native.Nat.{ℕ, _+_, _*_}
+use Rattle.cards.specs.Bytes.{between}
+
+unfoldable pub keyOf : List ℕ → ℕ
+keyOf [] = 0
+keyOf (b ∷ bs) = 256 * keyOf bs + b
+
+-- a byte that a key shows: zeros behind a name's bytes are no part of it
+unfoldable pub isKeyByte : ℕ → Bool
+isKeyByte b = between 1 255 b

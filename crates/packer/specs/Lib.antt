@@ -1,0 +1,11 @@
+-- What the packer promises: the numbers of the classes (Classes), the ends of lines (Lines), keys of names (Keys), packing from a place on
+-- (Places, Packs), joining lines from the left (Joins), and an entry read from the deck (Gathering); with laws for callers (KeyLaws, LineLaws).
+pub mod Classes
+pub mod Gathering
+pub mod Joins
+pub mod KeyLaws
+pub mod Keys
+pub mod LineLaws
+pub mod Lines
+pub mod Packs
+pub mod Places

@@ -1,0 +1,16 @@
+-- Behind the end of a deck there is no line and no entry. Assumes nothing.
+use mathlib.Core.List.{List, []}
+use mathlib.Core.Path.{_≡_, ap, sym}
+use Prim.Native.Nat.{ℕ, _≤_}
+use lib.ListN.{length, drop, drop-of-length-le}
+use Rattle.base.specs.Edition.{edition1}
+use Rattle.cards.specs.Cards.{entriesFrom, lines}
+
+module _ (deck : List ℕ) (i : ℕ) (over : length deck ≤ i) where
+  pub lines-behind : [] ≡ lines (drop i deck)
+  unfolding lines
+  lines-behind = rw (drop-of-length-le deck over)
+
+  pub entries-behind : (n : ℕ) → entriesFrom edition1 n (lines (drop i deck)) ≡ []
+  unfolding entriesFrom
+  entries-behind n = ap (entriesFrom edition1 n) (sym lines-behind)

@@ -1,0 +1,28 @@
+-- What packing some bytes behind others does. Assumes nothing.
+use mathlib.Core.Bool.{_&&_}
+use mathlib.Core.List.{List, _++_}
+use mathlib.Core.Path.{_≡_}
+use Prim.Native.Nat.{ℕ, _+_, _≤_}
+use lib.ListN.{length, take}
+use Rattle.cards.specs.Packing.{packFrom, placeAfter}
+use Rattle.packer.specs.declared.packed.Packing.{Packing}
+use Rattle.packer.specs.Places.{keptAt, placeBehind, placeOf, staysWhole, unbroken}
+
+-- the packing s goes on over one byte
+pub record Steps (s : Packing) (b : ℕ) (r : Packing) : Type 0 where
+  pub place : placeOf (r .place) ≡ placeAfter (placeOf (s .place)) b
+  pub whole : r .whole ≡ s .whole && staysWhole (placeOf (s .place)) b
+  pub length : r .length ≡ s .length + keptAt (placeOf (s .place)) b
+
+-- there is room in text for some bytes more
+pub record Packable (part text : List ℕ) (s : Packing) : Type 0 where
+  pub size : length text ≡ 32768
+  pub room : s .length + length part ≤ 32768
+
+-- the packing s of text goes on over part: the bytes, the place, whether literals are whole, and room
+pub record Packs (part text : List ℕ) (s : Packing) (text′ : List ℕ) (r : Packing) : Type 0 where
+  pub bytes : take (r .length) text′ ≡ take (s .length) text ++ packFrom (placeOf (s .place)) part
+  pub place : placeOf (r .place) ≡ placeBehind (placeOf (s .place)) part
+  pub whole : r .whole ≡ s .whole && unbroken (placeOf (s .place)) part
+  pub room : r .length ≤ s .length + length part
+  pub size : length text′ ≡ length text

@@ -1,0 +1,145 @@
+// One line of a deck: where it ends, whether it is sound, a comment or blank, and its parts by columns.
+// Assumes nothing.
+use crate::classes;
+ghost use mathlib.Core.Bool.{false};
+ghost use mathlib.Core.Path.{_≡_};
+ghost use Prim.Native.Nat.{_+_, _≤_, _<_};
+ghost use lib.ListN.{length, take, drop, getD};
+ghost use Rattle.base.specs.Edition.{edition1};
+ghost use Rattle.cards.specs.Cards.{column9, isBlankLine, isComment, soundLine, textOf};
+ghost use Rattle.packer.specs.Lines.{Ends, isSkipped, NoEnd, Passed};
+
+// the columns that count, and the longest line
+const COLUMNS: usize = 72;
+
+const LONGEST: usize = 80;
+
+// whether a line ends in a block of 16 bytes; with no early exit, so that the bytes are looked at together
+fn ends_in(block: &[u8]) -> bool
+    requires { ⌜ length (now block) ≡ 16 ⌝ }
+    ensures { λ r. ⌜ (r ≡ false → NoEnd (now (block .entry)) 0 16) ⌝ }
+{
+    let mut found = false;
+    let mut j = 0;
+    while j < 16 {
+        found = found | (block[j] == 10);
+        j += 1;
+    }
+    found
+}
+
+// a place from from on, in blocks of 16, before which the line does not end
+fn pass_blocks(deck: &[u8], from: usize) -> usize
+    requires { ⌜ from ≤ length (now deck) ⌝ }
+    ensures { λ r. ⌜ Passed (now (deck .entry)) from r ⌝ }
+{
+    let mut i = from;
+    while 16 <= deck.len() - i {
+        if ends_in(&deck[i..i + 16]) {
+            return i;
+        }
+        i += 16;
+    }
+    i
+}
+
+// where the line that starts at from ends: at its byte 10, or at the end of the deck
+pub fn line_end(deck: &[u8], from: usize) -> usize
+    requires { ⌜ from < length (now deck) ⌝ }
+    ensures { λ r. ⌜ Ends (now (deck .entry)) from r ⌝ }
+{
+    let mut i = pass_blocks(deck, from);
+    while i < deck.len() {
+        if deck[i] == 10 {
+            return i;
+        }
+        i += 1;
+    }
+    i
+}
+
+// whether 3 finds the line sound: at most 80 bytes, none of them refused
+pub fn sound_line(line: &[u8]) -> bool
+    ensures { λ r. ⌜ r ≡ soundLine (now (line .entry)) ⌝ }
+{
+    if LONGEST < line.len() {
+        return false;
+    }
+    let mut bad = false;
+    let mut i = 0;
+    while i < line.len() {
+        bad = bad | classes::is_refused(line[i]);
+        i += 1;
+    }
+    !bad
+}
+
+// the byte at a place, or a blank behind the end
+fn byte_or_blank(line: &[u8], i: usize) -> u8
+    ensures { λ r. ⌜ r ≡ getD (now (line .entry)) i 32 ⌝ }
+{
+    if i < line.len() { line[i] } else { b' ' }
+}
+
+// the first n bytes, or all of them
+pub fn front(line: &[u8], n: usize) -> &[u8]
+    ensures { λ r. ⌜ now r ≡ take n (now (line .entry)) ⌝ }
+{
+    if line.len() <= n {
+        return line;
+    }
+    &line[..n]
+}
+
+// the bytes behind the first n
+fn behind(line: &[u8], n: usize) -> &[u8]
+    ensures { λ r. ⌜ now r ≡ drop n (now (line .entry)) ⌝ }
+{
+    let end = line.len();
+    if end <= n {
+        return &line[end..];
+    }
+    &line[n..]
+}
+
+pub fn is_comment(line: &[u8]) -> bool
+    ensures { λ r. ⌜ r ≡ isComment (now (line .entry)) ⌝ }
+{
+    byte_or_blank(line, 0) == b'*'
+}
+
+// whether columns 1 to 72 are blank
+pub fn is_blank_line(line: &[u8]) -> bool
+    ensures { λ r. ⌜ r ≡ isBlankLine edition1 (now (line .entry)) ⌝ }
+{
+    let bytes = front(line, COLUMNS);
+    let mut i = 0;
+    while i < bytes.len() {
+        if bytes[i] != b' ' {
+            return false;
+        }
+        i += 1;
+    }
+    true
+}
+
+// whether the line is a comment or blank
+pub fn is_skipped(line: &[u8]) -> bool
+    ensures { λ r. ⌜ r ≡ isSkipped (now (line .entry)) ⌝ }
+{
+    is_comment(line) || is_blank_line(line)
+}
+
+// the byte that joins the next line
+pub fn column9(line: &[u8]) -> u8
+    ensures { λ r. ⌜ r ≡ column9 edition1 (now (line .entry)) ⌝ }
+{
+    byte_or_blank(front(line, COLUMNS), 8)
+}
+
+// columns 10 to 72
+pub fn text_of(line: &[u8]) -> &[u8]
+    ensures { λ r. ⌜ now r ≡ textOf edition1 (now (line .entry)) ⌝ }
+{
+    behind(front(line, COLUMNS), 9)
+}

@@ -1,0 +1,109 @@
+// Packing: the bytes of a statement without the blanks outside literals.
+// Assumes nothing.
+ghost use mathlib.Core.Path.{_≡_};
+ghost use Prim.Native.Nat.{_<_};
+ghost use Rattle.cards.specs.Packing.{placeAfter};
+ghost use Rattle.packer.specs.Places.{isOutside, placeOf, staysWhole};
+ghost use Rattle.packer.specs.Packs.{Packable, Packs, Steps};
+
+// the byte that opens and closes a literal
+const QUOTE: u8 = 34;
+
+// where a byte stands: outside a literal, right behind the quote that opens one, right behind two quotes, further inside
+pub enum Place {
+    Outside,
+    Opened,
+    Doubled,
+    Inside,
+}
+
+// what is packed so far: the place of the next byte, whether no literal was broken, and how many bytes there are
+pub struct Packing {
+    pub place: Place,
+    pub whole: bool,
+    pub length: usize,
+}
+
+// the place behind a byte
+fn place_after(place: Place, b: u8) -> Place
+    ensures { λ r. ⌜ placeOf r ≡ placeAfter (placeOf place) b ⌝ }
+{
+    match place {
+        Place::Outside => if b == QUOTE {
+            Place::Opened
+        } else {
+            Place::Outside
+        },
+        Place::Opened => if b == QUOTE {
+            Place::Doubled
+        } else {
+            Place::Inside
+        },
+        Place::Doubled => Place::Outside,
+        Place::Inside => if b == QUOTE {
+            Place::Outside
+        } else {
+            Place::Inside
+        },
+    }
+}
+
+// false behind two quotes that no third follows
+fn stays_whole(place: Place, b: u8) -> bool
+    ensures { λ r. ⌜ r ≡ staysWhole (placeOf place) b ⌝ }
+{
+    match place {
+        Place::Outside => true,
+        Place::Opened => true,
+        Place::Doubled => b == QUOTE,
+        Place::Inside => true,
+    }
+}
+
+pub fn is_outside(place: Place) -> bool
+    ensures { λ r. ⌜ r ≡ isOutside (placeOf place) ⌝ }
+{
+    match place {
+        Place::Outside => true,
+        Place::Opened => false,
+        Place::Doubled => false,
+        Place::Inside => false,
+    }
+}
+
+// goes on behind a byte: a blank outside literals is not kept
+fn step(s: Packing, b: u8) -> Packing
+    requires { ⌜ s .length < 32768 ⌝ }
+    ensures { λ r. ⌜ Steps s b r ⌝ }
+{
+    let place = s.place;
+    if is_outside(place) & (b != QUOTE) {
+        return Packing {
+            place: Place::Outside,
+            whole: s.whole,
+            length: s.length + (b != b' ') as usize,
+        };
+    }
+    Packing {
+        place: place_after(place, b),
+        whole: s.whole & stays_whole(place, b),
+        length: s.length + 1,
+    }
+}
+
+// packs some bytes behind those of text that are packed
+pub fn pack(part: &[u8], text: &mut [u8; 32768], start: Packing) -> Packing
+    requires { ⌜ Packable (now part) (now text) start ⌝ }
+    ensures { λ r. ⌜ Packs (now (part .entry)) (now (text .entry)) start (now (text .exit)) r ⌝ }
+{
+    let mut s = start;
+    let mut i = 0;
+    while i < part.len() {
+        let b = part[i];
+        let at = s.length;
+        text[at] = b;
+        s = step(s, b);
+        i += 1;
+    }
+    s
+}

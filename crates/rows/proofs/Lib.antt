@@ -1,0 +1,4 @@
+-- The laws that several proofs share.
+mod Cells
+mod Numbers
+mod Steps

@@ -1,0 +1,28 @@
+-- `rows::operator_of` meets its contract.
+-- Assumes nothing.
+use borrow.Author.Tests.{ne-eqb}
+use Rattle.calls.specs.TableReading.{operatorOfKind}
+use Rattle.rows.proofs.operator_of.Statement.{statement}
+use Rattle.rows.proofs.operator_of.Tie as tie
+
+returns : tie.Need-returns
+unfolding operatorOfKind
+returns c = rw (c .match .keys1)
+
+returns-2 : tie.Need-returns-2
+unfolding operatorOfKind
+returns-2 c = rw (c .match .keys2)
+
+returns-3 : tie.Need-returns-3
+unfolding operatorOfKind
+returns-3 c = rw (c .match .keys3)
+
+returns-4 : tie.Need-returns-4
+unfolding operatorOfKind
+returns-4 c =
+    let kind = c .before .args .kind in
+    let others = c .match .rest in
+    rw (ne-eqb kind 10 (others .0 .0 .1), ne-eqb kind 11 (others .0 .1), ne-eqb kind 12 (others .1))
+
+pub operator-of-spec : {M : Type 1} → statement M
+operator-of-spec = tie.close (tie.spec returns returns-2 returns-3 returns-4)

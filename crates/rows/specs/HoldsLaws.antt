@@ -1,0 +1,125 @@
+-- What the rules' tests tell of the decoded enums. Assumes nothing.
+use mathlib.Core.Bool.{true, not, _&&_, and-eq-true-iff}
+use mathlib.Core.Path.{_≡_, refl}
+use Prim.Native.Nat.{ℕ, _≤_, _<_}
+use native.Mathlib.Omega.{arith}
+use lib.Dec.{ltb, eqb}
+use lib.IntN.{natAbs}
+use borrow.Author.Tests.{ltb-true, leb-true, eqb-false, not-true}
+use Rattle.base.specs.Edition.{edition1}
+use Rattle.base.specs.Limits as Limits
+use Rattle.values.specs.Numbers.{isNegative, isInRange}
+use Rattle.language.specs.Program as Program
+use Rattle.calls.specs.Rules as Rules
+use Rattle.calls.specs.Rules.{placeOf}
+use Rattle.convert.specs.Laws.{limit-is}
+use Rattle.convert.specs.Numbers.{InRange}
+use Rattle.convert.specs.declared.Int.{Int}
+use Rattle.rows.specs.Holds.{LengthHolds, SignedLengthHolds, PartHolds, OperandHolds, ItemHolds, placeIn}
+use Rattle.rows.specs.Holds.{FillerHolds, BranchHolds, TestHolds}
+use Rattle.rows.specs.Meaning.{lengthMeaning, partMeaning, operandMeaning, itemMeaning, branchMeaning, testMeaning}
+use Rattle.rows.specs.declared.Length.{Length}
+use Rattle.rows.specs.declared.Length.the-variants as lengths
+use Rattle.rows.specs.declared.Part.{Part}
+use Rattle.rows.specs.declared.Part.the-variants.{Whole, First}
+use Rattle.rows.specs.declared.Operand.{Operand}
+use Rattle.rows.specs.declared.Operand.the-variants as operands
+use Rattle.rows.specs.declared.Item.{Item}
+use Rattle.rows.specs.declared.Item.the-variants as items
+use Rattle.rows.specs.declared.Branch.{Branch}
+use Rattle.rows.specs.declared.Test.{Test}
+use Rattle.rows.specs.declared.Test.the-variants.{IsNull, IsNumeric, Compares}
+
+-- a constant that passes the test is in range
+pub constant-holds : (z : Int) → isInRange edition1 (z .value) ≡ true → InRange z
+unfolding isInRange
+constant-holds z h = rw limit-is at (leb-true (natAbs (z .value)) (edition1 .limit) h)
+
+-- the string that is searched
+pub place-is : (p : Part) → placeOf (partMeaning p) ≡ placeIn p
+unfolding placeOf
+place-is (Whole s) = refl
+place-is (First s n) = refl
+
+-- a program of so many strings, numbers and steps
+module _ (strings numbers steps : ℕ) (short : strings ≤ Limits.strings) (few : numbers ≤ Limits.numbers) where
+  below-strings : (s : ℕ) → ltb s strings ≡ true → s < Limits.strings
+  below-strings s h = omega (arith, ltb-true s strings h)
+
+  below-numbers : (i : ℕ) → ltb i numbers ≡ true → i < Limits.numbers
+  below-numbers i h = omega (arith, ltb-true i numbers h)
+
+  pub length-holds : (n : Length) → Rules.lengthHolds edition1 strings numbers steps (lengthMeaning n) ≡ true → LengthHolds n
+  unfolding Rules.lengthHolds
+  length-holds (lengths.Constant z) h =
+      let both = and-eq-true-iff (isInRange edition1 (z .value)) (not (isNegative (z .value))) .0 h in
+      record { range = constant-holds z (both .0); natural = not-true (isNegative (z .value)) (both .1) }
+  length-holds (lengths.Number i) h = below-numbers i h
+
+  pub signed-length-holds : (n : Length) → Rules.signedLengthHolds edition1 strings numbers steps (lengthMeaning n) ≡ true
+      → SignedLengthHolds n
+  unfolding Rules.signedLengthHolds
+  signed-length-holds (lengths.Constant z) h = constant-holds z h
+  signed-length-holds (lengths.Number i) h = below-numbers i h
+
+  pub part-holds : (p : Part) → Rules.partHolds edition1 strings numbers steps (partMeaning p) ≡ true → PartHolds p
+  unfolding Rules.partHolds
+  part-holds (Whole s) h = below-strings s h
+  part-holds (First s n) h =
+      let both = and-eq-true-iff (ltb s strings) (Rules.lengthHolds edition1 strings numbers steps (lengthMeaning n)) .0 h in
+      (below-strings s (both .0), length-holds n (both .1))
+
+  pub operand-holds : (a : Operand) → Rules.operandHolds edition1 strings numbers steps (operandMeaning a) ≡ true → OperandHolds a
+  unfolding Rules.operandHolds
+  operand-holds (operands.Constant z) h = constant-holds z h
+  operand-holds (operands.Number i) h = below-numbers i h
+  operand-holds (operands.LengthOf s) h = below-strings s h
+  operand-holds (operands.NumberOf p) h = part-holds p h
+
+  pub item-holds : (x : Item) → Rules.itemHolds edition1 strings numbers steps (itemMeaning x) ≡ true → ItemHolds x
+  unfolding Rules.itemHolds
+  item-holds (items.Operand a) h = operand-holds a h
+  item-holds (items.Operator o) h = tt
+  item-holds (items.Sign s) h = tt
+
+  pub text-holds : (n : Length) (m : ℕ)
+      → Rules.elementHolds edition1 strings numbers steps (Program.text (lengthMeaning n) m) ≡ true → SignedLengthHolds n × (m < Limits.numbers)
+  unfolding Rules.elementHolds
+  text-holds n m h =
+      let both = and-eq-true-iff (Rules.signedLengthHolds edition1 strings numbers steps (lengthMeaning n)) (ltb m numbers) .0 h in
+      (signed-length-holds n (both .0), below-numbers m (both .1))
+
+  pub free-holds : (reference s : ℕ) → Rules.patternHolds edition1 strings numbers steps reference (Program.freeFiller s) ≡ true
+      → FillerHolds reference s
+  unfolding Rules.patternHolds
+  free-holds r s h =
+      let both = and-eq-true-iff (ltb s strings) (not (eqb s r)) .0 h in
+      record { place = below-strings s (both .0); other = eqb-false s r (not-true (eqb s r) (both .1)) }
+
+  pub fixed-holds : (reference s : ℕ) (n : Length)
+      → Rules.patternHolds edition1 strings numbers steps reference (Program.fixedFiller s (lengthMeaning n)) ≡ true
+      → FillerHolds reference s × LengthHolds n
+  unfolding Rules.patternHolds
+  fixed-holds r s n h =
+      let size = Rules.lengthHolds edition1 strings numbers steps (lengthMeaning n) in
+      let one = and-eq-true-iff (ltb s strings) (not (eqb s r) && size) .0 h in
+      let two = and-eq-true-iff (not (eqb s r)) size .0 (one .1) in (
+        record { place = below-strings s (one .0); other = eqb-false s r (not-true (eqb s r) (two .0)) },
+        length-holds n (two .1),
+      )
+
+  pub branch-holds : (b : Branch) → Rules.branchHolds edition1 strings numbers steps (branchMeaning b) ≡ true → BranchHolds steps b
+  unfolding Rules.branchHolds
+  branch-holds b h =
+      let both = and-eq-true-iff (ltb (b .success) steps) (ltb (b .failure) steps) .0 h in
+      record { success = ltb-true (b .success) steps (both .0); failure = ltb-true (b .failure) steps (both .1) }
+
+  pub test-holds : (x : Test) → Rules.testHolds edition1 strings numbers steps (testMeaning x) ≡ true → TestHolds x
+  unfolding Rules.testHolds
+  test-holds (IsNull s) h = below-strings s h
+  test-holds (IsNumeric p) h = part-holds p h
+  test-holds (Compares x) h =
+      let left = Rules.operandHolds edition1 strings numbers steps (operandMeaning (x .left)) in
+      let right = Rules.operandHolds edition1 strings numbers steps (operandMeaning (x .right)) in
+      let both = and-eq-true-iff left right .0 h in
+      (operand-holds (x .left) (both .0), operand-holds (x .right) (both .1))

@@ -1,0 +1,344 @@
+-- What a table that keeps the rules lets callers rely on: each statement that is read from it holds, and a step behind it is there.
+-- Assumes nothing.
+use mathlib.Core.Bool.{Bool, true, false, not, _&&_, and-eq-true-iff, false≢true}
+use mathlib.Core.List.{List, _∷_, map}
+use mathlib.Core.Path.{_≡_, refl, sym, _∙_, ap, subst}
+use Prim.Native.Nat.{ℕ, zero, suc, _+_, _*_, _-_, _≤_, _<_}
+use native.Mathlib.Omega.{arith}
+use lib.Dec.{leb, ltb, eqb}
+use lib.ListN.{length, take, drop, getD, length-append, length-map, List·getD-map}
+use borrow.Author.Tests.{leb-true, ltb-true, eqb-true}
+use Rattle.base.specs.Choice.{cond-cases}
+use Rattle.base.specs.Edition.{edition1}
+use Rattle.base.specs.Limits as Limits
+use Rattle.base.specs.Lists.{all, isNil}
+use Rattle.language.specs.Program as Program
+use Rattle.machine.specs.Step.{statementAt}
+use Rattle.calls.specs.NumeralLaws.{Stands}
+use Rattle.calls.specs.Numerals.{numberAt}
+use Rattle.calls.specs.ProgramLaws.{program-runs, statement-holds, step-behind, first-step}
+use Rattle.calls.specs.Rules as Rules
+use Rattle.calls.specs.Rules.{keepsRules, balanced, placeOf, isFinish}
+use Rattle.calls.specs.Table as Table
+use Rattle.calls.specs.Table.{stepsAt, elementsAt, itemsAt, literalsAt, elementsOf, itemsOf, replacementOf, rowBytes, rowOf, row}
+use Rattle.calls.specs.Table.{rangeCell, allElements, allItems}
+use Rattle.calls.specs.TableLaws.{InRange, keeps-image}
+use Rattle.calls.specs.TableReading.{cellAt, rowAt, itemOfCell, elementOfCell, patternOfCell, itemsFrom, elementsFrom, patternFrom}
+use Rattle.calls.specs.TableReading.{statementOfRow, stepIn, stepsFrom, programIn}
+use Rattle.rows.specs.Holds.{ItemsHold, ElementsHold, PatternsHold, ReplacementHolds, ElementHolds, PatternHolds}
+use Rattle.rows.specs.Holds.{Within, placeIn, ScanHolds, StatementHolds}
+use Rattle.rows.specs.HoldsLaws.{place-is, part-holds, item-holds, text-holds, free-holds, fixed-holds, branch-holds, test-holds}
+use Rattle.rows.specs.Meaning.{partMeaning, elementMeaning, patternMeaning, itemsMeaning, elementsMeaning}
+use Rattle.rows.specs.Meaning.{patternsMeaning, branchMeaning, testMeaning, replacementMeaning, statementMeaning}
+use Rattle.rows.specs.Reading.{ElementRead, PatternRead, StretchRead, BehindRead, ScanStretches, StretchesRead, StatementRead}
+use Rattle.rows.specs.Regions.{RowPlace, RangeIs, row-range, program-in-range, kept-row, kept-literal}
+use Rattle.rows.specs.declared.Item.{Item}
+use Rattle.rows.specs.declared.Element.{Element}
+use Rattle.rows.specs.declared.Element.the-variants.{Literal, Part, Text}
+use Rattle.rows.specs.declared.PatternElement.{PatternElement}
+use Rattle.rows.specs.declared.PatternElement.the-variants.{Value, Free, Fixed}
+use Rattle.rows.specs.declared.Stretch.{Stretch}
+use Rattle.rows.specs.declared.Replacement.{Replacement}
+use Rattle.rows.specs.declared.Replacement.the-variants.{Nothing, By}
+use Rattle.rows.specs.declared.Scan as Scan
+use Rattle.rows.specs.declared.Statement.{Statement}
+use Rattle.rows.specs.declared.Statement.the-variants as statements
+
+-- rows that are read one behind the other
+module _ {A : Type 0} (single : ℕ → A) (rows : ℕ → ℕ → List A) (next : (at n : ℕ) → rows at (suc n) ≡ single at ∷ rows (at + 1) n) where
+  -- each passes a test that all pass
+  each-row : (f : A → Bool) (at n j : ℕ) → j < n → all f (rows at n) ≡ true → f (single (at + j)) ≡ true
+  unfolding all
+  each-row f at zero j h g = absurd (omega arith)
+  each-row f at (suc n) zero h g =
+      let both = and-eq-true-iff (f (single at)) (all f (rows (at + 1) n)) .0 (sym (ap (all f) (next at n)) ∙ g) in
+      subst (λ (k : ℕ). f (single k) ≡ true) (omega arith) (both .0)
+  each-row f at (suc n) (suc j) h g =
+      let both = and-eq-true-iff (f (single at)) (all f (rows (at + 1) n)) .0 (sym (ap (all f) (next at n)) ∙ g) in
+      let place : at + 1 + j ≡ at + suc j = omega arith in
+      subst (λ (k : ℕ). f (single k) ≡ true) place (each-row f (at + 1) n j (omega arith) (both .1))
+
+  -- and so does the one at a place within a stretch
+  within-row : (f : A → Bool) (s : Stretch) (k : ℕ) → Within s k → all f (rows (s .from) (s .count)) ≡ true → f (single k) ≡ true
+  within-row f s k w g =
+      let place : s .from + (k - s .from) ≡ k = omega arith in
+      subst (λ (i : ℕ). f (single i) ≡ true) place (each-row f (s .from) (s .count) (k - s .from) (omega arith) g)
+
+-- a cell that is read as a literal is of kind 16
+literal-kind : (t : List ℕ) (c : Table.Cell) (w : List ℕ) → Program.literal w ≡ elementOfCell t c → c .kind ≡ 16
+unfolding elementOfCell
+literal-kind t c w =
+    cond-cases (λ y. Program.literal w ≡ y → c .kind ≡ 16) (leb (c .kind) 3)
+    (λ h e. let z : _≡_ {A = ℕ} 0 1 = cc in absurd (omega arith))
+    (λ h.
+    cond-cases (λ y. Program.literal w ≡ y → c .kind ≡ 16) (eqb (c .kind) 16) (λ g e. eqb-true (c .kind) 16 g)
+    (λ g e. let z : _≡_ {A = ℕ} 0 1 = cc in absurd (omega arith)))
+
+-- a value of a pattern is read as an element
+value-read : (t : List ℕ) (c : Table.Cell) (x : Element) → PatternRead t c (Value x) → ElementRead t c x
+unfolding patternOfCell
+value-read t c x r = record { means = inner (r .means); ends = r .ends }
+  where
+    inner : Program.value (elementMeaning t x) ≡ patternOfCell t c → elementMeaning t x ≡ elementOfCell t c
+    inner =
+        cond-cases (λ y. Program.value (elementMeaning t x) ≡ y → elementMeaning t x ≡ elementOfCell t c) (leb (c .kind) 18) (λ h e. cc)
+        (λ h.
+        cond-cases (λ y. Program.value (elementMeaning t x) ≡ y → elementMeaning t x ≡ elementOfCell t c) (eqb (c .kind) 19)
+        (λ g e. let z : _≡_ {A = ℕ} 0 1 = cc in absurd (omega arith)) (λ g e. let z : _≡_ {A = ℕ} 0 1 = cc in absurd (omega arith)))
+
+-- bytes that are cut out of a list are none only where none are asked for
+cut-some : (n : ℕ) (l : List ℕ) → not (isNil (take n l)) ≡ true → 0 < n
+unfolding isNil
+cut-some zero l h = absurd (false≢true h)
+cut-some (suc n) l h = omega arith
+
+-- the step at a place is the one read there
+step-at : (t : List ℕ) (at n j : ℕ) (d : Program.Step) → j < n → getD (stepsFrom t at n) j d ≡ stepIn t (stepsAt + 24 * (at + j))
+unfolding stepsFrom
+step-at t at zero j d h = absurd (omega arith)
+step-at t at (suc n) zero d h = ap (λ k. stepIn t (stepsAt + 24 * k)) (omega arith)
+step-at t at (suc n) (suc j) d h =
+    let place : at + 1 + j ≡ at + suc j = omega arith in
+    step-at t (at + 1) n j d (omega arith) ∙ ap (λ k. stepIn t (stepsAt + 24 * k)) place
+
+-- and there are as many as asked for
+length-stepsFrom : (t : List ℕ) (at n : ℕ) → length (stepsFrom t at n) ≡ n
+unfolding stepsFrom
+length-stepsFrom t at zero = refl
+length-stepsFrom t at (suc n) = ap suc (length-stepsFrom t (at + 1) n)
+
+-- the header's count is that of the program's steps
+pub step-count : (t : List ℕ) → length (programIn t .steps) ≡ numberAt 2 t 2
+unfolding programIn
+step-count t = length-stepsFrom t 0 (numberAt 2 t 2)
+
+-- the program's step k is the one of row k
+program-step : (t : List ℕ) (k : ℕ) (d : Program.Step) → k < numberAt 2 t 2 → getD (programIn t .steps) k d ≡ stepIn t (stepsAt + 24 * k)
+unfolding programIn
+program-step t k d h = step-at t 0 (numberAt 2 t 2) k d h ∙ ap (λ j. stepIn t (stepsAt + 24 * j)) (omega arith)
+
+-- what stands behind the last step
+abbrev noStep : Program.Step
+noStep = record { card = 0; statement = Program.finish }
+
+-- the statement that the machine carries out at step k is the one of row k
+pub statement-is : (t : List ℕ) (k : ℕ) → k < numberAt 2 t 2 → statementAt (programIn t) k ≡ statementOfRow t (rowAt t (stepsAt + 24 * k))
+unfolding statementAt stepIn
+statement-is t k h =
+    let statement : Program.Step → Program.Statement = λ s. s .statement in
+    List·getD-map statement (programIn t .steps) k noStep ∙ ap statement (program-step t k noStep h)
+
+-- the table keeps the rules
+module _ (t : List ℕ) (kept : keepsRules edition1 t ≡ true) where
+  -- what its program has
+  abbrev strings : ℕ
+  strings = programIn t .strings
+
+  abbrev numbers : ℕ
+  numbers = programIn t .numbers
+
+  abbrev steps : ℕ
+  steps = length (programIn t .steps)
+
+  abbrev elements : ℕ
+  elements = length (allElements (programIn t .steps))
+
+  abbrev items : ℕ
+  items = length (allItems (programIn t .steps))
+
+  ok : InRange edition1 (programIn t)
+  ok = program-in-range t kept
+
+  -- an element that is read from one of its cells and passes the test holds
+  element-holds : (k : ℕ) (x : Element) → k < elements → ElementRead t (cellAt t (elementsAt + 8 * k)) x
+      → Rules.elementHolds edition1 strings numbers steps (elementMeaning t x) ≡ true → ElementHolds x
+  unfolding Rules.elementHolds literalsAt
+  element-holds k (Literal from to) inside r h =
+      let kind = literal-kind t (cellAt t (elementsAt + 8 * k)) (take (to - from) (drop from t)) (r .means) in
+      let end = kept-literal t kept k inside kind in
+      let some = cut-some (to - from) (drop from t) h in
+      record { order = omega arith; inside = omega (arith, r .ends) }
+  element-holds k (Part p) inside r h = part-holds strings numbers steps (ok .strings) (ok .numbers) p h
+  element-holds k (Text n m) inside r h = text-holds strings numbers steps (ok .strings) (ok .numbers) n m h
+
+  -- and so does an element of a pattern
+  pattern-holds : (reference k : ℕ) (x : PatternElement) → k < elements → PatternRead t (cellAt t (elementsAt + 8 * k)) x
+      → Rules.patternHolds edition1 strings numbers steps reference (patternMeaning t x) ≡ true → PatternHolds reference x
+  unfolding Rules.patternHolds
+  pattern-holds r k (Value x) inside read h = element-holds k x inside (value-read t (cellAt t (elementsAt + 8 * k)) x read) h
+  pattern-holds r k (Free s) inside read h = free-holds strings numbers steps (ok .strings) (ok .numbers) r s h
+  pattern-holds r k (Fixed s n) inside read h = fixed-holds strings numbers steps (ok .strings) (ok .numbers) r s n h
+
+  -- a stretch of items that pass the test and end within all items
+  items-hold : (s : Stretch) → s .from + s .count ≤ items → balanced 0 (itemsMeaning t s) ≡ true
+      → all (Rules.itemHolds edition1 strings numbers steps) (itemsMeaning t s) ≡ true → ItemsHold t s
+  unfolding itemsFrom
+  items-hold s end whole h =
+      let test = Rules.itemHolds edition1 strings numbers steps in
+      let own : ℕ → Program.Item = λ k. itemOfCell (cellAt t (itemsAt + 8 * k)) in
+      record {
+        inside = omega (arith, ok .items);
+        whole = whole;
+        each =
+            λ k x w e.
+            item-holds strings numbers steps (ok .strings) (ok .numbers) x
+            (ap test e ∙ within-row own (itemsFrom t) (λ at n. refl) test s k w h);
+      }
+
+  -- a stretch of elements
+  elements-hold : (s : Stretch) → s .from + s .count ≤ elements → s .count ≡ length (elementsMeaning t s)
+      → Rules.rowHolds edition1 strings numbers steps (elementsMeaning t s) ≡ true → ElementsHold t s
+  unfolding Rules.rowHolds elementsFrom
+  elements-hold s end count h =
+      let test = Rules.elementHolds edition1 strings numbers steps in
+      let size = length (elementsMeaning t s) in
+      let both = and-eq-true-iff (leb size Limits.row) (all test (elementsMeaning t s)) .0 h in
+      let own : ℕ → Program.Element = λ k. elementOfCell t (cellAt t (elementsAt + 8 * k)) in
+      record {
+        inside = omega (arith, ok .elements);
+        few = omega (arith, leb-true size Limits.row (both .0));
+        each =
+            λ k x w r.
+            element-holds k x (omega arith) r (ap test (r .means) ∙ within-row own (elementsFrom t) (λ at n. refl) test s k w (both .1));
+      }
+
+  -- a stretch of a pattern
+  patterns-hold : (reference : ℕ) (s : Stretch) → s .from + s .count ≤ elements → s .count ≤ Limits.row
+      → all (Rules.patternHolds edition1 strings numbers steps reference) (patternsMeaning t s) ≡ true → PatternsHold t reference s
+  unfolding patternFrom
+  patterns-hold reference s end few h =
+      let test = Rules.patternHolds edition1 strings numbers steps reference in
+      let own : ℕ → Program.PatternElement = λ k. patternOfCell t (cellAt t (elementsAt + 8 * k)) in
+      record {
+        inside = omega (arith, ok .elements);
+        few = few;
+        each =
+            λ k x w r.
+            pattern-holds reference k x (omega arith) r (ap test (r .means) ∙ within-row own (patternFrom t) (λ at n. refl) test s k w h);
+      }
+
+  -- a row's stretch of elements, and nothing behind it
+  stretch-holds : (at card element : ℕ) (r : Table.Row) (s : Stretch) → Stands t at (rowBytes card r)
+      → r .right ≡ rangeCell element (length (elementsMeaning t s)) 0 → element + length (map Program.value (elementsMeaning t s)) ≤ elements
+      → StretchRead (rowAt t at .right .value) s → Rules.rowHolds edition1 strings numbers steps (elementsMeaning t s) ≡ true
+      → ElementsHold t s
+  stretch-holds at card element r s bytes right end read h =
+      let size = length (elementsMeaning t s) in
+      let count = length-map (elementsMeaning t s) Program.value in
+      let range = row-range t at card element size 0 r bytes right (omega (arith, ok .elements)) in
+      elements-hold s (omega (arith, read .from, read .count, range .first, range .second)) (read .count ∙ range .second) h
+
+  -- a replacement behind its pattern
+  replacement-holds : (x : Replacement) (v from count : ℕ) → RangeIs v from count (length (replacementOf (replacementMeaning t x)))
+      → BehindRead v x → from + (count + length (replacementOf (replacementMeaning t x))) ≤ elements
+      → Rules.rowHolds edition1 strings numbers steps (replacementOf (replacementMeaning t x)) ≡ true → ReplacementHolds t x
+  unfolding replacementOf
+  replacement-holds Nothing v from count range read end h = tt
+  replacement-holds (By s) v from count range read end h =
+      elements-hold s (omega (arith, read .0, read .1, range .first, range .second, range .third)) (read .1 ∙ range .third) h
+
+  -- a scan
+  scan-holds : (at card : ℕ) (x : Scan.Scan) → RowPlace t at elements items card (statementMeaning t (statements.Scan x))
+      → ScanStretches (rowAt t at .right .value) x
+      → Rules.statementHolds edition1 strings numbers steps (statementMeaning t (statements.Scan x)) ≡ true → ScanHolds t steps x
+  unfolding Rules.statementHolds rowOf row elementsOf
+  scan-holds at card x p r h =
+      let xs = patternsMeaning t (x .pattern) in
+      let more = replacementOf (replacementMeaning t (x .replacement)) in
+      let whole = partMeaning (x .part) in
+      let rowTest = Rules.rowHolds edition1 strings numbers steps more in
+      let branchTest = Rules.branchHolds edition1 strings numbers steps (branchMeaning (x .branch)) in
+      let patternTest = all (Rules.patternHolds edition1 strings numbers steps (placeOf whole)) xs in
+      let rest = patternTest && (rowTest && branchTest) in
+      let one = and-eq-true-iff (Rules.partHolds edition1 strings numbers steps whole) (leb (length xs) Limits.row && rest) .0 h in
+      let two = and-eq-true-iff (leb (length xs) Limits.row) rest .0 (one .1) in
+      let three = and-eq-true-iff patternTest (rowTest && branchTest) .0 (two .1) in
+      let four = and-eq-true-iff rowTest branchTest .0 (three .1) in
+      let count = length-append xs (map Program.value more) in
+      let moreCount = length-map more Program.value in
+      let end : p .element + (length xs + length more) ≤ elements = omega (arith, p .elementsEnd) in
+      let own = rowOf (p .element) (p .item) (statementMeaning t (statements.Scan x)) in
+      let range = row-range t at card (p .element) (length xs) (length more) own (p .bytes) refl (omega (arith, ok .elements)) in
+      let few = leb-true (length xs) Limits.row (two .0) in
+      let size = r .pattern .count ∙ range .second in
+      let inside : x .pattern .from + x .pattern .count ≤ elements = omega (arith, r .pattern .from, range .first) in
+      let pattern = rw (place-is (x .part)) at (three .0) in
+      record {
+        part = part-holds strings numbers steps (ok .strings) (ok .numbers) (x .part) (one .0);
+        pattern = patterns-hold (placeIn (x .part)) (x .pattern) inside (omega arith) pattern;
+        replacement =
+            replacement-holds (x .replacement) (rowAt t at .right .value) (p .element) (length xs) range (r .replacement) end (four .0);
+        branch = branch-holds strings numbers steps (ok .strings) (ok .numbers) (x .branch) (four .1);
+      }
+
+  -- a statement that is read from its row
+  statement-kept : (at card : ℕ) (x : Statement) → RowPlace t at elements items card (statementMeaning t x)
+      → StretchesRead (rowAt t at .right .value) x → Rules.statementHolds edition1 strings numbers steps (statementMeaning t x) ≡ true
+      → StatementHolds t steps x
+  unfolding Rules.statementHolds rowOf row elementsOf itemsOf
+  statement-kept at card (statements.SetNumber i s) p r h =
+      let l = itemsMeaning t s in
+      let test = all (Rules.itemHolds edition1 strings numbers steps) l in
+      let one = and-eq-true-iff (ltb i numbers) (balanced 0 l && test) .0 h in
+      let two = and-eq-true-iff (balanced 0 l) test .0 (one .1) in
+      let own = rowOf (p .element) (p .item) (Program.setNumber i l) in
+      let range = row-range t at card (p .item) (length l) 0 own (p .bytes) refl (omega (arith, p .itemsEnd, ok .items)) in
+      let end : s .from + s .count ≤ items = omega (arith, r .from, r .count, range .first, range .second, p .itemsEnd) in
+      (omega (arith, ltb-true i numbers (one .0), ok .numbers), items-hold s end (two .0) (two .1))
+  statement-kept at card (statements.SetString q s) p r h =
+      let l = elementsMeaning t s in
+      let both =
+      and-eq-true-iff (Rules.partHolds edition1 strings numbers steps (partMeaning q)) (Rules.rowHolds edition1 strings numbers steps l) .0 h in
+      let own = rowOf (p .element) (p .item) (Program.setString (partMeaning q) l) in (
+        part-holds strings numbers steps (ok .strings) (ok .numbers) q (both .0),
+        stretch-holds at card (p .element) own s (p .bytes) refl (p .elementsEnd) r (both .1),
+      )
+  statement-kept at card (statements.Goto k) p r h = ltb-true k steps h
+  statement-kept at card statements.Finish p r h = tt
+  statement-kept at card (statements.If x b) p r h =
+      let test = Rules.testHolds edition1 strings numbers steps (testMeaning x) in
+      let both = and-eq-true-iff test (Rules.branchHolds edition1 strings numbers steps (branchMeaning b)) .0 h in (
+        test-holds strings numbers steps (ok .strings) (ok .numbers) x (both .0),
+        branch-holds strings numbers steps (ok .strings) (ok .numbers) b (both .1),
+      )
+  statement-kept at card (statements.Scan x) p r h = scan-holds at card x p r h
+  statement-kept at card (statements.Read q b) p r h =
+      let test = Rules.partHolds edition1 strings numbers steps (partMeaning q) in
+      let both = and-eq-true-iff test (Rules.branchHolds edition1 strings numbers steps (branchMeaning b)) .0 h in (
+        part-holds strings numbers steps (ok .strings) (ok .numbers) q (both .0),
+        branch-holds strings numbers steps (ok .strings) (ok .numbers) b (both .1),
+      )
+  statement-kept at card (statements.Write s) p r h =
+      let own = rowOf (p .element) (p .item) (Program.write (elementsMeaning t s)) in
+      stretch-holds at card (p .element) own s (p .bytes) refl (p .elementsEnd) r h
+  statement-kept at card (statements.Execute k) p r h = ltb-true k steps h
+  statement-kept at card statements.Return p r h = tt
+
+  -- the statement of step k, as the code reads it, holds
+  pub kept-statement : (k : ℕ) (x : Statement) → k < numberAt 2 t 2 → StatementRead t (rowAt t (stepsAt + 24 * k)) x
+      → StatementHolds t (numberAt 2 t 2) x
+  unfolding stepIn
+  kept-statement k x h r =
+      let own = ap (λ (s : Program.Step). s .statement) (program-step t k noStep h) ∙ sym (r .means) in
+      let inside : k < steps = omega (arith, step-count t) in
+      let card = getD (programIn t .steps) k noStep .card in
+      let place = subst (RowPlace t (stepsAt + 24 * k) elements items card) own (kept-row t kept k noStep inside) in
+      let test = statement-holds edition1 strings numbers steps (programIn t .steps) k (ok .hold) in
+      let passes =
+      ap (Rules.statementHolds edition1 strings numbers steps)
+      (sym own ∙ sym (List·getD-map (λ (s : Program.Step). s .statement) (programIn t .steps) k noStep)) ∙ test in
+      subst (λ (n : ℕ). StatementHolds t n x) (step-count t) (statement-kept (stepsAt + 24 * k) card x place (r .stretches) passes)
+
+  -- there is a first step, and not too many
+  pub kept-steps : (0 < numberAt 2 t 2) × (numberAt 2 t 2 ≤ Limits.statements)
+  kept-steps =
+      let runs = program-runs edition1 (programIn t) (keeps-image edition1 t kept .0) in
+      omega (arith, step-count t, first-step (programIn t .steps) (runs .last), ok .steps)
+
+  -- behind a step that doesn't finish there is a step
+  pub kept-next : (k : ℕ) → k < numberAt 2 t 2 → isFinish (statementOfRow t (rowAt t (stepsAt + 24 * k))) ≡ false → k + 1 < numberAt 2 t 2
+  unfolding statementAt
+  kept-next k h goes =
+      let runs = program-runs edition1 (programIn t) (keeps-image edition1 t kept .0) in
+      let count = step-count t in
+      omega (arith, step-behind (programIn t .steps) k (runs .last) (omega arith) (ap isFinish (statement-is t k h) ∙ goes))

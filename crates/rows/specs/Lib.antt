@@ -1,0 +1,8 @@
+-- What the code's enums stand for (Meaning), what is read from a table's bytes (Reading), and what a table that keeps the rules lets
+-- callers rely on (Holds; Kept, by way of HoldsLaws and Regions).
+pub mod Holds
+pub mod HoldsLaws
+pub mod Meaning
+pub mod Reading
+pub mod Regions
+pub mod Kept

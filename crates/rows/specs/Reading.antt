@@ -1,0 +1,114 @@
+-- What the code reads from a table's bytes: the enums stand for what the table's reading says, and stretches and literals lie where their
+-- ranges say. Assumes nothing.
+use mathlib.Core.List.{List}
+use mathlib.Core.Path.{_≡_}
+use Prim.Native.Nat.{ℕ, _+_, _<_, _^_}
+use Rattle.calls.specs.Numerals.{numberAt}
+use Rattle.calls.specs.Table as Table
+use Rattle.calls.specs.Table.{literalsAt}
+use Rattle.calls.specs.TableReading.{cellAt, rowAt, rangeFrom, rangeCount, rangeMore, elementOfCell, patternOfCell}
+use Rattle.calls.specs.TableReading.{directionOf, partOfCell, branchOf, replacementOfRow, statementOfRow}
+use Rattle.rows.specs.Meaning.{cellMeaning, rowMeaning, partMeaning, elementMeaning, patternMeaning, branchMeaning}
+use Rattle.rows.specs.Meaning.{directionMeaning, replacementMeaning, statementMeaning}
+use Rattle.rows.specs.declared.Cell.{Cell}
+use Rattle.rows.specs.declared.Row.{Row}
+use Rattle.rows.specs.declared.Counts.{Counts}
+use Rattle.rows.specs.declared.Element.{Element}
+use Rattle.rows.specs.declared.Element.the-variants.{Literal, Part, Text}
+use Rattle.rows.specs.declared.PatternElement.{PatternElement}
+use Rattle.rows.specs.declared.PatternElement.the-variants.{Value, Free, Fixed}
+use Rattle.rows.specs.declared.Stretch.{Stretch}
+use Rattle.rows.specs.declared.Replacement.{Replacement}
+use Rattle.rows.specs.declared.Replacement.the-variants.{Nothing, By}
+use Rattle.rows.specs.declared.Scan as Scan
+use Rattle.rows.specs.declared.Statement.{Statement}
+use Rattle.rows.specs.declared.Statement.the-variants as statements
+
+-- a cell that was read at a place
+pub record CellRead (t : List ℕ) (at : ℕ) (c : Cell) : Type 0 where
+  pub same : cellMeaning c ≡ cellAt t at
+  pub small : c .value < 2 ^ 48
+
+-- the values of a row's cells have 6 bytes
+pub record SmallRow (r : Row) : Type 0 where
+  pub left : r .left .value < 2 ^ 48
+  pub right : r .right .value < 2 ^ 48
+
+-- a row that was read at a place
+pub record RowRead (t : List ℕ) (at : ℕ) (r : Row) : Type 0 where
+  pub same : rowMeaning r ≡ rowAt t at
+  pub small : SmallRow r
+
+-- a stretch is the one that a range says
+pub record StretchRead (range : ℕ) (s : Stretch) : Type 0 where
+  pub from : s .from ≡ rangeFrom range
+  pub count : s .count ≡ rangeCount range
+
+-- the ends of a literal are those that a range says
+abbrev pub EndsRead : ℕ → Element → Type 0
+EndsRead range (Literal from to) = (from ≡ literalsAt + rangeFrom range) × (to ≡ literalsAt + rangeFrom range + rangeCount range)
+EndsRead range (Part p) = Unit {0}
+EndsRead range (Text n m) = Unit {0}
+
+-- an element that was read from a cell
+pub record ElementRead (t : List ℕ) (c : Table.Cell) (x : Element) : Type 0 where
+  pub means : elementMeaning t x ≡ elementOfCell t c
+  pub ends : EndsRead (c .value) x
+
+abbrev pub PatternEndsRead : ℕ → PatternElement → Type 0
+PatternEndsRead range (Value x) = EndsRead range x
+PatternEndsRead range (Free s) = Unit {0}
+PatternEndsRead range (Fixed s n) = Unit {0}
+
+-- an element of a pattern that was read from a cell
+pub record PatternRead (t : List ℕ) (c : Table.Cell) (x : PatternElement) : Type 0 where
+  pub means : patternMeaning t x ≡ patternOfCell t c
+  pub ends : PatternEndsRead (c .value) x
+
+-- a replacement stands behind its pattern
+abbrev pub BehindRead : ℕ → Replacement → Type 0
+BehindRead range Nothing = Unit {0}
+BehindRead range (By s) = (s .from ≡ rangeFrom range + rangeCount range) × (s .count ≡ rangeMore range)
+
+pub record ReplacementRead (t : List ℕ) (r : Table.Row) (x : Replacement) : Type 0 where
+  pub means : replacementMeaning t x ≡ replacementOfRow t r
+  pub behind : BehindRead (r .right .value) x
+
+-- the stretches of a statement are those that the row's range says
+pub record ScanStretches (range : ℕ) (x : Scan.Scan) : Type 0 where
+  pub pattern : StretchRead range (x .pattern)
+  pub replacement : BehindRead range (x .replacement)
+
+abbrev pub StretchesRead : ℕ → Statement → Type 0
+StretchesRead range (statements.SetNumber i s) = StretchRead range s
+StretchesRead range (statements.SetString p s) = StretchRead range s
+StretchesRead range (statements.Goto k) = Unit {0}
+StretchesRead range statements.Finish = Unit {0}
+StretchesRead range (statements.If x b) = Unit {0}
+StretchesRead range (statements.Scan x) = ScanStretches range x
+StretchesRead range (statements.Read p b) = Unit {0}
+StretchesRead range (statements.Write s) = StretchRead range s
+StretchesRead range (statements.Execute k) = Unit {0}
+StretchesRead range statements.Return = Unit {0}
+
+-- a statement that was read from a row
+pub record StatementRead (t : List ℕ) (r : Table.Row) (x : Statement) : Type 0 where
+  pub means : statementMeaning t x ≡ statementOfRow t r
+  pub stretches : StretchesRead (r .right .value) x
+
+-- a scan that was read from a row
+pub record ScanRead (t : List ℕ) (r : Table.Row) (x : Scan.Scan) : Type 0 where
+  pub direction : directionMeaning (x .direction) ≡ directionOf r
+  pub part : partMeaning (x .part) ≡ partOfCell 0 (r .left)
+  pub branch : branchMeaning (x .branch) ≡ branchOf r
+  pub pattern : StretchRead (r .right .value) (x .pattern)
+  pub replacement : ReplacementRead t r (x .replacement)
+
+-- the counts of the header
+pub record CountsRead (t : List ℕ) (c : Counts) : Type 0 where
+  pub steps : c .steps ≡ numberAt 2 t 2
+  pub strings : c .strings ≡ numberAt 2 t 4
+  pub numbers : c .numbers ≡ numberAt 2 t 6
+  pub elements : c .elements ≡ numberAt 2 t 8
+  pub items : c .items ≡ numberAt 2 t 10
+  pub literals : c .literals ≡ numberAt 2 t 12

@@ -1,0 +1,213 @@
+-- Where the rows and the elements of a table that keeps the rules stand: stretches end within their region, and so do literals.
+-- Assumes nothing.
+use mathlib.Core.Bool.{true}
+use mathlib.Core.List.{List, [], _∷_, _++_}
+use mathlib.Core.Path.{_≡_, refl, sym, _∙_, ap}
+use Prim.Native.Nat.{ℕ, zero, suc, _+_, _*_, _-_, _^_, _≤_, _<_}
+use native.Mathlib.Omega.{arith}
+use lib.ListN.{length, drop, getD, replicate, length-append, take-append-drop}
+use Rattle.base.specs.Edition.{edition1}
+use Rattle.base.specs.Limits as Limits
+use Rattle.language.specs.Program.{PatternElement, value, freeFiller, fixedFiller, literal, part, text, Statement, Step, Program}
+use Rattle.calls.specs.CellLaws.{cell-read, range-read, length-kinds, part-kinds, length-cellBytes}
+use Rattle.calls.specs.NumeralLaws.{Stands, stands-moved, stands-front, stands-back, byte-read}
+use Rattle.calls.specs.Numerals.{inBytes}
+use Rattle.calls.specs.RowLaws.{length-rowBytes}
+use Rattle.calls.specs.Rules.{keepsRules}
+use Rattle.calls.specs.Table.{Cell, cell, cellBytes, range, rangeCell, lengthCell, partCell, elementCell, patternCell, literalIn, Row}
+use Rattle.calls.specs.Table.{rowBytes, rowOf, elementsOf, itemsOf, stepRows, allElements, allItems, allLiterals, elementRows, itemRows}
+use Rattle.calls.specs.Table.{stepsAt, elementsAt, itemsAt, literalsAt, filledTo, header, image}
+use Rattle.calls.specs.TableLaws.{InRange, in-range, length-filledTo, keeps-image}
+use Rattle.calls.specs.TableReading.{cellAt, rowAt, rangeFrom, rangeCount, rangeMore, programIn}
+
+-- a statement's row stands at a place; its elements and items end within so many
+pub record RowPlace (t : List ℕ) (at elements items card : ℕ) (x : Statement) : Type 0 where
+  pub element : ℕ
+  pub item : ℕ
+  pub bytes : Stands t at (rowBytes card (rowOf element item x))
+  pub elementsEnd : element + length (elementsOf x) ≤ elements
+  pub itemsEnd : item + length (itemsOf x) ≤ items
+
+-- the row of each step stands behind those before it
+pub row-place : (t : List ℕ) (at element item : ℕ) (ss : List Step) (k here elements items : ℕ) (d : Step)
+    → Stands t at (stepRows element item ss) → k < length ss → here ≡ at + 24 * k
+    → element + length (allElements ss) ≤ elements → item + length (allItems ss) ≤ items
+    → RowPlace t here elements items (getD ss k d .card) (getD ss k d .statement)
+unfolding stepRows allElements allItems
+row-place t at element item [] k here elements items d s inside place e i = absurd (omega arith)
+row-place t at element item (x ∷ xs) zero here elements items d s inside place e i =
+    let y = x .statement in
+    let own = rowBytes (x .card) (rowOf element item y) in
+    let rest = stepRows (element + length (elementsOf y)) (item + length (itemsOf y)) xs in
+    record {
+      element = element;
+      item = item;
+      bytes = stands-moved t (omega arith) (stands-front t own rest s);
+      elementsEnd = omega (arith, length-append (elementsOf y) (allElements xs));
+      itemsEnd = omega (arith, length-append (itemsOf y) (allItems xs));
+    }
+row-place t at element item (x ∷ xs) (suc k) here elements items d s inside place e i =
+    let y = x .statement in
+    let own = rowBytes (x .card) (rowOf element item y) in
+    let nextElement = element + length (elementsOf y) in
+    let nextItem = item + length (itemsOf y) in
+    let size = length-rowBytes (x .card) (rowOf element item y) in
+    row-place t (at + length own) nextElement nextItem xs k here elements items d (stands-back t own (stepRows nextElement nextItem xs) s)
+    (omega arith) (omega arith) (omega (arith, length-append (elementsOf y) (allElements xs)))
+    (omega (arith, length-append (itemsOf y) (allItems xs)))
+
+-- an element's cell stands at a place; its literal bytes end within so many
+record CellPlace (t : List ℕ) (at literals : ℕ) (x : PatternElement) : Type 0 where
+  literal : ℕ
+  bytes : Stands t at (cellBytes (patternCell literal x))
+  end : literal + length (literalIn x) ≤ literals
+
+-- the cell of each element stands behind those before it
+cell-place : (t : List ℕ) (at place : ℕ) (xs : List PatternElement) (k here literals : ℕ) (d : PatternElement)
+    → Stands t at (elementRows place xs) → k < length xs → here ≡ at + 8 * k → place + length (allLiterals xs) ≤ literals
+    → CellPlace t here literals (getD xs k d)
+unfolding elementRows allLiterals
+cell-place t at place [] k here literals d s inside e l = absurd (omega arith)
+cell-place t at place (x ∷ xs) zero here literals d s inside e l =
+    let own = cellBytes (patternCell place x) in
+    record {
+      literal = place;
+      bytes = stands-moved t (omega arith) (stands-front t own (elementRows (place + length (literalIn x)) xs) s);
+      end = omega (arith, length-append (literalIn x) (allLiterals xs));
+    }
+cell-place t at place (x ∷ xs) (suc k) here literals d s inside e l =
+    let own = cellBytes (patternCell place x) in
+    let next = place + length (literalIn x) in
+    let size = length-cellBytes (patternCell place x) in
+    cell-place t (at + length own) next xs k here literals d (stands-back t own (elementRows next xs) s) (omega arith) (omega arith)
+    (omega (arith, length-append (literalIn x) (allLiterals xs)))
+
+-- the kind of a cell is read where its bytes stand
+kind-read : (t : List ℕ) (at : ℕ) (c : Cell) → Stands t at (cellBytes c) → cellAt t at .kind ≡ c .kind
+unfolding cellBytes cellAt
+kind-read t at c s = byte-read t at (c .kind) (c .place ∷ inBytes 6 (c .value)) s
+
+-- the literal of a cell of kind 16 ends within the literals
+literal-end : (t : List ℕ) (at literals : ℕ) (x : PatternElement) → literals < 2 ^ 16 → CellPlace t at literals x → cellAt t at .kind ≡ 16
+    → rangeFrom (cellAt t at .value) + rangeCount (cellAt t at .value) ≤ literals
+unfolding patternCell elementCell literalIn cell
+literal-end t at literals (value (literal w)) small p h =
+    let from = p .literal in
+    let ranges = range-read from (length w) 0 (omega (arith, p .end)) (omega (arith, p .end)) (omega arith) in
+    let read = cell-read t at (cell 16 0 (range from (length w) 0)) (ranges .small) (p .bytes) in
+    rw (ap (λ (c : Cell). c .value) read, ranges .first, ranges .second) (p .end)
+literal-end t at literals (value (part q)) small p h =
+    absurd (omega (arith, kind-read t at (partCell 0 q) (p .bytes), part-kinds 0 q))
+literal-end t at literals (value (text n m)) small p h =
+    absurd (omega (arith, kind-read t at (lengthCell 17 m n) (p .bytes), length-kinds 17 m n))
+literal-end t at literals (freeFiller s) small p h = absurd (omega (arith, kind-read t at (cell 19 s 0) (p .bytes)))
+literal-end t at literals (fixedFiller s n) small p h =
+    absurd (omega (arith, kind-read t at (lengthCell 20 s n) (p .bytes), length-kinds 20 s n))
+
+-- the right cell of a row is read where the row stands
+right-read : (t : List ℕ) (at card : ℕ) (r : Row) → Stands t at (rowBytes card r) → r .right .value < 2 ^ 48
+    → rowAt t at .right ≡ r .right
+unfolding rowBytes rowAt inBytes cellBytes
+right-read t at card r s small =
+    let steps = inBytes 2 (r .success) ++ inBytes 2 (r .failure) in
+    let front = r .kind ∷ (r .flag ∷ inBytes 2 card) ++ (steps ++ cellBytes (r .left)) in
+    cell-read t (at + 16) (r .right) small (stands-back t front (cellBytes (r .right)) s)
+
+-- the three numbers of a row's range
+pub record RangeIs (v from count more : ℕ) : Type 0 where
+  pub first : rangeFrom v ≡ from
+  pub second : rangeCount v ≡ count
+  pub third : rangeMore v ≡ more
+
+-- are read where the row stands
+pub row-range : (t : List ℕ) (at card from count more : ℕ) (r : Row) → Stands t at (rowBytes card r) → r .right ≡ rangeCell from count more
+    → from + (count + more) < 2 ^ 16 → RangeIs (rowAt t at .right .value) from count more
+unfolding rangeCell cell
+row-range t at card from count more r s e small =
+    let ranges = range-read from count more (omega arith) (omega arith) (omega arith) in
+    let same = ap (λ (c : Cell). c .value) e in
+    let read = ap (λ (c : Cell). c .value) (right-read t at card r s (rw same (ranges .small))) ∙ same in
+    record {
+      first = ap rangeFrom read ∙ ranges .first;
+      second = ap rangeCount read ∙ ranges .second;
+      third = ap rangeMore read ∙ ranges .third;
+    }
+
+-- the bytes of the rows of steps
+length-stepRows : (element item : ℕ) (ss : List Step) → length (stepRows element item ss) ≡ 24 * length ss
+unfolding stepRows
+length-stepRows element item [] = refl
+length-stepRows element item (s ∷ ss) =
+    let y = s .statement in
+    let rest = length-stepRows (element + length (elementsOf y)) (item + length (itemsOf y)) ss in
+    simp (length-append, length-rowBytes, rest) (omega arith)
+
+-- the regions of steps and of elements stand at their places
+record RegionsStand (t : List ℕ) (p : Program) : Type 0 where
+  rows : Stands t stepsAt (stepRows 0 0 (p .steps))
+  elements : Stands t elementsAt (elementRows 0 (allElements (p .steps)))
+
+-- bytes that are filled up stand where the whole stands
+filled-front : (t : List ℕ) {at : ℕ} (n : ℕ) (bs : List ℕ) → Stands t at (filledTo n bs) → Stands t at bs
+unfolding filledTo
+filled-front t n bs s = stands-front t bs (replicate (n - length bs) 0) s
+
+-- of a region the bytes stand where it does, and the next one behind its size
+region : (t : List ℕ) (at n : ℕ) (bs rest : List ℕ) → length bs ≤ n → Stands t at (filledTo n bs ++ rest)
+    → Stands t at bs × Stands t (at + n) rest
+region t at n bs rest small s = (
+  filled-front t n bs (stands-front t (filledTo n bs) rest s),
+  stands-moved t (ap (λ k. at + k) (length-filledTo n bs small)) (stands-back t (filledTo n bs) rest s),
+)
+
+-- where the table is the image of a program in range
+regions-stand : (t : List ℕ) (p : Program) → InRange edition1 p → Stands t 0 (image edition1 p) → RegionsStand t p
+unfolding image header inBytes stepsAt elementsAt itemsAt
+regions-stand t p ok s =
+    let ss = p .steps in
+    let es = allElements ss in
+    let literals = filledTo (edition1 .tableSize - literalsAt) (allLiterals es) in
+    let items = filledTo (literalsAt - itemsAt) (itemRows (allItems ss)) ++ literals in
+    let elements = filledTo (itemsAt - elementsAt) (elementRows 0 es) ++ items in
+    let rows = filledTo (elementsAt - stepsAt) (stepRows 0 0 ss) ++ elements in
+    let behind = region t 0 stepsAt (header p) rows (omega arith) s .1 in
+    let few = length-stepRows 0 0 ss in
+    let both = region t stepsAt (elementsAt - stepsAt) (stepRows 0 0 ss) elements (omega arith) behind in
+    let cells = stands-front t (filledTo (itemsAt - elementsAt) (elementRows 0 es)) items (both .1) in
+    record { rows = both .0; elements = filled-front t (itemsAt - elementsAt) (elementRows 0 es) cells }
+
+module _ (t : List ℕ) (kept : keepsRules edition1 t ≡ true) where
+  -- the program that the table holds is in range
+  pub program-in-range : InRange edition1 (programIn t)
+  program-in-range = in-range edition1 (programIn t) (keeps-image edition1 t kept .0)
+
+  image-stands : Stands t 0 (image edition1 (programIn t))
+  image-stands =
+      record {
+        behind = drop (edition1 .tableSize) t;
+        here =
+            sym (take-append-drop (edition1 .tableSize) t)
+            ∙ ap (λ (l : List ℕ). l ++ drop (edition1 .tableSize) t) (sym (keeps-image edition1 t kept .1));
+      }
+
+  regions : RegionsStand t (programIn t)
+  regions = regions-stand t (programIn t) program-in-range image-stands
+
+  -- the row of each of its steps
+  pub kept-row : (k : ℕ) (d : Step) → k < length (programIn t .steps)
+      → RowPlace t (stepsAt + 24 * k) (length (allElements (programIn t .steps))) (length (allItems (programIn t .steps)))
+      (getD (programIn t .steps) k d .card) (getD (programIn t .steps) k d .statement)
+  kept-row k d inside =
+      let ss = programIn t .steps in
+      row-place t stepsAt 0 0 ss k (stepsAt + 24 * k) (length (allElements ss)) (length (allItems ss)) d (regions .rows) inside refl
+      (omega arith) (omega arith)
+
+  -- the literal of each of its elements ends within the table
+  pub kept-literal : (k : ℕ) → k < length (allElements (programIn t .steps)) → cellAt t (elementsAt + 8 * k) .kind ≡ 16
+      → rangeFrom (cellAt t (elementsAt + 8 * k) .value) + rangeCount (cellAt t (elementsAt + 8 * k) .value) ≤ Limits.literals
+  kept-literal k inside h =
+      let es = allElements (programIn t .steps) in
+      let here = elementsAt + 8 * k in
+      let ok = program-in-range in
+      let place = cell-place t elementsAt 0 es k here Limits.literals (freeFiller 0) (regions .elements) inside refl (omega arith) in
+      literal-end t here Limits.literals (getD es k (freeFiller 0)) (omega arith) place h
