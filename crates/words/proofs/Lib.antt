@@ -1,0 +1,6 @@
+-- The laws that several proofs share.
+mod Digits
+mod Forms
+mod Runs
+mod Signs
+mod Starts

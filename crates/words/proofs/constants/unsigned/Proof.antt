@@ -1,0 +1,61 @@
+-- `words::constants::unsigned` meets its contract.
+-- Assumes nothing.
+use borrow.Author.Needs.{needs}
+use mathlib.Core.Path.{sym, ap, _∙_}
+use Prim.Native.Nat.{ℕ}
+use mathlib.Core.List.{List}
+use native.Mathlib.Omega.{arith}
+use lib.ListN.{drop}
+use lib.Seq.{drop-drop}
+use Rattle.language.specs.Reading.{give}
+use Rattle.words.proofs.Forms.{unsigned-none, unsigned-above, unsigned-is}
+use Rattle.words.proofs.constants.unsigned.Statement.{statement}
+use Rattle.words.proofs.constants.unsigned.Tie as tie
+
+digit-count-requires : tie.Need-digit-count-requires
+digit-count-requires c κs = search needs
+
+returns : tie.Need-returns
+returns c =
+    let a = c .before .before .before .args in
+    let n = c .before .digit-count in
+    record {
+      read = unsigned-none (drop (a .at) (a .text .now)) (n .result) (n .ensures .is) (c .if1 .taken);
+      range = tt;
+      ends = tt;
+    }
+
+decimal-requires : tie.Need-decimal-requires
+decimal-requires c κs = search needs
+
+add-t6 : tie.Need-add-t6
+add-t6 c = search needs
+
+returns-2 : tie.Need-returns-2
+returns-2 c =
+    let a = c .before .before .before .before .before .args in
+    let n = c .before .before .before .digit-count in
+    let v = c .before .decimal in
+    record {
+      read =
+          ap (λ (rest : List ℕ). give (v .result) rest) (sym (drop-drop (n .result) (a .at) (a .text .now)))
+          ∙ unsigned-is (drop (a .at) (a .text .now)) (n .result) (v .result) (n .ensures .is) (omega arith) (v .ensures) (c .if2 .taken);
+      range = omega arith;
+      ends = (omega arith, omega arith);
+    }
+
+returns-3 : tie.Need-returns-3
+returns-3 c =
+    let a = c .before .before .before .before .before .args in
+    let n = c .before .before .before .digit-count in
+    let v = c .before .decimal in
+    record {
+      read =
+          unsigned-above (drop (a .at) (a .text .now)) (n .result) (v .result) (n .ensures .is) (omega arith) (v .ensures)
+          (c .if2 .left);
+      range = tt;
+      ends = tt;
+    }
+
+pub unsigned-spec : {M : Type 1} → statement M
+unsigned-spec = tie.close (tie.spec digit-count-requires returns decimal-requires add-t6 returns-2 returns-3)

@@ -1,0 +1,79 @@
+-- `words::names::name_bytes` meets its contract. The invariant: the bytes passed are of the run.
+-- Assumes nothing.
+use borrow.Author.Needs.{needs}
+use borrow.Author.Tests.{not-true, not-false}
+use mathlib.Core.Path.{sym, _∙_}
+use Prim.Native.Nat.{_-_}
+use native.Mathlib.Omega.{arith}
+use lib.ListN.{length}
+use Rattle.language.specs.Words.{isNameByte}
+use Rattle.packer.specs.Classes.{isLetterOrDigit}
+use Rattle.words.proofs.Runs.{Counting, count-more, count-stop, count-end}
+use Rattle.words.proofs.names.name_bytes.Statement.{statement}
+use Rattle.words.proofs.names.name_bytes.Tie as tie
+
+abbrev Inv-loop : tie.InvT-loop
+Inv-loop text at i₀ i = Counting isNameByte text at i
+
+abbrev μ-loop : tie.MeasureT-loop
+μ-loop text at i₀ i = length text - i
+
+loop-holds : tie.Need-loop-holds Inv-loop μ-loop
+loop-holds c = (omega arith, omega arith)
+
+shared-slice-read-is-letter-or-digit : tie.Need-shared-slice-read-is-letter-or-digit Inv-loop μ-loop
+shared-slice-read-is-letter-or-digit c = search needs
+
+is-letter-or-digit-requires : tie.Need-is-letter-or-digit-requires Inv-loop μ-loop
+is-letter-or-digit-requires c κs = search needs
+
+sub-result : tie.Need-sub-result Inv-loop μ-loop
+sub-result c = search needs
+
+returns : tie.Need-returns Inv-loop μ-loop
+unfolding isNameByte isLetterOrDigit
+returns c =
+    let a = c .before .before .before .before .before .before .args in
+    let l = c .before .before .before .before .loop in
+    count-stop isNameByte (a .text .now) (a .at) (l .i) (l .inv) (c .before .before .before .loop-test .taken)
+    (sym (c .before .is-letter-or-digit .ensures) ∙ not-true (c .before .is-letter-or-digit .result) (c .if1 .taken))
+
+add-i : tie.Need-add-i Inv-loop μ-loop
+add-i c = search needs
+
+loop-less : tie.Need-loop-less Inv-loop μ-loop
+loop-less c = search needs
+
+loop-again : tie.Need-loop-again Inv-loop μ-loop
+unfolding isNameByte isLetterOrDigit
+loop-again c =
+    let a = c .before .before .before .before .before .before .args in
+    let l = c .before .before .before .before .loop in
+    count-more isNameByte (a .text .now) (a .at) (l .i) (l .inv) (c .before .before .before .loop-test .taken)
+    (sym (c .before .is-letter-or-digit .ensures) ∙ not-false (c .before .is-letter-or-digit .result) (c .if1 .left))
+
+sub-result-2 : tie.Need-sub-result-2 Inv-loop μ-loop
+sub-result-2 c = search needs
+
+returns-2 : tie.Need-returns-2 Inv-loop μ-loop
+returns-2 c =
+    let a = c .before .before .before .args in
+    let l = c .before .loop in
+    count-end isNameByte (a .text .now) (a .at) (l .i) (l .inv) (c .loop-test .left)
+
+pub name-bytes-spec : {M : Type 1} → statement M
+name-bytes-spec =
+    tie.close
+    (tie.spec
+    Inv-loop
+    μ-loop
+    loop-holds
+    shared-slice-read-is-letter-or-digit
+    is-letter-or-digit-requires
+    sub-result
+    returns
+    add-i
+    loop-less
+    loop-again
+    sub-result-2
+    returns-2)

@@ -1,0 +1,64 @@
+-- The code's constants, as document 01 has them. Assumes nothing.
+use mathlib.Core.List.{List}
+use mathlib.Core.Path.{_≡_}
+use Prim.Native.Nat.{ℕ, _+_, _≤_, _<_}
+use lib.IntN.{ℤ}
+use lib.ListN.{length, drop}
+use Rattle.base.specs.Edition.{edition1}
+use Rattle.cards.specs.Bytes.{isDigit}
+use Rattle.convert.specs.Numbers.{limit, InRange}
+use Rattle.language.specs.Reading.{Read, broken, give}
+use Rattle.language.specs.Words.{run, unsigned, signed}
+use Rattle.words.specs.declared.constants.Constant as Plain
+use Rattle.words.specs.declared.constants.Constant.{Constant}
+use Rattle.words.specs.declared.constants.SignedConstant as Signed
+use Rattle.words.specs.declared.constants.SignedConstant.{SignedConstant}
+
+-- n digits stand at a place
+pub record Digits (text : List ℕ) (at n : ℕ) : Type 0 where
+  pub is : n ≡ run isDigit (drop at text)
+  pub inside : at + n ≤ length text
+
+-- a constant is in range
+abbrev pub InLimit : Constant → Type 0
+InLimit (Plain.the-variants.Is value next) = value ≤ limit
+InLimit Plain.the-variants.Broken = Unit {0}
+
+-- and the place behind it is behind its own
+abbrev pub Ends : List ℕ → ℕ → Constant → Type 0
+Ends text at (Plain.the-variants.Is value next) = (at < next) × (next ≤ length text)
+Ends text at Plain.the-variants.Broken = Unit {0}
+
+-- what a constant of the code stands for
+abbrev pub constantRead : List ℕ → Constant → Read ℕ
+constantRead text (Plain.the-variants.Is value next) = give value (drop next text)
+constantRead text Plain.the-variants.Broken = broken
+
+-- the constant at a place of a text
+pub record Reads (text : List ℕ) (at : ℕ) (r : Constant) : Type 0 where
+  pub read : constantRead text r ≡ unsigned edition1 (drop at text)
+  pub range : InLimit r
+  pub ends : Ends text at r
+
+-- a constant with a sign
+abbrev pub signedBy : (ℕ → ℤ) → Constant → SignedConstant
+signedBy f (Plain.the-variants.Is value next) = Signed.the-variants.Is (record { value = f value }) next
+signedBy f Plain.the-variants.Broken = Signed.the-variants.Broken
+
+-- the same of constants that may have a sign
+abbrev pub SignedInRange : SignedConstant → Type 0
+SignedInRange (Signed.the-variants.Is value next) = InRange value
+SignedInRange Signed.the-variants.Broken = Unit {0}
+
+abbrev pub SignedEnds : List ℕ → ℕ → SignedConstant → Type 0
+SignedEnds text at (Signed.the-variants.Is value next) = (at < next) × (next ≤ length text)
+SignedEnds text at Signed.the-variants.Broken = Unit {0}
+
+abbrev pub signedRead : List ℕ → SignedConstant → Read ℤ
+signedRead text (Signed.the-variants.Is value next) = give (value .value) (drop next text)
+signedRead text Signed.the-variants.Broken = broken
+
+pub record ReadsSigned (text : List ℕ) (at : ℕ) (r : SignedConstant) : Type 0 where
+  pub read : signedRead text r ≡ signed edition1 (drop at text)
+  pub range : SignedInRange r
+  pub ends : SignedEnds text at r

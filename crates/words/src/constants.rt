@@ -1,0 +1,102 @@
+// Constants: the value of the digits at a place, if it is in range, with the place behind it.
+// Assumes nothing.
+use crate::names::digit_count;
+use crate::stands_at;
+use convert::Int;
+use convert::LIMIT;
+ghost use mathlib.Core.Path.{_≡_};
+ghost use Prim.Native.Nat.{ℕ};
+ghost use lib.IntN.{pos, negℤ};
+ghost use lib.ListN.{take, drop};
+ghost use Rattle.convert.specs.Numbers.{Capped};
+ghost use Rattle.language.specs.Words.{decimalFrom};
+ghost use Rattle.words.specs.Constants.{Digits, InLimit, Reads, ReadsSigned, signedBy};
+
+// a constant with the place behind it
+pub enum Constant {
+    Is { value: u64, next: usize },
+    Broken,
+}
+
+// a constant that may have a sign
+pub enum SignedConstant {
+    Is { value: Int, next: usize },
+    Broken,
+}
+
+// the value of the n digits at a place, or one that is above LIMIT if that is
+fn decimal(text: &[u8], at: usize, n: usize) -> u64
+    requires { ⌜ Digits (now text) at n ⌝ }
+    ensures { λ r. ⌜ Capped r (decimalFrom 0 (take n (drop at (now (text .entry))))) ⌝ }
+{
+    let mut value: u64 = 0;
+    let mut i = 0;
+    while i < n {
+        let digit = text[at + i] - b'0';
+        value = value * 10 + (digit as u64);
+        if LIMIT < value {
+            return value;
+        }
+        i += 1;
+    }
+    value
+}
+
+// the constant at a place
+pub fn unsigned(text: &[u8], at: usize) -> Constant
+    ensures { λ r. ⌜ Reads (now (text .entry)) at r ⌝ }
+{
+    let n = digit_count(text, at);
+    if n == 0 {
+        return Constant::Broken;
+    }
+    let value = decimal(text, at, n);
+    if value <= LIMIT {
+        return Constant::Is {
+            value,
+            next: at + n,
+        };
+    }
+    Constant::Broken
+}
+
+// a constant behind no sign or `+`
+fn plus(c: Constant) -> SignedConstant
+    requires { ⌜ InLimit c ⌝ }
+    ensures { λ r. ⌜ r ≡ signedBy pos c ⌝ }
+{
+    match c {
+        Constant::Is { value, next } => SignedConstant::Is {
+            value: convert::int_of(value),
+            next,
+        },
+        Constant::Broken => SignedConstant::Broken,
+    }
+}
+
+// a constant behind `-`
+fn minus(c: Constant) -> SignedConstant
+    requires { ⌜ InLimit c ⌝ }
+    ensures { λ r. ⌜ r ≡ signedBy (λ (v : ℕ). negℤ (pos v)) c ⌝ }
+{
+    match c {
+        Constant::Is { value, next } => SignedConstant::Is {
+            value: convert::negate(convert::int_of(value)),
+            next,
+        },
+        Constant::Broken => SignedConstant::Broken,
+    }
+}
+
+// the constant at a place, behind its sign if it has one
+pub fn signed(text: &[u8], at: usize) -> SignedConstant
+    ensures { λ r. ⌜ ReadsSigned (now (text .entry)) at r ⌝ }
+{
+    if stands_at(text, at, b'-') {
+        return minus(unsigned(text, at + 1));
+    }
+    if stands_at(text, at, b'+') {
+        return plus(unsigned(text, at + 1));
+    }
+    plus(unsigned(text, at))
+}

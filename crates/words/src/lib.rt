@@ -1,0 +1,55 @@
+// Names, constants and keywords of a packed statement, read at a place of it; a place behind the end has no bytes.
+// Assumes nothing.
+pub mod constants;
+pub mod keywords;
+pub mod names;
+
+ghost use mathlib.Core.List.{[], _∷_};
+ghost use mathlib.Core.Path.{_≡_};
+ghost use lib.ListN.{drop, getD};
+ghost use Rattle.base.specs.Lists.{begins};
+ghost use Rattle.language.specs.Words.{isSign};
+
+// the byte at a place, 0 behind the end
+pub fn byte_at(text: &[u8], at: usize) -> u8
+    ensures { λ r. ⌜ r ≡ getD (drop at (now (text .entry))) 0 0 ⌝ }
+{
+    if at < text.len() { text[at] } else { 0 }
+}
+
+// whether a mark stands at a place
+pub fn stands_at(text: &[u8], at: usize, mark: u8) -> bool
+    ensures { λ r. ⌜ r ≡ begins (mark ∷ []) (drop at (now (text .entry))) ⌝ }
+{
+    if at < text.len() {
+        text[at] == mark
+    } else {
+        false
+    }
+}
+
+// whether a sign stands at a place
+pub fn sign_at(text: &[u8], at: usize) -> bool
+    ensures { λ r. ⌜ r ≡ isSign (drop at (now (text .entry))) ⌝ }
+{
+    stands_at(text, at, b'+') | stands_at(text, at, b'-')
+}
+
+// whether a word stands at a place
+pub fn begins_at(text: &[u8], at: usize, word: &[u8]) -> bool
+    ensures { λ r. ⌜ r ≡ begins (now (word .entry)) (drop at (now (text .entry))) ⌝ }
+{
+    let mut i = 0;
+    let mut j = at;
+    while i < word.len() {
+        if text.len() <= j {
+            return false;
+        }
+        if text[j] != word[i] {
+            return false;
+        }
+        i += 1;
+        j += 1;
+    }
+    true
+}

@@ -1,0 +1,68 @@
+// Names: how many bytes of one stand at a place, and the name as a number.
+// Assumes nothing.
+use crate::byte_at;
+use packer::classes;
+use packer::keys;
+ghost use mathlib.Core.Path.{_≡_};
+ghost use lib.ListN.{take, drop};
+ghost use Rattle.cards.specs.Bytes.{isDigit};
+ghost use Rattle.language.specs.Keywords.{boundLength};
+ghost use Rattle.language.specs.Words.{run, isNameByte};
+ghost use Rattle.packer.specs.Keys.{keyOf};
+ghost use Rattle.words.specs.Places.{Counts, NameAt, Named};
+
+// how many letters and digits stand at a place
+fn name_bytes(text: &[u8], at: usize) -> usize
+    ensures { λ r. ⌜ Counts (now (text .entry)) at (run isNameByte (drop at (now (text .entry)))) r ⌝ }
+{
+    let mut i = at;
+    while i < text.len() {
+        if !classes::is_letter_or_digit(text[i]) {
+            return i - at;
+        }
+        i += 1;
+    }
+    i - at
+}
+
+// how many digits stand at a place
+pub fn digit_count(text: &[u8], at: usize) -> usize
+    ensures { λ r. ⌜ Counts (now (text .entry)) at (run isDigit (drop at (now (text .entry)))) r ⌝ }
+{
+    let mut i = at;
+    while i < text.len() {
+        if !classes::is_digit(text[i]) {
+            return i - at;
+        }
+        i += 1;
+    }
+    i - at
+}
+
+// how many bytes of a name stand at a place, 0 for none
+pub fn name_length(text: &[u8], at: usize) -> usize
+    ensures { λ r. ⌜ NameAt (now (text .entry)) at r ⌝ }
+{
+    if !classes::is_letter(byte_at(text, at)) {
+        return 0;
+    }
+    let n = name_bytes(text, at);
+    if n <= 8 { n } else { 0 }
+}
+
+// how many bytes of what may stand behind `$` stand at a place: digits or a name
+pub fn bound_length(text: &[u8], at: usize) -> usize
+    ensures { λ r. ⌜ Counts (now (text .entry)) at (boundLength (drop at (now (text .entry)))) r ⌝ }
+{
+    let n = digit_count(text, at);
+    if 1 <= n { n } else { name_length(text, at) }
+}
+
+// the key of the name of n bytes at a place
+pub fn key_of(text: &[u8], at: usize, n: usize) -> u64
+    requires { ⌜ Named (now text) at n ⌝ }
+    ensures { λ r. ⌜ r ≡ keyOf (take n (drop at (now (text .entry)))) ⌝ }
+{
+    let end = at + n;
+    keys::key_of(&text[at..end])
+}
