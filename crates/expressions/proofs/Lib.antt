@@ -1,0 +1,7 @@
+-- The laws that several proofs share.
+mod Appending
+mod Spanning
+mod Spelling
+mod Valuing
+mod Waiting
+mod Working

@@ -1,0 +1,110 @@
+-- Where numbers and strings lie in a state and a store. Assumes nothing.
+use mathlib.Core.Bool.{true, false}
+use mathlib.Core.List.{List, [], _∷_, map}
+use mathlib.Core.Path.{_≡_, refl, sym, ap, subst, _∙_}
+use Prim.Native.Nat.{ℕ, zero, suc, _+_, _*_, _-_, _^_, _≤_, _<_}
+use native.Mathlib.Nat.{not-suc-le-zero}
+use native.Mathlib.Omega.{arith}
+use lib.IntN.{ℤ, pos, natAbs}
+use lib.ListN.{length, take, drop, getD, length-drop}
+use lib.Seq.{getD-drop, getD-take, length-take-le, take-all, take-take}
+use Rattle.calls.specs.BufferLaws.{Good, string-part}
+use Rattle.calls.specs.Buffers.{numbersIn, numbersAt}
+use Rattle.calls.specs.NumeralLaws.{biased-small, biased-unbiased}
+use Rattle.calls.specs.Numerals.{bias, unbiased}
+use Rattle.cells.specs.Contracts.{stringOf}
+use Rattle.convert.specs.Numbers.{limit, Gives}
+use Rattle.convert.specs.declared.Int.{Int}
+use Rattle.machine.specs.State.{mostNumbers, numberAt}
+use Rattle.rows.specs.Holds.{LengthHolds, SignedLengthHolds}
+use Rattle.rows.specs.declared.Length.{Length}
+use Rattle.rows.specs.declared.Length.the-variants as lengths
+use Rattle.values.specs.Conversion.{substring}
+use Rattle.values.specs.Numbers.{isNegative}
+use Rattle.values.specs.Work.{done}
+use Rattle.expressions.specs.Memory.{memoryIn, Numbered}
+use Rattle.expressions.specs.Values.{Spans}
+
+-- an element of a list that was made of another
+getD-mapped : {A B : Type 0} (f : A → B) (l : List A) (i : ℕ) (d : A) (z : B) → i < length l → getD (map f l) i z ≡ f (getD l i d)
+getD-mapped f [] i d z h = absurd (not-suc-le-zero h)
+getD-mapped f (x ∷ l) zero d z h = refl
+getD-mapped f (x ∷ l) (suc i) d z h = getD-mapped f l i d z (omega arith)
+
+-- a number of a state, and the 6 bytes that it is kept in
+module _ (state : List ℕ) (n : Numbered state) (i : ℕ) (h : i < 32) where
+  pub number-entry : getD (numbersIn state) i (pos 0) ≡ unbiased (getD state (21 + i) 0)
+  unfolding numbersIn numbersAt mostNumbers
+  number-entry =
+      let size : length (take 32 (drop 21 state)) ≡ 32 = length-take-le 32 (drop 21 state) (simp length-drop (omega (arith, n .size))) in
+      getD-mapped unbiased (take 32 (drop 21 state)) i 0 (pos 0) (omega arith)
+      ∙ ap unbiased (getD-take 32 (drop 21 state) i 0 h ∙ getD-drop 21 state i 0)
+
+  pub number-small : getD state (21 + i) 0 < 2 ^ 48
+  unfolding bias
+  number-small =
+      let entry = getD state (21 + i) 0 in
+      let ranged : natAbs (unbiased entry) < 2 ^ 47 = subst (λ (z : ℤ). natAbs z < 2 ^ 47) number-entry (omega (arith, n .range i)) in
+      subst (λ (k : ℕ). k < 2 ^ 48) (biased-unbiased entry) (biased-small (unbiased entry) ranged)
+
+  pub number-gives : (r : Int) → r .value ≡ unbiased (getD state (21 + i) 0) → (store : List ℕ)
+      → Gives r (numberAt (memoryIn store state) i)
+  unfolding numberAt
+  number-gives r e store =
+      let same : r .value ≡ getD (numbersIn state) i (pos 0) = e ∙ sym number-entry in
+      record { value = same; range = subst (λ (z : ℤ). natAbs z ≤ limit) (sym same) (n .range i) }
+
+-- a length of a string is one of STRING's
+pub length-signed : (n : Length) → LengthHolds n → SignedLengthHolds n
+length-signed (lengths.Constant z) h = h .range
+length-signed (lengths.Number i) h = h
+
+-- the first bytes of a string of a good store
+module _ (store : List ℕ) (g : Good store) (s : ℕ) (h : s < 32) (from : ℕ) (start : from ≡ 1026 * s + 2) where
+  abbrev string : List ℕ
+  string = stringOf store s
+
+  pub first-spans : (k : ℕ) → k ≤ length string → length string ≤ 1024
+      → Spans store (record { from = from; to = from + k; notes = 0 }) (done (take k string) 0)
+  first-spans k few short =
+      let size : from + k - from ≡ k = omega arith in
+      let bytes : take k string ≡ take (from + k - from) (drop from store) =
+      ap (take k) (string-part store g s h)
+      ∙ take-take k (length string) (drop (1026 * s + 2) store) few
+      ∙ ap (λ (i : ℕ). take k (drop i store)) (sym start)
+      ∙ ap (λ (i : ℕ). take i (drop from store)) (sym size) in
+      record {
+        lies = record { order = omega arith; within = omega (arith, g .size); short = omega arith; few = omega arith };
+        string = omega arith;
+        work = ap (λ (l : List ℕ). done l 0) bytes;
+      }
+
+  pub string-spans : (k : ℕ) → k ≡ length string → k ≤ 1024
+      → Spans store (record { from = from; to = from + k; notes = 0 }) (done string 0)
+  string-spans k e short =
+      let whole : take k string ≡ string = take-all k string (omega arith) in
+      subst (λ (l : List ℕ). Spans store (record { from = from; to = from + k; notes = 0 }) (done l 0)) whole
+      (first-spans k (omega arith) (omega arith))
+
+  pub negative-spans : (n : ℤ) → isNegative n ≡ true → Spans store (record { from = from; to = from; notes = 1 }) (substring string n)
+  unfolding substring
+  negative-spans n e =
+      let none : from - from ≡ 0 = omega arith in
+      record {
+        lies = record { order = omega arith; within = omega (arith, g .size); short = omega arith; few = omega arith };
+        string = omega arith;
+        work = rw e (ap (λ (i : ℕ). done (take i (drop from store)) 1) (sym none));
+      }
+
+  module _ (n : ℤ) (k : ℕ) (count : k ≡ length string) (short : k ≤ 1024) where
+    pub longer-spans : isNegative n ≡ false → (asked : ℕ) → asked ≡ natAbs n → k ≤ asked
+        → Spans store (record { from = from; to = from + k; notes = 0 }) (substring string n)
+    unfolding substring
+    longer-spans e asked size less =
+        let whole : take (natAbs n) string ≡ string = take-all (natAbs n) string (omega arith) in
+        rw (e, whole) (string-spans k count short)
+
+    pub shorter-spans : isNegative n ≡ false → (asked : ℕ) → asked ≡ natAbs n → asked < k
+        → Spans store (record { from = from; to = from + asked; notes = 0 }) (substring string n)
+    unfolding substring
+    shorter-spans e asked size less = rw (e, sym size) (first-spans asked (omega arith) (omega arith))

@@ -1,0 +1,104 @@
+-- A string expression, element by element: the whole comes to the bytes so far and what the elements left come to. Assumes nothing.
+use mathlib.Core.List.{List, [], _∷_, _++_}
+use mathlib.Core.Path.{_≡_, refl, sym, ap, subst, _∙_}
+use Prim.Native.Nat.{ℕ, _+_, _*_, _-_, _≤_, _<_}
+use native.Mathlib.Omega.{arith}
+use lib.ListN.{length, length-append}
+use Rattle.base.specs.Edition.{edition1}
+use Rattle.calls.specs.Table.{elementsAt}
+use Rattle.calls.specs.TableReading.{cellAt, elementsFrom}
+use Rattle.convert.specs.declared.Text.{Text}
+use Rattle.convert.specs.declared.Text.the-variants.{Is, Stops}
+use Rattle.language.specs.Program as Program
+use Rattle.machine.specs.Expressions.{elementIn, stringIn}
+use Rattle.machine.specs.State.{Memory}
+use Rattle.rows.specs.Meaning.{tableSize, elementMeaning}
+use Rattle.rows.specs.Reading.{ElementRead}
+use Rattle.rows.specs.declared.Element.{Element}
+use Rattle.values.specs.Work.{stop}
+use Rattle.expressions.specs.Notes.{few-done, few-element}
+use Rattle.expressions.specs.Appending.{Added, Adding}
+use Rattle.expressions.specs.Values.{Keeps, Spells}
+use Rattle.expressions.proofs.Working.{elements-more, elements-none, stringFrom, string-begins, string-more, string-stops, string-ends}
+
+pub record Spelling (m : Memory) (t : List ℕ) (from count : ℕ) (out scratch : List ℕ) (size notes at left : ℕ) : Type 0 where
+  pub value : List ℕ
+  pub long : size ≡ length value
+  pub kept : Keeps out value
+  pub room : length out ≡ 1024
+  pub spare : length scratch ≡ 1024
+  pub low : from ≤ at
+  pub place : at + left ≡ from + count
+  pub short : size + tableSize * left ≤ tableSize * count
+  pub few : notes + left ≤ count
+  pub same : stringIn edition1 m (elementsFrom t from count) ≡ stringFrom m notes value (elementsFrom t at left)
+
+pub spelling-begins : (m : Memory) (t : List ℕ) (from count : ℕ) (out scratch : List ℕ) → length out ≡ 1024 → length scratch ≡ 1024
+    → Spelling m t from count out scratch 0 0 from count
+spelling-begins m t from count out scratch room spare =
+    record {
+      value = [];
+      long = refl;
+      kept = refl;
+      room = room;
+      spare = spare;
+      low = omega arith;
+      place = omega arith;
+      short = omega arith;
+      few = omega arith;
+      same = string-begins m (elementsFrom t from count);
+    }
+
+module _ {m : Memory} {t : List ℕ} {from count : ℕ} {out scratch : List ℕ} {size notes at left : ℕ}
+    (v : Spelling m t from count out scratch size notes at left) where
+  pub spelling-ends : left ≤ 0 → Spells size notes out (stringIn edition1 m (elementsFrom t from count))
+  spelling-ends h =
+      record {
+        value = v .value;
+        work = v .same ∙ ap (stringFrom m notes (v .value)) (elements-none t at left h) ∙ string-ends m notes (v .value);
+        size = v .long;
+        kept = v .kept;
+      }
+
+  -- the element that is next
+  module _ (some : 0 < left) (x : Element) (read : ElementRead t (cellAt t (elementsAt + 8 * at)) x) where
+    abbrev rest : List Program.Element
+    rest = elementsFrom t (at + 1) (left - 1)
+
+    here : stringIn edition1 m (elementsFrom t from count) ≡ stringFrom m notes (v .value) (elementMeaning t x ∷ rest)
+    here =
+        v .same
+        ∙ ap (stringFrom m notes (v .value))
+        (elements-more t at left some ∙ ap (λ (y : Program.Element). y ∷ rest) (sym (read .means)))
+
+    -- and what was made of it
+    module _ {r : Text} {after : List ℕ} (adding : Adding r out after size (elementIn edition1 m (elementMeaning t x))) where
+      abbrev AddedAs : Text → Type 0
+      AddedAs a = Added a out after size (elementIn edition1 m (elementMeaning t x))
+
+      pub spelling-noted : {n more : ℕ} → r ≡ Is n more → (n ≤ tableSize) × (more ≤ 1)
+      spelling-noted e =
+          let a = subst AddedAs e (adding .added) in
+          (a .short, few-done (few-element edition1 m (elementMeaning t x)) (a .work))
+
+      pub spelling-stops : {k : ℕ} → r ≡ Stops k → stringIn edition1 m (elementsFrom t from count) ≡ stop k
+      spelling-stops {k} e =
+          here ∙ string-stops m notes k (v .value) (elementMeaning t x) rest (subst AddedAs e (adding .added))
+
+      pub spelling-more : {n more : ℕ} (spare : List ℕ) → length spare ≡ 1024 → r ≡ Is n more
+          → Spelling m t from count after spare (size + n) (notes + more) (at + 1) (left - 1)
+      spelling-more {n} {more} spare spared e =
+          let a = subst AddedAs e (adding .added) in
+          let bounds = spelling-noted e in
+          record {
+            value = v .value ++ a .value;
+            long = omega (arith, length-append (v .value) (a .value), v .long, a .size);
+            kept = a .follows (v .value) (sym (v .long)) (v .kept);
+            room = adding .room;
+            spare = spared;
+            low = omega (arith, v .low);
+            place = omega (arith, v .place);
+            short = omega (arith, v .short, bounds .0);
+            few = omega (arith, v .few, bounds .1);
+            same = here ∙ string-more m notes more (v .value) (a .value) (elementMeaning t x) rest (a .work);
+          }

@@ -1,0 +1,99 @@
+-- A numeric expression, item by item: the whole comes to what the waiting numbers and the items left come to. Assumes nothing.
+use mathlib.Core.Bool.{true}
+use mathlib.Core.List.{List, [], _∷_}
+use mathlib.Core.Path.{_≡_, sym, ap, ap₂, subst, _∙_}
+use Prim.Native.Nat.{ℕ, _+_, _*_, _-_, _≤_, _<_}
+use native.Mathlib.Omega.{arith}
+use lib.IntN.{ℤ, pos}
+use lib.ListN.{getD, replicate}
+use Rattle.base.specs.Edition.{edition1}
+use Rattle.calls.specs.Rules.{balanced}
+use Rattle.calls.specs.Table.{itemsAt}
+use Rattle.calls.specs.TableReading.{cellAt, itemOfCell, itemsFrom}
+use Rattle.language.specs.Program as Program
+use Rattle.machine.specs.Expressions.{itemIn, numericIn}
+use Rattle.machine.specs.State.{Memory}
+use Rattle.rows.specs.Meaning.{itemMeaning}
+use Rattle.rows.specs.declared.Item.{Item}
+use Rattle.values.specs.Work.{done, stop}
+use Rattle.expressions.specs.Notes.{few-done, few-item}
+use Rattle.expressions.specs.Waiting.{waitingIn, Waits, Finds, waitingAfter, knownWorked, Counted, Taken}
+use Rattle.expressions.specs.declared.Known.{Known}
+use Rattle.expressions.specs.declared.Known.the-variants.{Is, Stops}
+use Rattle.expressions.proofs.Waiting.{waits-none, balanced-more, balanced-end, after-most}
+use Rattle.expressions.proofs.Working.{items-more, items-none, numericFrom, numeric-begins, numeric-more, numeric-stops, numeric-ends}
+
+pub record Valuing (m : Memory) (t : List ℕ) (from count : ℕ) (waiting : List ℤ) (known notes at left : ℕ) : Type 0 where
+  pub waits : Waits waiting
+  pub most : known ≤ 64
+  pub low : from ≤ at
+  pub place : at + left ≡ from + count
+  pub few : notes + 2 * left ≤ 2 * count
+  pub sides : balanced known (itemsFrom t at left) ≡ true
+  pub same : numericIn edition1 m (itemsFrom t from count) ≡ numericFrom m notes (waitingIn waiting known) (itemsFrom t at left)
+
+pub valuing-begins : (m : Memory) (t : List ℕ) (from count : ℕ) → balanced 0 (itemsFrom t from count) ≡ true
+    → Valuing m t from count (replicate 64 (pos 0)) 0 0 from count
+valuing-begins m t from count h =
+    record {
+      waits = waits-none;
+      most = omega arith;
+      low = omega arith;
+      place = omega arith;
+      few = omega arith;
+      sides = h;
+      same = numeric-begins m (itemsFrom t from count);
+    }
+
+module _ {m : Memory} {t : List ℕ} {from count : ℕ} {waiting : List ℤ} {known notes at left : ℕ}
+    (v : Valuing m t from count waiting known notes at left) where
+  pub valuing-ends : left ≤ 0 → numericIn edition1 m (itemsFrom t from count) ≡ done (getD waiting 0 (pos 0)) notes
+  valuing-ends h =
+      let none = items-none t at left h in
+      let one = balanced-end known (ap (balanced known) (sym none) ∙ v .sides) in
+      v .same
+      ∙ ap₂ (λ (k : ℕ) (is : List Program.Item). numericFrom m notes (waitingIn waiting k) is) one none
+      ∙ numeric-ends m notes (getD waiting 0 (pos 0)) []
+
+  -- the item that is next
+  module _ (some : 0 < left) (x : Item) (read : itemMeaning x ≡ itemOfCell (cellAt t (itemsAt + 8 * at))) where
+    abbrev rest : List Program.Item
+    rest = itemsFrom t (at + 1) (left - 1)
+
+    items-here : itemsFrom t at left ≡ itemMeaning x ∷ rest
+    items-here = items-more t at left some ∙ ap (λ (i : Program.Item). i ∷ rest) (sym read)
+
+    balance : Finds known x × (balanced (waitingAfter known x) rest ≡ true)
+    balance = balanced-more known x rest (ap (balanced known) (sym items-here) ∙ v .sides)
+
+    pub valuing-finds : Finds known x
+    valuing-finds = balance .0
+
+    here : numericIn edition1 m (itemsFrom t from count) ≡ numericFrom m notes (waitingIn waiting known) (itemMeaning x ∷ rest)
+    here = v .same ∙ ap (numericFrom m notes (waitingIn waiting known)) items-here
+
+    -- and what was made of it
+    module _ {r : Known} {after : List ℤ}
+        (taken : Taken r after (waitingAfter known x) (itemIn edition1 m (waitingIn waiting known) (itemMeaning x))) where
+      worked : {k : Known} → r ≡ k → itemIn edition1 m (waitingIn waiting known) (itemMeaning x) ≡ knownWorked k after
+      worked e = sym (taken .work) ∙ ap (λ (a : Known). knownWorked a after) e
+
+      pub valuing-noted : {n more : ℕ} → r ≡ Is n more → more ≤ 2
+      valuing-noted e = few-done (few-item edition1 m (waitingIn waiting known) (itemMeaning x)) (worked e)
+
+      pub valuing-stops : {k : ℕ} → r ≡ Stops k → numericIn edition1 m (itemsFrom t from count) ≡ stop k
+      valuing-stops {k} e = here ∙ numeric-stops m notes k (waitingIn waiting known) (itemMeaning x) rest (worked e)
+
+      pub valuing-more : {n more : ℕ} → r ≡ Is n more → Valuing m t from count after n (notes + more) (at + 1) (left - 1)
+      valuing-more {n} {more} e =
+          let counted : n ≡ waitingAfter known x = subst (λ (k : Known). Counted k (waitingAfter known x)) e (taken .counted) in
+          record {
+            waits = taken .waits;
+            most = subst (λ (k : ℕ). k ≤ 64) (sym counted) (after-most known x (v .most) valuing-finds);
+            low = omega (arith, v .low);
+            place = omega (arith, v .place);
+            few = omega (arith, v .few, valuing-noted e);
+            sides = ap (λ (k : ℕ). balanced k rest) counted ∙ balance .1;
+            same = here
+                ∙ numeric-more m notes more (waitingIn waiting known) (waitingIn after n) (itemMeaning x) rest (worked e);
+          }

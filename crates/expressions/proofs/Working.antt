@@ -1,0 +1,177 @@
+-- Work that follows other work, as answers stand for it. Assumes nothing.
+use mathlib.Core.List.{List, [], _∷_, _++_, append-assoc, append-nil}
+use mathlib.Core.Path.{_≡_, refl, sym, ap, ap₂, _∙_}
+use Prim.Native.Nat.{ℕ, zero, suc, _+_, _*_, _-_, _≤_, _<_}
+use native.Mathlib.Nat.{add-assoc, zero-add, add-zero, not-suc-le-zero}
+use native.Mathlib.Omega.{arith}
+use lib.Dec.{eqb}
+use lib.IntN.{ℤ}
+use lib.ListN.{length}
+use borrow.Author.Tests.{eq-eqb, ne-eqb}
+use Rattle.base.specs.Edition.{edition1}
+use Rattle.base.specs.Lists.{isNil}
+use Rattle.calls.specs.Table.{itemsAt, elementsAt}
+use Rattle.calls.specs.TableReading.{cellAt, itemOfCell, elementOfCell, itemsFrom, elementsFrom}
+use Rattle.convert.specs.Laws.{number-is, number-range, number-stops}
+use Rattle.convert.specs.Numbers.{Answers}
+use Rattle.convert.specs.declared.Int.{Int}
+use Rattle.convert.specs.declared.Number.{Number}
+use Rattle.convert.specs.declared.Number.the-variants as numbers
+use Rattle.language.specs.Program.{Item, Element}
+use Rattle.machine.specs.Expressions.{itemIn, itemsIn, latest, numericIn, elementIn, stringIn}
+use Rattle.machine.specs.State.{Memory}
+use Rattle.values.specs.Conversion as Conversion
+use Rattle.values.specs.Work.{Work, done, stop, noting, quietly, _>>=_}
+use Rattle.expressions.specs.Values.{thenNumber}
+
+-- NUMBER of a string that came with notes
+module _ (s : List ℕ) (n : ℕ) {r : Number} (a : Answers r (Conversion.numberOf edition1 s)) where
+  pub number-noted : {v : Int} {more : ℕ} → r ≡ numbers.Is v more → Answers (numbers.Is v (n + more)) (thenNumber (done s n))
+  unfolding _>>=_ noting
+  number-noted e = record { work = ap (noting n) (sym (number-is a e)); range = number-range a e }
+
+  pub number-stopped : {k : ℕ} → r ≡ numbers.Stops k → Answers (numbers.Stops k) (thenNumber (done s n))
+  unfolding _>>=_ noting
+  number-stopped e = record { work = ap (noting n) (sym (number-stops a e)); range = tt }
+
+-- notes on top of others
+module _ {A : Type 0} where
+  noting-none : (w : Work A) → noting 0 w ≡ w
+  unfolding noting
+  noting-none (done a n) = ap (done a) (zero-add n)
+  noting-none (stop k) = refl
+
+  noting-more : (n more : ℕ) (w : Work A) → noting n (noting more w) ≡ noting (n + more) w
+  unfolding noting
+  noting-more n more (done a k) = ap (done a) (sym (add-assoc n more k))
+  noting-more n more (stop k) = refl
+
+bind-noting : {A B : Type 0} (n : ℕ) (w : Work A) (f : A → Work B) → (noting n w >>= f) ≡ noting n (w >>= f)
+unfolding noting _>>=_
+bind-noting n (done a k) f = sym (noting-more n k (f a))
+bind-noting n (stop k) f = refl
+
+-- rows that are read one behind the other
+module _ {A : Type 0} (single : ℕ → A) (rows : ℕ → ℕ → List A) where
+  rows-more : ((at n : ℕ) → rows at (suc n) ≡ single at ∷ rows (at + 1) n) → (at n : ℕ) → 0 < n
+      → rows at n ≡ single at ∷ rows (at + 1) (n - 1)
+  rows-more next at zero h = absurd (not-suc-le-zero h)
+  rows-more next at (suc n) h =
+      let back : n ≡ suc n - 1 = omega arith in
+      next at n ∙ ap (λ (k : ℕ). single at ∷ rows (at + 1) k) back
+
+  rows-none : ((at : ℕ) → rows at 0 ≡ []) → (at n : ℕ) → n ≤ 0 → rows at n ≡ []
+  rows-none none at zero h = none at
+  rows-none none at (suc n) h = absurd (not-suc-le-zero h)
+
+-- the items and elements of a stretch
+module _ (t : List ℕ) where
+  pub items-more : (at n : ℕ) → 0 < n → itemsFrom t at n ≡ itemOfCell (cellAt t (itemsAt + 8 * at)) ∷ itemsFrom t (at + 1) (n - 1)
+  unfolding itemsFrom
+  items-more = rows-more (λ at. itemOfCell (cellAt t (itemsAt + 8 * at))) (itemsFrom t) (λ at n. refl)
+
+  pub items-none : (at n : ℕ) → n ≤ 0 → itemsFrom t at n ≡ []
+  unfolding itemsFrom
+  items-none = rows-none (λ at. itemOfCell (cellAt t (itemsAt + 8 * at))) (itemsFrom t) (λ at. refl)
+
+  pub elements-more : (at n : ℕ) → 0 < n
+      → elementsFrom t at n ≡ elementOfCell t (cellAt t (elementsAt + 8 * at)) ∷ elementsFrom t (at + 1) (n - 1)
+  unfolding elementsFrom
+  elements-more = rows-more (λ at. elementOfCell t (cellAt t (elementsAt + 8 * at))) (elementsFrom t) (λ at n. refl)
+
+  pub elements-none : (at n : ℕ) → n ≤ 0 → elementsFrom t at n ≡ []
+  unfolding elementsFrom
+  elements-none = rows-none (λ at. elementOfCell t (cellAt t (elementsAt + 8 * at))) (elementsFrom t) (λ at. refl)
+
+-- a value passed on
+quiet : {A : Type 0} (w : Work A) → (w >>= λ a. quietly a) ≡ w
+unfolding _>>=_ noting quietly
+quiet (done a n) = ap (done a) (add-zero n)
+quiet (stop k) = refl
+
+-- a string put in front of one, and then another in front of both
+quiet-front : (u v : List ℕ) (w : Work (List ℕ)) → ((w >>= λ vs. quietly (v ++ vs)) >>= λ vs. quietly (u ++ vs))
+    ≡ (w >>= λ vs. quietly ((u ++ v) ++ vs))
+unfolding _>>=_ noting quietly
+quiet-front u v (done vs n) = ap (λ l. done l (n + 0 + 0)) (sym (append-assoc u v vs)) ∙ ap (done ((u ++ v) ++ vs)) (add-zero (n + 0))
+quiet-front u v (stop k) = refl
+
+module _ (m : Memory) where
+  -- what a numeric expression comes to from its waiting numbers and the items that are left, with the notes so far
+  unfoldable pub numericFrom : ℕ → List ℤ → List Item → Work ℤ
+  numericFrom notes known is = noting notes (itemsIn edition1 m known is >>= λ more. quietly (latest edition1 m more))
+
+  pub numeric-begins : (is : List Item) → numericIn edition1 m is ≡ numericFrom 0 [] is
+  unfolding numericIn numericFrom
+  numeric-begins is = sym (noting-none (itemsIn edition1 m [] is >>= λ more. quietly (latest edition1 m more)))
+
+  pub numeric-more : (notes more : ℕ) (known next : List ℤ) (x : Item) (is : List Item) → itemIn edition1 m known x ≡ done next more
+      → numericFrom notes known (x ∷ is) ≡ numericFrom (notes + more) next is
+  unfolding numericFrom itemsIn _>>=_
+  numeric-more notes more known next x is e =
+      let rest : (z : List ℤ) → Work ℤ = λ z. quietly (latest edition1 m z) in
+      ap (λ w. noting notes ((w >>= λ z. itemsIn edition1 m z is) >>= rest)) e
+      ∙ ap (noting notes) (bind-noting more (itemsIn edition1 m next is) rest)
+      ∙ noting-more notes more (itemsIn edition1 m next is >>= rest)
+
+  pub numeric-stops : (notes k : ℕ) (known : List ℤ) (x : Item) (is : List Item) → itemIn edition1 m known x ≡ stop k
+      → numericFrom notes known (x ∷ is) ≡ stop k
+  unfolding numericFrom itemsIn _>>=_ noting
+  numeric-stops notes k known x is e =
+      ap (λ w. noting notes ((w >>= λ z. itemsIn edition1 m z is) >>= λ z. quietly (latest edition1 m z))) e
+
+  pub numeric-ends : (notes : ℕ) (z : ℤ) (known : List ℤ) → numericFrom notes (z ∷ known) [] ≡ done z notes
+  unfolding numericFrom itemsIn _>>=_ noting quietly latest
+  numeric-ends notes z known = ap (done z) (add-zero notes)
+
+  -- what a string expression comes to from the bytes so far and the elements that are left, with the notes so far
+  unfoldable pub stringFrom : ℕ → List ℕ → List Element → Work (List ℕ)
+  stringFrom notes u xs = noting notes (stringIn edition1 m xs >>= λ vs. quietly (u ++ vs))
+
+  pub string-begins : (xs : List Element) → stringIn edition1 m xs ≡ stringFrom 0 [] xs
+  unfolding stringFrom
+  string-begins xs = sym (noting-none (stringIn edition1 m xs >>= λ vs. quietly vs) ∙ quiet (stringIn edition1 m xs))
+
+  pub string-more : (notes more : ℕ) (u v : List ℕ) (x : Element) (xs : List Element) → elementIn edition1 m x ≡ done v more
+      → stringFrom notes u (x ∷ xs) ≡ stringFrom (notes + more) (u ++ v) xs
+  unfolding stringFrom stringIn _>>=_
+  string-more notes more u v x xs e =
+      let rest = stringIn edition1 m xs in
+      let front : (vs : List ℕ) → Work (List ℕ) = λ vs. quietly (u ++ vs) in
+      ap (λ w. noting notes ((w >>= λ v. rest >>= λ vs. quietly (v ++ vs)) >>= front)) e
+      ∙ ap (noting notes) (bind-noting more (rest >>= λ vs. quietly (v ++ vs)) front ∙ ap (noting more) (quiet-front u v rest))
+      ∙ noting-more notes more (rest >>= λ vs. quietly ((u ++ v) ++ vs))
+
+  pub string-stops : (notes k : ℕ) (u : List ℕ) (x : Element) (xs : List Element) → elementIn edition1 m x ≡ stop k
+      → stringFrom notes u (x ∷ xs) ≡ stop k
+  unfolding stringFrom stringIn _>>=_ noting
+  string-stops notes k u x xs e =
+      ap (λ w. noting notes ((w >>= λ v. stringIn edition1 m xs >>= λ vs. quietly (v ++ vs)) >>= λ vs. quietly (u ++ vs))) e
+
+  pub string-ends : (notes : ℕ) (u : List ℕ) → stringFrom notes u [] ≡ done u notes
+  unfolding stringFrom stringIn _>>=_ noting quietly
+  string-ends notes u = ap (λ v. done v (notes + 0)) (append-nil u) ∙ ap (done u) (add-zero notes)
+
+-- two works whose values make one
+module _ {A B C : Type 0} (f : A → B → C) where
+  abbrev both : Work A → Work B → Work C
+  both u v = u >>= λ a. v >>= λ b. quietly (f a b)
+
+  pub both-done : {u : Work A} {v : Work B} {x : A} {y : B} {n more : ℕ} → u ≡ done x n → v ≡ done y more
+      → both u v ≡ done (f x y) (n + more)
+  unfolding _>>=_ noting quietly
+  both-done {x = x} {y = y} {n = n} {more = more} e g = ap₂ both e g ∙ ap (λ (k : ℕ). done (f x y) (n + k)) (add-zero more)
+
+  pub second-stops : {u : Work A} {v : Work B} {x : A} {n k : ℕ} → u ≡ done x n → v ≡ stop k → both u v ≡ stop k
+  unfolding _>>=_ noting
+  second-stops e g = ap₂ both e g
+
+  pub first-stops : {u : Work A} (v : Work B) {k : ℕ} → u ≡ stop k → both u v ≡ stop k
+  unfolding _>>=_
+  first-stops v e = ap (λ (w : Work A). both w v) e
+
+-- a string is null that has no bytes
+pub nil-counted : (n : ℕ) (l : List ℕ) → n ≡ length l → eqb n 0 ≡ isNil l
+unfolding isNil
+nil-counted n [] e = eq-eqb n 0 e
+nil-counted n (x ∷ l) e = ne-eqb n 0 (λ z. omega arith)

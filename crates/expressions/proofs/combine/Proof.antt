@@ -1,0 +1,65 @@
+-- `expressions::combine` meets its contract. What the operator makes of the latest two numbers is put where the first of them stood.
+-- Assumes nothing.
+use borrow.Author.Needs.{needs}
+use mathlib.Core.List.{[]}
+use mathlib.Core.Path.{_≡_, ap, ap₂, _∙_}
+use Prim.Native.Nat.{_+_, _-_}
+use native.Mathlib.Omega.{arith}
+use Rattle.base.specs.Edition.{edition1}
+use Rattle.machine.specs.Expressions.{operation}
+use Rattle.rows.specs.Meaning.{operatorMeaning}
+use Rattle.expressions.specs.Memory.{memoryIn}
+use Rattle.expressions.specs.Waiting.{pushed, waitingIn}
+use Rattle.expressions.proofs.Waiting.{operator-takes, taken-as}
+use Rattle.expressions.proofs.combine.Statement.{statement}
+use Rattle.expressions.proofs.combine.Tie as tie
+
+sub-waiting-at : tie.Need-sub-waiting-at
+sub-waiting-at c = search needs
+
+waiting-at-requires : tie.Need-waiting-at-requires
+waiting-at-requires c κs = search needs
+
+sub-waiting-at-2 : tie.Need-sub-waiting-at-2
+sub-waiting-at-2 c = search needs
+
+waiting-at-requires-2 : tie.Need-waiting-at-requires-2
+waiting-at-requires-2 c κs = search needs
+
+operation-requires : tie.Need-operation-requires
+operation-requires c κs = search needs
+
+sub-keep : tie.Need-sub-keep
+sub-keep c = search needs
+
+keep-requires : tie.Need-keep-requires
+keep-requires c κs =
+    let s = c .before .before .before .before .before .before in
+    record { waits = s .pre .0; place = omega arith; range = c .before .operation .ensures (memoryIn [] []) .range }
+
+returns : tie.Need-returns
+returns c m =
+    let s = c .before .before .before .before .before .before .before in
+    let w = s .args .waiting .now in
+    let known = s .args .known in
+    let o = operatorMeaning (s .args .o) in
+    let a = c .before .before .before .waiting-at2 .ensures .value in
+    let b = c .before .before .before .before .before .waiting-at .ensures .value in
+    let one : known - 2 + 1 ≡ known - 1 = omega arith in
+    taken-as one
+    (ap (pushed (waitingIn w (known - 2))) (c .before .before .operation .ensures m .work ∙ ap₂ (operation edition1 m o) a b)
+    ∙ operator-takes m w known o (s .pre .1 .0))
+    (c .keep .ensures)
+
+pub combine-spec : {M : Type 1} → statement M
+combine-spec =
+    tie.close
+    (tie.spec
+    sub-waiting-at
+    waiting-at-requires
+    sub-waiting-at-2
+    waiting-at-requires-2
+    operation-requires
+    sub-keep
+    keep-requires
+    returns)

@@ -1,0 +1,117 @@
+-- `expressions::string_value` meets its contract. The loop's invariant: the whole comes to the bytes so far and what the elements left come to.
+-- The measure is how many elements are left. Assumes nothing.
+use borrow.Author.Needs.{needs}
+use native.Mathlib.Omega.{arith}
+use Rattle.expressions.specs.Memory.{memoryIn}
+use Rattle.expressions.proofs.Spelling.{Spelling, spelling-begins, spelling-ends, spelling-noted, spelling-stops, spelling-more}
+use Rattle.expressions.proofs.string_value.Statement.{statement}
+use Rattle.expressions.proofs.string_value.Tie as tie
+
+abbrev Inv-loop : tie.InvT-loop
+Inv-loop table store state scratch₀ out₀ length₀ notes₀ at₀ left₀ scratch out length notes at left =
+    Spelling (memoryIn store state) table at₀ left₀ out scratch length notes at left
+
+abbrev μ-loop : tie.MeasureT-loop
+μ-loop table store state scratch₀ out₀ length₀ notes₀ at₀ left₀ scratch out length notes at left = left
+
+loop-holds : tie.Need-loop-holds Inv-loop μ-loop
+loop-holds c =
+    let s = c .before .before in
+    spelling-begins (memoryIn (s .args .store .now) (s .args .state .now)) (s .args .table .now) (s .args .s .from) (s .args .s .count)
+    (s .args .out .now) (s .args .scratch .now) (s .pre .room) (s .pre .spare)
+
+element-at-requires : tie.Need-element-at-requires Inv-loop μ-loop
+element-at-requires c κs = search needs
+
+append-element-requires : tie.Need-append-element-requires Inv-loop μ-loop
+append-element-requires c κs =
+    let s = c .before .before .before .before .before .before .before in
+    let l = c .before .before .before .before .loop in
+    let read = c .before .before .element-at in
+    record {
+      bytes = s .pre .bytes;
+      ready = s .pre .ready;
+      holds = s .pre .elements .each (l .at) (read .result) (record { low = l .inv .low; high = omega arith }) (read .ensures);
+      spare = l .inv .spare;
+      room = l .inv .room;
+    }
+
+enum-known-more : tie.Need-enum-known-more Inv-loop μ-loop
+enum-known-more c = search needs
+
+add-length : tie.Need-add-length Inv-loop μ-loop
+add-length c =
+    let d = c .before .before .before in
+    let l = d .before .before .before .before .before .loop in
+    let read = d .before .before .before .element-at in
+    let s = d .before .before .before .before .before .before .before .before in
+    let more = spelling-noted (l .inv) (d .before .before .before .before .loop-test .taken) (read .result) (read .ensures)
+    (d .append-element .ensures .0) (c .before .more .given .1) in
+    omega (arith, more .0, l .inv .short, s .pre .elements .few)
+
+add-notes : tie.Need-add-notes Inv-loop μ-loop
+add-notes c =
+    let d = c .before .before .before in
+    let l = d .before .before .before .before .before .loop in
+    let read = d .before .before .before .element-at in
+    let s = d .before .before .before .before .before .before .before .before in
+    let more = spelling-noted (l .inv) (d .before .before .before .before .loop-test .taken) (read .result) (read .ensures)
+    (d .append-element .ensures .0) (c .before .more .given .1) in
+    omega (arith, more .1, l .inv .few, s .pre .elements .few)
+
+enum-known-k : tie.Need-enum-known-k Inv-loop μ-loop
+enum-known-k c = search needs
+
+returns : tie.Need-returns Inv-loop μ-loop
+returns c =
+    let d = c .before .before .before in
+    let l = d .before .before .before .before .before .loop in
+    let read = d .before .before .before .element-at in
+    record {
+      spelt = spelling-stops (l .inv) (d .before .before .before .before .loop-test .taken) (read .result) (read .ensures)
+          (d .append-element .ensures .0) (c .before .k .given .1);
+      room = d .append-element .ensures .0 .room;
+      spare = d .append-element .ensures .1;
+    }
+
+add-at : tie.Need-add-at Inv-loop μ-loop
+add-at c = search needs
+
+sub-left : tie.Need-sub-left Inv-loop μ-loop
+sub-left c = search needs
+
+loop-less : tie.Need-loop-less Inv-loop μ-loop
+loop-less c = search needs
+
+loop-again : tie.Need-loop-again Inv-loop μ-loop
+loop-again c =
+    let d = c .before .before .before in
+    let l = d .before .before .before .before .before .loop in
+    let read = d .before .before .before .element-at in
+    spelling-more (l .inv) (d .before .before .before .before .loop-test .taken) (read .result) (read .ensures) (d .append-element .ensures .0)
+    (d .append-element .last .1 .1 .1 .1 .0) (d .append-element .ensures .1) (c .before .more .given .1)
+
+returns-2 : tie.Need-returns-2 Inv-loop μ-loop
+returns-2 c =
+    let l = c .before .loop in
+    record { spelt = spelling-ends (l .inv) (c .loop-test .left); room = l .inv .room; spare = l .inv .spare }
+
+pub string-value-spec : {M : Type 1} → statement M
+string-value-spec =
+    tie.close
+    (tie.spec
+    Inv-loop
+    μ-loop
+    loop-holds
+    element-at-requires
+    append-element-requires
+    enum-known-more
+    add-length
+    add-notes
+    enum-known-k
+    returns
+    add-at
+    sub-left
+    loop-less
+    loop-again
+    returns-2)

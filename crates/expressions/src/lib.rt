@@ -1,0 +1,477 @@
+// The values of operands, numeric and string expressions and tests in the interpreter's memory: a store of cells for the strings, a state
+// that keeps the numbers with a bias added. Each contract is an equation with the definitions of the crate machine.
+ghost use mathlib.Core.List.{List};
+ghost use mathlib.Core.Path.{_≡_};
+ghost use Prim.Native.Nat.{ℕ, _+_, _-_, _≤_, _<_};
+ghost use lib.IntN.{pos};
+ghost use lib.ListN.{length, getD};
+ghost use Rattle.base.specs.Edition.{edition1};
+ghost use Rattle.calls.specs.BufferLaws.{Good};
+ghost use Rattle.cells.specs.Contracts.{stringOf};
+ghost use Rattle.convert.specs.Numbers.{InRange, BothInRange, Gives, Answers, worked};
+ghost use Rattle.convert.specs.Text.{Writable};
+ghost use Rattle.machine.specs.Expressions as Expressions;
+ghost use Rattle.machine.specs.Expressions.{lengthIn, partIn, operandIn, itemIn, numericIn, elementIn, stringIn, testIn};
+ghost use Rattle.machine.specs.State.{Memory, numberAt};
+ghost use Rattle.rows.specs.Holds.{SignedLengthHolds, PartHolds, OperandHolds, TestHolds};
+ghost use Rattle.rows.specs.Meaning.{lengthMeaning, partMeaning, operandMeaning, operatorMeaning, signMeaning, itemMeaning, itemsMeaning};
+ghost use Rattle.rows.specs.Meaning.{elementMeaning, elementsMeaning, testMeaning};
+ghost use Rattle.values.specs.Conversion.{substring, textOf};
+ghost use Rattle.values.specs.Work.{done};
+ghost use Rattle.expressions.specs.Appending.{Appended, Addable, Adding};
+ghost use Rattle.expressions.specs.Memory.{memoryIn, Numbered, Ready};
+ghost use Rattle.expressions.specs.Values.{spanned, Lies, Spans, thenNumber, thenNumeric, Valuable, Spellable, Written, truthWorked};
+ghost use Rattle.expressions.specs.Waiting.{waitingIn, pushed, signedAs, Waits, Keepable, waitingAfter, Takable, Taken};
+use convert::Int;
+use convert::Number;
+use convert::Text;
+use rows::Compares;
+use rows::Element;
+use rows::Item;
+use rows::Length;
+use rows::Operand;
+use rows::Operator;
+use rows::Part;
+use rows::Sign;
+use rows::Stretch;
+use rows::Test;
+
+// where a state's numbers start
+const NUMBERS_AT: usize = 21;
+
+// the most numbers that wait for an operator
+const WAITING: usize = 64;
+
+// the longest string
+const LONGEST: usize = 1024;
+
+// where bytes of the store lie, with the notes made on the way
+pub struct Ends {
+    pub from: usize,
+    pub to: usize,
+    pub notes: u32,
+}
+
+// how many numbers wait after an item, with the notes made, or what stops the run
+enum Known {
+    Is { count: usize, notes: u32 },
+    Stops(u32),
+}
+
+// whether a test holds, with the notes made, or what stops the run
+pub enum Truth {
+    Is { holds: bool, notes: u32 },
+    Stops(u32),
+}
+
+// the number of this place
+pub fn number_at(state: &[u64; 64], place: usize) -> Int
+    requires { ⌜ Numbered (now state) ⌝ }
+    requires { ⌜ place < 32 ⌝ }
+    ensures { λ r. ⌜ ((store : List ℕ) → Gives r (numberAt (memoryIn store (now (state .entry))) place)) ⌝ }
+{
+    rows::unbias(state[NUMBERS_AT + place] as usize)
+}
+
+// a constant, or the number of its place
+pub fn length_value(state: &[u64; 64], n: Length) -> Int
+    requires { ⌜ Numbered (now state) ⌝ }
+    requires { ⌜ SignedLengthHolds n ⌝ }
+    ensures { λ r. ⌜ ((store : List ℕ) → Gives r (lengthIn (memoryIn store (now (state .entry))) (lengthMeaning n))) ⌝ }
+{
+    match n {
+        Length::Constant(z) => z,
+        Length::Number(i) => number_at(state, i),
+    }
+}
+
+// where the string of this place lies
+fn string_ends(store: &[u8], place: usize) -> Ends
+    requires { ⌜ Good (now store) ⌝ }
+    requires { ⌜ place < 32 ⌝ }
+    ensures { λ r. ⌜ Spans (now (store .entry)) r (done (stringOf (now (store .entry)) place) 0) ⌝ }
+{
+    let from = cells::string_start(place);
+    Ends {
+        from,
+        to: from + cells::string_length(store, place),
+        notes: 0,
+    }
+}
+
+// where its first n bytes lie; all if it is shorter, none and a note if n is negative
+fn first_ends(store: &[u8], place: usize, n: Int) -> Ends
+    requires { ⌜ Good (now store) ⌝ }
+    requires { ⌜ (place < 32) × InRange n ⌝ }
+    ensures { λ r. ⌜ Spans (now (store .entry)) r (substring (stringOf (now (store .entry)) place) (n .value)) ⌝ }
+{
+    let from = cells::string_start(place);
+    if convert::is_negative(n) {
+        return Ends {
+            from,
+            to: from,
+            notes: 1,
+        };
+    }
+    let length = cells::string_length(store, place);
+    let asked = convert::size(n) as usize;
+    if length <= asked {
+        return Ends {
+            from,
+            to: from + length,
+            notes: 0,
+        };
+    }
+    Ends {
+        from,
+        to: from + asked,
+        notes: 0,
+    }
+}
+
+// where a part of a string lies
+pub fn part_ends(store: &[u8], state: &[u64; 64], p: Part) -> Ends
+    requires { ⌜ Ready (now store) (now state) ⌝ }
+    requires { ⌜ PartHolds p ⌝ }
+    ensures { λ r. ⌜ Spans (now (store .entry)) r (partIn (memoryIn (now (store .entry)) (now (state .entry))) (partMeaning p)) ⌝ }
+{
+    match p {
+        Part::Whole(s) => string_ends(store, s),
+        Part::First(s, n) => first_ends(store, s, length_value(state, n)),
+    }
+}
+
+// NUMBER of the bytes between these ends
+fn number_between(store: &[u8], ends: Ends) -> Number
+    requires { ⌜ Lies (now store) ends ⌝ }
+    ensures { λ r. ⌜ Answers r (thenNumber (spanned (now (store .entry)) ends)) ⌝ }
+{
+    let from = ends.from;
+    let to = ends.to;
+    match convert::number_of(&store[from..to]) {
+        Number::Is { value, notes } => Number::Is {
+            value,
+            notes: ends.notes + notes,
+        },
+        Number::Stops(k) => Number::Stops(k),
+    }
+}
+
+// a constant, a number, the length of a string, or NUMBER of a part of one
+pub fn operand_value(store: &[u8], state: &[u64; 64], a: Operand) -> Number
+    requires { ⌜ Ready (now store) (now state) ⌝ }
+    requires { ⌜ OperandHolds a ⌝ }
+    ensures { λ r. ⌜ Answers r (operandIn edition1 (memoryIn (now (store .entry)) (now (state .entry))) (operandMeaning a)) ⌝ }
+{
+    match a {
+        Operand::Constant(z) => Number::Is { value: z, notes: 0 },
+        Operand::Number(i) => Number::Is {
+            value: number_at(state, i),
+            notes: 0,
+        },
+        Operand::LengthOf(s) => Number::Is {
+            value: convert::int_of(cells::string_length(store, s) as u64),
+            notes: 0,
+        },
+        Operand::NumberOf(p) => number_between(store, part_ends(store, state, p)),
+    }
+}
+
+// what an operator makes of two numbers
+fn operation(o: Operator, a: Int, b: Int) -> Number
+    requires { ⌜ BothInRange a b ⌝ }
+    ensures { λ r. ⌜ ((m : Memory) → Answers r (Expressions.operation edition1 m (operatorMeaning o) (a .value) (b .value))) ⌝ }
+{
+    match o {
+        Operator::Plus => convert::add(a, b),
+        Operator::Minus => convert::subtract(a, b),
+        Operator::Times => convert::multiply(a, b),
+        Operator::Over => convert::divide(a, b),
+    }
+}
+
+// puts a value at a place of the waiting numbers
+fn keep(v: Number, waiting: &mut [i64; 64], at: usize) -> Known
+    requires { ⌜ Keepable v (now waiting) at ⌝ }
+    ensures { λ r. ⌜ Taken r (now (waiting .exit)) (at + 1) (pushed (waitingIn (now (waiting .entry)) at) (worked v)) ⌝ }
+{
+    match v {
+        Number::Is { value, notes } => {
+            let z = value.value;
+            waiting[at] = z;
+            Known::Is {
+                count: at + 1,
+                notes,
+            }
+        }
+        Number::Stops(k) => Known::Stops(k),
+    }
+}
+
+// the waiting number at a place
+fn waiting_at(waiting: &[i64; 64], at: usize) -> Int
+    requires { ⌜ Waits (now waiting) ⌝ }
+    requires { ⌜ at < 64 ⌝ }
+    ensures { λ r. ⌜ Gives r (getD (now (waiting .entry)) at (pos 0)) ⌝ }
+{
+    let value = waiting[at];
+    Int { value }
+}
+
+// the two latest numbers give way to what an operator makes of them
+fn combine(o: Operator, waiting: &mut [i64; 64], known: usize) -> Known
+    requires { ⌜ Waits (now waiting) ⌝ }
+    requires { ⌜ (2 ≤ known) × (known ≤ 64) ⌝ }
+    ensures { λ r. ⌜ ((m : Memory) → Taken r (now (waiting .exit)) (known - 1)
+        (itemIn edition1 m (waitingIn (now (waiting .entry)) known) (itemMeaning (Item.Operator o)))) ⌝ }
+{
+    let b = waiting_at(waiting, known - 1);
+    let a = waiting_at(waiting, known - 2);
+    keep(operation(o, a, b), waiting, known - 2)
+}
+
+// z with a sign
+fn signed(g: Sign, z: Int) -> Int
+    requires { ⌜ InRange z ⌝ }
+    ensures { λ r. ⌜ Gives r (signedAs (signMeaning g) (z .value)) ⌝ }
+{
+    match g {
+        Sign::Positive => z,
+        Sign::Negative => convert::negate(z),
+    }
+}
+
+// the latest number gets a sign
+fn change_sign(g: Sign, waiting: &mut [i64; 64], known: usize) -> Known
+    requires { ⌜ Waits (now waiting) ⌝ }
+    requires { ⌜ (1 ≤ known) × (known ≤ 64) ⌝ }
+    ensures { λ r. ⌜ ((m : Memory) → Taken r (now (waiting .exit)) known
+        (itemIn edition1 m (waitingIn (now (waiting .entry)) known) (itemMeaning (Item.Sign g)))) ⌝ }
+{
+    let last = known - 1;
+    let z = signed(g, waiting_at(waiting, last));
+    keep(Number::Is { value: z, notes: 0 }, waiting, last)
+}
+
+// an item changes the latest of the waiting numbers
+fn take_item(
+    store: &[u8],
+    state: &[u64; 64],
+    x: Item,
+    waiting: &mut [i64; 64],
+    known: usize,
+) -> Known
+    requires { ⌜ Takable (now store) (now state) x (now waiting) known ⌝ }
+    ensures { λ r. ⌜ Taken r (now (waiting .exit)) (waitingAfter known x)
+        (itemIn edition1 (memoryIn (now (store .entry)) (now (state .entry))) (waitingIn (now (waiting .entry)) known) (itemMeaning x)) ⌝ }
+{
+    match x {
+        Item::Operand(a) => keep(operand_value(store, state, a), waiting, known),
+        Item::Operator(o) => combine(o, waiting, known),
+        Item::Sign(g) => change_sign(g, waiting, known),
+    }
+}
+
+// the value of a numeric expression, item by item; each operator finds its operands waiting
+pub fn numeric_value(table: &[u8], store: &[u8], state: &[u64; 64], s: Stretch) -> Number
+    requires { ⌜ Valuable (now table) (now store) (now state) s ⌝ }
+    ensures { λ r. ⌜ Answers r
+        (numericIn edition1 (memoryIn (now (store .entry)) (now (state .entry))) (itemsMeaning (now (table .entry)) s)) ⌝ }
+{
+    let mut waiting = [0i64; WAITING];
+    let mut known = 0;
+    let mut notes: u32 = 0;
+    let mut at = s.from;
+    let mut left = s.count;
+    while 0 < left {
+        match take_item(store, state, rows::item_at(table, at), &mut waiting, known) {
+            Known::Is { count, notes: more } => {
+                known = count;
+                notes += more;
+            }
+            Known::Stops(k) => return Number::Stops(k),
+        }
+        at += 1;
+        left -= 1;
+    }
+    Number::Is {
+        value: waiting_at(&waiting, 0),
+        notes,
+    }
+}
+
+// writes v from a place of a string's buffer on, as far as there is room
+fn append(v: &[u8], out: &mut [u8; LONGEST], at: usize)
+    requires { ⌜ length (now out) ≡ 1024 ⌝ }
+    ensures { λ _. ⌜ Appended (now (out .entry)) (now (out .exit)) at (now (v .entry)) ⌝ }
+{
+    if LONGEST <= at {
+        return;
+    }
+    let room = LONGEST - at;
+    if v.len() <= room {
+        cells::spans::copy(v, out, at);
+    } else {
+        cells::spans::copy(&v[..room], out, at);
+    }
+}
+
+// appends the bytes between two ends
+fn append_between(bytes: &[u8], ends: Ends, out: &mut [u8; LONGEST], at: usize) -> Text
+    requires { ⌜ Lies (now bytes) ends ⌝ }
+    requires { ⌜ length (now out) ≡ 1024 ⌝ }
+    ensures { λ r. ⌜ Adding r (now (out .entry)) (now (out .exit)) at (spanned (now (bytes .entry)) ends) ⌝ }
+{
+    let from = ends.from;
+    let to = ends.to;
+    append(&bytes[from..to], out, at);
+    Text::Is {
+        length: to - from,
+        notes: ends.notes,
+    }
+}
+
+// appends STRING(n,m), written to scratch first
+fn append_text(
+    n: Int,
+    m: Int,
+    scratch: &mut [u8; LONGEST],
+    out: &mut [u8; LONGEST],
+    at: usize,
+) -> Text
+    requires { ⌜ Writable n m (now scratch) ⌝ }
+    requires { ⌜ length (now out) ≡ 1024 ⌝ }
+    ensures { λ r. ⌜ Adding r (now (out .entry)) (now (out .exit)) at (textOf (n .value) (m .value)) ⌝ }
+    ensures { λ _. ⌜ length (now (scratch .exit)) ≡ 1024 ⌝ }
+{
+    match convert::text_of(n, m, scratch) {
+        Text::Is { length, notes } => append_between(
+            scratch,
+            Ends {
+                from: 0,
+                to: length,
+                notes,
+            },
+            out,
+            at,
+        ),
+        Text::Stops(k) => Text::Stops(k),
+    }
+}
+
+// appends an element
+fn append_element(
+    table: &[u8],
+    store: &[u8],
+    state: &[u64; 64],
+    x: Element,
+    scratch: &mut [u8; LONGEST],
+    out: &mut [u8; LONGEST],
+    at: usize,
+) -> Text
+    requires { ⌜ Addable (now table) (now store) (now state) x (now scratch) (now out) ⌝ }
+    ensures { λ r. ⌜ Adding r (now (out .entry)) (now (out .exit)) at
+        (elementIn edition1 (memoryIn (now (store .entry)) (now (state .entry))) (elementMeaning (now (table .entry)) x)) ⌝ }
+    ensures { λ _. ⌜ length (now (scratch .exit)) ≡ 1024 ⌝ }
+{
+    match x {
+        Element::Literal(from, to) => append_between(table, Ends { from, to, notes: 0 }, out, at),
+        Element::Part(p) => append_between(store, part_ends(store, state, p), out, at),
+        Element::Text(n, m) => {
+            append_text(
+                length_value(state, n),
+                number_at(state, m),
+                scratch,
+                out,
+                at,
+            )
+        }
+    }
+}
+
+// the value of a string expression, element by element: its length, and in out its bytes, of which only the first 1,024 have room;
+// scratch is for STRING
+pub fn string_value(
+    table: &[u8],
+    store: &[u8],
+    state: &[u64; 64],
+    s: Stretch,
+    scratch: &mut [u8; LONGEST],
+    out: &mut [u8; LONGEST],
+) -> Text
+    requires { ⌜ Spellable (now table) (now store) (now state) s (now scratch) (now out) ⌝ }
+    ensures { λ r. ⌜ Written r (now (out .exit)) (now (scratch .exit))
+        (stringIn edition1 (memoryIn (now (store .entry)) (now (state .entry))) (elementsMeaning (now (table .entry)) s)) ⌝ }
+{
+    let mut length = 0;
+    let mut notes: u32 = 0;
+    let mut at = s.from;
+    let mut left = s.count;
+    while 0 < left {
+        let x = rows::element_at(table, at);
+        match append_element(table, store, state, x, scratch, out, length) {
+            Text::Is {
+                length: more,
+                notes: n,
+            } => {
+                length += more;
+                notes += n;
+            }
+            Text::Stops(k) => return Text::Stops(k),
+        }
+        at += 1;
+        left -= 1;
+    }
+    Text::Is { length, notes }
+}
+
+// whether the bytes between two ends are numeric
+fn numeric_between(store: &[u8], ends: Ends) -> Truth
+    requires { ⌜ Lies (now store) ends ⌝ }
+    ensures { λ r. ⌜ truthWorked r ≡ thenNumeric (spanned (now (store .entry)) ends) ⌝ }
+{
+    let from = ends.from;
+    let to = ends.to;
+    Truth::Is {
+        holds: convert::is_numeric(&store[from..to]),
+        notes: ends.notes,
+    }
+}
+
+// the comparison of two operands, the left one valued first
+fn compares_value(store: &[u8], state: &[u64; 64], x: Compares) -> Truth
+    requires { ⌜ Ready (now store) (now state) ⌝ }
+    requires { ⌜ OperandHolds (x .left) × OperandHolds (x .right) ⌝ }
+    ensures { λ r. ⌜ truthWorked r
+        ≡ testIn edition1 (memoryIn (now (store .entry)) (now (state .entry))) (testMeaning (Test.Compares x)) ⌝ }
+{
+    let left = x.left;
+    let right = x.right;
+    let sign = x.sign;
+    match operand_value(store, state, left) {
+        Number::Is { value: a, notes: n } => match operand_value(store, state, right) {
+            Number::Is { value: b, notes: m } => Truth::Is {
+                holds: convert::compare(sign, a, b),
+                notes: n + m,
+            },
+            Number::Stops(k) => Truth::Stops(k),
+        },
+        Number::Stops(k) => Truth::Stops(k),
+    }
+}
+
+// what an IF asks
+pub fn test_value(store: &[u8], state: &[u64; 64], t: Test) -> Truth
+    requires { ⌜ Ready (now store) (now state) ⌝ }
+    requires { ⌜ TestHolds t ⌝ }
+    ensures { λ r. ⌜ truthWorked r ≡ testIn edition1 (memoryIn (now (store .entry)) (now (state .entry))) (testMeaning t) ⌝ }
+{
+    match t {
+        Test::IsNull(s) => Truth::Is {
+            holds: cells::string_length(store, s) == 0,
+            notes: 0,
+        },
+        Test::IsNumeric(p) => numeric_between(store, part_ends(store, state, p)),
+        Test::Compares(x) => compares_value(store, state, x),
+    }
+}
