@@ -134,7 +134,7 @@ row-range t at card from count more r s e small =
     }
 
 -- the bytes of the rows of steps
-length-stepRows : (element item : ℕ) (ss : List Step) → length (stepRows element item ss) ≡ 24 * length ss
+pub length-stepRows : (element item : ℕ) (ss : List Step) → length (stepRows element item ss) ≡ 24 * length ss
 unfolding stepRows
 length-stepRows element item [] = refl
 length-stepRows element item (s ∷ ss) =

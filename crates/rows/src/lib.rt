@@ -338,7 +338,7 @@ pub fn pattern_at(t: &[u8], k: usize) -> PatternElement
     pattern_of(cell_at(t, ELEMENTS_AT + 8 * k))
 }
 
-fn row_at(t: &[u8], at: usize) -> Row
+pub fn row_at(t: &[u8], at: usize) -> Row
     requires { ⌜ at + 24 ≤ length (now t) ⌝ }
     ensures { λ r. ⌜ RowRead (now (t .entry)) at r ⌝ }
 {

@@ -1,0 +1,109 @@
+-- Laws of the state's check and of its start: a stretch of numbers tested one by one, a number in range by the word that keeps it.
+-- Assumes nothing.
+use mathlib.Core.Bool.{Bool, true, false, _&&_}
+use mathlib.Core.List.{List, [], _∷_, map}
+use mathlib.Core.Path.{_≡_, refl, ap}
+use Prim.Native.Nat.{ℕ, suc, _+_, _-_, _≤_, _<_, _^_}
+use native.Mathlib.Numerals.{add-one}
+use native.Mathlib.Omega.{arith}
+use lib.Dec.{ltb, leb}
+use lib.IntN.{natAbs}
+use lib.ListN.{length, take, drop, getD, replicate}
+use lib.Seq.{drop-cons}
+use borrow.Author.Tests.{le-leb, le-ltb, lt-leb, lt-ltb, ltb-false, ltb-true}
+use Rattle.base.specs.Choice.{cond-cases, test-cases}
+use Rattle.base.specs.Edition.{edition1}
+use Rattle.base.specs.Lists.{all}
+use Rattle.calls.specs.Calls.{StartCalled, startCall}
+use Rattle.calls.specs.Buffers.{storeSize, firstState, stateLeft, stateSize, returnsAt, numbersAt, statusNumber, returnsIn, numbersIn, stateKeeps}
+use Rattle.calls.specs.Numerals.{bias, biased, unbiased}
+use Rattle.calls.specs.Splices.{splice}
+use Rattle.machine.specs.State.{mostNumbers, fresh, freshMemory}
+use Rattle.machine.specs.Step.{mostReturns}
+use Rattle.values.specs.Numbers.{isInRange}
+
+-- the numbers from a place on, up to another, pass a test
+abbrev pub allFrom : (ℕ → Bool) → List ℕ → (from to : ℕ) → Bool
+allFrom f l from to = all f (take (to - from) (drop from l))
+
+module _ (f : ℕ → Bool) (l : List ℕ) where
+  pub from-more : (i to : ℕ) → i < to → to ≤ length l → allFrom f l i to ≡ (f (getD l i 0) && allFrom f l (i + 1) to)
+  unfolding all
+  from-more i to h k =
+      let count : to - i ≡ suc (to - (i + 1)) = omega arith in
+      rw (count, drop-cons l i 0 (omega arith), add-one i)
+
+  pub from-none : (i to : ℕ) → to ≤ i → allFrom f l i to ≡ true
+  unfolding all
+  from-none i to h = let none : to - i ≡ 0 = omega arith in rw none
+
+-- a word keeps a number in range
+pub keepsNumber : ℕ → Bool
+keepsNumber n = isInRange edition1 (unbiased n)
+
+all-numbers : (ns : List ℕ) → all (isInRange edition1) (map unbiased ns) ≡ all keepsNumber ns
+unfolding all keepsNumber
+all-numbers [] = refl
+all-numbers (n ∷ ns) = ap (λ t. isInRange edition1 (unbiased n) && t) (all-numbers ns)
+
+pub numbers-from : (state : List ℕ) → all (isInRange edition1) (numbersIn state) ≡ allFrom keepsNumber state 21 53
+unfolding numbersIn numbersAt mostNumbers
+numbers-from state = all-numbers (take 32 (drop 21 state))
+
+pub returns-from : (f : ℕ → Bool) (state : List ℕ) → all f (returnsIn state) ≡ allFrom f state 5 (5 + getD state 2 0)
+unfolding returnsIn returnsAt
+returns-from f state = let count : 5 + getD state 2 0 - 5 ≡ getD state 2 0 = omega arith in rw count
+
+-- the words that keep the least number in range and the greatest
+abbrev pub lowest : ℕ
+lowest = 2 ^ 47 - 8_388_607
+
+abbrev pub highest : ℕ
+highest = 2 ^ 47 + 8_388_607
+
+-- how far a number is from 0, by the word that keeps it
+size-low : (n : ℕ) → n < 2 ^ 47 → natAbs (unbiased n) ≡ 2 ^ 47 - n
+unfolding unbiased bias
+size-low n h = rw (lt-ltb n (2 ^ 47) h) (omega arith)
+
+size-high : (n : ℕ) → 2 ^ 47 ≤ n → natAbs (unbiased n) ≡ n - 2 ^ 47
+unfolding unbiased bias
+size-high n h = rw (le-ltb n (2 ^ 47) h)
+
+pub number-low : (n : ℕ) → n < lowest → keepsNumber n ≡ false
+unfolding keepsNumber isInRange edition1
+number-low n h = lt-leb (natAbs (unbiased n)) 8_388_607 (omega (arith, size-low n (omega arith)))
+
+pub number-high : (n : ℕ) → highest < n → keepsNumber n ≡ false
+unfolding keepsNumber isInRange edition1
+number-high n h = lt-leb (natAbs (unbiased n)) 8_388_607 (omega (arith, size-high n (omega arith)))
+
+pub number-between : (n : ℕ) → lowest ≤ n → n ≤ highest → keepsNumber n ≡ true
+unfolding keepsNumber isInRange edition1
+number-between n low high =
+    le-leb (natAbs (unbiased n)) 8_388_607
+    (test-cases (λ _. natAbs (unbiased n) ≤ 8_388_607) (ltb n (2 ^ 47)) (λ e. omega (arith, size-low n (ltb-true n (2 ^ 47) e)))
+    (λ e. omega (arith, size-high n (ltb-false n (2 ^ 47) e))))
+
+-- zeros with 32 numbers that are 0 written over them are the state before the first step
+pub started : splice (replicate 64 0) 21 (replicate 32 140_737_488_355_328) ≡ firstState
+unfolding splice firstState stateLeft stateSize returnsAt numbersAt statusNumber mostReturns mostNumbers fresh freshMemory biased bias
+started = refl
+
+-- whatever the store, starting gives that state
+pub start-state : (store : List ℕ) → startCall store .state ≡ firstState
+unfolding startCall
+start-state store = cond-cases (λ (s : StartCalled). s .state ≡ firstState) (ltb (length store) storeSize) (λ _. refl) (λ _. refl)
+
+-- a state is in range by its six tests
+module _ (steps input output : ℕ) (state : List ℕ) where
+  pub keeps-tests : {next count returns numbers place written : Bool}
+      → ltb (getD state 1 0) steps ≡ next
+      → leb (getD state 2 0) 16 ≡ count
+      → all (λ k. ltb k steps) (returnsIn state) ≡ returns
+      → all (isInRange edition1) (numbersIn state) ≡ numbers
+      → leb (getD state 3 0) input ≡ place
+      → leb (getD state 4 0) output ≡ written
+      → stateKeeps edition1 steps input output state ≡ (next && (count && (returns && (numbers && (place && written)))))
+  unfolding stateKeeps mostReturns
+  keeps-tests a b c d e f = λ i. a i && (b i && (c i && (d i && (e i && f i))))

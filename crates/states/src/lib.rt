@@ -1,0 +1,217 @@
+// The state's 64 numbers: whether they are in range, what they say, the writes of a step, and the state before the first step.
+// Each contract is an equation with the definitions of the crate calls, or with the numbers before, one of them set.
+ghost use mathlib.Core.Path.{_≡_};
+ghost use Prim.Native.Nat.{_+_, _-_, _<_, _≤_};
+ghost use lib.Dec.{ltb};
+ghost use lib.ListN.{length, getD, set};
+ghost use Rattle.base.specs.Edition.{edition1};
+ghost use Rattle.base.specs.Lists.{all};
+ghost use Rattle.calls.specs.Buffers.{statusOf, firstState, returnsIn, numbersIn, stateKeeps};
+ghost use Rattle.calls.specs.Numerals.{biased};
+ghost use Rattle.convert.specs.Numbers.{InRange};
+ghost use Rattle.machine.specs.State.{isRunning};
+ghost use Rattle.values.specs.Numbers.{isInRange};
+ghost use Rattle.states.specs.Contracts.{Popped, StartedWith};
+use convert::Int;
+
+// Five numbers come first: the status, the next step, how many returns are held, the input place and the output length.
+const STATUS: usize = 0;
+
+const NEXT: usize = 1;
+
+const HELD: usize = 2;
+
+const PLACE: usize = 3;
+
+const WRITTEN: usize = 4;
+
+// 16 returns, the oldest first
+const RETURNS: usize = 5;
+
+const MOST_RETURNS: u64 = 16;
+
+// 32 numbers, each with the bias added; those behind them don't count
+const NUMBERS: usize = 21;
+
+const BEHIND: usize = 53;
+
+const BIAS: u64 = 140_737_488_355_328;
+
+// Whether the returns held are steps of a program with so many.
+fn returns_keep(state: &[u64], steps: usize) -> bool
+    requires { ⌜ (length (now state) ≡ 64) × (getD (now state) 2 0 ≤ 16) ⌝ }
+    ensures { λ r. ⌜ r ≡ all (λ k. ltb k steps) (returnsIn (now (state .entry))) ⌝ }
+{
+    let end = RETURNS + (state[HELD] as usize);
+    let mut i = RETURNS;
+    while i < end {
+        if steps as u64 <= state[i] {
+            return false;
+        }
+        i += 1;
+    }
+    true
+}
+
+// Whether the numbers are in range.
+fn numbers_keep(state: &[u64]) -> bool
+    requires { ⌜ length (now state) ≡ 64 ⌝ }
+    ensures { λ r. ⌜ r ≡ all (isInRange edition1) (numbersIn (now (state .entry))) ⌝ }
+{
+    let mut i = NUMBERS;
+    while i < BEHIND {
+        let n = state[i];
+        if n < BIAS - convert::LIMIT {
+            return false;
+        }
+        if BIAS + convert::LIMIT < n {
+            return false;
+        }
+        i += 1;
+    }
+    true
+}
+
+// Whether a state is in range for a program of so many steps, and so many bytes of input and output.
+pub fn keeps(state: &[u64; 64], steps: usize, input: usize, output: usize) -> bool
+    ensures { λ r. ⌜ r ≡ stateKeeps edition1 steps input output (now (state .entry)) ⌝ }
+{
+    if steps as u64 <= state[NEXT] {
+        return false;
+    }
+    if MOST_RETURNS < state[HELD] {
+        return false;
+    }
+    if !returns_keep(state, steps) {
+        return false;
+    }
+    if !numbers_keep(state) {
+        return false;
+    }
+    if (input as u64) < state[PLACE] {
+        return false;
+    }
+    state[WRITTEN] <= output as u64
+}
+
+// Whether the run goes on: it has neither finished nor stopped.
+pub fn is_running(state: &[u64; 64]) -> bool
+    ensures { λ r. ⌜ r ≡ isRunning (statusOf (getD (now (state .entry)) 0 0)) ⌝ }
+{
+    state[STATUS] == 0
+}
+
+// The step that comes next.
+pub fn next_step(state: &[u64; 64]) -> usize
+    ensures { λ r. ⌜ r ≡ getD (now (state .entry)) 1 0 ⌝ }
+{
+    state[NEXT] as usize
+}
+
+// How many returns are held.
+pub fn returns_held(state: &[u64; 64]) -> usize
+    ensures { λ r. ⌜ r ≡ getD (now (state .entry)) 2 0 ⌝ }
+{
+    state[HELD] as usize
+}
+
+// How far the input is taken.
+pub fn input_place(state: &[u64; 64]) -> usize
+    ensures { λ r. ⌜ r ≡ getD (now (state .entry)) 3 0 ⌝ }
+{
+    state[PLACE] as usize
+}
+
+// How far the output is written.
+pub fn output_length(state: &[u64; 64]) -> usize
+    ensures { λ r. ⌜ r ≡ getD (now (state .entry)) 4 0 ⌝ }
+{
+    state[WRITTEN] as usize
+}
+
+// Moves on to a step.
+pub fn go_to(state: &mut [u64; 64], k: usize)
+    ensures { λ _. ⌜ now (state .exit) ≡ set (now (state .entry)) 1 k ⌝ }
+{
+    state[NEXT] = k as u64;
+}
+
+// Marks the run finished.
+pub fn finish(state: &mut [u64; 64])
+    ensures { λ _. ⌜ now (state .exit) ≡ set (now (state .entry)) 0 1 ⌝ }
+{
+    state[STATUS] = 1;
+}
+
+// Marks the run stopped.
+pub fn stop(state: &mut [u64; 64])
+    ensures { λ _. ⌜ now (state .exit) ≡ set (now (state .entry)) 0 2 ⌝ }
+{
+    state[STATUS] = 2;
+}
+
+// Sets the number with this place.
+pub fn set_number(state: &mut [u64; 64], place: usize, z: Int)
+    requires { ⌜ place < 32 ⌝ }
+    requires { ⌜ InRange z ⌝ }
+    ensures { λ _. ⌜ now (state .exit) ≡ set (now (state .entry)) (21 + place) (biased (z .value)) ⌝ }
+{
+    state[NUMBERS + place] = (z.value + (BIAS as i64)) as u64;
+}
+
+// Holds a return to a step.
+pub fn push_return(state: &mut [u64; 64], k: usize)
+    requires { ⌜ getD (now state) 2 0 < 16 ⌝ }
+    ensures { λ _. ⌜ now (state .exit)
+        ≡ set (set (now (state .entry)) (5 + getD (now (state .entry)) 2 0) k) 2 (getD (now (state .entry)) 2 0 + 1) ⌝ }
+{
+    let held = state[HELD];
+    state[RETURNS + (held as usize)] = k as u64;
+    state[HELD] = held + 1;
+}
+
+// Lets the latest return go and gives its step.
+pub fn pop_return(state: &mut [u64; 64]) -> usize
+    requires { ⌜ (0 < getD (now state) 2 0) × (getD (now state) 2 0 ≤ 16) ⌝ }
+    ensures { λ r. ⌜ Popped (now (state .entry)) r (now (state .exit)) ⌝ }
+{
+    let held = state[HELD];
+    let left = held - 1;
+    state[HELD] = left;
+    state[RETURNS + (left as usize)] as usize
+}
+
+// Sets how far the input is taken.
+pub fn take_input(state: &mut [u64; 64], place: usize)
+    ensures { λ _. ⌜ now (state .exit) ≡ set (now (state .entry)) 3 place ⌝ }
+{
+    state[PLACE] = place as u64;
+}
+
+// Sets how far the output is written.
+pub fn put_output(state: &mut [u64; 64], length: usize)
+    ensures { λ _. ⌜ now (state .exit) ≡ set (now (state .entry)) 4 length ⌝ }
+{
+    state[WRITTEN] = length as u64;
+}
+
+// Makes the state before the first step: zeros, and 32 numbers that are 0.
+pub fn start(state: &mut [u64; 64])
+    ensures { λ _. ⌜ now (state .exit) ≡ firstState ⌝ }
+{
+    *state = [0u64; 64];
+    let mut i = NUMBERS;
+    while i < BEHIND {
+        state[i] = BIAS;
+        i += 1;
+    }
+}
+
+// The starting call: the state before the first step, and the store zeroed; 14 if the store is too small, which then stays.
+#[no_mangle]
+pub extern "C" fn strigol_start(store: &mut [u8], state: &mut [u64; 64]) -> u32
+    ensures { λ r. ⌜ StartedWith (now (store .entry)) r (now (store .exit)) (now (state .exit)) ⌝ }
+{
+    start(state);
+    cells::start_store(store)
+}
