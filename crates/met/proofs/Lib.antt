@@ -1,0 +1,3 @@
+-- The laws that several proofs share.
+mod Finding
+mod Putting

@@ -1,0 +1,76 @@
+-- A number in bytes written one by one, and a cell written in its parts.
+-- Assumes nothing.
+use mathlib.Core.List.{List, [], _∷_, _++_}
+use mathlib.Core.Path.{_≡_, refl, sym, ap, _∙_}
+use Prim.Native.Nat.{ℕ, suc, _+_, _*_, _-_, _/_, _%_, _≤_, _<_}
+use native.Mathlib.Nat.{add-zero}
+use native.Mathlib.Omega.{arith}
+use lib.ListN.{length, set, length-set}
+use Rattle.calls.specs.Numerals.{inBytes}
+use Rattle.calls.specs.Splices.{splice, set-splice, splice-behind, splice-nil, length-splice}
+use borrow.Author.Tests.{lt-ltb, le-ltb}
+use Rattle.calls.specs.Table.{Cell, cell, cellBytes, itemsAt}
+use Rattle.met.specs.Contracts.{named, Noted}
+use Rattle.met.specs.Items.{withItem}
+use Rattle.met.specs.declared.Cursor.{Cursor}
+
+-- a byte, and then bytes behind it
+pub set-then : (t : List ℕ) (a b : ℕ) (w : List ℕ) → a < length t → splice (set t a b) (a + 1) w ≡ splice t a (b ∷ w)
+set-then t a b w h = rw (set-splice t a b h) (splice-behind t a (b ∷ []) w (omega arith))
+
+-- i of the six bytes are written
+pub record Putting (t₀ : List ℕ) (at number : ℕ) (t : List ℕ) (n i : ℕ) : Type 0 where
+  pub inside : i ≤ 6
+  pub size : length t ≡ length t₀
+  pub leads : splice t (at + i) (inBytes (6 - i) n) ≡ splice t₀ at (inBytes 6 number)
+
+module _ (t₀ : List ℕ) (at number : ℕ) where
+  pub putting-none : Putting t₀ at number t₀ number 0
+  putting-none = record { inside = omega arith; size = refl; leads = ap (λ n. splice t₀ n (inBytes 6 number)) (add-zero at) }
+
+  module _ (t : List ℕ) (n i : ℕ) (p : Putting t₀ at number t n i) where
+    pub putting-more : at + 6 ≤ length t₀ → i < 6 → Putting t₀ at number (set t (at + i) (n % 256)) (n / 256) (i + 1)
+    unfolding inBytes
+    putting-more room h =
+        let left : 6 - i ≡ suc (6 - (i + 1)) = omega arith in
+        let next : at + (i + 1) ≡ at + i + 1 = omega arith in
+        record {
+          inside = omega arith;
+          size = length-set t (at + i) (n % 256) ∙ p .size;
+          leads =
+              rw next (set-then t (at + i) (n % 256) (inBytes (6 - (i + 1)) (n / 256)) (omega (arith, p .size)))
+              ∙ ap (λ k. splice t (at + i) (inBytes k n)) (sym left)
+              ∙ p .leads;
+        }
+
+    pub putting-all : 6 ≤ i → t ≡ splice t₀ at (inBytes 6 number)
+    unfolding inBytes
+    putting-all h =
+        let none : 6 - i ≡ 0 = omega arith in
+        sym (splice-nil t (at + i)) ∙ ap (λ k. splice t (at + i) (inBytes k n)) (sym none) ∙ p .leads
+
+-- a cell's kind, its place, and its value
+pub cell-put : (t : List ℕ) (at kind place value : ℕ) → at + 8 ≤ length t
+    → splice (set (set t at kind) (at + 1) place) (at + 2) (inBytes 6 value) ≡ splice t at (cellBytes (cell kind place value))
+unfolding cellBytes cell
+cell-put t at kind place value h =
+    let size = length-set t at kind in
+    ap (λ n. splice (set (set t at kind) (at + 1) place) n (inBytes 6 value)) (omega arith)
+    ∙ set-then (set t at kind) (at + 1) place (inBytes 6 value) (omega arith)
+    ∙ set-then t at kind (place ∷ inBytes 6 value) (omega arith)
+
+-- an item row, and a row behind the last one
+module _ (t : List ℕ) (k : ℕ) (c : Cell) where
+  pub item-inside : k < 1024 → splice t (14400 + 8 * k) (cellBytes c) ≡ withItem t k c
+  unfolding withItem itemsAt
+  item-inside h = rw (lt-ltb k 1024 h)
+
+  pub item-behind : 1024 ≤ k → t ≡ withItem t k c
+  unfolding withItem
+  item-behind h = rw (le-ltb k 1024 h)
+
+-- a name behind the others
+pub noted : (keys tags : List ℕ) (c : Cursor) (key tag : ℕ) → c .names < length keys → c .names < length tags
+    → Noted keys tags c key tag (set keys (c .names) key) (set tags (c .names) tag) (named c)
+noted keys tags c key tag h g =
+    record { keyed = set-splice keys (c .names) key h; tagged = set-splice tags (c .names) tag g; goes = refl }

@@ -1,0 +1,167 @@
+-- What was met goes through `++`; names and keys are each other's; what one name met is. Assumes nothing.
+use mathlib.Core.Bool.{true, false, and-eq-true-iff}
+use mathlib.Core.List.{List, [], _∷_, _++_, map, append-assoc}
+use mathlib.Core.Path.{_≡_, refl, sym, ap, ap₂, _∙_}
+use Prim.Native.Nat.{ℕ, zero, suc, _+_, _*_, _/_, _%_, _≤_}
+use native.Mathlib.Omega.{arith}
+use lib.Dec.{eqb, leb}
+use borrow.Author.Tests.{eqb-true, eqb-false, ne-eqb, leb-true}
+use Rattle.base.specs.Choice.{test-cases}
+use Rattle.base.specs.Lists.{all, same}
+use Rattle.base.specs.ListLaws.{same-true, same-refl}
+use Rattle.cards.specs.Bytes.{between}
+use Rattle.judgement.specs.Deck.{indexOf}
+use Rattle.language.specs.Reading.{
+  Purpose,
+  program,
+  label,
+  routine,
+  number,
+  string,
+  purposeNumber,
+  reference,
+  sought,
+  filler,
+  Met,
+  both,
+  declaring,
+  naming,
+}
+use Rattle.packer.specs.Keys.{keyOf, isKeyByte}
+use Rattle.met.specs.Known.{stringKeys, numberKeys, keyPlace, placesIn}
+use Rattle.met.specs.Entries.{
+  Entry,
+  entry,
+  nameFrom,
+  nameOf,
+  purposeOf,
+  roleOf,
+  namingOf,
+  isDeclared,
+  gather,
+  declaredBy,
+  usedBy,
+  rolesBy,
+  metIn,
+}
+
+pub gather-append : {A : Type 0} (f : Entry → List A) (xs ys : List Entry) → gather f (xs ++ ys) ≡ gather f xs ++ gather f ys
+unfolding gather
+gather-append f [] ys = refl
+gather-append f (x ∷ xs) ys = rw (gather-append f xs ys) (sym (append-assoc (f x) (gather f xs) (gather f ys)))
+
+-- what was met, and then more
+pub met-both : (es fs : List Entry) (i j : ℕ) (r q : List ℕ) (l k : ℕ)
+    → both (metIn es i r l) (metIn fs j q k) ≡ metIn (es ++ fs) (i + j) (r ++ q) (l + k)
+unfolding both metIn
+met-both es fs i j r q l k =
+    λ t.
+    record {
+      declared = sym (gather-append declaredBy es fs) t;
+      used = sym (gather-append usedBy es fs) t;
+      items = i + j;
+      rows = r ++ q;
+      literals = l + k;
+      roles = sym (gather-append rolesBy es fs) t;
+    }
+
+-- the key of the name that a key shows
+key-from : (m k : ℕ) → k ≤ m → keyOf (nameFrom m k) ≡ k
+unfolding nameFrom keyOf
+key-from zero k h = omega arith
+key-from (suc m) k h =
+    test-cases (λ t. keyOf (elim t [ true ↦ [] | false ↦ k % 256 ∷ nameFrom m (k / 256) ]) ≡ k) (eqb k 0)
+    (λ e. omega (arith, eqb-true k 0 e))
+    (λ e.
+    let some = eqb-false k 0 e in
+    let below : k / 256 ≤ m = omega arith in
+    let rest = key-from m (k / 256) below in
+    omega arith)
+
+pub key-name : (k : ℕ) → keyOf (nameOf k) ≡ k
+unfolding nameOf
+key-name k = key-from k k (omega arith)
+
+-- the name that the key of a name shows
+name-from : (m : ℕ) (n : List ℕ) → all isKeyByte n ≡ true → keyOf n ≤ m → nameFrom m (keyOf n) ≡ n
+unfolding nameFrom keyOf all isKeyByte between
+name-from zero [] a h = refl
+name-from (suc m) [] a h = refl
+name-from m (b ∷ bs) a h =
+    let parts = and-eq-true-iff (isKeyByte b) (all isKeyByte bs) .0 a in
+    let range = and-eq-true-iff (leb 1 b) (leb b 255) .0 (parts .0) in
+    let low = leb-true 1 b (range .0) in
+    let high = leb-true b 255 (range .1) in
+    name-more m b bs low high h (λ k l. name-from k bs (parts .1) l)
+  where
+    name-more : (m b : ℕ) (bs : List ℕ) → 1 ≤ b → b ≤ 255 → keyOf (b ∷ bs) ≤ m
+        → ((k : ℕ) → keyOf bs ≤ k → nameFrom k (keyOf bs) ≡ bs) → nameFrom m (keyOf (b ∷ bs)) ≡ b ∷ bs
+    name-more zero b bs low high h rest = absurd (omega arith)
+    name-more (suc m) b bs low high h rest =
+        let first : (256 * keyOf bs + b) % 256 ≡ b = omega arith in
+        let behind : (256 * keyOf bs + b) / 256 ≡ keyOf bs = omega arith in
+        ap {B = List ℕ}
+        (λ t. elim t [ true ↦ [] | false ↦ (256 * keyOf bs + b) % 256 ∷ nameFrom m ((256 * keyOf bs + b) / 256) ])
+        (ne-eqb (256 * keyOf bs + b) 0 (λ e. omega arith))
+        ∙ ap₂ {C = List ℕ} _∷_ first (ap (nameFrom m) behind ∙ rest m (omega arith))
+
+pub name-key : (n : List ℕ) → all isKeyByte n ≡ true → nameOf (keyOf n) ≡ n
+unfolding nameOf
+name-key n a = name-from (keyOf n) n a (omega arith)
+
+-- a name is compared by its key
+pub same-key : (n : List ℕ) (k : ℕ) → all isKeyByte n ≡ true → same n (nameOf k) ≡ eqb (keyOf n) k
+same-key n k a =
+    test-cases (λ t. eqb (keyOf n) k ≡ t → same n (nameOf k) ≡ t) (eqb (keyOf n) k)
+    (λ _ e. ap (λ j. same n (nameOf j)) (sym (eqb-true (keyOf n) k e)) ∙ ap (same n) (name-key n a) ∙ same-refl n)
+    (λ _ e.
+    test-cases (λ t. same n (nameOf k) ≡ t → t ≡ false) (same n (nameOf k))
+    (λ _ f. absurd (eqb-false (keyOf n) k e (ap keyOf (same-true n (nameOf k) f) ∙ key-name k))) (λ _ _. refl) refl) refl
+
+-- so is it found among others
+pub place-name : (n : List ℕ) (ks : List ℕ) → all isKeyByte n ≡ true → indexOf n (map nameOf ks) ≡ keyPlace (keyOf n) ks
+unfolding indexOf keyPlace
+place-name n [] a = refl
+place-name n (k ∷ ks) a =
+    ap₂ {C = ℕ} (λ t j. elim t [ true ↦ 0 | false ↦ suc j ]) (same-key n k a) (place-name n ks a)
+
+-- the places of a name that is known by its key
+module _ (known n : List ℕ) (a : all isKeyByte n ≡ true) where
+  pub string-placed : placesIn known .string n ≡ keyPlace (keyOf n) (stringKeys known)
+  unfolding placesIn
+  string-placed = place-name n (stringKeys known) a
+
+  pub number-placed : placesIn known .number n ≡ keyPlace (keyOf n) (numberKeys known)
+  unfolding placesIn
+  number-placed = place-name n (numberKeys known) a
+
+-- what one name met is: with no role, with each role, declared
+module _ (n : List ℕ) (a : all isKeyByte n ≡ true) where
+  pub used-met : (p : Purpose) → metIn (entry (keyOf n) (purposeNumber p) ∷ []) 0 [] 0 ≡ naming p [] n
+  unfolding metIn gather declaredBy usedBy rolesBy isDeclared namingOf purposeOf roleOf entry naming purposeNumber
+  used-met program = rw (name-key n a)
+  used-met label = rw (name-key n a)
+  used-met routine = rw (name-key n a)
+  used-met number = rw (name-key n a)
+  used-met string = rw (name-key n a)
+
+  pub declared-met : (p : Purpose) → metIn (entry (keyOf n) (purposeNumber p + 8) ∷ []) 0 [] 0 ≡ declaring p n
+  unfolding metIn gather declaredBy usedBy rolesBy isDeclared namingOf purposeOf roleOf entry declaring purposeNumber
+  declared-met program = rw (name-key n a)
+  declared-met label = rw (name-key n a)
+  declared-met routine = rw (name-key n a)
+  declared-met number = rw (name-key n a)
+  declared-met string = rw (name-key n a)
+
+  -- a string in a SCAN: the reference, sought, a filler
+  pub reference-met : metIn (entry (keyOf n) 20 ∷ []) 0 [] 0 ≡ naming string (reference n ∷ []) n
+  unfolding metIn gather declaredBy usedBy rolesBy isDeclared namingOf purposeOf roleOf entry naming
+  reference-met = rw (name-key n a)
+
+  pub sought-met : metIn (entry (keyOf n) 36 ∷ []) 0 [] 0 ≡ naming string (sought n ∷ []) n
+  unfolding metIn gather declaredBy usedBy rolesBy isDeclared namingOf purposeOf roleOf entry naming
+  sought-met = rw (name-key n a)
+
+  pub filler-met : metIn (entry (keyOf n) 52 ∷ []) 0 [] 0 ≡ naming string (filler n ∷ []) n
+  unfolding metIn gather declaredBy usedBy rolesBy isDeclared namingOf purposeOf roleOf entry naming
+  filler-met = rw (name-key n a)

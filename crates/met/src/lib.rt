@@ -1,0 +1,121 @@
+// What readers leave behind while they read a statement: the names met, the item rows of the table, and places by names known.
+// Assumes nothing.
+ghost use mathlib.Core.List.{[], _∷_};
+ghost use mathlib.Core.Path.{_≡_};
+ghost use Prim.Native.Nat.{_+_, _*_, _≤_, _<_};
+ghost use lib.ListN.{length, take, drop};
+ghost use Rattle.calls.specs.Numerals.{inBytes};
+ghost use Rattle.calls.specs.Splices.{splice};
+ghost use Rattle.calls.specs.Table.{cell, cellBytes};
+ghost use Rattle.met.specs.Contracts.{Notable, Noted};
+ghost use Rattle.met.specs.Items.{withItem};
+ghost use Rattle.met.specs.Known.{Counted, keyPlace, stringKeys, numberKeys};
+
+// how many names fit: one for each byte of a text, and the label
+pub const NAMES: usize = 32800;
+
+// where the keys of strings and of numbers stand among the names known, behind the two counts
+const STRINGS_AT: usize = 2;
+
+const NUMBERS_AT: usize = 35;
+
+pub const KNOWN: usize = 68;
+
+// the item rows of a table
+const ITEMS_AT: usize = 14400;
+
+const ITEMS: usize = 1024;
+
+// where a reader is in the text; how many names, items, elements and literal bytes are written; the longest row of elements so far
+pub struct Cursor {
+    pub at: usize,
+    pub names: usize,
+    pub items: usize,
+    pub elements: usize,
+    pub literals: usize,
+    pub longest: usize,
+}
+
+// notes a name behind those met before
+pub fn note_name(
+    keys: &mut [u64; NAMES],
+    tags: &mut [u8; NAMES],
+    c: Cursor,
+    key: u64,
+    tag: u8,
+) -> Cursor
+    requires { ⌜ Notable (now keys) (now tags) c ⌝ }
+    ensures { λ r. ⌜ Noted (now (keys .entry)) (now (tags .entry)) c key tag (now (keys .exit)) (now (tags .exit)) r ⌝ }
+{
+    let n = c.names;
+    keys[n] = key;
+    tags[n] = tag;
+    Cursor {
+        at: c.at,
+        names: n + 1,
+        items: c.items,
+        elements: c.elements,
+        literals: c.literals,
+        longest: c.longest,
+    }
+}
+
+// writes a number into its six bytes at a place, low byte first
+fn put_number(table: &mut [u8], at: usize, number: usize)
+    requires { ⌜ at + 6 ≤ length (now table) ⌝ }
+    ensures { λ _. ⌜ now (table .exit) ≡ splice (now (table .entry)) at (inBytes 6 number) ⌝ }
+{
+    let mut n = number;
+    let mut i = 0;
+    while i < 6 {
+        table[at + i] = (n % 256) as u8;
+        n = n / 256;
+        i += 1;
+    }
+}
+
+// writes item k; of those behind the last row nothing
+pub fn put_item(table: &mut [u8], k: usize, kind: u8, place: u8, value: usize)
+    requires { ⌜ 28672 ≤ length (now table) ⌝ }
+    ensures { λ _. ⌜ now (table .exit) ≡ withItem (now (table .entry)) k (cell kind place value) ⌝ }
+{
+    if k < ITEMS {
+        let at = ITEMS_AT + 8 * k;
+        table[at] = kind;
+        table[at + 1] = place;
+        put_number(table, at + 2, value);
+    }
+}
+
+// the place of a key among so many from a place on
+fn key_place(known: &[u64; KNOWN], from: usize, count: usize, key: u64) -> usize
+    requires { ⌜ (length (now known) ≡ 68) × (from + count ≤ 68) ⌝ }
+    ensures { λ r. ⌜ (r ≡ keyPlace key (take count (drop from (now (known .entry))))) × (r ≤ count) ⌝ }
+{
+    let mut i = 0;
+    while i < count {
+        if known[from + i] == key {
+            return i;
+        }
+        i += 1;
+    }
+    i
+}
+
+// the place of a string's name
+pub fn string_place(known: &[u64; KNOWN], key: u64) -> u8
+    requires { ⌜ Counted (now known) ⌝ }
+    ensures { λ r. ⌜ r ≡ keyPlace key (stringKeys (now (known .entry))) ⌝ }
+{
+    let count = known[0] as usize;
+    key_place(known, STRINGS_AT, count, key) as u8
+}
+
+// the place of a number's name
+pub fn number_place(known: &[u64; KNOWN], key: u64) -> u8
+    requires { ⌜ Counted (now known) ⌝ }
+    ensures { λ r. ⌜ r ≡ keyPlace key (numberKeys (now (known .entry))) ⌝ }
+{
+    let count = known[1] as usize;
+    key_place(known, NUMBERS_AT, count, key) as u8
+}
