@@ -1,0 +1,174 @@
+-- The cells and rows of a table are those of a program: what the bytes of its regions then are. Assumes nothing.
+use mathlib.Core.List.{List, [], _∷_, _++_}
+use mathlib.Core.Path.{_≡_, refl, sym, _∙_, ap, ap₂, subst}
+use Prim.Native.Nat.{ℕ, zero, suc, _+_, _*_, _-_, _^_, _≤_, _<_}
+use native.Mathlib.Omega.{arith}
+use lib.ListN.{length, take, drop, getD, replicate, length-append}
+use Rattle.language.specs.Program.{Item, PatternElement, value, freeFiller, fixedFiller, literal, part, text, Step}
+use Rattle.calls.specs.CellLaws.{cell-read, range-read}
+use Rattle.calls.specs.Numerals.{numberAt}
+use Rattle.calls.specs.RowLaws.{Each}
+use Rattle.calls.specs.Table.{Cell, cell, cellBytes, itemCell, range, elementCell, patternCell, literalIn, elementsOf, itemsOf, Row, rowBytes}
+use Rattle.calls.specs.Table.{rowOf, stepRows, allElements, allItems, allLiterals, elementRows, itemRows, filledTo}
+use Rattle.calls.specs.Table.{stepsAt, elementsAt, itemsAt, literalsAt}
+use Rattle.calls.specs.TableReading.{cellAt, rowAt, rangeFrom, rangeCount}
+use Rattle.rules.specs.Written.{piece, piece-add, piece-stands}
+
+-- two rows that have a property by place have it one behind the other
+pub each-append : {A : Type 0} (P : ℕ → A → Type 0) (at : ℕ) (xs ys : List A) → Each P at xs → Each P (at + length xs) ys
+    → Each P at (xs ++ ys)
+each-append P at [] ys h g = subst (λ (n : ℕ). Each P n ys) (omega arith) g
+each-append P at (x ∷ xs) ys h g =
+    let place : at + suc (length xs) ≡ at + 1 + length xs = omega arith in
+    (h .0, each-append P (at + 1) xs ys (h .1) (subst (λ (n : ℕ). Each P n ys) place g))
+
+module _ (t : List ℕ) where
+  -- an item's cell stands at its place
+  abbrev pub ItemSame : ℕ → Item → Type 0
+  ItemSame i x = cellBytes (itemCell x) ≡ piece t (itemsAt + 8 * i) 8
+
+  -- the cells of elements stand at their places, with literals from a place on
+  abbrev pub SameElements : (e l : ℕ) → List PatternElement → Type 0
+  SameElements e l [] = Unit {0}
+  SameElements e l (x ∷ xs) =
+      (cellBytes (patternCell l x) ≡ piece t (elementsAt + 8 * e) 8) × SameElements (e + 1) (l + length (literalIn x)) xs
+
+  -- a literal is the bytes that a range says
+  abbrev pub LiteralOf : ℕ → PatternElement → Type 0
+  LiteralOf v (value (literal w)) = w ≡ take (rangeCount v) (drop (literalsAt + rangeFrom v) t)
+  LiteralOf v (value (part p)) = Unit {0}
+  LiteralOf v (value (text n m)) = Unit {0}
+  LiteralOf v (freeFiller s) = Unit {0}
+  LiteralOf v (fixedFiller s n) = Unit {0}
+
+  -- and the range is that of the element's cell
+  abbrev pub LiteralSame : ℕ → PatternElement → Type 0
+  LiteralSame e x = LiteralOf (cellAt t (elementsAt + 8 * e) .value) x
+
+  -- a step's row stands at its place, and so do its elements and items
+  pub record StepSame (k e i l : ℕ) (x : Step) : Type 0 where
+    pub row : rowBytes (x .card) (rowOf e i (x .statement)) ≡ piece t (stepsAt + 24 * k) 24
+    pub elements : SameElements e l (elementsOf (x .statement))
+    pub literals : Each LiteralSame e (elementsOf (x .statement))
+    pub items : Each ItemSame i (itemsOf (x .statement))
+
+  abbrev pub SameSteps : (k e i l : ℕ) → List Step → Type 0
+  SameSteps k e i l [] = Unit {0}
+  SameSteps k e i l (x ∷ xs) =
+      StepSame k e i l x
+      × SameSteps (k + 1) (e + length (elementsOf (x .statement))) (i + length (itemsOf (x .statement)))
+      (l + length (allLiterals (elementsOf (x .statement)))) xs
+
+  -- all elements of the steps, with their literals, and all items
+  same-append : (e l : ℕ) (xs ys : List PatternElement) → SameElements e l xs → SameElements (e + length xs) (l + length (allLiterals xs)) ys
+      → SameElements e l (xs ++ ys)
+  unfolding allLiterals
+  same-append e l [] ys h g =
+      let place : e + 0 ≡ e = omega arith in
+      let literals : l + 0 ≡ l = omega arith in
+      subst (λ (n : ℕ). SameElements n l ys) place (subst (λ (n : ℕ). SameElements (e + 0) n ys) literals g)
+  same-append e l (x ∷ xs) ys h g =
+      let own = length (literalIn x) in
+      let place : e + suc (length xs) ≡ e + 1 + length xs = omega arith in
+      let literals : l + length (literalIn x ++ allLiterals xs) ≡ l + own + length (allLiterals xs) =
+      omega (arith, length-append (literalIn x) (allLiterals xs)) in
+      let moved = subst (λ (n : ℕ). SameElements (e + suc (length xs)) n ys) literals g in
+      (h .0, same-append (e + 1) (l + own) xs ys (h .1) (subst (λ (n : ℕ). SameElements n (l + own + length (allLiterals xs)) ys) place moved))
+
+  pub all-elements : (k e i l : ℕ) (ss : List Step) → SameSteps k e i l ss → SameElements e l (allElements ss)
+  unfolding allElements
+  all-elements k e i l [] h = tt
+  all-elements k e i l (x ∷ xs) h =
+      let own = elementsOf (x .statement) in
+      let items = itemsOf (x .statement) in
+      same-append e l own (allElements xs) (h .0 .elements)
+      (all-elements (k + 1) (e + length own) (i + length items) (l + length (allLiterals own)) xs (h .1))
+
+  pub all-literals : (k e i l : ℕ) (ss : List Step) → SameSteps k e i l ss → Each LiteralSame e (allElements ss)
+  unfolding allElements
+  all-literals k e i l [] h = tt
+  all-literals k e i l (x ∷ xs) h =
+      let own = elementsOf (x .statement) in
+      let items = itemsOf (x .statement) in
+      each-append LiteralSame e own (allElements xs) (h .0 .literals)
+      (all-literals (k + 1) (e + length own) (i + length items) (l + length (allLiterals own)) xs (h .1))
+
+  pub all-items : (k e i l : ℕ) (ss : List Step) → SameSteps k e i l ss → Each ItemSame i (allItems ss)
+  unfolding allItems
+  all-items k e i l [] h = tt
+  all-items k e i l (x ∷ xs) h =
+      let own = elementsOf (x .statement) in
+      let items = itemsOf (x .statement) in
+      each-append ItemSame i items (allItems xs) (h .0 .items)
+      (all-items (k + 1) (e + length own) (i + length items) (l + length (allLiterals own)) xs (h .1))
+
+  -- a literal is the bytes from its place on, and so are all literals
+  literal-written : (e l : ℕ) (x : PatternElement) → cellBytes (patternCell l x) ≡ piece t (elementsAt + 8 * e) 8 → LiteralSame e x
+      → l + length (literalIn x) < 2 ^ 16 → literalIn x ≡ piece t (literalsAt + l) (length (literalIn x))
+  unfolding literalIn patternCell elementCell cell
+  literal-written e l (value (literal w)) c r small =
+      let ranges = range-read l (length w) 0 (omega arith) (omega arith) (omega arith) in
+      let read = cell-read t (elementsAt + 8 * e) (cell 16 0 (range l (length w) 0)) (ranges .small) (piece-stands t (elementsAt + 8 * e) 8 c) in
+      let v = ap (λ (y : Cell). y .value) read in
+      r ∙ rw (v, ranges .first, ranges .second)
+  literal-written e l (value (part p)) c r small = refl
+  literal-written e l (value (text n m)) c r small = refl
+  literal-written e l (freeFiller s) c r small = refl
+  literal-written e l (fixedFiller s n) c r small = refl
+
+  pub literals-written : (e l : ℕ) (xs : List PatternElement) → SameElements e l xs → Each LiteralSame e xs
+      → l + length (allLiterals xs) < 2 ^ 16 → allLiterals xs ≡ piece t (literalsAt + l) (length (allLiterals xs))
+  unfolding allLiterals
+  literals-written e l [] h g small = refl
+  literals-written e l (x ∷ xs) h g small =
+      let count = length-append (literalIn x) (allLiterals xs) in
+      let own = length (literalIn x) in
+      let rest = literals-written (e + 1) (l + own) xs (h .1) (g .1) (omega arith) in
+      let place : literalsAt + (l + own) ≡ literalsAt + l + own = omega arith in
+      let first = literal-written e l x (h .0) (g .0) (omega arith) in
+      ap₂ {C = List ℕ} _++_ first (subst (λ (n : ℕ). allLiterals xs ≡ piece t n (length (allLiterals xs))) place rest)
+      ∙ sym (piece-add t (literalsAt + l) own (length (allLiterals xs)))
+      ∙ ap (piece t (literalsAt + l)) (sym count)
+
+  -- the bytes of the regions
+  pub items-written : (i : ℕ) (xs : List Item) → Each ItemSame i xs
+      → itemRows xs ≡ piece t (itemsAt + 8 * i) (8 * length xs)
+  unfolding itemRows
+  items-written i [] h = refl
+  items-written i (x ∷ xs) h =
+      let at = itemsAt + 8 * i in
+      let n = length xs in
+      let next : itemsAt + 8 * (i + 1) ≡ at + 8 = omega arith in
+      let size : 8 + 8 * n ≡ 8 * suc n = omega arith in
+      let own = h .0 in
+      let rest = items-written (i + 1) xs (h .1) ∙ ap (λ (p : ℕ). piece t p (8 * n)) next in
+      ap₂ {C = List ℕ} _++_ own rest ∙ sym (piece-add t at 8 (8 * n)) ∙ ap (piece t at) size
+
+  pub elements-written : (e l : ℕ) (xs : List PatternElement) → SameElements e l xs
+      → elementRows l xs ≡ piece t (elementsAt + 8 * e) (8 * length xs)
+  unfolding elementRows
+  elements-written e l [] h = refl
+  elements-written e l (x ∷ xs) h =
+      let at = elementsAt + 8 * e in
+      let n = length xs in
+      let next : elementsAt + 8 * (e + 1) ≡ at + 8 = omega arith in
+      let size : 8 + 8 * n ≡ 8 * suc n = omega arith in
+      let own = h .0 in
+      let rest = elements-written (e + 1) (l + length (literalIn x)) xs (h .1) ∙ ap (λ (p : ℕ). piece t p (8 * n)) next in
+      ap₂ {C = List ℕ} _++_ own rest ∙ sym (piece-add t at 8 (8 * n)) ∙ ap (piece t at) size
+
+  pub steps-written : (k e i l : ℕ) (ss : List Step) → SameSteps k e i l ss
+      → stepRows e i ss ≡ piece t (stepsAt + 24 * k) (24 * length ss)
+  unfolding stepRows
+  steps-written k e i l [] h = refl
+  steps-written k e i l (x ∷ xs) h =
+      let s = x .statement in
+      let at = stepsAt + 24 * k in
+      let n = length xs in
+      let next : stepsAt + 24 * (k + 1) ≡ at + 24 = omega arith in
+      let size : 24 + 24 * n ≡ 24 * suc n = omega arith in
+      let own = h .0 .row in
+      let behind =
+      steps-written (k + 1) (e + length (elementsOf s)) (i + length (itemsOf s)) (l + length (allLiterals (elementsOf s))) xs (h .1) in
+      let rest = behind ∙ ap (λ (p : ℕ). piece t p (24 * n)) next in
+      ap₂ {C = List ℕ} _++_ own rest ∙ sym (piece-add t at 24 (24 * n)) ∙ ap (piece t at) size
