@@ -1,0 +1,101 @@
+-- `numeric::operands::read_part` reads a name or substring.
+-- Assumes nothing.
+use mathlib.Core.List.{[], _∷_}
+use mathlib.Core.Path.{sym, subst, _∙_}
+use Prim.Native.Nat.{_+_}
+use lib.ListN.{drop}
+use Rattle.base.specs.Edition.{edition1}
+use Rattle.calls.specs.Table.{lengthCell}
+use Rattle.language.specs.Words.{bound}
+use Rattle.met.specs.Known.{placesIn}
+use Rattle.numeric.specs.OperandLaws.{place-case, place-none, ready-moved, part-first, part-whole, part-broken}
+use Rattle.numeric.specs.Operands.{Ready, CellRead}
+use borrow.Author.Needs.{needs}
+use native.Mathlib.Omega.{arith}
+use Rattle.numeric.proofs.operands.read_part.Statement.{statement}
+use Rattle.numeric.proofs.operands.read_part.Tie as tie
+
+read-string-requires : tie.Need-read-string-requires
+read-string-requires c κs = search needs
+
+enum-told : tie.Need-enum-told
+enum-told c = search needs
+
+enum-known-place : tie.Need-enum-known-place
+enum-known-place c = search needs
+
+stands-at-requires : tie.Need-stands-at-requires
+stands-at-requires c κs = search needs
+
+skip-requires : tie.Need-skip-requires
+skip-requires c κs =
+    let g = place-case (c .before .before .before .before .before .before .before .read-string .ensures) (c .before .before .before .before .before .place .given .1) in
+    omega (arith, g .ready)
+
+add-read-bound : tie.Need-add-read-bound
+add-read-bound c = search needs
+
+read-bound-requires : tie.Need-read-bound-requires
+read-bound-requires c κs =
+    let p = c .before .before .before .before .before .before .before .before .before .before .before .before in
+    let s = c .before .before .before .before .before .before .before .before .read-string in
+    let g = place-case (s .ensures) (c .before .before .before .before .before .before .place .given .1) in
+    let dollar = sym (c .before .before .before .before .stands-at .ensures) ∙ c .before .before .before .if1 .taken in (
+      subst (Ready (p .args .text .now) (s .last .1 .1 .0) (s .last .1 .1 .1 .0)) (sym (c .skip .ensures)) (ready-moved (36 ∷ []) (g .ready) dollar),
+      (p .pre .1 .0, omega arith),
+    )
+
+returns : tie.Need-returns
+returns c =
+    let p = c .before .before .before .before .before .before .before .before .before .before .before .before .before in
+    let a = p .args in
+    let s = c .before .before .before .before .before .before .before .before .before .read-string in
+    let g = place-case (s .ensures) (c .before .before .before .before .before .before .before .place .given .1) in
+    let dollar = sym (c .before .before .before .before .before .stands-at .ensures) ∙ c .before .before .before .before .if1 .taken in
+    let known = placesIn (a .known .now) in
+    let place = c .before .before .before .before .before .before .before .place .given .0 .0 in
+    let b = c .read-bound in
+    part-first known (a .shift) g (p .pre .0) dollar (b .result)
+    (subst
+    (λ z.
+    CellRead (lengthCell (a .shift + 2) place) (a .text .now) (s .last .1 .1 .0) (s .last .1 .1 .1 .0) z
+    (bound edition1 known (drop (z .at) (a .text .now))) (b .result) (b .last .1 .1 .0) (b .last .1 .1 .1 .0))
+    (c .before .skip .ensures) (b .ensures))
+
+add-t18 : tie.Need-add-t18
+add-t18 c = search needs
+
+returns-2 : tie.Need-returns-2
+returns-2 c =
+    let a = c .before .before .before .before .before .before .args in
+    record {
+      answer =
+          part-broken (placesIn (a .known .now)) (drop (a .c .at) (a .text .now))
+          (place-none (c .before .before .read-string .ensures) (c .enum-told .given .1));
+    }
+
+returns-3 : tie.Need-returns-3
+returns-3 c =
+    let a = c .before .before .before .before .before .before .before .before .before .args in
+    record {
+      answer =
+          part-whole (placesIn (a .known .now)) (a .shift)
+          (place-case (c .before .before .before .before .before .read-string .ensures) (c .before .before .before .place .given .1))
+          (sym (c .before .stands-at .ensures) ∙ c .if1 .left);
+    }
+
+pub read-part-spec : {M : Type 1} → statement M
+read-part-spec =
+    tie.close
+    (tie.spec
+    read-string-requires
+    enum-told
+    enum-known-place
+    stands-at-requires
+    skip-requires
+    add-read-bound
+    read-bound-requires
+    returns
+    add-t18
+    returns-2
+    returns-3)

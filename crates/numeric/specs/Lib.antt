@@ -1,0 +1,6 @@
+-- What the readers of numeric expressions do: operands as cells (Operands), expressions as item rows (Reads), with the laws by which
+-- readers follow each other (OperandLaws, ReadLaws).
+pub mod OperandLaws
+pub mod Operands
+pub mod ReadLaws
+pub mod Reads

@@ -1,0 +1,569 @@
+-- How readings follow each other: a value made of another, a reading behind skipped bytes, one behind another, one before `)`.
+-- Assumes nothing.
+use mathlib.Core.Bool.{Bool, true, false}
+use mathlib.Core.List.{List, [], _∷_, _++_, append-nil, map, map-append}
+use mathlib.Core.Path.{_≡_, refl, sym, ap, ap₂, subst, _∙_}
+use Prim.Native.Nat.{ℕ, suc, _+_, _-_, _^_, _≤_, _<_}
+use native.Mathlib.Nat.{add-zero, zero-add}
+use native.Mathlib.Omega.{arith}
+use lib.IntN.{pos}
+use lib.ListN.{length, take, drop, getD, length-append, length-map, length-take, length-drop}
+use lib.Seq.{drop-drop}
+use Rattle.base.specs.Edition.{edition1}
+use Rattle.base.specs.Lists.{all, begins}
+use Rattle.base.specs.ListLaws.{begins-iff}
+use Rattle.base.specs.Text.{bytes}
+use Rattle.calls.specs.Numerals.{bias, biased}
+use Rattle.calls.specs.Table as Table
+use Rattle.calls.specs.Table.{lengthCell, partCell, operandCell}
+use Rattle.cards.specs.Bytes.{isDigit}
+use Rattle.language.specs.Numeric.{calledOrNumber, plainFactor}
+use Rattle.language.specs.Program as Program
+use Rattle.language.specs.Program.{constantly, numbered, whole, first, lengthOf, numberOf}
+use Rattle.calls.specs.Splices.{splice, splice-nil, splice-behind, length-splice}
+use Rattle.language.specs.Reading.{number, string, purposeNumber, naming, Met, nothing, both, Read, got, broken, _>>=_, meeting, give, skip}
+use Rattle.language.specs.Words as Words
+use Rattle.language.specs.Words.{Places, nameAs, noRole, unsigned, bound, partOf, partName, numberName, stringName}
+use Rattle.met.specs.Contracts.{Noted}
+use Rattle.met.specs.Entries.{Entry, entry, gather, metIn}
+use Rattle.met.specs.EntryLaws.{met-both, used-met, string-placed, number-placed}
+use Rattle.met.specs.Known.{stringKeys, numberKeys, keyPlace, placesIn}
+use Rattle.met.specs.declared.Cursor.{Cursor}
+use Rattle.packer.specs.Keys.{keyOf, isKeyByte}
+use Rattle.words.specs.Laws.{name-is, name-keys}
+use Rattle.words.specs.Places.{NameAt}
+use Rattle.numeric.specs.Operands.{Onward, moved, Skips, Ready, Noting, Gets, Names, NameAnswer, NameRead}
+use Rattle.numeric.specs.Operands.{PlaceAnswer, PlaceRead, CellAnswer, CellRead, meaning, placedIn, ConstantRead, Inside, closedBy}
+use Rattle.numeric.specs.declared.operands.Cell.{Cell}
+use Rattle.numeric.specs.declared.operands.Name as NameCode
+use Rattle.numeric.specs.declared.operands.Name.{Name}
+use Rattle.numeric.specs.declared.operands.Operand as OperandCode
+use Rattle.numeric.specs.declared.operands.Operand.{Operand}
+use Rattle.numeric.specs.declared.operands.Place as PlaceCode
+use Rattle.numeric.specs.declared.operands.Place.{Place}
+
+-- entries noted behind others
+pub noting-more : {keys tags : List ℕ} {n m : ℕ} {es fs : List Entry} {k t k′ t′ : List ℕ} → n ≤ length keys → n ≤ length tags
+    → m ≡ n + length es → Noting keys tags n es k t → Noting k t m fs k′ t′ → Noting keys tags n (es ++ fs) k′ t′
+noting-more {keys} {tags} {n} {m} {es} {fs} h g e a b =
+    record {
+      keyed = b .keyed ∙ behind (λ x. x .key) keys h (a .keyed);
+      tagged = b .tagged ∙ behind (λ x. x .tag) tags g (a .tagged);
+    }
+  where
+    behind : (f : Entry → ℕ) (d : List ℕ) {d′ : List ℕ} → n ≤ length d → d′ ≡ splice d n (map f es)
+        → splice d′ m (map f fs) ≡ splice d n (map f (es ++ fs))
+    behind f d l p =
+        let place : m ≡ n + length (map f es) = e ∙ ap (λ j. n + j) (sym (length-map es f)) in
+        ap₂ (λ (x : List ℕ) (j : ℕ). splice x j (map f fs)) p place
+        ∙ splice-behind d n (map f es) (map f fs) l
+        ∙ ap (splice d n) (sym (map-append f es fs))
+
+-- nothing more was met
+pub met-nothing : (m : Met) → both m nothing ≡ m
+unfolding both nothing
+met-nothing m =
+    λ t.
+    record {
+      declared = append-nil (m .declared) t;
+      used = append-nil (m .used) t;
+      items = add-zero (m .items) t;
+      rows = append-nil (m .rows) t;
+      literals = add-zero (m .literals) t;
+      roles = append-nil (m .roles) t;
+    }
+
+module _ {A B C W : Type 0} {f : A → C} {v : C} {text keys tags : List ℕ} {c : Cursor} {x : Read A} {k t : List ℕ} {d : Cursor} where
+  -- a value that takes no more bytes
+  pub gets-give : (next : A × List ℕ → Read B) (h : B → W) (w : W) (b : B) (r : Gets f v text keys tags c x k t d)
+      → next (r .value, drop (d .at) text) ≡ give b (drop (d .at) text) → h b ≡ w → Gets h w text keys tags c (x >>= next) k t d
+  unfolding _>>=_ meeting give
+  gets-give next h w b r same made =
+      record {
+        value = b;
+        entries = r .entries;
+        is =
+            ap (λ (y : Read A). y >>= next) (r .is)
+            ∙ ap (meeting (metIn (r .entries) 0 [] 0)) same
+            ∙ ap (λ (m : Met). got b m (drop (d .at) text)) (met-nothing (metIn (r .entries) 0 [] 0));
+        made = made;
+        noting = r .noting;
+        goes = r .goes;
+        ready = r .ready;
+        few = r .few;
+        further = r .further;
+      }
+
+  -- a reading behind another
+  pub gets-then : (next : A × List ℕ → Read B) (h : B → W) (w : W) {k′ t′ : List ℕ} {e : Cursor} → Ready text keys tags c
+      → (r : Gets f v text keys tags c x k t d)
+      → Gets h w text k t d (next (r .value, drop (d .at) text)) k′ t′ e
+      → Gets h w text keys tags c (x >>= next) k′ t′ e
+  unfolding _>>=_ meeting
+  gets-then next h w {e = e} ready r q =
+      let size = length-append (r .entries) (q .entries) in
+      record {
+        value = q .value;
+        entries = r .entries ++ q .entries;
+        is =
+            ap (λ (y : Read A). y >>= next) (r .is)
+            ∙ ap (meeting (metIn (r .entries) 0 [] 0)) (q .is)
+            ∙ ap (λ (m : Met). got (q .value) m (drop (e .at) text)) (met-both (r .entries) (q .entries) 0 0 [] [] 0 0);
+        made = q .made;
+        noting = noting-more (omega arith) (omega arith) (r .goes .names) (r .noting) (q .noting);
+        goes =
+            record {
+              names = omega (arith, r .goes, q .goes);
+              items = omega (arith, r .goes, q .goes);
+              elements = q .goes .elements ∙ r .goes .elements;
+              literals = q .goes .literals ∙ r .goes .literals;
+              longest = q .goes .longest ∙ r .goes .longest;
+            };
+        ready = q .ready;
+        few = omega (arith, r .few, q .few);
+        further = omega (arith, r .further, q .further);
+      }
+
+module _ {A C : Type 0} {f : A → C} {v : C} {text keys tags : List ℕ} {c : Cursor} {x : Read A} {k t : List ℕ} {d : Cursor} where
+  -- a reading behind skipped bytes
+  pub gets-skip : (n : ℕ) {b : Cursor} → Skips b n c → Gets f v text keys tags c x k t d → Gets f v text keys tags b x k t d
+  gets-skip n {b} s r =
+      let names : c .names ≡ b .names = omega (arith, s .goes) in
+      record {
+        value = r .value;
+        entries = r .entries;
+        is = r .is;
+        made = r .made;
+        noting = subst (λ j. Noting keys tags j (r .entries) k t) names (r .noting);
+        goes =
+            record {
+              names = omega (arith, r .goes, s .goes);
+              items = omega (arith, r .goes, s .goes);
+              elements = r .goes .elements ∙ s .goes .elements;
+              literals = r .goes .literals ∙ s .goes .literals;
+              longest = r .goes .longest ∙ s .goes .longest;
+            };
+        ready = r .ready;
+        few = omega (arith, r .few, s .at);
+        further = omega (arith, r .further, s .at);
+      }
+
+-- the code's cursor, moved
+pub skipped : (c : Cursor) (n : ℕ) {d : Cursor} → d ≡ moved c n → Skips c n d
+skipped c n e =
+    record {
+      at = ap (λ (z : Cursor). z .at) e;
+      goes =
+          record {
+            names = ap (λ (z : Cursor). z .names) e ∙ sym (add-zero (c .names));
+            items = ap (λ (z : Cursor). z .items) e ∙ sym (add-zero (c .items));
+            elements = ap (λ (z : Cursor). z .elements) e;
+            literals = ap (λ (z : Cursor). z .literals) e;
+            longest = ap (λ (z : Cursor). z .longest) e;
+          };
+    }
+
+-- nothing was met before
+nothing-met : (m : Met) → both nothing m ≡ m
+unfolding both nothing
+nothing-met m =
+    λ t.
+    record {
+      declared = m .declared;
+      used = m .used;
+      items = zero-add (m .items) t;
+      rows = m .rows;
+      literals = zero-add (m .literals) t;
+      roles = m .roles;
+    }
+
+-- the name at the cursor, noted
+module _ {text keys tags : List ℕ} {c : Cursor} {tag : ℕ} where
+  pub name-got : {n key : ℕ} {k t : List ℕ} {e d : Cursor} → Ready text keys tags c → NameAt text (c .at) n → 1 ≤ n
+      → key ≡ keyOf (take n (drop (c .at) text)) → Noted keys tags c key tag k t e → Skips e n d → Names text keys tags c tag key k t d
+  unfolding entry
+  name-got {n} {key} {k} {t} {e} {d} ready a h known noted s =
+      let bs = drop (c .at) text in
+      let at : d .at ≡ c .at + n = s .at ∙ ap (λ (z : Cursor). z .at + n) (noted .goes) in
+      let names : d .names ≡ c .names + 1 =
+      s .goes .names ∙ add-zero (e .names) ∙ ap (λ (z : Cursor). z .names) (noted .goes) in
+      let items : d .items ≡ c .items = s .goes .items ∙ add-zero (e .items) ∙ ap (λ (z : Cursor). z .items) (noted .goes) in
+      record {
+        bytes = take n bs;
+        shown = subst (λ j. all isKeyByte (take j bs) ≡ true) (sym (a .is)) (name-keys bs);
+        keyed = known;
+        is =
+            name-is bs n (a .is) h
+            ∙ ap (give (take n bs)) (drop-drop n (c .at) text ∙ ap (λ j. drop j text) (sym at));
+        noting = record { keyed = noted .keyed; tagged = noted .tagged };
+        goes =
+            record {
+              names = names;
+              items = items ∙ sym (add-zero (c .items));
+              elements = s .goes .elements ∙ ap (λ (z : Cursor). z .elements) (noted .goes);
+              literals = s .goes .literals ∙ ap (λ (z : Cursor). z .literals) (noted .goes);
+              longest = s .goes .longest ∙ ap (λ (z : Cursor). z .longest) (noted .goes);
+            };
+        ready =
+            record {
+              textSize = ready .textSize;
+              inside = omega (arith, a .inside, ready .inside);
+              names = omega (arith, ready .names);
+              items = omega (arith, ready .items);
+              keysSize = ap length (noted .keyed) ∙ length-splice keys (c .names) (key ∷ []) (omega (arith, ready)) ∙ ready .keysSize;
+              tagsSize = ap length (noted .tagged) ∙ length-splice tags (c .names) (tag ∷ []) (omega (arith, ready)) ∙ ready .tagsSize;
+            };
+        further = omega arith;
+      }
+
+  -- its place
+  pub name-placed : {key place : ℕ} {k t : List ℕ} {d : Cursor} (meets : List ℕ → Met) (place-of : List ℕ → ℕ)
+      → (n : Names text keys tags c tag key k t d) → metIn (entry key tag ∷ []) 0 [] 0 ≡ meets (n .bytes) → place-of (n .bytes) ≡ place
+      → Gets (λ j. j) place text keys tags c (nameAs meets (drop (c .at) text) >>= λ (n, rest). give (place-of n) rest) k t d
+  unfolding _>>=_ meeting give nameAs
+  name-placed {d = d} meets place-of n met placed =
+      record {
+        value = place-of (n .bytes);
+        entries = entry _ tag ∷ [];
+        is =
+            ap {B = Read ℕ} (λ y. y >>= (λ (n, rest). got n (meets n) rest) >>= λ (n, rest). give (place-of n) rest) (n .is)
+            ∙ ap (λ (m : Met). got (place-of (n .bytes)) m (drop (d .at) text))
+            (met-nothing (both nothing (meets (n .bytes))) ∙ nothing-met (meets (n .bytes)) ∙ sym met);
+        made = placed;
+        noting = n .noting;
+        goes = n .goes;
+        ready = n .ready;
+        few = omega (arith, n .further);
+        further = n .further;
+      }
+
+module _ {text keys tags : List ℕ} {c : Cursor} (known : List ℕ) {key place : ℕ} {k t : List ℕ} {d : Cursor} where
+  pub number-got : Names text keys tags c 3 key k t d → place ≡ keyPlace key (numberKeys known)
+      → Gets (λ j. j) place text keys tags c (numberName edition1 (placesIn known) (drop (c .at) text)) k t d
+  unfolding numberName purposeNumber
+  number-got n e =
+      name-placed (naming number []) (placesIn known .number) n
+      (ap (λ j. metIn (entry j 3 ∷ []) 0 [] 0) (n .keyed) ∙ used-met (n .bytes) (n .shown) number)
+      (number-placed known (n .bytes) (n .shown) ∙ ap (λ j. keyPlace j (numberKeys known)) (sym (n .keyed)) ∙ sym e)
+
+  pub string-got : Names text keys tags c 4 key k t d → place ≡ keyPlace key (stringKeys known)
+      → Gets (λ j. j) place text keys tags c (stringName edition1 (placesIn known) noRole (drop (c .at) text)) k t d
+  unfolding stringName purposeNumber noRole
+  string-got n e =
+      name-placed (naming string []) (placesIn known .string) n
+      (ap (λ j. metIn (entry j 4 ∷ []) 0 [] 0) (n .keyed) ∙ used-met (n .bytes) (n .shown) string)
+      (string-placed known (n .bytes) (n .shown) ∙ ap (λ j. keyPlace j (stringKeys known)) (sym (n .keyed)) ∙ sym e)
+
+-- the answers by their case
+module _ {text keys tags : List ℕ} {c : Cursor} {tag : ℕ} {r : Name} {k t : List ℕ} (a : NameRead text keys tags c tag r k t) where
+  pub name-case : {key : ℕ} {d : Cursor} → r ≡ NameCode.the-variants.Got key d → Names text keys tags c tag key k t d
+  name-case e = subst (λ z. NameAnswer text keys tags c tag z k t) e (a .answer)
+
+  pub name-none : r ≡ NameCode.the-variants.Broken → Words.name (drop (c .at) text) ≡ broken
+  name-none e = subst (λ z. NameAnswer text keys tags c tag z k t) e (a .answer)
+
+module _ {text keys tags : List ℕ} {c : Cursor} {x : Read ℕ} {r : Place} {k t : List ℕ} (a : PlaceRead text keys tags c x r k t) where
+  pub place-case : {place : ℕ} {d : Cursor} → r ≡ PlaceCode.the-variants.Got place d → Gets (λ j. j) place text keys tags c x k t d
+  place-case e = subst (λ z. PlaceAnswer text keys tags c x z k t) e (a .answer)
+
+  pub place-none : r ≡ PlaceCode.the-variants.Broken → x ≡ broken
+  place-none e = subst (λ z. PlaceAnswer text keys tags c x z k t) e (a .answer)
+
+module _ {A : Type 0} {f : A → Table.Cell} {text keys tags : List ℕ} {c : Cursor} {x : Read A} {r : Operand} {k t : List ℕ}
+    (a : CellRead f text keys tags c x r k t) where
+  pub cell-case : {v : Cell} {d : Cursor} → r ≡ OperandCode.the-variants.Got v d → Gets f (meaning v) text keys tags c x k t d
+  cell-case e = subst (λ z. CellAnswer f text keys tags c x z k t) e (a .answer)
+
+  pub cell-none : r ≡ OperandCode.the-variants.Broken → x ≡ broken
+  cell-none e = subst (λ z. CellAnswer f text keys tags c x z k t) e (a .answer)
+
+-- what follows a broken form is broken
+pub then-broken : {A B : Type 0} {x : Read A} (next : A × List ℕ → Read B) → x ≡ broken → x >>= next ≡ broken
+unfolding _>>=_
+then-broken next e = ap (λ y. y >>= next) e
+
+module _ (p : Places) (bs : List ℕ) (e : Words.name bs ≡ broken) where
+  pub number-broken : numberName edition1 p bs ≡ broken
+  unfolding numberName nameAs
+  number-broken = then-broken _ (then-broken _ e)
+
+  pub string-broken : stringName edition1 p noRole bs ≡ broken
+  unfolding stringName nameAs
+  string-broken = then-broken _ (then-broken _ e)
+
+-- a cell's value made of another that has the same cell
+pub cell-made : {A B : Type 0} {f : A → Table.Cell} (g : A → B) (h : B → Table.Cell) {text keys tags : List ℕ} {c : Cursor} {x : Read A}
+    {k t : List ℕ} (r : Operand) → ((a : A) → h (g a) ≡ f a) → CellRead f text keys tags c x r k t
+    → CellRead h text keys tags c (x >>= λ (a, rest). give (g a) rest) r k t
+cell-made g h (OperandCode.the-variants.Got v d) same a =
+    record { answer = gets-give _ h (meaning v) (g (a .answer .value)) (a .answer) refl (same (a .answer .value) ∙ a .answer .made) }
+cell-made g h OperandCode.the-variants.Broken same a = record { answer = then-broken _ (a .answer) }
+
+-- a place in its cell
+pub place-made : {B : Type 0} (g : ℕ → B) (h : B → Table.Cell) (kind : ℕ) {text keys tags : List ℕ} {c : Cursor} {x : Read ℕ}
+    {k t : List ℕ} (p : Place) → ((n : ℕ) → h (g n) ≡ Table.cell kind n 0) → PlaceRead text keys tags c x p k t
+    → CellRead h text keys tags c (x >>= λ (a, rest). give (g a) rest) (placedIn kind p) k t
+place-made g h kind (PlaceCode.the-variants.Got place d) same a =
+    record {
+      answer =
+          gets-give _ h (Table.cell kind place 0) (g (a .answer .value)) (a .answer) refl
+          (same (a .answer .value) ∙ ap (λ n. Table.cell kind n 0) (a .answer .made));
+    }
+place-made g h kind PlaceCode.the-variants.Broken same a = record { answer = then-broken _ (a .answer) }
+
+-- a constant
+pub constant-got : {text keys tags : List ℕ} {c : Cursor} (v next kind place : ℕ) {value : ℕ} {d : Cursor} → Ready text keys tags c
+    → unsigned edition1 (drop (c .at) text) ≡ give v (drop next text) → c .at < next → next ≤ length text → value ≡ v + 2 ^ 47
+    → d ≡ moved c (next - c .at)
+    → Gets (λ n. Table.cell kind place (biased (pos n))) (Table.cell kind place value) text keys tags c
+    (unsigned edition1 (drop (c .at) text)) keys tags d
+unfolding give nothing metIn gather biased bias
+constant-got {text} {keys} {tags} {c} v next kind place {value} {d} ready is h g big e =
+    let at : d .at ≡ next = ap (λ (z : Cursor). z .at) e ∙ omega arith in
+    let s = skipped c (next - c .at) e in
+    record {
+      value = v;
+      entries = [];
+      is = is ∙ ap (λ j. give v (drop j text)) (sym at);
+      made = ap (Table.cell kind place) (sym big);
+      noting = record { keyed = sym (splice-nil keys (c .names)); tagged = sym (splice-nil tags (c .names)) };
+      goes = s .goes;
+      ready =
+          record {
+            textSize = ready .textSize;
+            inside = omega arith;
+            names = omega (arith, ready .names, s .goes);
+            items = omega (arith, ready .items, s .goes);
+            keysSize = ready .keysSize;
+            tagsSize = ready .tagsSize;
+          };
+      few = omega arith;
+      further = omega arith;
+    }
+
+-- a form that a test chooses
+pub chosen : {A : Type 0} {b : Bool} {test : Bool} (x y : Read A) → test ≡ b
+    → _≡_ {A = Read A} (elim test [ true ↦ x | false ↦ y ]) (elim b [ true ↦ x | false ↦ y ])
+chosen {A} x y e = ap {B = Read A} (λ t. elim t [ true ↦ x | false ↦ y ]) e
+
+module _ (p : Places) {text keys tags : List ℕ} {c : Cursor} where
+  module _ (kind place : ℕ) where
+    pub bound-constant : {r : Operand} → isDigit (getD (drop (c .at) text) 0 0) ≡ true → ConstantRead text keys tags c kind place r
+        → CellRead (lengthCell kind place) text keys tags c (bound edition1 p (drop (c .at) text)) r keys tags
+    unfolding bound lengthCell
+    bound-constant {r} e a =
+        subst (λ y. CellRead (lengthCell kind place) text keys tags c y r keys tags) (sym (chosen _ _ e))
+        (cell-made (λ v. constantly (pos v)) (lengthCell kind place) r (λ _. refl) a)
+
+    pub bound-number : {n : ℕ} {k t : List ℕ} {d : Cursor} → isDigit (getD (drop (c .at) text) 0 0) ≡ false
+        → Gets (λ j. j) n text keys tags c (numberName edition1 p (drop (c .at) text)) k t d
+        → Gets (lengthCell kind place) (Table.cell (kind + 1) place n) text keys tags c (bound edition1 p (drop (c .at) text)) k t d
+    unfolding bound lengthCell
+    bound-number {n} {k} {t} {d} e a =
+        subst (λ y. Gets (lengthCell kind place) (Table.cell (kind + 1) place n) text keys tags c y k t d) (sym (chosen _ _ e))
+        (gets-give _ (lengthCell kind place) _ (numbered (a .value)) a refl (ap (Table.cell (kind + 1) place) (a .made)))
+
+  -- a name or substring
+  module _ (shift : ℕ) {s : ℕ} {k t : List ℕ} {d : Cursor}
+      (a : Gets (λ j. j) s text keys tags c (stringName edition1 p noRole (drop (c .at) text)) k t d) where
+    pub part-whole : begins (36 ∷ []) (drop (d .at) text) ≡ false
+        → Gets (partCell shift) (Table.cell (shift + 1) s 0) text keys tags c (partName edition1 p noRole (drop (c .at) text)) k t d
+    unfolding partName partOf partCell bytes
+    part-whole e =
+        gets-give (λ (s, rest). partOf edition1 p s rest) (partCell shift) _ (whole (a .value)) a (chosen _ _ e)
+        (ap (λ j. Table.cell (shift + 1) j 0) (a .made))
+
+    pub part-first : Ready text keys tags c → begins (36 ∷ []) (drop (d .at) text) ≡ true → (r : Operand) {k′ t′ : List ℕ}
+        → CellRead (lengthCell (shift + 2) s) text k t (moved d 1) (bound edition1 p (drop (d .at + 1) text)) r k′ t′
+        → CellRead (partCell shift) text keys tags c (partName edition1 p noRole (drop (c .at) text)) r k′ t′
+    unfolding partName partOf partCell bytes _>>=_ meeting
+    part-first ready e (OperandCode.the-variants.Got v f) {k′} {t′} b =
+        let from : drop 1 (drop (d .at) text) ≡ drop (d .at + 1) text = drop-drop 1 (d .at) text in
+        let inner = gets-skip 1 (skipped d 1 refl) (b .answer) in
+        let chose = chosen {b = true} (bound edition1 p (drop 1 (drop (d .at) text)) >>= λ (n, rest). give (first (a .value) n) rest)
+        (give (whole (a .value)) (drop (d .at) text)) e in
+        record {
+          answer =
+              gets-then (λ (s, rest). partOf edition1 p s rest) (partCell shift) (meaning v) ready a
+              (subst (λ y. Gets (partCell shift) (meaning v) text k t d y k′ t′ f)
+              (sym (chose ∙ ap (λ (l : List ℕ). bound edition1 p l >>= λ (n, rest). give (first (a .value) n) rest) from))
+              (gets-give _ (partCell shift) (meaning v) (first (a .value) (inner .value)) inner refl
+              (ap (λ j. lengthCell (shift + 2) j (inner .value)) (a .made) ∙ inner .made)));
+        }
+    part-first ready e OperandCode.the-variants.Broken {k′} {t′} b =
+        let from : drop 1 (drop (d .at) text) ≡ drop (d .at + 1) text = drop-drop 1 (d .at) text in
+        let chose = chosen {b = true} (bound edition1 p (drop 1 (drop (d .at) text)) >>= λ (n, rest). give (first (a .value) n) rest)
+        (give (whole (a .value)) (drop (d .at) text)) e in
+        record {
+          answer =
+              ap (λ (y : Read ℕ). y >>= λ (s, rest). partOf edition1 p s rest) (a .is)
+              ∙ ap (meeting (metIn (a .entries) 0 [] 0))
+              (chose
+              ∙ ap (λ (l : List ℕ). bound edition1 p l >>= λ (n, rest). give (first (a .value) n) rest) from
+              ∙ then-broken (λ (n, rest). give (first (a .value) n) rest) (b .answer));
+        }
+
+module _ (p : Places) (bs : List ℕ) where
+  pub bound-broken : isDigit (getD bs 0 0) ≡ false → numberName edition1 p bs ≡ broken → bound edition1 p bs ≡ broken
+  unfolding bound
+  bound-broken e h = chosen _ _ e ∙ then-broken _ h
+
+  pub part-broken : stringName edition1 p noRole bs ≡ broken → partName edition1 p noRole bs ≡ broken
+  unfolding partName
+  part-broken h = then-broken _ h
+
+-- a word that stands at a place is inside the text
+pub begins-room : (w bs : List ℕ) → begins w bs ≡ true → length w ≤ length bs
+begins-room w bs e =
+    let same : length (take (length w) bs) ≡ length w = ap length (begins-iff w bs .0 e) in
+    omega (arith, simp length-take at same)
+
+pub ready-moved : {text keys tags : List ℕ} {c : Cursor} (w : List ℕ) → Ready text keys tags c → begins w (drop (c .at) text) ≡ true
+    → Ready text keys tags (moved c (length w))
+ready-moved {text} {c = c} w ready e =
+    record {
+      textSize = ready .textSize;
+      inside = omega (arith, ready .inside, begins-room w (drop (c .at) text) e, length-drop (c .at) text);
+      names = omega (arith, ready .names);
+      items = omega (arith, ready .items);
+      keysSize = ready .keysSize;
+      tagsSize = ready .tagsSize;
+    }
+
+-- an operand before `)`
+pub closed-given : {A B : Type 0} (g : A → B) (bs : List ℕ) (a : A) → begins (41 ∷ []) bs ≡ true
+    → (skip (bytes ")") bs >>= λ (_, rest). give (g a) rest) ≡ give (g a) (drop 1 bs)
+unfolding skip give bytes _>>=_ meeting both nothing
+closed-given {B = B} g bs a e =
+    let here : skip (bytes ")") bs ≡ give tt (drop 1 bs) = chosen _ _ e in
+    ap {B = Read B} (λ y. y >>= λ (_, rest). give (g a) rest) here
+
+pub closed-broken : {A B : Type 0} (g : A → B) (bs : List ℕ) (a : A) → begins (41 ∷ []) bs ≡ false
+    → (skip (bytes ")") bs >>= λ (_, rest). give (g a) rest) ≡ broken
+unfolding skip bytes
+closed-broken g bs a e = then-broken _ (chosen _ _ e)
+
+module _ {A B : Type 0} {f : A → Table.Cell} (g : A → B) (h : B → Table.Cell) (same : (a : A) → h (g a) ≡ f a) {text keys tags : List ℕ}
+    {c : Cursor} {x : Read A} {k t : List ℕ} where
+  closed-case : (v : Cell) (d : Cursor) (b : Bool) → begins (41 ∷ []) (drop (d .at) text) ≡ b
+      → Gets f (meaning v) text keys tags c x k t d
+      → CellRead h text keys tags c (x >>= λ (a, rest). skip (bytes ")") rest >>= λ (_, rest). give (g a) rest)
+      (elim b [ true ↦ OperandCode.the-variants.Got v (moved d 1) | false ↦ OperandCode.the-variants.Broken ]) k t
+  unfolding _>>=_ meeting give
+  closed-case v d true e a =
+      record {
+        answer =
+            record {
+              value = g (a .value);
+              entries = a .entries;
+              is =
+                  ap (λ (y : Read A). y >>= λ (a, rest). skip (bytes ")") rest >>= λ (_, rest). give (g a) rest) (a .is)
+                  ∙ ap (meeting (metIn (a .entries) 0 [] 0))
+                  (closed-given g (drop (d .at) text) (a .value) e ∙ ap (give (g (a .value))) (drop-drop 1 (d .at) text))
+                  ∙ ap (λ (m : Met). got (g (a .value)) m (drop (d .at + 1) text)) (met-nothing (metIn (a .entries) 0 [] 0));
+              made = same (a .value) ∙ a .made;
+              noting = a .noting;
+              goes =
+                  record {
+                    names = a .goes .names;
+                    items = a .goes .items;
+                    elements = a .goes .elements;
+                    literals = a .goes .literals;
+                    longest = a .goes .longest;
+                  };
+              ready = ready-moved (41 ∷ []) (a .ready) e;
+              few = omega (arith, a .few);
+              further = omega (arith, a .further);
+            };
+      }
+  closed-case v d false e a =
+      record {
+        answer =
+            ap (λ (y : Read A). y >>= λ (a, rest). skip (bytes ")") rest >>= λ (_, rest). give (g a) rest) (a .is)
+            ∙ ap (meeting (metIn (a .entries) 0 [] 0)) (closed-broken g (drop (d .at) text) (a .value) e);
+      }
+
+  pub closed-cell : (r : Operand) → CellRead f text keys tags c x r k t
+      → CellRead h text keys tags c (x >>= λ (a, rest). skip (bytes ")") rest >>= λ (_, rest). give (g a) rest) (closedBy text r) k t
+  closed-cell (OperandCode.the-variants.Got v d) a = closed-case v d (begins (41 ∷ []) (drop (d .at) text)) refl (a .answer)
+  closed-cell OperandCode.the-variants.Broken a = record { answer = then-broken _ (a .answer) }
+
+-- a place as a cell, a cell read behind skipped bytes, and where an operand ends
+pub place-cell : (kind : ℕ) {text keys tags : List ℕ} {c : Cursor} {x : Read ℕ} {k t : List ℕ} (p : Place)
+    → PlaceRead text keys tags c x p k t → CellRead (λ n. Table.cell kind n 0) text keys tags c x (placedIn kind p) k t
+place-cell kind (PlaceCode.the-variants.Got place d) a =
+    let r = a .answer in
+    record {
+      answer =
+          record {
+            value = r .value;
+            entries = r .entries;
+            is = r .is;
+            made = ap (λ n. Table.cell kind n 0) (r .made);
+            noting = r .noting;
+            goes = r .goes;
+            ready = r .ready;
+            few = r .few;
+            further = r .further;
+          };
+    }
+place-cell kind PlaceCode.the-variants.Broken a = record { answer = a .answer }
+
+pub cell-skip : {A : Type 0} {f : A → Table.Cell} {text keys tags : List ℕ} (n : ℕ) {b c : Cursor} {x : Read A} {k t : List ℕ} (r : Operand)
+    → Skips b n c → CellRead f text keys tags c x r k t → CellRead f text keys tags b x r k t
+cell-skip n (OperandCode.the-variants.Got v d) s a = record { answer = gets-skip n s (a .answer) }
+cell-skip n OperandCode.the-variants.Broken s a = record { answer = a .answer }
+
+pub cell-inside : {A : Type 0} {f : A → Table.Cell} {text keys tags : List ℕ} {c : Cursor} {x : Read A} {k t : List ℕ} (r : Operand)
+    → CellRead f text keys tags c x r k t → Inside text r
+cell-inside (OperandCode.the-variants.Got v d) a = (a .answer .ready .inside, a .answer .ready .textSize)
+cell-inside OperandCode.the-variants.Broken a = tt
+
+-- LENGTH, NUMBER, a number; constants
+module _ (p : Places) {text keys tags : List ℕ} {c : Cursor} {k t : List ℕ} where
+  pub called-length : {d : Cursor} → d ≡ moved c 7 → begins (bytes "LENGTH(") (drop (c .at) text) ≡ true → (q : Place)
+      → PlaceRead text keys tags d (stringName edition1 p noRole (drop (d .at) text)) q k t
+      → CellRead operandCell text keys tags c (calledOrNumber edition1 p (drop (c .at) text)) (closedBy text (placedIn 6 q)) k t
+  unfolding calledOrNumber operandCell
+  called-length {d} s e q a =
+      let from : drop (d .at) text ≡ drop 7 (drop (c .at) text) =
+      ap (λ (z : Cursor). drop (z .at) text) s ∙ sym (drop-drop 7 (c .at) text) in
+      subst (λ y. CellRead operandCell text keys tags c y (closedBy text (placedIn 6 q)) k t)
+      (ap (λ (l : List ℕ). stringName edition1 p noRole l >>= λ (s, rest). skip (bytes ")") rest >>= λ (_, rest). give (lengthOf s) rest) from
+      ∙ sym (chosen _ _ e))
+      (closed-cell lengthOf operandCell (λ _. refl) (placedIn 6 q) (cell-skip 7 (placedIn 6 q) (skipped c 7 s) (place-cell 6 q a)))
+
+  pub called-number : {d : Cursor} → d ≡ moved c 7 → begins (bytes "LENGTH(") (drop (c .at) text) ≡ false
+      → begins (bytes "NUMBER(") (drop (c .at) text) ≡ true → (q : Operand)
+      → CellRead (partCell 6) text keys tags d (partName edition1 p noRole (drop (d .at) text)) q k t
+      → CellRead operandCell text keys tags c (calledOrNumber edition1 p (drop (c .at) text)) (closedBy text q) k t
+  unfolding calledOrNumber operandCell
+  called-number {d} s e₁ e q a =
+      let from : drop (d .at) text ≡ drop 7 (drop (c .at) text) =
+      ap (λ (z : Cursor). drop (z .at) text) s ∙ sym (drop-drop 7 (c .at) text) in
+      subst (λ y. CellRead operandCell text keys tags c y (closedBy text q) k t)
+      (ap (λ (l : List ℕ). partName edition1 p noRole l >>= λ (s, rest). skip (bytes ")") rest >>= λ (_, rest). give (numberOf s) rest) from
+      ∙ sym (chosen _ _ e₁ ∙ chosen _ _ e))
+      (closed-cell numberOf operandCell (λ _. refl) q (cell-skip 7 q (skipped c 7 s) a))
+
+  pub called-plain : begins (bytes "LENGTH(") (drop (c .at) text) ≡ false → begins (bytes "NUMBER(") (drop (c .at) text) ≡ false → (q : Place)
+      → PlaceRead text keys tags c (numberName edition1 p (drop (c .at) text)) q k t
+      → CellRead operandCell text keys tags c (calledOrNumber edition1 p (drop (c .at) text)) (placedIn 5 q) k t
+  unfolding calledOrNumber operandCell
+  called-plain e₁ e₂ q a =
+      subst (λ y. CellRead operandCell text keys tags c y (placedIn 5 q) k t) (sym (chosen _ _ e₁ ∙ chosen _ _ e₂))
+      (place-made Program.number operandCell 5 q (λ _. refl) a)
+
+  pub plain-called : {r : Operand} → isDigit (getD (drop (c .at) text) 0 0) ≡ false
+      → CellRead operandCell text keys tags c (calledOrNumber edition1 p (drop (c .at) text)) r k t
+      → CellRead operandCell text keys tags c (plainFactor edition1 p (drop (c .at) text)) r k t
+  unfolding plainFactor
+  plain-called {r} e a = subst (λ y. CellRead operandCell text keys tags c y r k t) (sym (chosen _ _ e)) a
+
+module _ (p : Places) {text keys tags : List ℕ} {c : Cursor} where
+  pub plain-constant : {r : Operand} → isDigit (getD (drop (c .at) text) 0 0) ≡ true → ConstantRead text keys tags c 4 0 r
+      → CellRead operandCell text keys tags c (plainFactor edition1 p (drop (c .at) text)) r keys tags
+  unfolding plainFactor operandCell
+  plain-constant {r} e a =
+      subst (λ y. CellRead operandCell text keys tags c y r keys tags) (sym (chosen _ _ e))
+      (cell-made (λ v. Program.constant (pos v)) operandCell r (λ _. refl) a)

@@ -1,0 +1,162 @@
+-- What the readers of operands do: the value read, the names noted, the bytes left. Assumes nothing.
+use mathlib.Core.Bool.{true, false}
+use mathlib.Core.List.{List, [], _∷_, map}
+use mathlib.Core.Path.{_≡_}
+use Prim.Native.Nat.{ℕ, _+_, _≤_, _<_}
+use lib.IntN.{pos}
+use lib.ListN.{length, drop}
+use Rattle.base.specs.Edition.{edition1}
+use Rattle.base.specs.Lists.{all, begins}
+use Rattle.calls.specs.Numerals.{biased}
+use Rattle.calls.specs.Splices.{splice}
+use Rattle.calls.specs.Table as Table
+use Rattle.calls.specs.Table.{lengthCell, partCell, operandCell}
+use Rattle.language.specs.Numeric.{calledOrNumber, plainFactor}
+use Rattle.language.specs.Reading.{Read, got, broken, give}
+use Rattle.language.specs.Words as Words
+use Rattle.language.specs.Words.{noRole, unsigned, numberName, stringName, bound, partName}
+use Rattle.met.specs.Entries.{Entry, entry, metIn}
+use Rattle.met.specs.Known.{Counted, placesIn}
+use Rattle.met.specs.declared.Cursor.{Cursor}
+use Rattle.packer.specs.Keys.{keyOf, isKeyByte}
+use Rattle.numeric.specs.declared.operands.Cell.{Cell}
+use Rattle.numeric.specs.declared.operands.Name as NameCode
+use Rattle.numeric.specs.declared.operands.Name.{Name}
+use Rattle.numeric.specs.declared.operands.Operand as OperandCode
+use Rattle.numeric.specs.declared.operands.Operand.{Operand}
+use Rattle.numeric.specs.declared.operands.Place as PlaceCode
+use Rattle.numeric.specs.declared.operands.Place.{Place}
+
+-- a cursor d behind c by so many names and items
+pub record Onward (c : Cursor) (n i : ℕ) (d : Cursor) : Type 0 where
+  pub names : d .names ≡ c .names + n
+  pub items : d .items ≡ c .items + i
+  pub elements : d .elements ≡ c .elements
+  pub literals : d .literals ≡ c .literals
+  pub longest : d .longest ≡ c .longest
+
+-- the cursor n bytes further
+abbrev pub moved : Cursor → ℕ → Cursor
+moved c n =
+    record {
+      at = c .at + n;
+      names = c .names;
+      items = c .items;
+      elements = c .elements;
+      literals = c .literals;
+      longest = c .longest;
+    }
+
+-- the cursor is moved by n bytes
+pub record Skips (c : Cursor) (n : ℕ) (d : Cursor) : Type 0 where
+  pub at : d .at ≡ c .at + n
+  pub goes : Onward c 0 0 d
+
+-- the arrays have their sizes, and the cursor has met no more than the bytes behind it allow
+pub record Ready (text keys tags : List ℕ) (c : Cursor) : Type 0 where
+  pub textSize : length text ≤ 32_768
+  pub inside : c .at ≤ length text
+  pub names : c .names ≤ c .at + 1
+  pub items : c .items ≤ 4_294_967_296 + c .at
+  pub keysSize : length keys ≡ 32_800
+  pub tagsSize : length tags ≡ 32_800
+
+-- entries stand noted from place n on
+pub record Noting (keys tags : List ℕ) (n : ℕ) (es : List Entry) (keys′ tags′ : List ℕ) : Type 0 where
+  pub keyed : keys′ ≡ splice keys n (map (λ x. x .key) es)
+  pub tagged : tags′ ≡ splice tags n (map (λ x. x .tag) es)
+
+-- the reading x gives a value that the code's v stands for
+pub record Gets {A C : Type 0} (f : A → C) (v : C) (text keys tags : List ℕ) (c : Cursor) (x : Read A) (keys′ tags′ : List ℕ) (d : Cursor)
+    : Type 0 where
+  pub value : A
+  pub entries : List Entry
+  pub is : x ≡ got value (metIn entries 0 [] 0) (drop (d .at) text)
+  pub made : f value ≡ v
+  pub noting : Noting keys tags (c .names) entries keys′ tags′
+  pub goes : Onward c (length entries) 0 d
+  pub ready : Ready text keys′ tags′ d
+  pub few : length entries + c .at ≤ d .at
+  pub further : c .at < d .at
+
+-- a name, met as an entry with a tag
+pub record Names (text keys tags : List ℕ) (c : Cursor) (tag key : ℕ) (keys′ tags′ : List ℕ) (d : Cursor) : Type 0 where
+  pub bytes : List ℕ
+  pub shown : all isKeyByte bytes ≡ true
+  pub keyed : key ≡ keyOf bytes
+  pub is : Words.name (drop (c .at) text) ≡ give bytes (drop (d .at) text)
+  pub noting : Noting keys tags (c .names) (entry key tag ∷ []) keys′ tags′
+  pub goes : Onward c 1 0 d
+  pub ready : Ready text keys′ tags′ d
+  pub further : c .at < d .at
+
+abbrev pub NameAnswer : (text keys tags : List ℕ) (c : Cursor) (tag : ℕ) → Name → (keys′ tags′ : List ℕ) → Type 0
+NameAnswer text keys tags c tag (NameCode.the-variants.Got key d) keys′ tags′ = Names text keys tags c tag key keys′ tags′ d
+NameAnswer text keys tags c tag NameCode.the-variants.Broken keys′ tags′ = Words.name (drop (c .at) text) ≡ broken
+
+pub record NameRead (text keys tags : List ℕ) (c : Cursor) (tag : ℕ) (r : Name) (keys′ tags′ : List ℕ) : Type 0 where
+  pub answer : NameAnswer text keys tags c tag r keys′ tags′
+
+-- a reading answered by a place of a name, and one answered by a cell
+abbrev pub PlaceAnswer : (text keys tags : List ℕ) (c : Cursor) → Read ℕ → Place → (keys′ tags′ : List ℕ) → Type 0
+PlaceAnswer text keys tags c x (PlaceCode.the-variants.Got place d) keys′ tags′ = Gets (λ n. n) place text keys tags c x keys′ tags′ d
+PlaceAnswer text keys tags c x PlaceCode.the-variants.Broken keys′ tags′ = x ≡ broken
+
+pub record PlaceRead (text keys tags : List ℕ) (c : Cursor) (x : Read ℕ) (r : Place) (keys′ tags′ : List ℕ) : Type 0 where
+  pub answer : PlaceAnswer text keys tags c x r keys′ tags′
+
+abbrev pub meaning : Cell → Table.Cell
+meaning x = Table.cell (x .kind) (x .place) (x .value)
+
+abbrev pub CellAnswer : {A : Type 0} (f : A → Table.Cell) (text keys tags : List ℕ) (c : Cursor) → Read A → Operand
+    → (keys′ tags′ : List ℕ) → Type 0
+CellAnswer f text keys tags c x (OperandCode.the-variants.Got v d) keys′ tags′ = Gets f (meaning v) text keys tags c x keys′ tags′ d
+CellAnswer f text keys tags c x OperandCode.the-variants.Broken keys′ tags′ = x ≡ broken
+
+pub record CellRead {A : Type 0} (f : A → Table.Cell) (text keys tags : List ℕ) (c : Cursor) (x : Read A) (r : Operand)
+    (keys′ tags′ : List ℕ) : Type 0 where
+  pub answer : CellAnswer f text keys tags c x r keys′ tags′
+
+-- each reader of document 01 at the cursor
+abbrev pub NumberRead : (text known keys tags : List ℕ) (c : Cursor) → Place → (keys′ tags′ : List ℕ) → Type 0
+NumberRead text known keys tags c = PlaceRead text keys tags c (numberName edition1 (placesIn known) (drop (c .at) text))
+
+abbrev pub StringRead : (text known keys tags : List ℕ) (c : Cursor) → Place → (keys′ tags′ : List ℕ) → Type 0
+StringRead text known keys tags c = PlaceRead text keys tags c (stringName edition1 (placesIn known) noRole (drop (c .at) text))
+
+abbrev pub ConstantRead : (text keys tags : List ℕ) (c : Cursor) (kind place : ℕ) → Operand → Type 0
+ConstantRead text keys tags c kind place r =
+    CellRead (λ v. Table.cell kind place (biased (pos v))) text keys tags c (unsigned edition1 (drop (c .at) text)) r keys tags
+
+abbrev pub BoundRead : (text known keys tags : List ℕ) (c : Cursor) (kind place : ℕ) → Operand → (keys′ tags′ : List ℕ) → Type 0
+BoundRead text known keys tags c kind place =
+    CellRead (lengthCell kind place) text keys tags c (bound edition1 (placesIn known) (drop (c .at) text))
+
+abbrev pub PartRead : (text known keys tags : List ℕ) (c : Cursor) (shift : ℕ) → Operand → (keys′ tags′ : List ℕ) → Type 0
+PartRead text known keys tags c shift =
+    CellRead (partCell shift) text keys tags c (partName edition1 (placesIn known) noRole (drop (c .at) text))
+
+abbrev pub CalledRead : (text known keys tags : List ℕ) (c : Cursor) → Operand → (keys′ tags′ : List ℕ) → Type 0
+CalledRead text known keys tags c = CellRead operandCell text keys tags c (calledOrNumber edition1 (placesIn known) (drop (c .at) text))
+
+abbrev pub PlainRead : (text known keys tags : List ℕ) (c : Cursor) → Operand → (keys′ tags′ : List ℕ) → Type 0
+PlainRead text known keys tags c = CellRead operandCell text keys tags c (plainFactor edition1 (placesIn known) (drop (c .at) text))
+
+-- an operand in the cell of a place
+abbrev pub placedIn : ℕ → Place → Operand
+placedIn kind (PlaceCode.the-variants.Got place d) =
+    OperandCode.the-variants.Got (record { kind = kind; place = place; value = 0 }) d
+placedIn kind PlaceCode.the-variants.Broken = OperandCode.the-variants.Broken
+
+-- the cursor of an operand is inside the text
+abbrev pub Inside : List ℕ → Operand → Type 0
+Inside text (OperandCode.the-variants.Got v d) = (d .at ≤ length text) × (length text ≤ 32_768)
+Inside text OperandCode.the-variants.Broken = Unit {0}
+
+-- the operand before `)`, its cursor behind it
+abbrev pub closedBy : List ℕ → Operand → Operand
+closedBy text (OperandCode.the-variants.Got v d) = elim (begins (41 ∷ []) (drop (d .at) text)) [
+  | true ↦ OperandCode.the-variants.Got v (moved d 1)
+  | false ↦ OperandCode.the-variants.Broken
+]
+closedBy text OperandCode.the-variants.Broken = OperandCode.the-variants.Broken

@@ -1,0 +1,75 @@
+-- What the readers of expressions do: the items read stand written in the table, operators and signs behind what they work on.
+-- Assumes nothing.
+use mathlib.Core.Bool.{cond}
+use mathlib.Core.List.{List, [], _∷_, _++_}
+use mathlib.Core.Path.{_≡_}
+use Prim.Native.Nat.{ℕ, _+_, _≤_}
+use lib.Dec.{eqb}
+use lib.ListN.{length, drop}
+use Rattle.base.specs.Edition.{edition1}
+use Rattle.language.specs.Fuel.{expressionFrom, moreTermsFrom, termFrom, moreFactorsFrom, factorFrom}
+use Rattle.language.specs.Program.{Item, operator, sign, plus, minus, times, over, positive, negative}
+use Rattle.language.specs.Reading.{Read, got, broken}
+use Rattle.met.specs.Entries.{Entry, metIn}
+use Rattle.met.specs.Items.{withItems}
+use Rattle.met.specs.Known.{placesIn}
+use Rattle.met.specs.declared.Cursor.{Cursor}
+use Rattle.numeric.specs.Operands.{Onward, Ready, Noting}
+use Rattle.numeric.specs.declared.Outcome as OutcomeCode
+use Rattle.numeric.specs.declared.Outcome.{Outcome}
+
+-- the reading x gives items behind those read before
+pub record GetsItems (before : List Item) (text table keys tags : List ℕ) (c : Cursor) (x : Read (List Item)) (table′ keys′ tags′ : List ℕ)
+    (d : Cursor) : Type 0 where
+  pub items : List Item
+  pub entries : List Entry
+  pub is : x ≡ got (before ++ items) (metIn entries (length items) [] 0) (drop (d .at) text)
+  pub written : table′ ≡ withItems table (c .items) items
+  pub noting : Noting keys tags (c .names) entries keys′ tags′
+  pub goes : Onward c (length entries) (length items) d
+  pub ready : Ready text keys′ tags′ d
+  pub few : length entries + c .at ≤ d .at
+  pub short : length items + c .at ≤ d .at
+
+abbrev pub ItemsAnswer : (before : List Item) (text table keys tags : List ℕ) (c : Cursor) → Read (List Item) → Outcome
+    → (table′ keys′ tags′ : List ℕ) → Type 0
+ItemsAnswer before text table keys tags c x (OutcomeCode.the-variants.Got d) table′ keys′ tags′ =
+    GetsItems before text table keys tags c x table′ keys′ tags′ d
+ItemsAnswer before text table keys tags c x OutcomeCode.the-variants.Broken table′ keys′ tags′ = x ≡ broken
+
+-- the one relation of all readers of items
+pub record ItemsRead (before : List Item) (text table keys tags : List ℕ) (c : Cursor) (x : Read (List Item)) (r : Outcome)
+    (table′ keys′ tags′ : List ℕ) : Type 0 where
+  pub answer : ItemsAnswer before text table keys tags c x r table′ keys′ tags′
+
+-- the items that a kind stands for, none for 0
+unfoldable pub waiting : ℕ → List Item
+waiting kind =
+    cond (eqb kind 10) (operator plus ∷ [])
+    (cond (eqb kind 11) (operator minus ∷ [])
+    (cond (eqb kind 12) (operator times ∷ [])
+    (cond (eqb kind 13) (operator over ∷ [])
+    (cond (eqb kind 14) (sign positive ∷ []) (cond (eqb kind 15) (sign negative ∷ []) [])))))
+
+-- each reader of document 01 at the cursor
+abbrev pub ExpressionRead : (text known table keys tags : List ℕ) (c : Cursor) (depth : ℕ) → Outcome → (table′ keys′ tags′ : List ℕ) → Type 0
+ExpressionRead text known table keys tags c depth =
+    ItemsRead [] text table keys tags c (expressionFrom edition1 (placesIn known) depth (drop (c .at) text))
+
+abbrev pub TermRead : (text known table keys tags : List ℕ) (c : Cursor) (depth : ℕ) → Outcome → (table′ keys′ tags′ : List ℕ) → Type 0
+TermRead text known table keys tags c depth =
+    ItemsRead [] text table keys tags c (termFrom edition1 (placesIn known) depth (drop (c .at) text))
+
+abbrev pub FactorRead : (text known table keys tags : List ℕ) (c : Cursor) (depth : ℕ) → Outcome → (table′ keys′ tags′ : List ℕ) → Type 0
+FactorRead text known table keys tags c depth =
+    ItemsRead [] text table keys tags c (factorFrom edition1 (placesIn known) depth (drop (c .at) text))
+
+abbrev pub MoreTermsRead : (text known table keys tags : List ℕ) (c : Cursor) (depth : ℕ) → Outcome → (table′ keys′ tags′ : List ℕ) → Type 0
+MoreTermsRead text known table keys tags c depth r table′ keys′ tags′ =
+    (before : List Item)
+    → ItemsRead before text table keys tags c (moreTermsFrom edition1 (placesIn known) depth before (drop (c .at) text)) r table′ keys′ tags′
+
+abbrev pub MoreFactorsRead : (text known table keys tags : List ℕ) (c : Cursor) (depth : ℕ) → Outcome → (table′ keys′ tags′ : List ℕ) → Type 0
+MoreFactorsRead text known table keys tags c depth r table′ keys′ tags′ =
+    (before : List Item)
+    → ItemsRead before text table keys tags c (moreFactorsFrom edition1 (placesIn known) depth before (drop (c .at) text)) r table′ keys′ tags′

@@ -1,0 +1,285 @@
+// Operands: names, constants, LENGTH and NUMBER, each read as a cell of the table.
+// Assumes nothing.
+use met::Cursor;
+use met::KNOWN;
+use met::NAMES;
+use met::note_name;
+use met::number_place;
+use met::string_place;
+use packer::classes::is_digit;
+use words::begins_at;
+use words::byte_at;
+use words::constants::Constant;
+use words::constants::unsigned;
+use words::names::key_of;
+use words::names::name_length;
+use words::stands_at;
+ghost use mathlib.Core.List.{List};
+ghost use mathlib.Core.Path.{_≡_};
+ghost use Prim.Native.Nat.{ℕ, _+_, _≤_, _<_};
+ghost use Rattle.numeric.specs.Operands.{Ready, moved, NameRead, NumberRead, StringRead, ConstantRead, BoundRead, PartRead, Inside, closedBy, placedIn, CalledRead, PlainRead};
+ghost use lib.ListN.{length};
+ghost use Rattle.met.specs.Known.{Counted};
+
+// what a constant has added in its cell
+const BIAS: usize = 140_737_488_355_328;
+
+// the tags of names used: the number of their purpose
+const NUMBER: u8 = 3;
+
+const STRING: u8 = 4;
+
+// a name by its key, with the cursor behind it
+pub enum Name {
+    Broken,
+    Got(u64, Cursor),
+}
+
+// a name by its place
+pub enum Place {
+    Broken,
+    Got(u8, Cursor),
+}
+
+// a cell of the table
+pub struct Cell {
+    pub kind: u8,
+    pub place: u8,
+    pub value: usize,
+}
+
+pub enum Operand {
+    Broken,
+    Got(Cell, Cursor),
+}
+
+// the cursor so many bytes further
+pub fn skip(c: Cursor, n: usize) -> Cursor
+    requires { ⌜ c .at + n < 100_000 ⌝ }
+    ensures { λ r. ⌜ r ≡ moved c n ⌝ }
+{
+    Cursor {
+        at: c.at + n,
+        names: c.names,
+        items: c.items,
+        elements: c.elements,
+        literals: c.literals,
+        longest: c.longest,
+    }
+}
+
+// a name, noted with a tag
+fn read_name(
+    text: &[u8],
+    keys: &mut [u64; NAMES],
+    tags: &mut [u8; NAMES],
+    c: Cursor,
+    tag: u8,
+) -> Name
+    requires { ⌜ Ready (now text) (now keys) (now tags) c ⌝ }
+    ensures { λ r. ⌜ NameRead (now (text .entry)) (now (keys .entry)) (now (tags .entry)) c tag r (now (keys .exit)) (now (tags .exit)) ⌝ }
+{
+    let at = c.at;
+    let n = name_length(text, at);
+    if n == 0 {
+        return Name::Broken;
+    }
+    let key = key_of(text, at, n);
+    Name::Got(key, skip(note_name(keys, tags, c, key, tag), n))
+}
+
+// a number's name
+pub fn read_number(
+    text: &[u8],
+    known: &[u64; KNOWN],
+    keys: &mut [u64; NAMES],
+    tags: &mut [u8; NAMES],
+    c: Cursor,
+) -> Place
+    requires { ⌜ Ready (now text) (now keys) (now tags) c ⌝ }
+    requires { ⌜ Counted (now known) ⌝ }
+    ensures { λ r. ⌜ NumberRead (now (text .entry)) (now (known .entry)) (now (keys .entry)) (now (tags .entry)) c r (now (keys .exit)) (now (tags .exit)) ⌝ }
+{
+    match read_name(text, keys, tags, c, NUMBER) {
+        Name::Broken => Place::Broken,
+        Name::Got(key, d) => Place::Got(number_place(known, key), d),
+    }
+}
+
+// a string's name
+pub fn read_string(
+    text: &[u8],
+    known: &[u64; KNOWN],
+    keys: &mut [u64; NAMES],
+    tags: &mut [u8; NAMES],
+    c: Cursor,
+) -> Place
+    requires { ⌜ Ready (now text) (now keys) (now tags) c ⌝ }
+    requires { ⌜ Counted (now known) ⌝ }
+    ensures { λ r. ⌜ StringRead (now (text .entry)) (now (known .entry)) (now (keys .entry)) (now (tags .entry)) c r (now (keys .exit)) (now (tags .exit)) ⌝ }
+{
+    match read_name(text, keys, tags, c, STRING) {
+        Name::Broken => Place::Broken,
+        Name::Got(key, d) => Place::Got(string_place(known, key), d),
+    }
+}
+
+// a constant at the cursor, in the cell of a kind and a place
+fn constant(text: &[u8], c: Cursor, kind: u8, place: u8) -> Operand
+    requires { ⌜ (c .at ≤ length (now text)) × (length (now text) ≤ 32768) ⌝ }
+    ensures { λ r. ⌜ ((keys tags : List ℕ) → Ready (now (text .entry)) keys tags c → ConstantRead (now (text .entry)) keys tags c kind place r) ⌝ }
+{
+    let at = c.at;
+    match unsigned(text, at) {
+        Constant::Broken => Operand::Broken,
+        Constant::Is { value, next } => Operand::Got(
+            Cell {
+                kind,
+                place,
+                value: value as usize + BIAS,
+            },
+            skip(c, next - at),
+        ),
+    }
+}
+
+// the n of S$n, in the cell of this kind and place, or for a number of the next kind
+pub fn read_bound(
+    text: &[u8],
+    known: &[u64; KNOWN],
+    keys: &mut [u64; NAMES],
+    tags: &mut [u8; NAMES],
+    c: Cursor,
+    kind: u8,
+    place: u8,
+) -> Operand
+    requires { ⌜ Ready (now text) (now keys) (now tags) c ⌝ }
+    requires { ⌜ Counted (now known) ⌝ }
+    requires { ⌜ kind < 200 ⌝ }
+    ensures { λ r. ⌜ BoundRead (now (text .entry)) (now (known .entry)) (now (keys .entry)) (now (tags .entry)) c kind place r (now (keys .exit)) (now (tags .exit)) ⌝ }
+{
+    let at = c.at;
+    if is_digit(byte_at(text, at)) {
+        return constant(text, c, kind, place);
+    }
+    match read_number(text, known, keys, tags, c) {
+        Place::Broken => Operand::Broken,
+        Place::Got(number, d) => Operand::Got(
+            Cell {
+                kind: kind + 1,
+                place,
+                value: number as usize,
+            },
+            d,
+        ),
+    }
+}
+
+// a string or a substring, in a cell of kind 1 to 3 more than shift
+pub fn read_part(
+    text: &[u8],
+    known: &[u64; KNOWN],
+    keys: &mut [u64; NAMES],
+    tags: &mut [u8; NAMES],
+    c: Cursor,
+    shift: u8,
+) -> Operand
+    requires { ⌜ Ready (now text) (now keys) (now tags) c ⌝ }
+    requires { ⌜ Counted (now known) ⌝ }
+    requires { ⌜ shift < 100 ⌝ }
+    ensures { λ r. ⌜ PartRead (now (text .entry)) (now (known .entry)) (now (keys .entry)) (now (tags .entry)) c shift r (now (keys .exit)) (now (tags .exit)) ⌝ }
+{
+    match read_string(text, known, keys, tags, c) {
+        Place::Broken => Operand::Broken,
+        Place::Got(place, d) => {
+            if stands_at(text, d.at, b'$') {
+                return read_bound(text, known, keys, tags, skip(d, 1), shift + 2, place);
+            }
+            Operand::Got(
+                Cell {
+                    kind: shift + 1,
+                    place,
+                    value: 0,
+                },
+                d,
+            )
+        }
+    }
+}
+
+// an operand before `)`
+fn closed(text: &[u8], r: Operand) -> Operand
+    requires { ⌜ Inside (now text) r ⌝ }
+    ensures { λ q. ⌜ q ≡ closedBy (now (text .entry)) r ⌝ }
+{
+    match r {
+        Operand::Broken => Operand::Broken,
+        Operand::Got(cell, d) => {
+            if stands_at(text, d.at, b')') {
+                return Operand::Got(cell, skip(d, 1));
+            }
+            Operand::Broken
+        }
+    }
+}
+
+// a place, in the cell of a kind
+fn placed(kind: u8, p: Place) -> Operand
+    ensures { λ r. ⌜ r ≡ placedIn kind p ⌝ }
+{
+    match p {
+        Place::Broken => Operand::Broken,
+        Place::Got(place, d) => Operand::Got(
+            Cell {
+                kind,
+                place,
+                value: 0,
+            },
+            d,
+        ),
+    }
+}
+
+// LENGTH, NUMBER or a number
+pub fn read_called(
+    text: &[u8],
+    known: &[u64; KNOWN],
+    keys: &mut [u64; NAMES],
+    tags: &mut [u8; NAMES],
+    c: Cursor,
+) -> Operand
+    requires { ⌜ Ready (now text) (now keys) (now tags) c ⌝ }
+    requires { ⌜ Counted (now known) ⌝ }
+    ensures { λ r. ⌜ CalledRead (now (text .entry)) (now (known .entry)) (now (keys .entry)) (now (tags .entry)) c r (now (keys .exit)) (now (tags .exit)) ⌝ }
+{
+    let at = c.at;
+    if begins_at(text, at, b"LENGTH(") {
+        return closed(
+            text,
+            placed(6, read_string(text, known, keys, tags, skip(c, 7))),
+        );
+    }
+    if begins_at(text, at, b"NUMBER(") {
+        return closed(text, read_part(text, known, keys, tags, skip(c, 7), 6));
+    }
+    placed(5, read_number(text, known, keys, tags, c))
+}
+
+// a factor but for parentheses
+pub fn plain(
+    text: &[u8],
+    known: &[u64; KNOWN],
+    keys: &mut [u64; NAMES],
+    tags: &mut [u8; NAMES],
+    c: Cursor,
+) -> Operand
+    requires { ⌜ Ready (now text) (now keys) (now tags) c ⌝ }
+    requires { ⌜ Counted (now known) ⌝ }
+    ensures { λ r. ⌜ PlainRead (now (text .entry)) (now (known .entry)) (now (keys .entry)) (now (tags .entry)) c r (now (keys .exit)) (now (tags .exit)) ⌝ }
+{
+    let at = c.at;
+    if is_digit(byte_at(text, at)) {
+        return constant(text, c, 4, 0);
+    }
+    read_called(text, known, keys, tags, c)
+}

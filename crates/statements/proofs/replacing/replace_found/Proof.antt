@@ -1,0 +1,60 @@
+-- `replacing::replace_found` meets its contract, in either direction. Assumes nothing.
+use mathlib.Core.Path.{ap}
+use Rattle.machine.specs.Scanning.{turned}
+use Rattle.rows.specs.Meaning.{directionMeaning}
+use Rattle.statements.specs.Replacing.{storedTurned}
+use Rattle.statements.specs.ValuedLaws.{stored-as}
+use borrow.Author.Needs.{needs}
+use Rattle.statements.proofs.replacing.replace_found.Statement.{statement}
+use Rattle.statements.proofs.replacing.replace_found.Tie as tie
+
+enum-told : tie.Need-enum-told
+enum-told c = search needs
+
+set-value-requires : tie.Need-set-value-requires
+set-value-requires c κs = search needs
+
+enum-told-2 : tie.Need-enum-told-2
+enum-told-2 c = search needs
+
+set-turned-requires : tie.Need-set-turned-requires
+set-turned-requires c κs = search needs
+
+same-length : tie.Need-same-length
+same-length c = search needs
+
+returns : tie.Need-returns
+unfolding turned
+returns c =
+    let a = c .before .before .before .before .before .before .before .before .before .before .args in
+    stored-as _ (a .store .now) _ (a .state .now) _ _ _ _
+    (ap
+    (λ d. storedTurned (a .table .now) (a .store .now) (a .state .now) (directionMeaning d) (a .place) (a .from) (a .to) (a .s))
+    (c .before .before .before .before .before .before .enum-told .given .1))
+    (c .before .before .set-value .ensures)
+
+same-length-2 : tie.Need-same-length-2
+same-length-2 c = search needs
+
+returns-2 : tie.Need-returns-2
+unfolding turned
+returns-2 c =
+    let a = c .before .before .before .before .before .before .before .before .before .before .args in
+    stored-as _ (a .store .now) _ (a .state .now) _ _ _ _
+    (ap
+    (λ d. storedTurned (a .table .now) (a .store .now) (a .state .now) (directionMeaning d) (a .place) (a .from) (a .to) (a .s))
+    (c .before .before .before .before .before .before .enum-told2 .given .1))
+    (c .before .before .set-turned .ensures)
+
+pub replace-found-spec : {M : Type 1} → statement M
+replace-found-spec =
+    tie.close
+    (tie.spec
+    enum-told
+    set-value-requires
+    enum-told-2
+    set-turned-requires
+    same-length
+    returns
+    same-length-2
+    returns-2)

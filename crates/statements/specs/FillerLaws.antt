@@ -1,0 +1,302 @@
+-- Laws of a scan's fillers: made null one by one, and named piece by piece. Assumes nothing.
+use mathlib.Core.Bool.{Bool, true, false, cond, _||_}
+use mathlib.Core.List.{List, [], _∷_, _++_}
+use mathlib.Core.Option.{none, some}
+use mathlib.Core.Path.{_≡_, refl, sym, ap, ap₂, subst, _∙_}
+use Prim.Native.Nat.{ℕ, zero, suc, _+_, _*_, _-_, _≤_, _<_}
+use native.Mathlib.Nat.{min-le-right, not-suc-le-zero}
+use native.Mathlib.Numerals.{add-one}
+use native.Mathlib.Omega.{arith}
+use lib.Dec.{eqb, ltb}
+use lib.IntN.{ℤ}
+use lib.ListN.{length, take, drop, getD, set, length-drop, length-take, drop-of-length-le}
+use lib.Seq.{ext-getD, getD-set-other, getD-set-same, drop-cons, drop-drop, getD-drop, getD-take, length-take-le, set-out}
+use borrow.Author.Tests.{eqb-false, eqb-true, ltb-false, ltb-true, ne-eqb}
+use Rattle.base.specs.Choice.{test-cases}
+use Rattle.base.specs.Lists.{total}
+use Rattle.calls.specs.BufferLaws.{Good, good-image, good-short, storeWith, count-strings, with-strings}
+use Rattle.calls.specs.Buffers.{storeImage, storeSize, stringsIn}
+use Rattle.calls.specs.Table.{elementsAt}
+use Rattle.calls.specs.TableReading.{cellAt, patternFrom, patternOfCell}
+use Rattle.cells.specs.Contracts.{stringOf}
+use Rattle.language.specs.Program.{PatternElement, value, freeFiller, fixedFiller}
+use Rattle.machine.specs.Scanning.{Valued, named, naming, withoutFillers}
+use Rattle.machine.specs.State.{withString}
+use Rattle.rows.specs.Meaning.{patternsMeaning}
+use Rattle.rows.specs.declared.Stretch.{Stretch}
+use Rattle.scanning.specs.Splits.{free}
+use Rattle.statements.specs.Fillers.{fillerOf, nameOf, renamed, lengthsIn, Nameable, Names, Naming, Nulled, Patterned, Copied, Copying, isFiller}
+use Rattle.statements.specs.Laws.{left-is, stays-same, stays-with}
+use Rattle.statements.specs.Leaving.{memoryOf, Stays}
+
+-- a store left of a store left
+pub stays-on : {store middle left : List ℕ} → Stays store middle → Stays middle left → Stays store left
+stays-on f g = record { good = g .good; size = g .size ∙ f .size; rest = g .rest ∙ f .rest }
+
+module _ (store : List ℕ) (g : Good store) (s : ℕ) (v : List ℕ) (k : length v ≤ 1024) where
+  -- the store with a string set, if the place is one
+  pub stays-renamed : Stays store (renamed store s v)
+  unfolding renamed
+  stays-renamed =
+      test-cases (λ x. Stays store (cond x (storeWith store s v) store)) (ltb s 32)
+      (λ e. stays-with store g s (ltb-true s 32 e) v k)
+      (λ _. stays-same store g)
+
+  -- is the memory with the string named
+  pub named-renamed : (numbers : List ℤ) → named (nameOf s) v (memoryOf store numbers) ≡ memoryOf (renamed store s v) numbers
+  unfolding named nameOf renamed withString
+  named-renamed numbers =
+      test-cases (λ x. named (cond x (some s) none) v (memoryOf store numbers) ≡ memoryOf (cond x (storeWith store s v) store) numbers)
+      (ltb s 32)
+      (λ _. ap (λ (ss : List (List ℕ)). record { strings = ss; numbers = numbers }) (sym (with-strings store g s v k)))
+      (λ _. refl)
+
+-- a string made null is one named by no bytes
+null-named : (store : List ℕ) (numbers : List ℤ) (s : ℕ)
+    → withString (memoryOf store numbers) s [] ≡ named (nameOf s) [] (memoryOf store numbers)
+unfolding named nameOf withString
+null-named store numbers s =
+    test-cases (λ x. withString (memoryOf store numbers) s [] ≡ named (cond x (some s) none) [] (memoryOf store numbers)) (ltb s 32)
+    (λ _. refl)
+    (λ e.
+    let out : length (stringsIn store) ≤ s = omega (arith, count-strings store, ltb-false s 32 e) in
+    ap (λ (ss : List (List ℕ)). record { strings = ss; numbers = numbers }) (set-out (stringsIn store) s [] out))
+
+-- the first element of a pattern
+filler-null : (store : List ℕ) (numbers : List ℤ) (x : PatternElement) (xs : List PatternElement)
+    → withoutFillers (x ∷ xs) (memoryOf store numbers) ≡ withoutFillers xs (named (nameOf (fillerOf x)) [] (memoryOf store numbers))
+unfolding withoutFillers named nameOf
+filler-null store numbers (value x) xs = refl
+filler-null store numbers (freeFiller s) xs = ap (withoutFillers xs) (null-named store numbers s)
+filler-null store numbers (fixedFiller s n) xs = ap (withoutFillers xs) (null-named store numbers s)
+
+-- so many elements of a pattern are left whose fillers are to be made null
+pub record Nulls (table : List ℕ) (from count : ℕ) (store : List ℕ) (at left : ℕ) (now : List ℕ) : Type 0 where
+  pub stays : Stays store now
+  pub inside : at + left ≤ 1024
+  pub work : (numbers : List ℤ) → withoutFillers (patternFrom table from count) (memoryOf store numbers)
+      ≡ withoutFillers (patternFrom table at left) (memoryOf now numbers)
+
+pub nulls-none : (table : List ℕ) (s : Stretch) (store : List ℕ) → Patterned table store s → Nulls table (s .from) (s .count) store (s .from) (s .count) store
+nulls-none table s store p = record { stays = stays-same store (p .good); inside = p .inside; work = λ numbers. refl }
+
+pattern-more : (table : List ℕ) (at n : ℕ) → 0 < n
+    → patternFrom table at n ≡ patternOfCell table (cellAt table (elementsAt + 8 * at)) ∷ patternFrom table (at + 1) (n - 1)
+unfolding patternFrom
+pattern-more table at zero h = absurd (not-suc-le-zero h)
+pattern-more table at (suc n) h =
+    let back : n ≡ suc n - 1 = omega arith in
+    ap (λ (j : ℕ). patternOfCell table (cellAt table (elementsAt + 8 * at)) ∷ patternFrom table (at + 1) j) back
+
+module _ (table : List ℕ) (s : Stretch) (store : List ℕ) (at left : ℕ) (now : List ℕ)
+    (p : Nulls table (s .from) (s .count) store at left now) where
+  pub nulls-more : 0 < left → (x : ℕ) → x ≡ fillerOf (patternOfCell table (cellAt table (elementsAt + 8 * at)))
+      → (after : List ℕ) → after ≡ renamed now x [] → Nulls table (s .from) (s .count) store (at + 1) (left - 1) after
+  nulls-more h x e after is =
+      let cell = patternOfCell table (cellAt table (elementsAt + 8 * at)) in
+      let rest = patternFrom table (at + 1) (left - 1) in
+      record {
+        stays = stays-on (p .stays) (subst (Stays now) (sym is) (stays-renamed now (p .stays .good) x [] (omega arith)));
+        inside = omega (arith, p .inside);
+        work =
+            λ numbers.
+            p .work numbers
+            ∙ ap (λ (xs : List PatternElement). withoutFillers xs (memoryOf now numbers)) (pattern-more table at left h)
+            ∙ filler-null now numbers cell rest
+            ∙ ap (λ (y : ℕ). withoutFillers rest (named (nameOf y) [] (memoryOf now numbers))) (sym e)
+            ∙ ap (withoutFillers rest)
+            (named-renamed now (p .stays .good) x [] (omega arith) numbers ∙ ap (λ (l : List ℕ). memoryOf l numbers) (sym is));
+      }
+
+  pub nulls-all : left ≤ 0 → Nulled table s store now
+  unfolding patternFrom withoutFillers
+  nulls-all h =
+      let none : left ≡ 0 = omega arith in
+      record {
+        stays = p .stays;
+        work =
+            λ numbers.
+            p .work numbers ∙ ap (λ (n : ℕ). withoutFillers (patternFrom table at n) (memoryOf now numbers)) none;
+      }
+
+abbrev nobody : Valued
+nobody = record { names = none; element = free }
+
+-- the pieces from i on are to be named, the first of them at a place of the reference
+pub record Namings (store reference names answer : List ℕ) (count at i : ℕ) (now : List ℕ) : Type 0 where
+  pub stays : Stays store now
+  pub most : i ≤ count
+  pub inside : at + total (λ l. l) (drop i (lengthsIn answer count)) ≤ length reference
+  pub work : (vs : List Valued) (numbers : List ℤ) → length vs ≡ count → Names names vs
+      → naming vs (drop (getD answer 1 0) reference) (lengthsIn answer count) (memoryOf store numbers)
+      ≡ naming (drop i vs) (drop at reference) (drop i (lengthsIn answer count)) (memoryOf now numbers)
+
+pub namings-none : (store reference names answer : List ℕ) (count at : ℕ) → Nameable store reference names answer count
+    → at ≡ getD answer 1 0 → Namings store reference names answer count at 0 store
+namings-none store reference names answer count at p e =
+    record {
+      stays = stays-same store (p .good);
+      most = omega arith;
+      inside = subst (λ (j : ℕ). j + total (λ l. l) (lengthsIn answer count) ≤ length reference) (sym e) (p .pieces);
+      work =
+          λ vs numbers _ _.
+          ap (λ (j : ℕ). naming vs (drop j reference) (lengthsIn answer count) (memoryOf store numbers)) (sym e);
+    }
+
+module _ (store reference names answer : List ℕ) (count at i : ℕ) (now : List ℕ) (q : Nameable store reference names answer count)
+    (p : Namings store reference names answer count at i now) where
+  -- the next piece
+  pub next-length : i < count → drop i (lengthsIn answer count) ≡ getD answer (4 + i) 0 ∷ drop (suc i) (lengthsIn answer count)
+  next-length h =
+      let size : length (lengthsIn answer count) ≡ count =
+      length-take-le count (drop 4 answer) (omega (arith, length-drop 4 answer, q .size, q .few)) in
+      drop-cons (lengthsIn answer count) i 0 (omega arith)
+      ∙ ap (λ (l : ℕ). l ∷ drop (suc i) (lengthsIn answer count)) (getD-take count (drop 4 answer) i 0 h ∙ getD-drop 4 answer i 0)
+
+  pub next-inside : i < count → at + (getD answer (4 + i) 0 + total (λ l. l) (drop (suc i) (lengthsIn answer count))) ≤ length reference
+  unfolding total
+  next-inside h =
+      subst (λ (ls : List ℕ). at + total (λ l. l) ls ≤ length reference) (next-length h) (p .inside)
+
+  pub namings-more : i < count → (l : ℕ) → l ≡ getD answer (4 + i) 0 → (after : List ℕ)
+      → after ≡ renamed now (getD names i 0) (take (at + l - at) (drop at reference))
+      → Namings store reference names answer count (at + l) (i + 1) after
+  unfolding naming
+  namings-more h l e after is =
+      let ls = lengthsIn answer count in
+      let piece = take l (drop at reference) in
+      let cut : at + l - at ≡ l = omega arith in
+      let short : length piece ≤ 1024 =
+      omega (arith, length-take l (drop at reference), min-le-right l (length (drop at reference)), length-drop at reference, q .short) in
+      let one : after ≡ renamed now (getD names i 0) piece =
+      is ∙ ap (λ (n : ℕ). renamed now (getD names i 0) (take n (drop at reference))) cut in
+      let behind : drop l (drop at reference) ≡ drop (at + l) reference = drop-drop l at reference in
+      let lengths : drop i ls ≡ l ∷ drop (i + 1) ls =
+      next-length h ∙ ap₂ (λ (x j : ℕ). x ∷ drop j ls) (sym e) (sym (add-one i)) in
+      let rest : at + (l + total (λ x. x) (drop (i + 1) ls)) ≤ length reference =
+      subst (λ (j : ℕ). at + (l + total (λ x. x) (drop j ls)) ≤ length reference) (sym (add-one i))
+      (subst (λ (x : ℕ). at + (x + total (λ y. y) (drop (suc i) ls)) ≤ length reference) (sym e) (next-inside h)) in
+      record {
+        stays = stays-on (p .stays) (subst (Stays now) (sym one) (stays-renamed now (p .stays .good) (getD names i 0) piece short));
+        most = omega arith;
+        inside = omega arith;
+        work =
+            λ vs numbers size ns.
+            let v = getD vs i nobody in
+            let elements : drop i vs ≡ v ∷ drop (i + 1) vs =
+            drop-cons vs i nobody (omega arith) ∙ ap (λ (j : ℕ). v ∷ drop j vs) (sym (add-one i)) in
+            p .work vs numbers size ns
+            ∙ ap₂ (λ (us : List Valued) (ks : List ℕ). naming us (drop at reference) ks (memoryOf now numbers)) elements lengths
+            ∙ ap₂ (λ (r : List ℕ) m. naming (drop (i + 1) vs) r (drop (i + 1) ls) m) behind
+            (ap (λ x. named x piece (memoryOf now numbers)) (ns .each i (omega arith))
+            ∙ named-renamed now (p .stays .good) (getD names i 0) piece short numbers
+            ∙ ap (λ (x : List ℕ). memoryOf x numbers) (sym one));
+      }
+
+  pub namings-all : count ≤ i → Naming store now reference names answer count
+  unfolding naming
+  namings-all h =
+      record {
+        stays = p .stays;
+        work =
+            λ vs numbers size ns.
+            p .work vs numbers size ns
+            ∙ ap (λ (us : List Valued). naming us (drop at reference) (drop i (lengthsIn answer count)) (memoryOf now numbers))
+            (drop-of-length-le vs {i = i} (omega arith));
+      }
+
+-- the strings of a store with one set, if the place is one
+string-renamed : (store : List ℕ) → Good store → (s : ℕ) (v : List ℕ) → length v ≤ 1024 → (i : ℕ) → i < 32
+    → stringOf (renamed store s v) i ≡ cond (eqb i s) v (stringOf store i)
+unfolding renamed
+string-renamed store g s v k i h =
+    test-cases (λ x. stringOf (cond x (storeWith store s v) store) i ≡ cond (eqb i s) v (stringOf store i)) (ltb s 32)
+    (λ e.
+    let known : s < 32 = ltb-true s 32 e in
+    ap (λ (ss : List (List ℕ)). getD ss i []) (with-strings store g s v k)
+    ∙ test-cases (λ x. getD (set (stringsIn store) s v) i [] ≡ cond x v (stringOf store i)) (eqb i s)
+    (λ q.
+    ap (λ (j : ℕ). getD (set (stringsIn store) s v) j []) (eqb-true i s q)
+    ∙ getD-set-same (stringsIn store) s v [] (omega (arith, count-strings store)))
+    (λ q. getD-set-other (stringsIn store) s i v [] (eqb-false i s q)))
+    (λ e.
+    let out : 32 ≤ s = ltb-false s 32 e in
+    rw (ne-eqb i s (λ z. omega arith)))
+
+-- so many elements of a pattern are left whose fillers are to be copied
+pub record Copies (table : List ℕ) (from count : ℕ) (source to : List ℕ) (at left : ℕ) (now : List ℕ) : Type 0 where
+  pub stays : Stays to now
+  pub inside : at + left ≤ 1024
+  pub each : (i : ℕ) → i < 32
+      → cond (isFiller i (patternFrom table at left)) (stringOf source i) (stringOf now i)
+      ≡ cond (isFiller i (patternFrom table from count)) (stringOf source i) (stringOf to i)
+
+pub copies-none : (table : List ℕ) (s : Stretch) (source to : List ℕ) → Copying table source to s
+    → Copies table (s .from) (s .count) source to (s .from) (s .count) to
+copies-none table s source to p = record { stays = stays-same to (p .good); inside = p .inside; each = λ i h. refl }
+
+module _ (table : List ℕ) (s : Stretch) (source to : List ℕ) (at left : ℕ) (now : List ℕ)
+    (p : Copies table (s .from) (s .count) source to at left now) where
+  pub copies-more : Good source → 0 < left → (x : ℕ) → x ≡ fillerOf (patternOfCell table (cellAt table (elementsAt + 8 * at)))
+      → (after : List ℕ) → after ≡ renamed now x (stringOf source x)
+      → Copies table (s .from) (s .count) source to (at + 1) (left - 1) after
+  unfolding isFiller
+  copies-more g h x e after is =
+      let cell = patternOfCell table (cellAt table (elementsAt + 8 * at)) in
+      let rest = patternFrom table (at + 1) (left - 1) in
+      let short : length (stringOf source x) ≤ 1024 = good-short source g x in
+      record {
+        stays = stays-on (p .stays) (subst (Stays now) (sym is) (stays-renamed now (p .stays .good) x (stringOf source x) short));
+        inside = omega (arith, p .inside);
+        each =
+            λ i k.
+            let other = isFiller i rest in
+            let mine : stringOf after i ≡ cond (eqb i x) (stringOf source x) (stringOf now i) =
+            ap (λ (l : List ℕ). stringOf l i) is ∙ string-renamed now (p .stays .good) x (stringOf source x) short i k in
+            ap (λ (v : List ℕ). cond other (stringOf source i) v) mine
+            ∙ either i x other (eqb i x) (stringOf now i) refl
+            ∙ ap (λ (y : ℕ). cond (eqb i y || other) (stringOf source i) (stringOf now i)) e
+            ∙ sym (ap (λ (xs : List PatternElement). cond (isFiller i xs) (stringOf source i) (stringOf now i)) (pattern-more table at left h))
+            ∙ p .each i k;
+      }
+    where
+      either : (i x : ℕ) (other test : Bool) (v : List ℕ) → eqb i x ≡ test
+          → cond other (stringOf source i) (cond test (stringOf source x) v) ≡ cond (test || other) (stringOf source i) v
+      either i x true true v q = refl
+      either i x false true v q = ap (stringOf source) (sym (eqb-true i x q))
+      either i x true false v q = refl
+      either i x false false v q = refl
+
+  pub copies-all : left ≤ 0 → Copied table s source to now
+  unfolding patternFrom isFiller
+  copies-all h =
+      let none : left ≡ 0 = omega arith in
+      record {
+        stays = p .stays;
+        each =
+            λ i k.
+            sym (ap (λ (n : ℕ). cond (isFiller i (patternFrom table at n)) (stringOf source i) (stringOf now i)) none)
+            ∙ p .each i k;
+      }
+
+-- fillers kept in another store and put back: the store is as it was before any of its fillers changed
+pub put-back : (table : List ℕ) (s : Stretch) (store saved kept now left : List ℕ) → Good store → Copied table s store saved kept
+    → Stays store now
+    → ((i : ℕ) → i < 32 → isFiller i (patternsMeaning table s) ≡ false → stringOf now i ≡ stringOf store i)
+    → Copied table s kept now left → left ≡ store
+put-back table s store saved kept now left g save stays others back =
+    let xs = patternsMeaning table s in
+    let each : (i : ℕ) → i < length (stringsIn left) → stringOf left i ≡ stringOf store i =
+    λ i h.
+    let k : i < 32 = omega (arith, count-strings left) in
+    back .each i k ∙ same i k (isFiller i xs) refl in
+    let strings : stringsIn left ≡ stringsIn store =
+    ext-getD [] (stringsIn left) (stringsIn store) (count-strings left ∙ sym (count-strings store)) each in
+    sym (left-is store left (stays-on stays (back .stays)))
+    ∙ ap (λ (ss : List (List ℕ)). storeImage ss ++ drop storeSize store) strings
+    ∙ good-image store g
+  where
+    same : (i : ℕ) → i < 32 → (x : Bool) → isFiller i (patternsMeaning table s) ≡ x
+        → cond (isFiller i (patternsMeaning table s)) (stringOf kept i) (stringOf now i) ≡ stringOf store i
+    same i k true e = rw e (save .each i k ∙ rw e)
+    same i k false e = rw e (others i k e)

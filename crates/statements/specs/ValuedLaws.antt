@@ -1,0 +1,182 @@
+-- Laws of statements that value an expression and keep it. Assumes nothing.
+use mathlib.Core.Bool.{true, false}
+use mathlib.Core.List.{List, _++_, append-nil}
+use mathlib.Core.Path.{_≡_, refl, sym, ap, subst, _∙_}
+use Prim.Native.Nat.{ℕ, zero, suc, _+_, _-_, _≤_, _<_, min}
+use native.Mathlib.Nat.{add-zero, min-eq-left, min-eq-right}
+use native.Mathlib.Omega.{arith}
+use lib.Dec.{leb}
+use lib.IntN.{ℤ, natAbs}
+use lib.ListN.{length, take, drop, getD, set}
+use lib.Seq.{drop-length, take-all}
+use borrow.Author.Tests.{le-leb, le-ltb, leb-false, leb-true, lt-leb, lt-ltb}
+use Rattle.base.specs.Choice.{test-cases}
+use Rattle.base.specs.Edition.{edition1}
+use Rattle.calls.specs.Numerals.{biased}
+use Rattle.calls.specs.TableReading.{elementsFrom}
+use Rattle.cells.specs.Contracts.{stringOf, replaced}
+use Rattle.convert.specs.Numbers.{worked}
+use Rattle.convert.specs.declared.Int.{Int}
+use Rattle.convert.specs.declared.Number.{Number}
+use Rattle.convert.specs.declared.Number.the-variants as numbers
+use Rattle.expressions.specs.Memory.{memoryIn}
+use Rattle.expressions.specs.Notes.{few-done, few-string}
+use Rattle.expressions.specs.Values as Values
+use Rattle.language.specs.Program as Program
+use Rattle.machine.specs.Expressions.{lengthIn, stringIn}
+use Rattle.machine.specs.Scanning.{storing}
+use Rattle.machine.specs.State.{Memory, stringAt, withOutput}
+use Rattle.machine.specs.Step.{putting, setStringIn, shortened}
+use Rattle.rows.specs.Holds.{LengthHolds, SignedLengthHolds}
+use Rattle.rows.specs.Meaning.{elementsMeaning}
+use Rattle.rows.specs.declared.Length.{Length}
+use Rattle.rows.specs.declared.Length.the-variants as lengths
+use Rattle.rows.specs.declared.Stretch.{Stretch}
+use Rattle.values.specs.Conversion.{longestString}
+use Rattle.values.specs.Numbers.{isNegative}
+use Rattle.values.specs.Work.{Work, done, stop, noting, _>>=_}
+use Rattle.statements.specs.Laws.{drop-least}
+use Rattle.statements.specs.Leaving.{memoryOf, Leaves, Sets, Spells, Wrote, Full}
+use Rattle.statements.specs.Valued.{Assigned, Put, Unput, PutBy, Recorded, Stored, storedBetween, tailNotes}
+use Rattle.statements.specs.declared.Did.{Did}
+
+-- a buffer that spells the value of an expression spells it here
+pub spelt : (n notes : ℕ) (out : List ℕ) (w : Work (List ℕ)) (s : Values.Spells n notes out w) → Spells out n (s .value)
+spelt n notes out w s = record { size = sym (s .size); bytes = ap (λ (j : ℕ). take j out) (s .size) ∙ s .kept }
+
+-- a value that is spelt is stored
+pub spelt-leaves : (r : Did) (store left : List ℕ) (place from to : ℕ) (out : List ℕ) (n notes : ℕ) (zs : List ℤ) (w : Work (List ℕ))
+    → Values.Spells n notes out w → Sets r store left place from to out n notes
+    → Leaves r store left zs (w >>= λ v. storing place (replaced (stringOf store place) from to v) (memoryOf store zs))
+unfolding _>>=_
+spelt-leaves r store left place from to out n notes zs w s h =
+    subst (λ x. Leaves r store left zs (x >>= λ v. storing place (replaced (stringOf store place) from to v) (memoryOf store zs)))
+    (sym (s .work)) (h (s .value) zs (spelt n notes out w s))
+
+-- and one that is not stops the work
+pub stopped : {A B : Type 0} (w : Work A) (f : A → Work B) (k : ℕ) → w ≡ stop k → (w >>= f) ≡ stop k
+unfolding _>>=_
+stopped w f k e = ap (λ x. x >>= f) e
+
+-- a number that is valued
+pub assigned : (r : Number) (z : Int) (notes : ℕ) (w : Work ℤ) (state left : List ℕ) (place : ℕ) → r ≡ numbers.Is z notes → worked r ≡ w
+    → left ≡ set state (21 + place) (biased (z .value)) → Assigned state left place notes w
+assigned r z notes w state left place e h is = record { value = z .value; work = sym h ∙ ap worked e; left-is = is }
+
+module _ (table store state : List ℕ) (place : ℕ) (s : Stretch) where
+  -- a whole string replaced
+  pub whole-between : setStringIn edition1 (memoryIn store state) (Program.whole place) (elementsMeaning table s)
+      ≡ storedBetween table store state place 0 (length (stringOf store place)) s
+  unfolding setStringIn
+  whole-between =
+      let old = stringOf store place in
+      let same : (v : List ℕ) → v ≡ replaced old 0 (length old) v =
+      λ v. sym (ap (λ (l : List ℕ). v ++ l) (drop-length old) ∙ append-nil v) in
+      λ i.
+      stringIn edition1 (memoryIn store state) (elementsMeaning table s) >>= λ v. storing place (same v i) (memoryIn store state)
+
+  -- its first bytes replaced
+  pub first-between : (n : Program.Length) → isNegative (lengthIn (memoryIn store state) n) ≡ false
+      → setStringIn edition1 (memoryIn store state) (Program.first place n) (elementsMeaning table s)
+      ≡ storedBetween table store state place 0 (min (natAbs (lengthIn (memoryIn store state) n)) (length (stringOf store place))) s
+  unfolding setStringIn stringAt
+  first-between n e =
+      let old = stringOf store place in
+      let asked = natAbs (lengthIn (memoryIn store state) n) in
+      let same : (v : List ℕ) → v ++ drop asked old ≡ replaced old 0 (min asked (length old)) v =
+      λ v. ap (λ (l : List ℕ). v ++ l) (sym (drop-least old asked)) in
+      rw e refl
+      ∙ λ i.
+      stringIn edition1 (memoryIn store state) (elementsMeaning table s) >>= λ v. storing place (same v i) (memoryIn store state)
+
+  -- a negative length
+  pub first-none : (n : Program.Length) → isNegative (lengthIn (memoryIn store state) n) ≡ true
+      → setStringIn edition1 (memoryIn store state) (Program.first place n) (elementsMeaning table s) ≡ done (memoryIn store state) 1
+  unfolding setStringIn
+  first-none n e = rw e
+
+-- a record of the bytes that a buffer spells
+pub shortened-as : (v : List ℕ) (n : ℕ) (value : List ℕ) → length v ≡ 1024 → Spells v n value
+    → shortened value ≡ done (take (min n 1024) v) (tailNotes n)
+unfolding shortened tailNotes longestString
+shortened-as v n value room s =
+    test-cases (λ _. shortened value ≡ done (take (min n 1024) v) (tailNotes n)) (leb n 1024)
+    (λ e.
+    let few : n ≤ 1024 = leb-true n 1024 e in
+    let all : take (min n 1024) v ≡ value =
+    ap (λ (j : ℕ). take j v) (min-eq-left few) ∙ s .bytes ∙ take-all 1024 value (omega (arith, s .size)) in
+    rw (s .size, le-leb _ _ few, le-ltb _ _ few, all))
+    (λ e.
+    let more : 1024 < n = leb-false n 1024 e in
+    let least : 1024 ≤ n = omega arith in
+    let all : take (min n 1024) v ≡ take 1024 value =
+    ap (λ (j : ℕ). take j v) (min-eq-right least)
+    ∙ take-all 1024 v (omega arith)
+    ∙ sym (take-all n v (omega arith))
+    ∙ s .bytes in
+    rw (s .size, lt-leb _ _ more, lt-ltb _ _ more, all))
+
+module _ (state output v : List ℕ) (n notes : ℕ) (room : length v ≡ 1024) where
+  -- one that is put
+  pub recorded : (more : ℕ) → more ≡ tailNotes n → (to : ℕ) (left : List ℕ) → Wrote output left (getD state 4 0) to (take (min n 1024) v)
+      → (value : List ℕ) → Spells v n value
+      → Put state (set state 4 to) output left (notes + more) (λ c. noting notes (shortened value >>= λ w. putting (length output) w c))
+  unfolding _>>=_ noting
+  recorded more e to left p value s =
+      record {
+        reaches = to;
+        state-is = refl;
+        size = p .size;
+        order = p .order;
+        inside = p .inside;
+        rest = p .rest;
+        work =
+            λ c q.
+            ap (λ x. noting notes (x >>= λ w. putting (length output) w c)) (shortened-as v n value room s)
+            ∙ ap (λ x. noting notes (noting (tailNotes n) x)) (p .work c q)
+            ∙ ap (λ (k : ℕ). done (withOutput (take to left) c) (notes + k)) (add-zero (tailNotes n) ∙ sym e);
+      }
+
+  -- one that there is no room for
+  pub not-recorded : (k : ℕ) (left : List ℕ) → Full output left (getD state 4 0) k (take (min n 1024) v) → (value : List ℕ) → Spells v n value
+      → Unput state state output left k (λ c. noting notes (shortened value >>= λ w. putting (length output) w c))
+  unfolding _>>=_ noting
+  not-recorded k left p value s =
+      record {
+        state-same = refl;
+        same = p .same;
+        work =
+            λ c q.
+            ap (λ x. noting notes (x >>= λ w. putting (length output) w c)) (shortened-as v n value room s)
+            ∙ ap (λ x. noting notes (noting (tailNotes n) x)) (p .work c q);
+      }
+
+-- how many notes come with a string expression of so many elements
+count-elements : (table : List ℕ) (at n : ℕ) → length (elementsFrom table at n) ≡ n
+unfolding elementsFrom
+count-elements table at zero = refl
+count-elements table at (suc n) = ap suc (count-elements table (at + 1) n)
+
+pub few-notes : (table : List ℕ) (s : Stretch) (m : Memory) (n notes : ℕ) (out : List ℕ)
+    → Values.Spells n notes out (stringIn edition1 m (elementsMeaning table s)) → notes ≤ s .count
+few-notes table s m n notes out p =
+    omega (arith, few-done (few-string edition1 m (elementsMeaning table s)) (p .work), count-elements table (s .from) (s .count))
+
+-- a record of a value that is spelt
+pub spelt-puts : (r : Did) (state stateLeft output left out : List ℕ) (n notes : ℕ) (w : Work (List ℕ)) → Values.Spells n notes out w
+    → Recorded r state stateLeft output left out n notes
+    → PutBy r state stateLeft output left (λ c. w >>= λ v. shortened v >>= λ u. putting (length output) u c)
+unfolding _>>=_
+spelt-puts r state stateLeft output left out n notes w s h =
+    subst (λ (x : Work (List ℕ)). PutBy r state stateLeft output left (λ c. x >>= λ v. shortened v >>= λ u. putting (length output) u c))
+    (sym (s .work)) (h (s .value) (spelt n notes out w s))
+
+-- a length that counts bytes is a length
+pub length-signed : (n : Length) → LengthHolds n → SignedLengthHolds n
+length-signed (lengths.Constant z) h = h .range
+length-signed (lengths.Number i) h = h
+
+-- a stored string, by another name of the work
+pub stored-as : (r : Did) (store left state scratch out : List ℕ) (w u : Work Memory) → u ≡ w → Stored r store left state scratch out w
+    → Stored r store left state scratch out u
+stored-as r store left state scratch out w u e s = subst (Stored r store left state scratch out) (sym e) s

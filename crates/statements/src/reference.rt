@@ -1,0 +1,93 @@
+// What a scan searches: where its bytes lie in a string, and a copy of them, turned round for a BACKSCAN.
+// Each contract is an equation with the definitions of the crate machine.
+ghost use mathlib.Core.Path.{_≡_};
+ghost use Prim.Native.Nat.{_≤_};
+ghost use Rattle.calls.specs.BufferLaws.{Good};
+ghost use Rattle.calls.specs.Splices.{splice};
+ghost use Rattle.expressions.specs.Memory.{Ready, memoryIn};
+ghost use Rattle.machine.specs.Scanning.{searchedIn, turned};
+ghost use Rattle.rows.specs.Holds.{PartHolds};
+ghost use Rattle.rows.specs.Meaning.{directionMeaning, partMeaning};
+ghost use Rattle.statements.specs.References.{Refers, restrictedBy, referenceOf};
+ghost use Rattle.statements.specs.Valued.{Between};
+use crate::least;
+use rows::Direction;
+use rows::Part;
+
+// the longest string
+const LONGEST: usize = 1024;
+
+// the bytes from..to of the string with this place, or what stops the run
+pub enum Reference {
+    At {
+        place: usize,
+        from: usize,
+        to: usize,
+    },
+    Stops(u32),
+}
+
+// the first or the last n of a string's bytes
+fn restrict(d: Direction, place: usize, n: usize, length: usize) -> Reference
+    requires { ⌜ n ≤ length ⌝ }
+    ensures { λ r. ⌜ r ≡ restrictedBy (directionMeaning d) place n length ⌝ }
+{
+    match d {
+        Direction::Forward => Reference::At {
+            place,
+            from: 0,
+            to: n,
+        },
+        Direction::Backward => Reference::At {
+            place,
+            from: length - n,
+            to: length,
+        },
+    }
+}
+
+// where the reference of a scan lies
+pub fn reference_ends(store: &[u8], state: &[u64; 64], d: Direction, p: Part) -> Reference
+    requires { ⌜ Ready (now store) (now state) ⌝ }
+    requires { ⌜ PartHolds p ⌝ }
+    ensures { λ r. ⌜ Refers r (now (store .entry)) p
+        (searchedIn (memoryIn (now (store .entry)) (now (state .entry))) (directionMeaning d) (partMeaning p)) ⌝ }
+{
+    match p {
+        Part::Whole(place) => {
+            let length = cells::string_length(store, place);
+            restrict(d, place, length, length)
+        }
+        Part::First(place, n) => {
+            let z = expressions::length_value(state, n);
+            if convert::is_negative(z) {
+                return Reference::Stops(17);
+            }
+            let length = cells::string_length(store, place);
+            restrict(d, place, least(convert::size(z) as usize, length), length)
+        }
+    }
+}
+
+// copies the reference to the front of a string's buffer
+pub fn copy_reference(
+    store: &[u8],
+    place: usize,
+    from: usize,
+    to: usize,
+    d: Direction,
+    out: &mut [u8; LONGEST],
+)
+    requires { ⌜ Good (now store) ⌝ }
+    requires { ⌜ Between (now store) place from to ⌝ }
+    ensures { λ _. ⌜ now (out .exit)
+        ≡ splice (now (out .entry)) 0 (turned (directionMeaning d) (referenceOf (now (store .entry)) place from to)) ⌝ }
+{
+    let start = cells::string_start(place);
+    let a = start + from;
+    let b = start + to;
+    match d {
+        Direction::Forward => cells::spans::copy(&store[a..b], out, 0),
+        Direction::Backward => cells::spans::copy_turned(&store[a..b], out),
+    }
+}

@@ -1,0 +1,82 @@
+// The replacement of a scan: its value put where the pieces lay, turned round in a BACKSCAN as the reference is turned back.
+// Each contract is an equation with the definitions of the crate machine.
+ghost use mathlib.Core.List.{reverse};
+ghost use mathlib.Core.Path.{_≡_};
+ghost use Prim.Native.Nat.{_≤_};
+ghost use lib.ListN.{length, take};
+ghost use Rattle.calls.specs.Splices.{splice};
+ghost use Rattle.expressions.specs.Values.{Spellable};
+ghost use Rattle.language.specs.Program.{backward};
+ghost use Rattle.rows.specs.Meaning.{directionMeaning};
+ghost use Rattle.statements.specs.Replacing.{storedTurned};
+ghost use Rattle.statements.specs.Valued.{Between, Stored};
+use crate::Did;
+use crate::set_between;
+use crate::valued::set_value;
+use convert::Text;
+use rows::Direction;
+use rows::Stretch;
+
+// the longest string
+const LONGEST: usize = 1024;
+
+// copies the first n bytes of v, last byte first, to the front of a string's buffer
+fn turn_first(v: &[u8], n: usize, out: &mut [u8; LONGEST])
+    requires { ⌜ (n ≤ 1024) × (n ≤ length (now v)) ⌝ }
+    ensures { λ _. ⌜ now (out .exit) ≡ splice (now (out .entry)) 0 (reverse (take n (now (v .entry)))) ⌝ }
+{
+    cells::spans::copy_turned(&v[..n], out);
+}
+
+// a string expression's value, turned round, takes the place of the bytes from..to of a string
+fn set_turned(
+    table: &[u8],
+    store: &mut [u8],
+    state: &[u64; 64],
+    place: usize,
+    from: usize,
+    to: usize,
+    s: Stretch,
+    scratch: &mut [u8; LONGEST],
+    out: &mut [u8; LONGEST],
+) -> Did
+    requires { ⌜ Spellable (now table) (now store) (now state) s (now scratch) (now out) ⌝ }
+    requires { ⌜ Between (now store) place from to ⌝ }
+    ensures { λ r. ⌜ Stored r (now (store .entry)) (now (store .exit)) (now (state .entry)) (now (scratch .exit)) (now (out .exit))
+        (storedTurned (now (table .entry)) (now (store .entry)) (now (state .entry)) backward place from to s) ⌝ }
+{
+    match expressions::string_value(table, store, state, s, scratch, out) {
+        Text::Is { length, notes } => {
+            if LONGEST < length {
+                return Did::Stops(20);
+            }
+            turn_first(out, length, scratch);
+            set_between(store, place, from, to, scratch, length, notes)
+        }
+        Text::Stops(k) => Did::Stops(k),
+    }
+}
+
+// the value of a scan's replacement takes the place of the bytes from..to of the string searched
+pub fn replace_found(
+    table: &[u8],
+    store: &mut [u8],
+    state: &[u64; 64],
+    d: Direction,
+    place: usize,
+    from: usize,
+    to: usize,
+    s: Stretch,
+    scratch: &mut [u8; LONGEST],
+    out: &mut [u8; LONGEST],
+) -> Did
+    requires { ⌜ Spellable (now table) (now store) (now state) s (now scratch) (now out) ⌝ }
+    requires { ⌜ Between (now store) place from to ⌝ }
+    ensures { λ r. ⌜ Stored r (now (store .entry)) (now (store .exit)) (now (state .entry)) (now (scratch .exit)) (now (out .exit))
+        (storedTurned (now (table .entry)) (now (store .entry)) (now (state .entry)) (directionMeaning d) place from to s) ⌝ }
+{
+    match d {
+        Direction::Forward => set_value(table, store, state, place, from, to, s, scratch, out),
+        Direction::Backward => set_turned(table, store, state, place, from, to, s, scratch, out),
+    }
+}

@@ -1,0 +1,144 @@
+// The statements that value an expression and keep it: a number or a string set, a record written. What stops them changes nothing.
+// Each contract is an equation with the definitions of the crate machine.
+ghost use mathlib.Core.Path.{_≡_};
+ghost use Prim.Native.Nat.{_+_, _<_, _≤_};
+ghost use lib.ListN.{length};
+ghost use Rattle.base.specs.Edition.{edition1};
+ghost use Rattle.expressions.specs.Memory.{memoryIn};
+ghost use Rattle.expressions.specs.Values.{Valuable, Spellable};
+ghost use Rattle.machine.specs.Expressions.{numericIn};
+ghost use Rattle.machine.specs.Step.{setStringIn};
+ghost use Rattle.rows.specs.Holds.{PartHolds};
+ghost use Rattle.rows.specs.Meaning.{itemsMeaning, elementsMeaning, partMeaning};
+ghost use Rattle.statements.specs.Valued.{Assigns, Between, storedBetween, Stored, Writing, tailNotes, Recorded, Writable, Writes};
+use crate::Did;
+use crate::Output;
+use crate::least;
+use crate::put_record;
+use crate::set_between;
+use convert::Number;
+use convert::Text;
+use rows::Part;
+use rows::Stretch;
+
+const LONGEST: usize = 1024;
+
+// where a state keeps the output's length
+const WRITTEN_AT: usize = 4;
+
+// a numeric expression's value becomes the number of this place
+pub fn assign(table: &[u8], store: &[u8], state: &mut [u64; 64], place: usize, s: Stretch) -> Did
+    requires { ⌜ Valuable (now table) (now store) (now state) s ⌝ }
+    requires { ⌜ place < 32 ⌝ }
+    ensures { λ r. ⌜ Assigns r (now (state .entry)) (now (state .exit)) place
+        (numericIn edition1 (memoryIn (now (store .entry)) (now (state .entry))) (itemsMeaning (now (table .entry)) s)) ⌝ }
+{
+    match expressions::numeric_value(table, store, state, s) {
+        Number::Is { value, notes } => {
+            states::set_number(state, place, value);
+            Did::Done(notes)
+        }
+        Number::Stops(k) => Did::Stops(k),
+    }
+}
+
+// a string expression's value takes the place of the bytes from..to of a string
+pub fn set_value(
+    table: &[u8],
+    store: &mut [u8],
+    state: &[u64; 64],
+    place: usize,
+    from: usize,
+    to: usize,
+    s: Stretch,
+    scratch: &mut [u8; LONGEST],
+    out: &mut [u8; LONGEST],
+) -> Did
+    requires { ⌜ Spellable (now table) (now store) (now state) s (now scratch) (now out) ⌝ }
+    requires { ⌜ Between (now store) place from to ⌝ }
+    ensures { λ r. ⌜ Stored r (now (store .entry)) (now (store .exit)) (now (state .entry)) (now (scratch .exit)) (now (out .exit))
+        (storedBetween (now (table .entry)) (now (store .entry)) (now (state .entry)) place from to s) ⌝ }
+{
+    match expressions::string_value(table, store, state, s, scratch, out) {
+        Text::Is { length, notes } => set_between(store, place, from, to, out, length, notes),
+        Text::Stops(k) => Did::Stops(k),
+    }
+}
+
+// a string replacement
+pub fn set_string(
+    table: &[u8],
+    store: &mut [u8],
+    state: &[u64; 64],
+    p: Part,
+    s: Stretch,
+    scratch: &mut [u8; LONGEST],
+    out: &mut [u8; LONGEST],
+) -> Did
+    requires { ⌜ Spellable (now table) (now store) (now state) s (now scratch) (now out) ⌝ }
+    requires { ⌜ PartHolds p ⌝ }
+    ensures { λ r. ⌜ Stored r (now (store .entry)) (now (store .exit)) (now (state .entry)) (now (scratch .exit)) (now (out .exit))
+        (setStringIn edition1 (memoryIn (now (store .entry)) (now (state .entry))) (partMeaning p) (elementsMeaning (now (table .entry)) s)) ⌝ }
+{
+    match p {
+        Part::Whole(place) => {
+            let to = cells::string_length(store, place);
+            set_value(table, store, state, place, 0, to, s, scratch, out)
+        }
+        Part::First(place, n) => {
+            let z = expressions::length_value(state, n);
+            if convert::is_negative(z) {
+                return Did::Done(1);
+            }
+            let to = least(
+                convert::size(z) as usize,
+                cells::string_length(store, place),
+            );
+            set_value(table, store, state, place, 0, to, s, scratch, out)
+        }
+    }
+}
+
+// a note if a record is so long that its tail is dropped
+fn tail_notes(n: usize) -> u32
+    ensures { λ r. ⌜ (r ≡ tailNotes n) × (r ≤ 1) ⌝ }
+{
+    if LONGEST < n { 1 } else { 0 }
+}
+
+// puts a record, of n bytes of which v has the first 1,024, behind the output that the state knows of
+fn write_value(state: &mut [u64; 64], output: &mut [u8], v: &[u8], n: usize, notes: u32) -> Did
+    requires { ⌜ Writing (now state) (now output) (now v) notes ⌝ }
+    ensures { λ r. ⌜ Recorded r (now (state .entry)) (now (state .exit)) (now (output .entry)) (now (output .exit)) (now (v .entry)) n notes ⌝ }
+{
+    let kept = least(n, LONGEST);
+    let more = tail_notes(n);
+    match put_record(output, state[WRITTEN_AT] as usize, &v[..kept]) {
+        Output::Reaches(to) => {
+            state[WRITTEN_AT] = to as u64;
+            Did::Done(notes + more)
+        }
+        Output::Stops(k) => Did::Stops(k),
+    }
+}
+
+// WRITE and PRINT
+pub fn write_record(
+    table: &[u8],
+    store: &[u8],
+    state: &mut [u64; 64],
+    s: Stretch,
+    output: &mut [u8],
+    scratch: &mut [u8; LONGEST],
+    out: &mut [u8; LONGEST],
+) -> Did
+    requires { ⌜ Spellable (now table) (now store) (now state) s (now scratch) (now out) ⌝ }
+    requires { ⌜ Writable (now state) (now output) ⌝ }
+    ensures { λ r. ⌜ Writes r (now (table .entry)) (now (store .entry)) s (now (state .entry)) (now (state .exit)) (now (output .entry)) (now (output .exit)) ⌝ }
+    ensures { λ _. ⌜ (length (now (scratch .exit)) ≡ 1024) × (length (now (out .exit)) ≡ 1024) ⌝ }
+{
+    match expressions::string_value(table, store, state, s, scratch, out) {
+        Text::Is { length, notes } => write_value(state, output, out, length, notes),
+        Text::Stops(k) => Did::Stops(k),
+    }
+}
