@@ -3,9 +3,272 @@
 pub mod operands;
 
 use met::Cursor;
+use met::KNOWN;
+use met::NAMES;
+use met::put_item;
+use operands::Operand;
+use operands::plain;
+use operands::skip;
+use words::stands_at;
+ghost use mathlib.Core.Path.{_≡_};
+ghost use mathlib.Core.List.{List};
+ghost use Prim.Native.Nat.{ℕ, _≤_, _<_};
+ghost use lib.ListN.{length};
+ghost use Rattle.calls.specs.Table.{cell};
+ghost use Rattle.met.specs.Known.{Counted};
+ghost use Rattle.numeric.specs.Operands.{Ready};
+ghost use Rattle.numeric.specs.Kinds.{SignAt, SumAt, ProductAt, PutsCell, Puts, OperandWritten, Within, closes};
+ghost use Rattle.numeric.specs.Reads.{waiting, FactorRead, ExpressionRead, TermRead, MoreTermsRead, MoreFactorsRead};
+
+// how deep parentheses go
+const DEEPEST: usize = 16;
 
 // the form is broken, or read up to this cursor
 pub enum Outcome {
     Broken,
     Got(Cursor),
+}
+
+// the kind of the sign at a place, 0 for none
+fn sign_kind(text: &[u8], at: usize) -> u8
+    ensures { λ r. ⌜ SignAt (now (text .entry)) at r ⌝ }
+{
+    if stands_at(text, at, b'+') {
+        return 14;
+    }
+    if stands_at(text, at, b'-') {
+        return 15;
+    }
+    0
+}
+
+// the kind of the `+` or `-` at a place, 0 for none
+fn sum_kind(text: &[u8], at: usize) -> u8
+    ensures { λ r. ⌜ SumAt (now (text .entry)) at r ⌝ }
+{
+    if stands_at(text, at, b'+') {
+        return 10;
+    }
+    if stands_at(text, at, b'-') {
+        return 11;
+    }
+    0
+}
+
+// the kind of the `*` or `/` at a place, 0 for none
+fn product_kind(text: &[u8], at: usize) -> u8
+    ensures { λ r. ⌜ ProductAt (now (text .entry)) at r ⌝ }
+{
+    if stands_at(text, at, b'*') {
+        return 12;
+    }
+    if stands_at(text, at, b'/') {
+        return 13;
+    }
+    0
+}
+
+// how many items a kind stands for
+fn size(kind: u8) -> usize
+    ensures { λ r. ⌜ r ≡ length (waiting kind) ⌝ }
+{
+    if kind < 10 {
+        return 0;
+    }
+    if kind < 16 {
+        return 1;
+    }
+    0
+}
+
+// writes the next item
+fn put(table: &mut [u8], c: Cursor, kind: u8, place: u8, value: usize) -> Cursor
+    requires { ⌜ (28672 ≤ length (now table)) × (c .items < 8_000_000_000) ⌝ }
+    ensures { λ r. ⌜ PutsCell (now (table .entry)) c (cell kind place value) (now (table .exit)) r ⌝ }
+{
+    put_item(table, c.items, kind, place, value);
+    Cursor {
+        at: c.at,
+        names: c.names,
+        items: c.items + 1,
+        elements: c.elements,
+        literals: c.literals,
+        longest: c.longest,
+    }
+}
+
+// writes what a kind stands for
+fn put_kind(table: &mut [u8], c: Cursor, kind: u8) -> Cursor
+    requires { ⌜ (28672 ≤ length (now table)) × (c .items < 8_000_000_000) ⌝ }
+    ensures { λ r. ⌜ Puts (now (table .entry)) c (waiting kind) (now (table .exit)) r ⌝ }
+{
+    if size(kind) == 0 {
+        return c;
+    }
+    put(table, c, kind, 0, 0)
+}
+
+// writes the operand at the cursor
+fn write_operand(
+    text: &[u8],
+    known: &[u64; KNOWN],
+    table: &mut [u8],
+    keys: &mut [u64; NAMES],
+    tags: &mut [u8; NAMES],
+    c: Cursor,
+) -> Outcome
+    requires { ⌜ Ready (now text) (now keys) (now tags) c ⌝ }
+    requires { ⌜ Counted (now known) ⌝ }
+    requires { ⌜ 28672 ≤ length (now table) ⌝ }
+    ensures { λ r. ⌜ OperandWritten (now (text .entry)) (now (known .entry)) (now (table .entry)) (now (keys .entry)) (now (tags .entry)) c r (now (table .exit)) (now (keys .exit)) (now (tags .exit)) ⌝ }
+{
+    match plain(text, known, keys, tags, c) {
+        Operand::Broken => Outcome::Broken,
+        Operand::Got(cell, d) => Outcome::Got(put(table, d, cell.kind, cell.place, cell.value)),
+    }
+}
+
+// a cursor before `)` goes behind it
+fn pass_closing(text: &[u8], r: Outcome) -> Outcome
+    requires { ⌜ Within (now text) r ⌝ }
+    ensures { λ q. ⌜ q ≡ closes (now (text .entry)) r ⌝ }
+{
+    match r {
+        Outcome::Broken => Outcome::Broken,
+        Outcome::Got(d) => {
+            if stands_at(text, d.at, b')') {
+                return Outcome::Got(skip(d, 1));
+            }
+            Outcome::Broken
+        }
+    }
+}
+
+// an expression at a depth of parentheses: the sign of its first term stands behind that term
+pub fn expression(
+    text: &[u8],
+    known: &[u64; KNOWN],
+    table: &mut [u8],
+    keys: &mut [u64; NAMES],
+    tags: &mut [u8; NAMES],
+    c: Cursor,
+    depth: usize,
+) -> Outcome
+    requires { ⌜ Ready (now text) (now keys) (now tags) c ⌝ }
+    requires { ⌜ Counted (now known) ⌝ }
+    requires { ⌜ 28672 ≤ length (now table) ⌝ }
+    ensures { λ r. ⌜ ExpressionRead (now (text .entry)) (now (known .entry)) (now (table .entry)) (now (keys .entry)) (now (tags .entry)) c depth r (now (table .exit)) (now (keys .exit)) (now (tags .exit)) ⌝ }
+{
+    let kind = sign_kind(text, c.at);
+    match term(text, known, table, keys, tags, skip(c, size(kind)), depth) {
+        Outcome::Broken => Outcome::Broken,
+        Outcome::Got(d) => {
+            let e = put_kind(table, d, kind);
+            more_terms(text, known, table, keys, tags, e, depth)
+        }
+    }
+}
+
+// further terms, each before its operator
+fn more_terms(
+    text: &[u8],
+    known: &[u64; KNOWN],
+    table: &mut [u8],
+    keys: &mut [u64; NAMES],
+    tags: &mut [u8; NAMES],
+    c: Cursor,
+    depth: usize,
+) -> Outcome
+    requires { ⌜ Ready (now text) (now keys) (now tags) c ⌝ }
+    requires { ⌜ Counted (now known) ⌝ }
+    requires { ⌜ 28672 ≤ length (now table) ⌝ }
+    ensures { λ r. ⌜ MoreTermsRead (now (text .entry)) (now (known .entry)) (now (table .entry)) (now (keys .entry)) (now (tags .entry)) c depth r (now (table .exit)) (now (keys .exit)) (now (tags .exit)) ⌝ }
+{
+    let kind = sum_kind(text, c.at);
+    if kind == 0 {
+        return Outcome::Got(c);
+    }
+    match term(text, known, table, keys, tags, skip(c, 1), depth) {
+        Outcome::Broken => Outcome::Broken,
+        Outcome::Got(d) => {
+            let e = put_kind(table, d, kind);
+            more_terms(text, known, table, keys, tags, e, depth)
+        }
+    }
+}
+
+// a factor, and further ones
+fn term(
+    text: &[u8],
+    known: &[u64; KNOWN],
+    table: &mut [u8],
+    keys: &mut [u64; NAMES],
+    tags: &mut [u8; NAMES],
+    c: Cursor,
+    depth: usize,
+) -> Outcome
+    requires { ⌜ Ready (now text) (now keys) (now tags) c ⌝ }
+    requires { ⌜ Counted (now known) ⌝ }
+    requires { ⌜ 28672 ≤ length (now table) ⌝ }
+    ensures { λ r. ⌜ TermRead (now (text .entry)) (now (known .entry)) (now (table .entry)) (now (keys .entry)) (now (tags .entry)) c depth r (now (table .exit)) (now (keys .exit)) (now (tags .exit)) ⌝ }
+{
+    match factor(text, known, table, keys, tags, c, depth) {
+        Outcome::Broken => Outcome::Broken,
+        Outcome::Got(d) => more_factors(text, known, table, keys, tags, d, depth),
+    }
+}
+
+// further factors, each before its operator
+fn more_factors(
+    text: &[u8],
+    known: &[u64; KNOWN],
+    table: &mut [u8],
+    keys: &mut [u64; NAMES],
+    tags: &mut [u8; NAMES],
+    c: Cursor,
+    depth: usize,
+) -> Outcome
+    requires { ⌜ Ready (now text) (now keys) (now tags) c ⌝ }
+    requires { ⌜ Counted (now known) ⌝ }
+    requires { ⌜ 28672 ≤ length (now table) ⌝ }
+    ensures { λ r. ⌜ MoreFactorsRead (now (text .entry)) (now (known .entry)) (now (table .entry)) (now (keys .entry)) (now (tags .entry)) c depth r (now (table .exit)) (now (keys .exit)) (now (tags .exit)) ⌝ }
+{
+    let kind = product_kind(text, c.at);
+    if kind == 0 {
+        return Outcome::Got(c);
+    }
+    match factor(text, known, table, keys, tags, skip(c, 1), depth) {
+        Outcome::Broken => Outcome::Broken,
+        Outcome::Got(d) => {
+            let e = put_kind(table, d, kind);
+            more_factors(text, known, table, keys, tags, e, depth)
+        }
+    }
+}
+
+// an operand, or an expression in parentheses
+fn factor(
+    text: &[u8],
+    known: &[u64; KNOWN],
+    table: &mut [u8],
+    keys: &mut [u64; NAMES],
+    tags: &mut [u8; NAMES],
+    c: Cursor,
+    depth: usize,
+) -> Outcome
+    requires { ⌜ Ready (now text) (now keys) (now tags) c ⌝ }
+    requires { ⌜ Counted (now known) ⌝ }
+    requires { ⌜ 28672 ≤ length (now table) ⌝ }
+    ensures { λ r. ⌜ FactorRead (now (text .entry)) (now (known .entry)) (now (table .entry)) (now (keys .entry)) (now (tags .entry)) c depth r (now (table .exit)) (now (keys .exit)) (now (tags .exit)) ⌝ }
+{
+    if !stands_at(text, c.at, b'(') {
+        return write_operand(text, known, table, keys, tags, c);
+    }
+    if DEEPEST <= depth {
+        return Outcome::Broken;
+    }
+    pass_closing(
+        text,
+        expression(text, known, table, keys, tags, skip(c, 1), depth + 1),
+    )
 }

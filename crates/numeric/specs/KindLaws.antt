@@ -1,0 +1,414 @@
+-- Kinds of signs and operators, the items they stand for, and the members of the cycle with them.
+-- Assumes nothing.
+use mathlib.Core.Bool.{Bool, true, false, cond, _||_}
+use mathlib.Core.List.{List, [], _∷_}
+use mathlib.Core.Path.{_≡_, refl, sym, ap, subst, _∙_}
+use Prim.Native.Nat.{ℕ, suc, _+_, _*_, _-_, _≤_, _<_}
+use native.Mathlib.Nat.{add-zero}
+use native.Mathlib.Omega.{arith}
+use lib.Dec.{eqb, ltb}
+use lib.ListN.{length, drop, length-drop}
+use lib.Seq.{drop-drop}
+use borrow.Author.Tests.{eqb-true, eqb-false}
+use Rattle.base.specs.Choice.{test-cases, cond-cases, true-behind}
+use Rattle.base.specs.Edition.{edition1}
+use Rattle.base.specs.Lists.{begins}
+use Rattle.base.specs.Text.{bytes}
+use Rattle.calls.specs.Table as Table
+use Rattle.calls.specs.Table.{itemCell, operandCell, operatorKind, signKind}
+use Rattle.language.specs.Fuel.{expressionFrom, moreTermsFrom, termFrom, moreFactorsFrom, factorFrom, factorBy, factor-is}
+use Rattle.language.specs.Numeric.{deepest, plainFactor, leadingSign, sumOperator, productOperator}
+use Rattle.language.specs.Program.{Item, Operator, operator, sign, plus, minus, times, over, positive, negative}
+use Rattle.language.specs.Reading.{Read, got, broken, anItem, give, nothing}
+use Rattle.language.specs.Words.{Places, isSign}
+use Rattle.met.specs.Entries.{gather, metIn}
+use Rattle.met.specs.Items.{withItem, withItems}
+use Rattle.met.specs.declared.Cursor.{Cursor}
+use Rattle.numeric.specs.Kinds.{SignAt, Stands, SumAt, ProductAt, PutsCell, Puts, Within, closes}
+use Rattle.numeric.specs.OperandLaws.{chosen, begins-room, then-broken}
+use Rattle.numeric.specs.Operands.{Onward, moved, Ready, Gets, meaning}
+use Rattle.numeric.specs.ReadLaws.{expression-then, terms-then, factors-then, inside-then, inside-open, inside-broken, operand-item}
+use Rattle.numeric.specs.ReadLaws.{expression-broken, terms-broken, factors-broken, term-then, term-broken, terms-end, factors-end}
+use Rattle.numeric.specs.Reads.{GetsItems, ItemsAnswer, ItemsRead, waiting}
+use Rattle.numeric.specs.declared.operands.Cell.{Cell}
+use Rattle.numeric.specs.declared.Outcome as OutcomeCode
+use Rattle.numeric.specs.declared.Outcome.{Outcome}
+
+-- a kind stands for one item, whose cell has that kind
+pub record One (k : ℕ) (l : List Item) : Type 0 where
+  pub item : Item
+  pub is : l ≡ item ∷ []
+  pub cell : itemCell item ≡ Table.cell k 0 0
+
+module _ (k : ℕ) where
+  one : (i : Item) (n : ℕ) → itemCell i ≡ Table.cell n 0 0 → eqb k n ≡ true → One k (i ∷ [])
+  one i n c e = record { item = i; is = refl; cell = c ∙ ap (λ j. Table.cell j 0 0) (sym (eqb-true k n e)) }
+
+  pub waiting-one : (length (waiting k) ≡ 0 → ⊥) → One k (waiting k)
+  unfolding waiting itemCell operatorKind signKind
+  waiting-one =
+      let P : List Item → Type 0 = λ l. (length l ≡ 0 → ⊥) → One k l in
+      cond-cases P (eqb k 10) (λ e _. one (operator plus) 10 refl e) (λ _.
+      cond-cases P (eqb k 11) (λ e _. one (operator minus) 11 refl e) (λ _.
+      cond-cases P (eqb k 12) (λ e _. one (operator times) 12 refl e) (λ _.
+      cond-cases P (eqb k 13) (λ e _. one (operator over) 13 refl e) (λ _.
+      cond-cases P (eqb k 14) (λ e _. one (sign positive) 14 refl e) (λ _.
+      cond-cases P (eqb k 15) (λ e _. one (sign negative) 15 refl e) (λ _ h. absurd (h refl)))))))
+
+  pub waiting-size : 10 ≤ k → k < 16 → 1 ≡ length (waiting k)
+  unfolding waiting
+  waiting-size h g =
+      let P : List Item → Type 0 = λ l. 1 ≡ length l in
+      cond-cases P (eqb k 10) (λ _. refl) (λ a.
+      cond-cases P (eqb k 11) (λ _. refl) (λ b.
+      cond-cases P (eqb k 12) (λ _. refl) (λ c.
+      cond-cases P (eqb k 13) (λ _. refl) (λ d.
+      cond-cases P (eqb k 14) (λ _. refl) (λ e.
+      cond-cases P (eqb k 15) (λ _. refl) (λ f.
+      absurd
+      (omega
+      (arith, eqb-false k 10 a, eqb-false k 11 b, eqb-false k 12 c, eqb-false k 13 d, eqb-false k 14 e, eqb-false k 15 f))))))))
+
+  -- outside of 10 to 15
+  none : (k ≡ 10 → ⊥) → (k ≡ 11 → ⊥) → (k ≡ 12 → ⊥) → (k ≡ 13 → ⊥) → (k ≡ 14 → ⊥) → (k ≡ 15 → ⊥) → 0 ≡ length (waiting k)
+  unfolding waiting
+  none a b c d e f =
+      let P : List Item → Type 0 = λ l. 0 ≡ length l in
+      cond-cases P (eqb k 10) (λ t. absurd (a (eqb-true k 10 t))) (λ _.
+      cond-cases P (eqb k 11) (λ t. absurd (b (eqb-true k 11 t))) (λ _.
+      cond-cases P (eqb k 12) (λ t. absurd (c (eqb-true k 12 t))) (λ _.
+      cond-cases P (eqb k 13) (λ t. absurd (d (eqb-true k 13 t))) (λ _.
+      cond-cases P (eqb k 14) (λ t. absurd (e (eqb-true k 14 t))) (λ _.
+      cond-cases P (eqb k 15) (λ t. absurd (f (eqb-true k 15 t))) (λ _. refl))))))
+
+  pub waiting-none : 16 ≤ k → 0 ≡ length (waiting k)
+  waiting-none h =
+      none (λ e. omega arith) (λ e. omega arith) (λ e. omega arith) (λ e. omega arith) (λ e. omega arith) (λ e. omega arith)
+
+  pub waiting-few : k < 10 → 0 ≡ length (waiting k)
+  waiting-few h =
+      none (λ e. omega arith) (λ e. omega arith) (λ e. omega arith) (λ e. omega arith) (λ e. omega arith) (λ e. omega arith)
+
+-- nothing is written where nothing waits
+pub puts-none : (table : List ℕ) (c : Cursor) (l : List Item) → length l ≡ 0 → Puts table c l table c
+unfolding withItems
+puts-none table c [] e =
+    record {
+      written = refl;
+      goes = record { names = sym (add-zero (c .names)); items = sym (add-zero (c .items)); elements = refl; literals = refl; longest = refl };
+      at = refl;
+    }
+puts-none table c (x ∷ l) e = absurd (omega arith)
+
+-- the one item is written
+pub puts-one : {table : List ℕ} {c : Cursor} {k : ℕ} {l : List Item} {table′ : List ℕ} {d : Cursor} → One k l
+    → PutsCell table c (Table.cell k 0 0) table′ d → Puts table c l table′ d
+unfolding withItems
+puts-one {table} {c} {k} {l} {table′} {d} o p =
+    subst (λ (z : List Item). Puts table c z table′ d) (sym (o .is))
+    (record { written = p .written ∙ ap (withItem table (c .items)) (sym (o .cell)); goes = p .goes; at = p .at })
+
+-- the signs by the mark that stands
+module _ (text : List ℕ) (at : ℕ) where
+  behind : (w : ℕ) → begins (w ∷ []) (drop at text) ≡ true → at < length text
+  behind w e = omega (arith, begins-room (w ∷ []) (drop at text) e, length-drop at text)
+
+  pub sign-plus : begins (43 ∷ []) (drop at text) ≡ true → SignAt text at 14
+  unfolding leadingSign bytes waiting anItem metIn gather
+  sign-plus e =
+      record {
+        is = chosen _ _ e ∙ ap (got (sign positive ∷ []) anItem) (drop-drop 1 at text);
+        inside = λ _. omega (arith, behind 43 e);
+      }
+
+  module _ (no : begins (43 ∷ []) (drop at text) ≡ false) where
+    pub sign-minus : begins (45 ∷ []) (drop at text) ≡ true → SignAt text at 15
+    unfolding leadingSign bytes waiting anItem metIn gather
+    sign-minus e =
+        record {
+          is = chosen _ _ no ∙ chosen _ _ e ∙ ap (got (sign negative ∷ []) anItem) (drop-drop 1 at text);
+          inside = λ _. omega (arith, behind 45 e);
+        }
+
+    pub sign-none : begins (45 ∷ []) (drop at text) ≡ false → SignAt text at 0
+    unfolding leadingSign bytes waiting give nothing metIn gather
+    sign-none e =
+        record {
+          is = chosen _ _ no ∙ chosen _ _ e ∙ ap (λ j. give {A = List Item} [] (drop j text)) (sym (add-zero at));
+          inside = λ h. omega arith;
+        }
+
+    pub sum-minus : begins (45 ∷ []) (drop at text) ≡ true → SumAt text at 11
+    unfolding sumOperator bytes waiting isSign
+    sum-minus e =
+        record {
+          none = λ z. absurd (omega arith);
+          sign = λ _. true-behind (begins (43 ∷ []) (drop at text)) _ e;
+          stands =
+              λ _.
+              record {
+                which = minus;
+                waits = refl;
+                is = chosen _ _ no ∙ chosen _ _ e ∙ ap (got minus anItem) (drop-drop 1 at text);
+                further = behind 45 e;
+              };
+        }
+
+    pub sum-none : begins (45 ∷ []) (drop at text) ≡ false → SumAt text at 0
+    unfolding bytes isSign
+    sum-none e =
+        record {
+          none = λ _. ap (λ t. t || begins (45 ∷ []) (drop at text)) no ∙ e;
+          sign = λ h. absurd (h refl);
+          stands = λ h. absurd (h refl);
+        }
+
+  pub sum-plus : begins (43 ∷ []) (drop at text) ≡ true → SumAt text at 10
+  unfolding sumOperator bytes waiting isSign
+  sum-plus e =
+      record {
+        none = λ z. absurd (omega arith);
+        sign = λ _. ap (λ t. t || begins (45 ∷ []) (drop at text)) e;
+        stands =
+            λ _.
+            record {
+              which = plus;
+              waits = refl;
+              is = chosen _ _ e ∙ ap (got plus anItem) (drop-drop 1 at text);
+              further = behind 43 e;
+            };
+      }
+
+  pub product-times : begins (42 ∷ []) (drop at text) ≡ true → ProductAt text at 12
+  unfolding productOperator bytes waiting
+  product-times e =
+      record {
+        none = λ z. absurd (omega arith);
+        sign = λ _. ap (λ t. t || begins (47 ∷ []) (drop at text)) e;
+        stands =
+            λ _.
+            record {
+              which = times;
+              waits = refl;
+              is = chosen _ _ e ∙ ap (got times anItem) (drop-drop 1 at text);
+              further = behind 42 e;
+            };
+      }
+
+  module _ (no : begins (42 ∷ []) (drop at text) ≡ false) where
+    pub product-over : begins (47 ∷ []) (drop at text) ≡ true → ProductAt text at 13
+    unfolding productOperator bytes waiting
+    product-over e =
+        record {
+          none = λ z. absurd (omega arith);
+          sign = λ _. true-behind (begins (42 ∷ []) (drop at text)) _ e;
+          stands =
+              λ _.
+              record {
+                which = over;
+                waits = refl;
+                is = chosen _ _ no ∙ chosen _ _ e ∙ ap (got over anItem) (drop-drop 1 at text);
+                further = behind 47 e;
+              };
+        }
+
+    pub product-none : begins (47 ∷ []) (drop at text) ≡ false → ProductAt text at 0
+    unfolding bytes
+    product-none e =
+        record {
+          none = λ _. ap (λ t. t || begins (47 ∷ []) (drop at text)) no ∙ e;
+          sign = λ h. absurd (h refl);
+          stands = λ h. absurd (h refl);
+        }
+
+-- the outcome by its case
+module _ {before : List Item} {text table keys tags : List ℕ} {c : Cursor} {x : Read (List Item)} {r : Outcome} {t k g : List ℕ}
+    (a : ItemsRead before text table keys tags c x r t k g) where
+  pub items-case : {d : Cursor} → r ≡ OutcomeCode.the-variants.Got d → GetsItems before text table keys tags c x t k g d
+  items-case e = subst (λ z. ItemsAnswer before text table keys tags c x z t k g) e (a .answer)
+
+  pub items-none : r ≡ OutcomeCode.the-variants.Broken → x ≡ broken
+  items-none e = subst (λ z. ItemsAnswer before text table keys tags c x z t k g) e (a .answer)
+
+-- the cursor n bytes further, still inside
+pub ready-on : {text keys tags : List ℕ} {c : Cursor} (n : ℕ) → Ready text keys tags c → c .at + n ≤ length text
+    → Ready text keys tags (moved c n)
+ready-on n ready h =
+    record {
+      textSize = ready .textSize;
+      inside = h;
+      names = omega (arith, ready .names);
+      items = omega (arith, ready .items);
+      keysSize = ready .keysSize;
+      tagsSize = ready .tagsSize;
+    }
+
+-- behind what waited, and is now written
+pub ready-put : (n : ℕ) {text table keys tags : List ℕ} {c : Cursor} {x : Read (List Item)} {t k g : List ℕ} {d e : Cursor}
+    → Ready text keys tags c → GetsItems [] text table keys tags (moved c n) x t k g d → Onward d 0 n e → e .at ≡ d .at → Ready text k g e
+ready-put n ready a on at =
+    record {
+      textSize = ready .textSize;
+      inside = omega (arith, a .ready);
+      names = omega (arith, a .ready, on);
+      items = omega (arith, ready, a .goes, a .short, on);
+      keysSize = a .ready .keysSize;
+      tagsSize = a .ready .tagsSize;
+    }
+
+pub items-within : {before : List Item} {text table keys tags : List ℕ} {c : Cursor} {x : Read (List Item)} (r : Outcome) {t k g : List ℕ}
+    → ItemsRead before text table keys tags c x r t k g → Within text r
+items-within (OutcomeCode.the-variants.Got d) a = (a .answer .ready .inside, a .answer .ready .textSize)
+items-within OutcomeCode.the-variants.Broken a = tt
+
+-- an expression in parentheses
+module _ (p : Places) (depth : ℕ) (c : Cursor) {text table keys tags : List ℕ} {t k g : List ℕ}
+    (paren : begins (bytes "(") (drop (c .at) text) ≡ true) (shallow : ltb depth deepest ≡ true) where
+  pub inside-closed : (r : Outcome)
+      → ItemsRead [] text table keys tags (moved c 1) (expressionFrom edition1 p (suc depth) (drop (c .at + 1) text)) r t k g
+      → ItemsRead [] text table keys tags c (factorFrom edition1 p depth (drop (c .at) text)) (closes text r) t k g
+  inside-closed (OutcomeCode.the-variants.Got d) a =
+      test-cases
+      (λ b.
+      begins (41 ∷ []) (drop (d .at) text) ≡ b
+      → ItemsRead [] text table keys tags c (factorFrom edition1 p depth (drop (c .at) text))
+      (elim b [ true ↦ OutcomeCode.the-variants.Got (moved d 1) | false ↦ OutcomeCode.the-variants.Broken ]) t k g)
+      (begins (41 ∷ []) (drop (d .at) text))
+      (λ _ e. record { answer = inside-then p depth c paren shallow (a .answer) e })
+      (λ _ e. record { answer = inside-open p depth c paren shallow (a .answer) e }) refl
+  inside-closed OutcomeCode.the-variants.Broken a =
+      record {
+        answer =
+            inside-broken p depth (drop (c .at) text) paren shallow
+            (ap (expressionFrom edition1 p (suc depth)) (drop-drop 1 (c .at) text) ∙ a .answer);
+      }
+
+module _ (text : List ℕ) {r : Outcome} {d : Cursor} (e : r ≡ OutcomeCode.the-variants.Got d) where
+  pub closes-here : begins (41 ∷ []) (drop (d .at) text) ≡ true → {f : Cursor} → f ≡ moved d 1
+      → OutcomeCode.the-variants.Got f ≡ closes text r
+  closes-here h g =
+      ap OutcomeCode.the-variants.Got g
+      ∙ ap {B = Outcome} (λ t. elim t [ true ↦ OutcomeCode.the-variants.Got (moved d 1) | false ↦ OutcomeCode.the-variants.Broken ]) (sym h)
+      ∙ ap (closes text) (sym e)
+
+  pub closes-not : begins (41 ∷ []) (drop (d .at) text) ≡ false → OutcomeCode.the-variants.Broken ≡ closes text r
+  closes-not h =
+      ap {B = Outcome} (λ t. elim t [ true ↦ OutcomeCode.the-variants.Got (moved d 1) | false ↦ OutcomeCode.the-variants.Broken ]) (sym h)
+      ∙ ap (closes text) (sym e)
+
+-- an operand, written or broken
+module _ (p : Places) (depth : ℕ) {text table keys tags : List ℕ} {c : Cursor} where
+  pub operand-written : (v : Cell) {k g : List ℕ} {d : Cursor} {t : List ℕ} {e : Cursor} → Ready text keys tags c
+      → begins (bytes "(") (drop (c .at) text) ≡ false
+      → Gets operandCell (meaning v) text keys tags c (plainFactor edition1 p (drop (c .at) text)) k g d → PutsCell table d (meaning v) t e
+      → ItemsRead [] text table keys tags c (factorFrom edition1 p depth (drop (c .at) text)) (OutcomeCode.the-variants.Got e) t k g
+  operand-written v ready open′ a q = record { answer = operand-item p depth v ready open′ a (q .written) (q .goes) (q .at) }
+
+  pub operand-broken : {t k g : List ℕ} → begins (bytes "(") (drop (c .at) text) ≡ false → plainFactor edition1 p (drop (c .at) text) ≡ broken
+      → ItemsRead [] text table keys tags c (factorFrom edition1 p depth (drop (c .at) text)) OutcomeCode.the-variants.Broken t k g
+  unfolding factorBy
+  operand-broken open′ h =
+      record { answer = factor-is edition1 p depth (drop (c .at) text) ∙ chosen _ _ open′ ∙ then-broken _ h }
+
+-- how the measures of the cycle fall
+pub falls-near : (l x y k j t : ℕ) → 4 * (l - x) + k ≡ t → x ≤ y → j < k → 4 * (l - y) + j < t
+falls-near l x y k j t e h g = omega arith
+
+pub falls-far : (l x y j t : ℕ) → 4 * (l - x) + 1 ≡ t → x < y → y ≤ l → j ≤ 3 → 4 * (l - y) + j < t
+falls-far l x y j t e h i g = omega arith
+
+-- a reading behind what waits, the code's cursor being moved
+module _ {text table keys tags : List ℕ} (c : Cursor) (l : List Item) {n : ℕ} {b : Cursor} (en : n ≡ length l) (eb : b ≡ moved c n)
+    (y : List ℕ → Read (List Item)) {r₁ : Outcome} {t₁ k₁ g₁ : List ℕ}
+    (a : ItemsRead [] text table keys tags b (y (drop (b .at) text)) r₁ t₁ k₁ g₁) where
+  pub moved-read : ItemsRead [] text table keys tags (moved c (length l)) (y (drop (c .at + length l) text)) r₁ t₁ k₁ g₁
+  moved-read =
+      subst (λ (z : Cursor). ItemsRead [] text table keys tags z (y (drop (z .at) text)) r₁ t₁ k₁ g₁) (eb ∙ ap (moved c) en) a
+
+  module _ {d : Cursor} (e : r₁ ≡ OutcomeCode.the-variants.Got d) {t₂ : List ℕ} {f : Cursor} (q : Puts t₁ d l t₂ f) where
+    pub ready-after : Ready text keys tags c → Ready text k₁ g₁ f
+    ready-after ready = ready-put (length l) ready (items-case moved-read e) (q .goes) (q .at)
+
+    pub at-after : c .at + n ≤ f .at
+    at-after = let g = items-case moved-read e in omega (arith, g .few, q .at, en)
+
+module _ (p : Places) (depth : ℕ) {text table keys tags : List ℕ} (c : Cursor) {kind : ℕ} {n : ℕ} {b : Cursor} (eb : b ≡ moved c n)
+    {r₁ : Outcome} {t₁ k₁ g₁ : List ℕ} where
+  module _ (s : SignAt text (c .at) kind) (en : n ≡ length (waiting kind))
+      (a : ItemsRead [] text table keys tags b (termFrom edition1 p depth (drop (b .at) text)) r₁ t₁ k₁ g₁) where
+    pub expression-got : Ready text keys tags c → {d : Cursor} → r₁ ≡ OutcomeCode.the-variants.Got d → {t₂ : List ℕ} {e : Cursor}
+        → Puts t₁ d (waiting kind) t₂ e → (r : Outcome) {t₃ k₂ g₂ : List ℕ}
+        → ((b : List Item) → ItemsRead b text t₂ k₁ g₁ e (moreTermsFrom edition1 p depth b (drop (e .at) text)) r t₃ k₂ g₂)
+        → ItemsRead [] text table keys tags c (expressionFrom edition1 p depth (drop (c .at) text)) r t₃ k₂ g₂
+    expression-got ready e q r m =
+        expression-then p depth (waiting kind) c ready (s .is)
+        (items-case (moved-read c (waiting kind) en eb (termFrom edition1 p depth) a) e) (q .written) (q .goes) (q .at) r m
+
+    pub expression-none : r₁ ≡ OutcomeCode.the-variants.Broken → {t k g : List ℕ}
+        → ItemsRead [] text table keys tags c (expressionFrom edition1 p depth (drop (c .at) text)) OutcomeCode.the-variants.Broken t k g
+    expression-none e =
+        record {
+          answer =
+              expression-broken p depth (drop (c .at) text) (s .is)
+              (items-none (moved-read c (waiting kind) en eb (termFrom edition1 p depth) a) e);
+        }
+
+  module _ (s : SumAt text (c .at) kind) (some : kind ≡ 0 → ⊥) (en : n ≡ 1)
+      (a : ItemsRead [] text table keys tags b (termFrom edition1 p depth (drop (b .at) text)) r₁ t₁ k₁ g₁) where
+    pub terms-got : Ready text keys tags c → {d : Cursor} → r₁ ≡ OutcomeCode.the-variants.Got d → {t₂ : List ℕ} {e : Cursor}
+        → Puts t₁ d (waiting kind) t₂ e → (r : Outcome) {t₃ k₂ g₂ : List ℕ}
+        → ((b : List Item) → ItemsRead b text t₂ k₁ g₁ e (moreTermsFrom edition1 p depth b (drop (e .at) text)) r t₃ k₂ g₂)
+        → (before : List Item)
+        → ItemsRead before text table keys tags c (moreTermsFrom edition1 p depth before (drop (c .at) text)) r t₃ k₂ g₂
+    terms-got ready {d} e {t₂} {e = f} q r m before =
+        let o = s .stands some in
+        let q′ = subst (λ (l : List Item). Puts t₁ d l t₂ f) (o .waits) q in
+        terms-then p depth (o .which) before c ready (q′ .written) (q′ .goes) (q′ .at) r (s .sign some) (o .is)
+        (items-case (moved-read c (operator (o .which) ∷ []) en eb (termFrom edition1 p depth) a) e) m
+
+    pub terms-none : r₁ ≡ OutcomeCode.the-variants.Broken → {t k g : List ℕ} (before : List Item)
+        → ItemsRead before text table keys tags c (moreTermsFrom edition1 p depth before (drop (c .at) text)) OutcomeCode.the-variants.Broken t k g
+    terms-none e before =
+        let o = s .stands some in
+        record {
+          answer =
+              terms-broken p depth (drop (c .at) text) before (s .sign some) (o .is)
+              (items-none (moved-read c (operator (o .which) ∷ []) en eb (termFrom edition1 p depth) a) e);
+        }
+
+  module _ (s : ProductAt text (c .at) kind) (some : kind ≡ 0 → ⊥) (en : n ≡ 1)
+      (a : ItemsRead [] text table keys tags b (factorFrom edition1 p depth (drop (b .at) text)) r₁ t₁ k₁ g₁) where
+    pub factors-got : Ready text keys tags c → {d : Cursor} → r₁ ≡ OutcomeCode.the-variants.Got d → {t₂ : List ℕ} {e : Cursor}
+        → Puts t₁ d (waiting kind) t₂ e → (r : Outcome) {t₃ k₂ g₂ : List ℕ}
+        → ((b : List Item) → ItemsRead b text t₂ k₁ g₁ e (moreFactorsFrom edition1 p depth b (drop (e .at) text)) r t₃ k₂ g₂)
+        → (before : List Item)
+        → ItemsRead before text table keys tags c (moreFactorsFrom edition1 p depth before (drop (c .at) text)) r t₃ k₂ g₂
+    factors-got ready {d} e {t₂} {e = f} q r m before =
+        let o = s .stands some in
+        let q′ = subst (λ (l : List Item). Puts t₁ d l t₂ f) (o .waits) q in
+        factors-then p depth (o .which) before c ready (q′ .written) (q′ .goes) (q′ .at) r (s .sign some) (o .is)
+        (items-case (moved-read c (operator (o .which) ∷ []) en eb (factorFrom edition1 p depth) a) e) m
+
+    pub factors-none : r₁ ≡ OutcomeCode.the-variants.Broken → {t k g : List ℕ} (before : List Item)
+        → ItemsRead before text table keys tags c (moreFactorsFrom edition1 p depth before (drop (c .at) text)) OutcomeCode.the-variants.Broken t k g
+    factors-none e before =
+        let o = s .stands some in
+        record {
+          answer =
+              factors-broken p depth (drop (c .at) text) before (s .sign some) (o .is)
+              (items-none (moved-read c (operator (o .which) ∷ []) en eb (factorFrom edition1 p depth) a) e);
+        }
+
+-- one item waits where an operator stands
+pub stands-size : {x : Read Operator} {text : List ℕ} {at kind : ℕ} → Stands x text at kind → 1 ≡ length (waiting kind)
+stands-size o = sym (ap length (o .waits))
+
+-- an expression one deeper, as the code counts
+pub deeper : (p : Places) (depth : ℕ) {text table keys tags : List ℕ} (c : Cursor) {b : Cursor} {r : Outcome} {t k g : List ℕ} → b ≡ moved c 1
+    → ItemsRead [] text table keys tags b (expressionFrom edition1 p (depth + 1) (drop (b .at) text)) r t k g
+    → ItemsRead [] text table keys tags (moved c 1) (expressionFrom edition1 p (suc depth) (drop (c .at + 1) text)) r t k g
+deeper p depth {text} {table} {keys} {tags} c {r = r} {t} {k} {g} e a =
+    let next : depth + 1 ≡ suc depth = omega arith in
+    subst
+    (λ (j : ℕ). ItemsRead [] text table keys tags (moved c 1) (expressionFrom edition1 p j (drop (c .at + 1) text)) r t k g) next
+    (subst (λ (z : Cursor). ItemsRead [] text table keys tags z (expressionFrom edition1 p (depth + 1) (drop (z .at) text)) r t k g) e a)

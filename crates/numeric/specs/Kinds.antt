@@ -1,0 +1,75 @@
+-- What the helpers of the cycle do: the kind of a sign or an operator at a place, an item written, a cursor before `)`.
+-- Assumes nothing.
+use mathlib.Core.Bool.{true, false, _||_}
+use mathlib.Core.List.{List, [], _∷_}
+use mathlib.Core.Path.{_≡_}
+use Prim.Native.Nat.{ℕ, _+_, _≤_, _<_}
+use lib.ListN.{length, drop}
+use Rattle.base.specs.Lists.{begins}
+use Rattle.base.specs.Text.{bytes}
+use Rattle.calls.specs.Table as Table
+use Rattle.language.specs.Numeric.{leadingSign, sumOperator, productOperator}
+use Rattle.language.specs.Program.{Item, Operator, operator}
+use Rattle.language.specs.Reading.{Read, got, anItem}
+use Rattle.language.specs.Words.{isSign}
+use Rattle.met.specs.Entries.{metIn}
+use Rattle.met.specs.Items.{withItem, withItems}
+use Rattle.met.specs.declared.Cursor.{Cursor}
+use Rattle.numeric.specs.Operands.{Onward, moved}
+use Rattle.numeric.specs.Reads.{waiting, FactorRead}
+use Rattle.numeric.specs.declared.Outcome as OutcomeCode
+use Rattle.numeric.specs.declared.Outcome.{Outcome}
+
+-- the sign at a place, if any, is what the kind stands for
+pub record SignAt (text : List ℕ) (at kind : ℕ) : Type 0 where
+  pub is : leadingSign (drop at text) ≡ got (waiting kind) (metIn [] (length (waiting kind)) [] 0) (drop (at + length (waiting kind)) text)
+  pub inside : at ≤ length text → at + length (waiting kind) ≤ length text
+
+-- an operator stands at a place, and the kind stands for it
+pub record Stands (x : Read Operator) (text : List ℕ) (at kind : ℕ) : Type 0 where
+  pub which : Operator
+  pub waits : waiting kind ≡ operator which ∷ []
+  pub is : x ≡ got which anItem (drop (at + 1) text)
+  pub further : at < length text
+
+-- `+` or `-` at a place, 0 for none
+pub record SumAt (text : List ℕ) (at kind : ℕ) : Type 0 where
+  pub none : kind ≡ 0 → isSign (drop at text) ≡ false
+  pub sign : (kind ≡ 0 → ⊥) → isSign (drop at text) ≡ true
+  pub stands : (kind ≡ 0 → ⊥) → Stands (sumOperator (drop at text)) text at kind
+
+-- `*` or `/` at a place, 0 for none
+pub record ProductAt (text : List ℕ) (at kind : ℕ) : Type 0 where
+  pub none : kind ≡ 0 → (begins (bytes "*") (drop at text) || begins (bytes "/") (drop at text)) ≡ false
+  pub sign : (kind ≡ 0 → ⊥) → (begins (bytes "*") (drop at text) || begins (bytes "/") (drop at text)) ≡ true
+  pub stands : (kind ≡ 0 → ⊥) → Stands (productOperator (drop at text)) text at kind
+
+-- one cell is written as the next item
+pub record PutsCell (table : List ℕ) (c : Cursor) (v : Table.Cell) (table′ : List ℕ) (d : Cursor) : Type 0 where
+  pub written : table′ ≡ withItem table (c .items) v
+  pub goes : Onward c 0 1 d
+  pub at : d .at ≡ c .at
+
+-- items are written
+pub record Puts (table : List ℕ) (c : Cursor) (is : List Item) (table′ : List ℕ) (d : Cursor) : Type 0 where
+  pub written : table′ ≡ withItems table (c .items) is
+  pub goes : Onward c 0 (length is) d
+  pub at : d .at ≡ c .at
+
+-- where no parenthesis stands, a factor at any depth
+abbrev pub OperandWritten : (text known table keys tags : List ℕ) (c : Cursor) → Outcome → (table′ keys′ tags′ : List ℕ) → Type 0
+OperandWritten text known table keys tags c r table′ keys′ tags′ =
+    (depth : ℕ) → begins (bytes "(") (drop (c .at) text) ≡ false → FactorRead text known table keys tags c depth r table′ keys′ tags′
+
+-- the cursor is inside the text
+abbrev pub Within : List ℕ → Outcome → Type 0
+Within text (OutcomeCode.the-variants.Got d) = (d .at ≤ length text) × (length text ≤ 32_768)
+Within text OutcomeCode.the-variants.Broken = Unit {0}
+
+-- the cursor before `)` goes behind it
+abbrev pub closes : List ℕ → Outcome → Outcome
+closes text (OutcomeCode.the-variants.Got d) = elim (begins (41 ∷ []) (drop (d .at) text)) [
+  | true ↦ OutcomeCode.the-variants.Got (moved d 1)
+  | false ↦ OutcomeCode.the-variants.Broken
+]
+closes text OutcomeCode.the-variants.Broken = OutcomeCode.the-variants.Broken
