@@ -1,16 +1,15 @@
 /* The scan call beside PCRE2 with JIT: the same lines, the same run, each figure the best of several rounds. PCRE2 is called both ways that
    it has: pcre2_match, which checks what it is given as the scan call does, and pcre2_jit_match, which checks nothing. A ratio above 1
    means that the scan call is the faster of the two. */
+#include "now.h"
+#include "strigol.h"
+
 #define PCRE2_CODE_UNIT_WIDTH 8
 #include <pcre2.h>
 #include <stdint.h>
 #include <stdio.h>
 #include <stdlib.h>
 #include <string.h>
-#include <time.h>
-
-uint32_t strigol_scan(const uint8_t *reference, size_t reference_len, const uint8_t *values, size_t values_len,
-                      const uint8_t *elements, size_t elements_len, uint32_t *answer);
 
 enum { STRING = 1, FREE = 3, ROW = 12, ROUNDS = 40 };
 
@@ -35,13 +34,6 @@ static void pattern(const char *s)
         while (*s && *s != '.') values[values_len++] = (uint8_t)*s++;
         row[8] = (uint8_t)values_len;
     }
-}
-
-static double now(void)
-{
-    struct timespec t;
-    clock_gettime(CLOCK_MONOTONIC, &t);
-    return (double)t.tv_sec * 1e9 + (double)t.tv_nsec;
 }
 
 static uint32_t answer[24];

@@ -1,12 +1,11 @@
 /* Tries the scan call of the static library: document 01's trade lines P1 to P8, the refusals 22 to 24 at their edges, and random scans
    against a plain search through all splits in order. */
+#include "strigol.h"
+
 #include <stdint.h>
 #include <stdio.h>
 #include <stdlib.h>
 #include <string.h>
-
-uint32_t strigol_scan(const uint8_t *reference, size_t reference_len, const uint8_t *values, size_t values_len,
-                      const uint8_t *elements, size_t elements_len, uint32_t *answer);
 
 enum { STRING = 1, FIXED = 2, FREE = 3, ROW = 12, MOST = 20, ANSWER = 24 };
 

@@ -1,10 +1,10 @@
 /* Tries the starting call of the static library: a store too small stays and gets 14, another has its 32,832 bytes zeroed and no more, and
    the state is that before the first step either way. */
+#include "strigol.h"
+
 #include <stdint.h>
 #include <stdio.h>
 #include <string.h>
-
-uint32_t strigol_start(uint8_t *store, size_t store_len, uint64_t *state);
 
 enum { STORE = 32832, MORE = 100, STATE = 64, NUMBERS_AT = 21, NUMBERS = 32 };
 

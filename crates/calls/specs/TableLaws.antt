@@ -68,7 +68,7 @@ unfolding filledTo
 length-filledTo n bs h = simp (length-append, length-replicate) (omega arith)
 
 -- the bytes of the rows of steps
-length-stepRows : (element item : ℕ) (ss : List Step) → length (stepRows element item ss) ≡ 24 * length ss
+pub length-stepRows : (element item : ℕ) (ss : List Step) → length (stepRows element item ss) ≡ 24 * length ss
 unfolding stepRows
 length-stepRows element item [] = refl
 length-stepRows element item (s ∷ ss) =
@@ -77,14 +77,14 @@ length-stepRows element item (s ∷ ss) =
     simp (length-append, length-rowBytes, rest) (omega arith)
 
 -- the bytes of the rows of elements
-length-elementRows : (at : ℕ) (xs : List PatternElement) → length (elementRows at xs) ≡ 8 * length xs
+pub length-elementRows : (at : ℕ) (xs : List PatternElement) → length (elementRows at xs) ≡ 8 * length xs
 unfolding elementRows
 length-elementRows at [] = refl
 length-elementRows at (x ∷ xs) =
     simp (length-append, length-cellBytes, length-elementRows (at + length (literalIn x)) xs) (omega arith)
 
 -- the bytes of the rows of items
-length-itemRows : (xs : List Item) → length (itemRows xs) ≡ 8 * length xs
+pub length-itemRows : (xs : List Item) → length (itemRows xs) ≡ 8 * length xs
 unfolding itemRows
 length-itemRows [] = refl
 length-itemRows (x ∷ xs) = simp (length-append, length-cellBytes, length-itemRows xs) (omega arith)

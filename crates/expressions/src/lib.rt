@@ -360,7 +360,7 @@ fn append_text(
 }
 
 // appends an element
-fn append_element(
+pub fn append_element(
     table: &[u8],
     store: &[u8],
     state: &[u64; 64],

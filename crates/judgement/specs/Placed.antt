@@ -40,9 +40,9 @@ use Rattle.language.specs.Reading.{
 }
 use Rattle.language.specs.Words.{Places, nameLength, name, nameAs, noRole, stringName, partName}
 use Rattle.judgement.specs.Known.{Label, Routine, Known, nothingKnown, sameNaming, strings, numbers, namesFor, isOneOf, isStep, learn}
-use Rattle.judgement.specs.Refusals.{labelForm, labelled, readStatement}
+use Rattle.judgement.specs.Refusals.{labelForm, labelled, readStatement, statementNumber, formNumber}
 use Rattle.judgement.specs.Deck.{unplaced, passed, indexOf, stepOf, routineNamed, placesOf, stepRead, stepsFrom, programOf}
-use Rattle.judgement.specs.Deck.{accepted, judge}
+use Rattle.judgement.specs.Deck.{accepted, judge, metBy}
 use Rattle.judgement.specs.Names.{Has, same-naming-refl, any-append, names-for, passed-keeps, learn-keeps, learn-adds, OnePurpose}
 use Rattle.judgement.specs.Names.{passed-one-purpose, used-known}
 use Rattle.judgement.specs.Targets.{isInner, LabelBelow, RoutineBelow, TargetsBelow, passed-goes-on, passed-below}
@@ -282,3 +282,38 @@ accepted-placed e deck p q =
     let count : k .steps ≡ length ss = omega (arith, steps .1) in
     let sizes : ℕ → Sizes = λ n. record { strings = length (strings k); numbers = length (numbers k); steps = n } in
     subst (λ n. AllPlaced (sizes n) ss) count (steps .0))
+
+-- sizes above every place of unplaced
+abbrev one : Sizes
+one = record { strings = 1; numbers = 1; steps = 1 }
+
+alike-number : {K : Naming → Type 0} {R : Option Statement → Option Statement → Type 0} {P : Option Statement → Type 0}
+    {x y : Read (Option Statement)} (k : Known) (kind : Kind) (sound : Bool) → Alike K R P x y
+    → statementNumber k kind sound y ≡ statementNumber k kind sound x
+unfolding statementNumber formNumber
+alike-number k kind sound (both r p) = refl
+alike-number k kind sound neither = refl
+
+alike-met : {K : Naming → Type 0} {R : Option Statement → Option Statement → Type 0} {P : Option Statement → Type 0}
+    {x y : Read (Option Statement)} → Alike K R P x y → metBy y ≡ metBy x
+unfolding metBy
+alike-met (both r p) = refl
+alike-met neither = refl
+
+-- what a statement meets, and its number, are the same with any places
+module _ (e : Edition) (isNumber : List ℕ → Bool) (at : Places) (label text : List ℕ) where
+  anywhere : Alike (λ _. Unit {0}) (SameStep (isStep (kindOf text))) (StepPlaced one) (readStatement e isNumber at label text)
+      (readStatement e isNumber unplaced label text)
+  unfolding unplaced setsNumber
+  anywhere =
+      alike-readStatement (λ _. Unit {0}) one e at unplaced isNumber isNumber label text
+      (record { string = λ _ _. omega arith; number = λ _ _. omega arith; label = λ _. omega arith; entry = λ _. omega arith; exit = λ _. omega arith })
+      (λ _. refl) (λ _. omega arith)
+
+  pub number-anywhere : (k : Known) (kind : Kind) (sound : Bool)
+      → statementNumber k kind sound (readStatement e isNumber unplaced label text)
+      ≡ statementNumber k kind sound (readStatement e isNumber at label text)
+  number-anywhere k kind sound = alike-number k kind sound anywhere
+
+  pub met-anywhere : metBy (readStatement e isNumber unplaced label text) ≡ metBy (readStatement e isNumber at label text)
+  met-anywhere = alike-met anywhere

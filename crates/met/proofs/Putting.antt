@@ -1,16 +1,19 @@
--- A number in bytes written one by one, and a cell written in its parts.
+-- A number in bytes written one by one, a cell written in its parts, and literal bytes.
 -- Assumes nothing.
 use mathlib.Core.List.{List, [], _∷_, _++_}
-use mathlib.Core.Path.{_≡_, refl, sym, ap, _∙_}
+use mathlib.Core.Path.{_≡_, refl, sym, ap, ap₂, _∙_}
 use Prim.Native.Nat.{ℕ, suc, _+_, _*_, _-_, _/_, _%_, _≤_, _<_}
 use native.Mathlib.Nat.{add-zero}
 use native.Mathlib.Omega.{arith}
-use lib.ListN.{length, set, length-set}
+use lib.ListN.{length, take, getD, set, length-set}
+use lib.Seq.{length-take-le, take-suc, take-all}
+use native.Mathlib.Numerals.{add-one}
 use Rattle.calls.specs.Numerals.{inBytes}
 use Rattle.calls.specs.Splices.{splice, set-splice, splice-behind, splice-nil, length-splice}
 use borrow.Author.Tests.{lt-ltb, le-ltb}
-use Rattle.calls.specs.Table.{Cell, cell, cellBytes, itemsAt}
+use Rattle.calls.specs.Table.{Cell, cell, cellBytes, itemsAt, elementsAt, literalsAt}
 use Rattle.met.specs.Contracts.{named, Noted}
+use Rattle.met.specs.Elements.{withElement, withLiterals, literals-append}
 use Rattle.met.specs.Items.{withItem}
 use Rattle.met.specs.declared.Cursor.{Cursor}
 
@@ -68,6 +71,55 @@ module _ (t : List ℕ) (k : ℕ) (c : Cell) where
   pub item-behind : 1024 ≤ k → t ≡ withItem t k c
   unfolding withItem
   item-behind h = rw (le-ltb k 1024 h)
+
+-- an element row, and a row behind the last one
+module _ (t : List ℕ) (k : ℕ) (c : Cell) where
+  pub element-inside : k < 1024 → splice t (6208 + 8 * k) (cellBytes c) ≡ withElement t k c
+  unfolding withElement elementsAt
+  element-inside h = rw (lt-ltb k 1024 h)
+
+  pub element-behind : 1024 ≤ k → t ≡ withElement t k c
+  unfolding withElement
+  element-behind h = rw (le-ltb k 1024 h)
+
+-- a literal byte, and one behind the last one
+module _ (t : List ℕ) (l b : ℕ) where
+  pub byte-inside : l < 4096 → 28_672 ≤ length t → set t (22_592 + l) b ≡ withLiterals t l (b ∷ [])
+  unfolding withLiterals literalsAt
+  byte-inside h g = rw (lt-ltb l 4096 h) (set-splice t (22_592 + l) b (omega arith))
+
+  pub byte-behind : 4096 ≤ l → t ≡ withLiterals t l (b ∷ [])
+  unfolding withLiterals
+  byte-behind h = rw (le-ltb l 4096 h)
+
+-- i of some literal bytes are written
+pub record Spelling (t₀ : List ℕ) (l : ℕ) (bytes t : List ℕ) (i : ℕ) : Type 0 where
+  pub inside : i ≤ length bytes
+  pub size : length t ≡ length t₀
+  pub leads : t ≡ withLiterals t₀ l (take i bytes)
+
+module _ (t₀ : List ℕ) (l : ℕ) (bytes : List ℕ) where
+  pub spelling-none : Spelling t₀ l bytes t₀ 0
+  unfolding withLiterals
+  spelling-none = record { inside = omega arith; size = refl; leads = refl }
+
+  pub spelling-more : {t t′ : List ℕ} {i : ℕ} → Spelling t₀ l bytes t i → i < length bytes → length t′ ≡ length t
+      → t′ ≡ withLiterals t (l + i) (getD bytes i 0 ∷ []) → Spelling t₀ l bytes t′ (i + 1)
+  spelling-more {t} {t′} {i} s h same put =
+      let size : length (take i bytes) ≡ i = length-take-le i bytes (omega arith) in
+      record {
+        inside = omega arith;
+        size = same ∙ s .size;
+        leads =
+            put
+            ∙ ap₂ (λ (y : List ℕ) (j : ℕ). withLiterals y (l + j) (getD bytes i 0 ∷ [])) (s .leads) (sym size)
+            ∙ sym (literals-append t₀ l (take i bytes) (getD bytes i 0 ∷ []))
+            ∙ ap (withLiterals t₀ l) (sym (rw (add-one i) (take-suc bytes i 0 h)));
+      }
+
+  pub spelling-all : {t : List ℕ} {i : ℕ} → Spelling t₀ l bytes t i → length bytes ≤ i → t ≡ withLiterals t₀ l bytes
+  spelling-all {i = i} s h =
+      s .leads ∙ ap (withLiterals t₀ l) (take-all i bytes h)
 
 -- a name behind the others
 pub noted : (keys tags : List ℕ) (c : Cursor) (key tag : ℕ) → c .names < length keys → c .names < length tags

@@ -1,6 +1,6 @@
 -- What was met goes through `++`; names and keys are each other's; what one name met is. Assumes nothing.
 use mathlib.Core.Bool.{true, false, and-eq-true-iff}
-use mathlib.Core.List.{List, [], _∷_, _++_, map, append-assoc}
+use mathlib.Core.List.{List, [], _∷_, _++_, map, append-assoc, append-nil}
 use mathlib.Core.Path.{_≡_, refl, sym, ap, ap₂, _∙_}
 use Prim.Native.Nat.{ℕ, zero, suc, _+_, _*_, _/_, _%_, _≤_}
 use native.Mathlib.Omega.{arith}
@@ -135,6 +135,9 @@ module _ (known n : List ℕ) (a : all isKeyByte n ≡ true) where
   unfolding placesIn
   number-placed = place-name n (numberKeys known) a
 
+twice : (n : ℕ) → (2 * n) % 2 ≡ 0
+twice n = omega arith
+
 -- what one name met is: with no role, with each role, declared
 module _ (n : List ℕ) (a : all isKeyByte n ≡ true) where
   pub used-met : (p : Purpose) → metIn (entry (keyOf n) (purposeNumber p) ∷ []) 0 [] 0 ≡ naming p [] n
@@ -165,3 +168,12 @@ module _ (n : List ℕ) (a : all isKeyByte n ≡ true) where
   pub filler-met : metIn (entry (keyOf n) 52 ∷ []) 0 [] 0 ≡ naming string (filler n ∷ []) n
   unfolding metIn gather declaredBy usedBy rolesBy isDeclared namingOf purposeOf roleOf entry naming
   filler-met = rw (name-key n a)
+
+  -- a string by the number of its role
+  pub role-met : (tag : ℕ) → tag % 16 ≡ 4 → metIn (entry (keyOf n) tag ∷ []) 0 [] 0 ≡ naming string (roleOf (tag / 16) n) n
+  unfolding metIn gather declaredBy usedBy rolesBy isDeclared namingOf purposeOf entry naming
+  role-met tag h =
+      let purpose : tag % 8 ≡ 4 = omega arith in
+      let half : tag / 8 ≡ 2 * (tag / 16) = omega arith in
+      let used : tag / 8 % 2 ≡ 0 = rw half (twice (tag / 16)) in
+      rw (used, purpose, name-key n a, append-nil (roleOf (tag / 16) n))

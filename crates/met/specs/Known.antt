@@ -1,32 +1,100 @@
--- The names known before a statement, in one array: how many strings and numbers, then the keys of each, at most 33. Assumes nothing.
+-- What is known behind some statements of a deck, in one array of numbers: counts first, then the keys of strings and numbers, and the
+-- labels and routines declared, each a key and its steps. Assumes nothing.
 use mathlib.Core.Bool.{true, false}
 use mathlib.Core.List.{List, [], _∷_, map}
 use mathlib.Core.Path.{_≡_}
-use Prim.Native.Nat.{ℕ, suc, _≤_}
+use Prim.Native.Nat.{ℕ, zero, suc, _+_, _≤_}
 use lib.Dec.{eqb}
 use lib.ListN.{length, take, drop, getD}
-use Rattle.judgement.specs.Deck.{indexOf}
+use Rattle.judgement.specs.Deck.{indexOf, stepOf, routineNamed}
+use Rattle.judgement.specs.Known.{Label, Routine}
 use Rattle.language.specs.Words.{Places}
 use Rattle.met.specs.Entries.{nameOf}
 
--- one more than 10 allows, so that it can be found
+-- one more of each than 10 allows, so that it can be found
 abbrev pub most : ℕ
 most = 33
 
+abbrev pub mostLabels : ℕ
+mostLabels = 65
+
+abbrev pub mostRoutines : ℕ
+mostRoutines = 17
+
+-- where the numbers stand: four counts (strings, numbers, labels, routines) and the step behind the statement that is read
+abbrev pub labelCountAt : ℕ
+labelCountAt = 68
+
+abbrev pub routineCountAt : ℕ
+routineCountAt = 69
+
+abbrev pub nextAt : ℕ
+nextAt = 70
+
+-- statements and steps so far, whether END was the last, the key of the open routine (0 outside all), the counts of 10, and how many
+-- names and uses stand in their own arrays
+abbrev pub statementsAt : ℕ
+statementsAt = 71
+
+abbrev pub stepsAt : ℕ
+stepsAt = 72
+
+abbrev pub endedAt : ℕ
+endedAt = 73
+
+abbrev pub scopeAt : ℕ
+scopeAt = 74
+
+abbrev pub elementsAt : ℕ
+elementsAt = 75
+
+abbrev pub itemsAt : ℕ
+itemsAt = 76
+
+abbrev pub literalsAt : ℕ
+literalsAt = 77
+
+abbrev pub namesAt : ℕ
+namesAt = 78
+
+abbrev pub usesAt : ℕ
+usesAt = 79
+
+-- where the keys stand, and what goes with them
 abbrev pub stringsAt : ℕ
 stringsAt = 2
 
 abbrev pub numbersAt : ℕ
 numbersAt = 35
 
+abbrev pub labelKeysAt : ℕ
+labelKeysAt = 80
+
+abbrev pub labelStepsAt : ℕ
+labelStepsAt = 145
+
+abbrev pub labelScopesAt : ℕ
+labelScopesAt = 210
+
+abbrev pub routineKeysAt : ℕ
+routineKeysAt = 275
+
+abbrev pub entriesAt : ℕ
+entriesAt = 292
+
+abbrev pub exitsAt : ℕ
+exitsAt = 309
+
 abbrev pub knownSize : ℕ
-knownSize = 68
+knownSize = 326
 
 -- the array has its size and its counts are in range
 pub record Counted (known : List ℕ) : Type 0 where
   pub size : length known ≡ knownSize
   pub strings : getD known 0 0 ≤ most
   pub numbers : getD known 1 0 ≤ most
+  pub labels : getD known labelCountAt 0 ≤ mostLabels
+  pub routines : getD known routineCountAt 0 ≤ mostRoutines
 
 unfoldable pub stringKeys : List ℕ → List ℕ
 stringKeys known = take (getD known 0 0) (drop stringsAt known)
@@ -39,14 +107,46 @@ unfoldable pub keyPlace : ℕ → List ℕ → ℕ
 keyPlace k [] = 0
 keyPlace k (j ∷ js) = elim (eqb k j) [ true ↦ 0 | false ↦ suc (keyPlace k js) ]
 
+-- label i, and the labels from i on
+unfoldable pub labelIn : List ℕ → ℕ → Label
+labelIn known i =
+    record {
+      name = nameOf (getD known (labelKeysAt + i) 0);
+      step = getD known (labelStepsAt + i) 0;
+      scope = nameOf (getD known (labelScopesAt + i) 0);
+    }
+
+unfoldable pub labelsFrom : List ℕ → (i n : ℕ) → List Label
+labelsFrom known i zero = []
+labelsFrom known i (suc n) = labelIn known i ∷ labelsFrom known (suc i) n
+
+unfoldable pub labelsIn : List ℕ → List Label
+labelsIn known = labelsFrom known 0 (getD known labelCountAt 0)
+
+-- routine i, and the first n routines, the latest first
+unfoldable pub routineIn : List ℕ → ℕ → Routine
+routineIn known i =
+    record {
+      name = nameOf (getD known (routineKeysAt + i) 0);
+      entry = getD known (entriesAt + i) 0;
+      exit = getD known (exitsAt + i) 0;
+    }
+
+unfoldable pub routinesDown : List ℕ → ℕ → List Routine
+routinesDown known zero = []
+routinesDown known (suc n) = routineIn known n ∷ routinesDown known n
+
+unfoldable pub routinesIn : List ℕ → List Routine
+routinesIn known = routinesDown known (getD known routineCountAt 0)
+
 -- the places of the names known
 unfoldable pub placesIn : List ℕ → Places
 placesIn known =
     record {
       string = λ n. indexOf n (map nameOf (stringKeys known));
       number = λ n. indexOf n (map nameOf (numberKeys known));
-      label = λ n. 0;
-      entry = λ n. 0;
-      exit = λ n. 0;
-      next = 0;
+      label = stepOf (labelsIn known);
+      entry = λ n. routineNamed (routinesIn known) n .entry;
+      exit = λ n. routineNamed (routinesIn known) n .exit;
+      next = getD known nextAt 0;
     }

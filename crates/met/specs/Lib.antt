@@ -1,7 +1,10 @@
--- What readers leave behind while they read a statement: names met, in order of time (Entries), item rows of the table (Items), and the
--- names known before, by which places are looked up (Known); what the code does with them (Contracts).
+-- What readers leave behind while they read a statement: names met, in order of time (Entries), rows of items and elements of the table
+-- (Items, Elements); the names known before, by which places are looked up (Known), and all that is known of a deck (Holding); what the
+-- code does with them (Contracts).
 pub mod Contracts
+pub mod Elements
 pub mod Entries
 pub mod EntryLaws
+pub mod Holding
 pub mod Items
 pub mod Known

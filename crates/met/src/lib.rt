@@ -1,4 +1,5 @@
-// What readers leave behind while they read a statement: the names met, the item rows of the table, and places by names known.
+// What readers leave behind while they read a statement: the names met, the rows of items and elements with their literal bytes, and places
+// by names known.
 // Assumes nothing.
 ghost use mathlib.Core.List.{[], _∷_};
 ghost use mathlib.Core.Path.{_≡_};
@@ -8,6 +9,7 @@ ghost use Rattle.calls.specs.Numerals.{inBytes};
 ghost use Rattle.calls.specs.Splices.{splice};
 ghost use Rattle.calls.specs.Table.{cell, cellBytes};
 ghost use Rattle.met.specs.Contracts.{Notable, Noted};
+ghost use Rattle.met.specs.Elements.{withElement, withLiterals};
 ghost use Rattle.met.specs.Items.{withItem};
 ghost use Rattle.met.specs.Known.{Counted, keyPlace, stringKeys, numberKeys};
 
@@ -19,12 +21,21 @@ const STRINGS_AT: usize = 2;
 
 const NUMBERS_AT: usize = 35;
 
-pub const KNOWN: usize = 68;
+pub const KNOWN: usize = 326;
 
 // the item rows of a table
 const ITEMS_AT: usize = 14400;
 
 const ITEMS: usize = 1024;
+
+// its element rows, and the bytes of their literals
+const ELEMENTS_AT: usize = 6208;
+
+const ELEMENTS: usize = 1024;
+
+const LITERALS_AT: usize = 22592;
+
+const LITERALS: usize = 4096;
 
 // where a reader is in the text; how many names, items, elements and literal bytes are written; the longest row of elements so far
 pub struct Cursor {
@@ -74,22 +85,62 @@ fn put_number(table: &mut [u8], at: usize, number: usize)
     }
 }
 
+// writes a cell at a place
+pub fn put_cell(table: &mut [u8], at: usize, kind: u8, place: u8, value: usize)
+    requires { ⌜ at + 8 ≤ length (now table) ⌝ }
+    ensures { λ _. ⌜ now (table .exit) ≡ splice (now (table .entry)) at (cellBytes (cell kind place value)) ⌝ }
+{
+    table[at] = kind;
+    table[at + 1] = place;
+    put_number(table, at + 2, value);
+}
+
 // writes item k; of those behind the last row nothing
 pub fn put_item(table: &mut [u8], k: usize, kind: u8, place: u8, value: usize)
     requires { ⌜ 28672 ≤ length (now table) ⌝ }
     ensures { λ _. ⌜ now (table .exit) ≡ withItem (now (table .entry)) k (cell kind place value) ⌝ }
 {
     if k < ITEMS {
-        let at = ITEMS_AT + 8 * k;
-        table[at] = kind;
-        table[at + 1] = place;
-        put_number(table, at + 2, value);
+        put_cell(table, ITEMS_AT + 8 * k, kind, place, value);
+    }
+}
+
+// writes element k; of those behind the last row nothing
+pub fn put_element(table: &mut [u8], k: usize, kind: u8, place: u8, value: usize)
+    requires { ⌜ 28672 ≤ length (now table) ⌝ }
+    ensures { λ _. ⌜ now (table .exit) ≡ withElement (now (table .entry)) k (cell kind place value) ⌝ }
+{
+    if k < ELEMENTS {
+        put_cell(table, ELEMENTS_AT + 8 * k, kind, place, value);
+    }
+}
+
+// writes literal byte l; of those behind the last one nothing
+fn put_byte(table: &mut [u8], l: usize, byte: u8)
+    requires { ⌜ 28672 ≤ length (now table) ⌝ }
+    ensures { λ _. ⌜ now (table .exit) ≡ withLiterals (now (table .entry)) l (byte ∷ []) ⌝ }
+{
+    if l < LITERALS {
+        table[LITERALS_AT + l] = byte;
+    }
+}
+
+// writes literal bytes from byte l on; of those behind the last one nothing
+pub fn put_literals(table: &mut [u8], l: usize, bytes: &[u8])
+    requires { ⌜ 28672 ≤ length (now table) ⌝ }
+    requires { ⌜ l + length (now bytes) < 9_000_000_000 ⌝ }
+    ensures { λ _. ⌜ now (table .exit) ≡ withLiterals (now (table .entry)) l (now (bytes .entry)) ⌝ }
+{
+    let mut i: usize = 0;
+    while i < bytes.len() {
+        put_byte(table, l + i, bytes[i]);
+        i += 1;
     }
 }
 
 // the place of a key among so many from a place on
 fn key_place(known: &[u64; KNOWN], from: usize, count: usize, key: u64) -> usize
-    requires { ⌜ (length (now known) ≡ 68) × (from + count ≤ 68) ⌝ }
+    requires { ⌜ (length (now known) ≡ 326) × (from + count ≤ 326) ⌝ }
     ensures { λ r. ⌜ (r ≡ keyPlace key (take count (drop from (now (known .entry))))) × (r ≤ count) ⌝ }
 {
     let mut i = 0;

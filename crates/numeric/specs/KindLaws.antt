@@ -239,6 +239,8 @@ ready-on n ready h =
       inside = h;
       names = omega (arith, ready .names);
       items = omega (arith, ready .items);
+      elements = omega (arith, ready .elements);
+      literals = omega (arith, ready .literals);
       keysSize = ready .keysSize;
       tagsSize = ready .tagsSize;
     }
@@ -252,6 +254,8 @@ ready-put n ready a on at =
       inside = omega (arith, a .ready);
       names = omega (arith, a .ready, on);
       items = omega (arith, ready, a .goes, a .short, on);
+      elements = omega (arith, ready, a .ready, on);
+      literals = omega (arith, ready, a .ready, on);
       keysSize = a .ready .keysSize;
       tagsSize = a .ready .tagsSize;
     }

@@ -3,7 +3,7 @@
 use mathlib.Core.Bool.{Bool, true, false}
 use mathlib.Core.List.{List, [], _∷_, _++_, append-nil, map, map-append}
 use mathlib.Core.Path.{_≡_, refl, sym, ap, ap₂, subst, _∙_}
-use Prim.Native.Nat.{ℕ, suc, _+_, _-_, _^_, _≤_, _<_}
+use Prim.Native.Nat.{ℕ, suc, _+_, _-_, _/_, _^_, _≤_, _<_}
 use native.Mathlib.Nat.{add-zero, zero-add}
 use native.Mathlib.Omega.{arith}
 use lib.IntN.{pos}
@@ -21,18 +21,18 @@ use Rattle.language.specs.Numeric.{calledOrNumber, plainFactor}
 use Rattle.language.specs.Program as Program
 use Rattle.language.specs.Program.{constantly, numbered, whole, first, lengthOf, numberOf}
 use Rattle.calls.specs.Splices.{splice, splice-nil, splice-behind, length-splice}
-use Rattle.language.specs.Reading.{number, string, purposeNumber, naming, Met, nothing, both, Read, got, broken, _>>=_, meeting, give, skip}
+use Rattle.language.specs.Reading.{number, string, purposeNumber, Role, naming, Met, nothing, both, Read, got, broken, _>>=_, meeting, give, skip}
 use Rattle.language.specs.Words as Words
 use Rattle.language.specs.Words.{Places, nameAs, noRole, unsigned, bound, partOf, partName, numberName, stringName}
 use Rattle.met.specs.Contracts.{Noted}
-use Rattle.met.specs.Entries.{Entry, entry, gather, metIn}
-use Rattle.met.specs.EntryLaws.{met-both, used-met, string-placed, number-placed}
+use Rattle.met.specs.Entries.{Entry, entry, roleOf, gather, metIn}
+use Rattle.met.specs.EntryLaws.{met-both, used-met, role-met, string-placed, number-placed}
 use Rattle.met.specs.Known.{stringKeys, numberKeys, keyPlace, placesIn}
 use Rattle.met.specs.declared.Cursor.{Cursor}
 use Rattle.packer.specs.Keys.{keyOf, isKeyByte}
 use Rattle.words.specs.Laws.{name-is, name-keys}
 use Rattle.words.specs.Places.{NameAt}
-use Rattle.numeric.specs.Operands.{Onward, moved, Skips, Ready, Noting, Gets, Names, NameAnswer, NameRead}
+use Rattle.numeric.specs.Operands.{Onward, moved, Skips, Ready, Noting, Gets, StringTag, Names, NameAnswer, NameRead}
 use Rattle.numeric.specs.Operands.{PlaceAnswer, PlaceRead, CellAnswer, CellRead, meaning, placedIn, ConstantRead, Inside, closedBy}
 use Rattle.numeric.specs.declared.operands.Cell.{Cell}
 use Rattle.numeric.specs.declared.operands.Name as NameCode
@@ -210,6 +210,8 @@ module _ {text keys tags : List ℕ} {c : Cursor} {tag : ℕ} where
               inside = omega (arith, a .inside, ready .inside);
               names = omega (arith, ready .names);
               items = omega (arith, ready .items);
+              elements = omega (arith, ready .elements, s .goes .elements, ap (λ (z : Cursor). z .elements) (noted .goes));
+              literals = omega (arith, ready .literals, s .goes .literals, ap (λ (z : Cursor). z .literals) (noted .goes));
               keysSize = ap length (noted .keyed) ∙ length-splice keys (c .names) (key ∷ []) (omega (arith, ready)) ∙ ready .keysSize;
               tagsSize = ap length (noted .tagged) ∙ length-splice tags (c .names) (tag ∷ []) (omega (arith, ready)) ∙ ready .tagsSize;
             };
@@ -246,12 +248,12 @@ module _ {text keys tags : List ℕ} {c : Cursor} (known : List ℕ) {key place 
       (ap (λ j. metIn (entry j 3 ∷ []) 0 [] 0) (n .keyed) ∙ used-met (n .bytes) (n .shown) number)
       (number-placed known (n .bytes) (n .shown) ∙ ap (λ j. keyPlace j (numberKeys known)) (sym (n .keyed)) ∙ sym e)
 
-  pub string-got : Names text keys tags c 4 key k t d → place ≡ keyPlace key (stringKeys known)
-      → Gets (λ j. j) place text keys tags c (stringName edition1 (placesIn known) noRole (drop (c .at) text)) k t d
-  unfolding stringName purposeNumber noRole
-  string-got n e =
-      name-placed (naming string []) (placesIn known .string) n
-      (ap (λ j. metIn (entry j 4 ∷ []) 0 [] 0) (n .keyed) ∙ used-met (n .bytes) (n .shown) string)
+  pub string-got : {tag : ℕ} → StringTag tag → Names text keys tags c tag key k t d → place ≡ keyPlace key (stringKeys known)
+      → Gets (λ j. j) place text keys tags c (stringName edition1 (placesIn known) (roleOf (tag / 16)) (drop (c .at) text)) k t d
+  unfolding stringName
+  string-got {tag} s n e =
+      name-placed (λ w. naming string (roleOf (tag / 16) w) w) (placesIn known .string) n
+      (ap (λ j. metIn (entry j tag ∷ []) 0 [] 0) (n .keyed) ∙ role-met (n .bytes) (n .shown) tag (s .is))
       (string-placed known (n .bytes) (n .shown) ∙ ap (λ j. keyPlace j (stringKeys known)) (sym (n .keyed)) ∙ sym e)
 
 -- the answers by their case
@@ -287,9 +289,9 @@ module _ (p : Places) (bs : List ℕ) (e : Words.name bs ≡ broken) where
   unfolding numberName nameAs
   number-broken = then-broken _ (then-broken _ e)
 
-  pub string-broken : stringName edition1 p noRole bs ≡ broken
+  pub string-broken : (roles : List ℕ → List Role) → stringName edition1 p roles bs ≡ broken
   unfolding stringName nameAs
-  string-broken = then-broken _ (then-broken _ e)
+  string-broken roles = then-broken _ (then-broken _ e)
 
 -- a cell's value made of another that has the same cell
 pub cell-made : {A B : Type 0} {f : A → Table.Cell} (g : A → B) (h : B → Table.Cell) {text keys tags : List ℕ} {c : Cursor} {x : Read A}
@@ -334,6 +336,8 @@ constant-got {text} {keys} {tags} {c} v next kind place {value} {d} ready is h g
             inside = omega arith;
             names = omega (arith, ready .names, s .goes);
             items = omega (arith, ready .items, s .goes);
+            elements = omega (arith, ready .elements, s .goes);
+            literals = omega (arith, ready .literals, s .goes);
             keysSize = ready .keysSize;
             tagsSize = ready .tagsSize;
           };
@@ -364,10 +368,10 @@ module _ (p : Places) {text keys tags : List ℕ} {c : Cursor} where
         (gets-give _ (lengthCell kind place) _ (numbered (a .value)) a refl (ap (Table.cell (kind + 1) place) (a .made)))
 
   -- a name or substring
-  module _ (shift : ℕ) {s : ℕ} {k t : List ℕ} {d : Cursor}
-      (a : Gets (λ j. j) s text keys tags c (stringName edition1 p noRole (drop (c .at) text)) k t d) where
+  module _ (shift : ℕ) (roles : List ℕ → List Role) {s : ℕ} {k t : List ℕ} {d : Cursor}
+      (a : Gets (λ j. j) s text keys tags c (stringName edition1 p roles (drop (c .at) text)) k t d) where
     pub part-whole : begins (36 ∷ []) (drop (d .at) text) ≡ false
-        → Gets (partCell shift) (Table.cell (shift + 1) s 0) text keys tags c (partName edition1 p noRole (drop (c .at) text)) k t d
+        → Gets (partCell shift) (Table.cell (shift + 1) s 0) text keys tags c (partName edition1 p roles (drop (c .at) text)) k t d
     unfolding partName partOf partCell bytes
     part-whole e =
         gets-give (λ (s, rest). partOf edition1 p s rest) (partCell shift) _ (whole (a .value)) a (chosen _ _ e)
@@ -375,7 +379,7 @@ module _ (p : Places) {text keys tags : List ℕ} {c : Cursor} where
 
     pub part-first : Ready text keys tags c → begins (36 ∷ []) (drop (d .at) text) ≡ true → (r : Operand) {k′ t′ : List ℕ}
         → CellRead (lengthCell (shift + 2) s) text k t (moved d 1) (bound edition1 p (drop (d .at + 1) text)) r k′ t′
-        → CellRead (partCell shift) text keys tags c (partName edition1 p noRole (drop (c .at) text)) r k′ t′
+        → CellRead (partCell shift) text keys tags c (partName edition1 p roles (drop (c .at) text)) r k′ t′
     unfolding partName partOf partCell bytes _>>=_ meeting
     part-first ready e (OperandCode.the-variants.Got v f) {k′} {t′} b =
         let from : drop 1 (drop (d .at) text) ≡ drop (d .at + 1) text = drop-drop 1 (d .at) text in
@@ -408,9 +412,9 @@ module _ (p : Places) (bs : List ℕ) where
   unfolding bound
   bound-broken e h = chosen _ _ e ∙ then-broken _ h
 
-  pub part-broken : stringName edition1 p noRole bs ≡ broken → partName edition1 p noRole bs ≡ broken
+  pub part-broken : (roles : List ℕ → List Role) → stringName edition1 p roles bs ≡ broken → partName edition1 p roles bs ≡ broken
   unfolding partName
-  part-broken h = then-broken _ h
+  part-broken roles h = then-broken _ h
 
 -- a word that stands at a place is inside the text
 pub begins-room : (w bs : List ℕ) → begins w bs ≡ true → length w ≤ length bs
@@ -426,6 +430,8 @@ ready-moved {text} {c = c} w ready e =
       inside = omega (arith, ready .inside, begins-room w (drop (c .at) text) e, length-drop (c .at) text);
       names = omega (arith, ready .names);
       items = omega (arith, ready .items);
+      elements = omega (arith, ready .elements);
+      literals = omega (arith, ready .literals);
       keysSize = ready .keysSize;
       tagsSize = ready .tagsSize;
     }
@@ -519,12 +525,17 @@ pub cell-inside : {A : Type 0} {f : A → Table.Cell} {text keys tags : List ℕ
 cell-inside (OperandCode.the-variants.Got v d) a = (a .answer .ready .inside, a .answer .ready .textSize)
 cell-inside OperandCode.the-variants.Broken a = tt
 
+-- no role by its number
+pub role-none : roleOf 0 ≡ noRole
+unfolding roleOf noRole
+role-none = refl
+
 -- LENGTH, NUMBER, a number; constants
 module _ (p : Places) {text keys tags : List ℕ} {c : Cursor} {k t : List ℕ} where
   pub called-length : {d : Cursor} → d ≡ moved c 7 → begins (bytes "LENGTH(") (drop (c .at) text) ≡ true → (q : Place)
-      → PlaceRead text keys tags d (stringName edition1 p noRole (drop (d .at) text)) q k t
+      → PlaceRead text keys tags d (stringName edition1 p (roleOf 0) (drop (d .at) text)) q k t
       → CellRead operandCell text keys tags c (calledOrNumber edition1 p (drop (c .at) text)) (closedBy text (placedIn 6 q)) k t
-  unfolding calledOrNumber operandCell
+  unfolding calledOrNumber operandCell roleOf noRole
   called-length {d} s e q a =
       let from : drop (d .at) text ≡ drop 7 (drop (c .at) text) =
       ap (λ (z : Cursor). drop (z .at) text) s ∙ sym (drop-drop 7 (c .at) text) in
@@ -535,9 +546,9 @@ module _ (p : Places) {text keys tags : List ℕ} {c : Cursor} {k t : List ℕ} 
 
   pub called-number : {d : Cursor} → d ≡ moved c 7 → begins (bytes "LENGTH(") (drop (c .at) text) ≡ false
       → begins (bytes "NUMBER(") (drop (c .at) text) ≡ true → (q : Operand)
-      → CellRead (partCell 6) text keys tags d (partName edition1 p noRole (drop (d .at) text)) q k t
+      → CellRead (partCell 6) text keys tags d (partName edition1 p (roleOf 0) (drop (d .at) text)) q k t
       → CellRead operandCell text keys tags c (calledOrNumber edition1 p (drop (c .at) text)) (closedBy text q) k t
-  unfolding calledOrNumber operandCell
+  unfolding calledOrNumber operandCell roleOf noRole
   called-number {d} s e₁ e q a =
       let from : drop (d .at) text ≡ drop 7 (drop (c .at) text) =
       ap (λ (z : Cursor). drop (z .at) text) s ∙ sym (drop-drop 7 (c .at) text) in

@@ -2,7 +2,7 @@
 use mathlib.Core.Bool.{true, false}
 use mathlib.Core.List.{List, [], _∷_, map}
 use mathlib.Core.Path.{_≡_}
-use Prim.Native.Nat.{ℕ, _+_, _≤_, _<_}
+use Prim.Native.Nat.{ℕ, _+_, _/_, _%_, _≤_, _<_}
 use lib.IntN.{pos}
 use lib.ListN.{length, drop}
 use Rattle.base.specs.Edition.{edition1}
@@ -14,8 +14,8 @@ use Rattle.calls.specs.Table.{lengthCell, partCell, operandCell}
 use Rattle.language.specs.Numeric.{calledOrNumber, plainFactor}
 use Rattle.language.specs.Reading.{Read, got, broken, give}
 use Rattle.language.specs.Words as Words
-use Rattle.language.specs.Words.{noRole, unsigned, numberName, stringName, bound, partName}
-use Rattle.met.specs.Entries.{Entry, entry, metIn}
+use Rattle.language.specs.Words.{unsigned, numberName, stringName, bound, partName}
+use Rattle.met.specs.Entries.{Entry, entry, roleOf, metIn}
 use Rattle.met.specs.Known.{Counted, placesIn}
 use Rattle.met.specs.declared.Cursor.{Cursor}
 use Rattle.packer.specs.Keys.{keyOf, isKeyByte}
@@ -58,6 +58,8 @@ pub record Ready (text keys tags : List ℕ) (c : Cursor) : Type 0 where
   pub inside : c .at ≤ length text
   pub names : c .names ≤ c .at + 1
   pub items : c .items ≤ 4_294_967_296 + c .at
+  pub elements : c .elements ≤ 4_294_967_296 + c .at
+  pub literals : c .literals ≤ 4_294_967_296 + c .at
   pub keysSize : length keys ≡ 32_800
   pub tagsSize : length tags ≡ 32_800
 
@@ -78,6 +80,10 @@ pub record Gets {A C : Type 0} (f : A → C) (v : C) (text keys tags : List ℕ)
   pub ready : Ready text keys′ tags′ d
   pub few : length entries + c .at ≤ d .at
   pub further : c .at < d .at
+
+-- the tag of a string that is used: 4, and 16 times the number of its role in a SCAN
+pub record StringTag (tag : ℕ) : Type 0 where
+  pub is : tag % 16 ≡ 4
 
 -- a name, met as an entry with a tag
 pub record Names (text keys tags : List ℕ) (c : Cursor) (tag key : ℕ) (keys′ tags′ : List ℕ) (d : Cursor) : Type 0 where
@@ -121,8 +127,9 @@ pub record CellRead {A : Type 0} (f : A → Table.Cell) (text keys tags : List �
 abbrev pub NumberRead : (text known keys tags : List ℕ) (c : Cursor) → Place → (keys′ tags′ : List ℕ) → Type 0
 NumberRead text known keys tags c = PlaceRead text keys tags c (numberName edition1 (placesIn known) (drop (c .at) text))
 
-abbrev pub StringRead : (text known keys tags : List ℕ) (c : Cursor) → Place → (keys′ tags′ : List ℕ) → Type 0
-StringRead text known keys tags c = PlaceRead text keys tags c (stringName edition1 (placesIn known) noRole (drop (c .at) text))
+abbrev pub StringRead : (text known keys tags : List ℕ) (c : Cursor) (tag : ℕ) → Place → (keys′ tags′ : List ℕ) → Type 0
+StringRead text known keys tags c tag =
+    PlaceRead text keys tags c (stringName edition1 (placesIn known) (roleOf (tag / 16)) (drop (c .at) text))
 
 abbrev pub ConstantRead : (text keys tags : List ℕ) (c : Cursor) (kind place : ℕ) → Operand → Type 0
 ConstantRead text keys tags c kind place r =
@@ -132,9 +139,9 @@ abbrev pub BoundRead : (text known keys tags : List ℕ) (c : Cursor) (kind plac
 BoundRead text known keys tags c kind place =
     CellRead (lengthCell kind place) text keys tags c (bound edition1 (placesIn known) (drop (c .at) text))
 
-abbrev pub PartRead : (text known keys tags : List ℕ) (c : Cursor) (shift : ℕ) → Operand → (keys′ tags′ : List ℕ) → Type 0
-PartRead text known keys tags c shift =
-    CellRead (partCell shift) text keys tags c (partName edition1 (placesIn known) noRole (drop (c .at) text))
+abbrev pub PartRead : (text known keys tags : List ℕ) (c : Cursor) (shift tag : ℕ) → Operand → (keys′ tags′ : List ℕ) → Type 0
+PartRead text known keys tags c shift tag =
+    CellRead (partCell shift) text keys tags c (partName edition1 (placesIn known) (roleOf (tag / 16)) (drop (c .at) text))
 
 abbrev pub CalledRead : (text known keys tags : List ℕ) (c : Cursor) → Operand → (keys′ tags′ : List ℕ) → Type 0
 CalledRead text known keys tags c = CellRead operandCell text keys tags c (calledOrNumber edition1 (placesIn known) (drop (c .at) text))

@@ -316,6 +316,8 @@ operand-item p depth {text} {table} {c = c} v {d = d} ready open′ a {t} {e} pu
             inside = omega (arith, a .ready);
             names = omega (arith, a .ready, on);
             items = omega (arith, ready, on, a .goes, a .further);
+            elements = omega (arith, a .ready, on);
+            literals = omega (arith, a .ready, on);
             keysSize = a .ready .keysSize;
             tagsSize = a .ready .tagsSize;
           };

@@ -17,17 +17,24 @@ use words::stands_at;
 ghost use mathlib.Core.List.{List};
 ghost use mathlib.Core.Path.{_≡_};
 ghost use Prim.Native.Nat.{ℕ, _+_, _≤_, _<_};
-ghost use Rattle.numeric.specs.Operands.{Ready, moved, NameRead, NumberRead, StringRead, ConstantRead, BoundRead, PartRead, Inside, closedBy, placedIn, CalledRead, PlainRead};
+ghost use Rattle.numeric.specs.Operands.{Ready, moved, StringTag, NameRead, NumberRead, StringRead, ConstantRead, BoundRead, PartRead, Inside, closedBy, placedIn, CalledRead, PlainRead};
 ghost use lib.ListN.{length};
 ghost use Rattle.met.specs.Known.{Counted};
 
 // what a constant has added in its cell
-const BIAS: usize = 140_737_488_355_328;
+pub const BIAS: usize = 140_737_488_355_328;
 
 // the tags of names used: the number of their purpose
 const NUMBER: u8 = 3;
 
-const STRING: u8 = 4;
+pub const STRING: u8 = 4;
+
+// and 16 times the number of the role that a string has in a SCAN
+pub const REFERENCE: u8 = 20;
+
+pub const SOUGHT: u8 = 36;
+
+pub const FILLER: u8 = 52;
 
 // a name by its key, with the cursor behind it
 pub enum Name {
@@ -69,7 +76,7 @@ pub fn skip(c: Cursor, n: usize) -> Cursor
 }
 
 // a name, noted with a tag
-fn read_name(
+pub fn read_name(
     text: &[u8],
     keys: &mut [u64; NAMES],
     tags: &mut [u8; NAMES],
@@ -106,19 +113,21 @@ pub fn read_number(
     }
 }
 
-// a string's name
+// a string's name, noted with a tag that tells its role
 pub fn read_string(
     text: &[u8],
     known: &[u64; KNOWN],
     keys: &mut [u64; NAMES],
     tags: &mut [u8; NAMES],
     c: Cursor,
+    tag: u8,
 ) -> Place
     requires { ⌜ Ready (now text) (now keys) (now tags) c ⌝ }
     requires { ⌜ Counted (now known) ⌝ }
-    ensures { λ r. ⌜ StringRead (now (text .entry)) (now (known .entry)) (now (keys .entry)) (now (tags .entry)) c r (now (keys .exit)) (now (tags .exit)) ⌝ }
+    requires { ⌜ StringTag tag ⌝ }
+    ensures { λ r. ⌜ StringRead (now (text .entry)) (now (known .entry)) (now (keys .entry)) (now (tags .entry)) c tag r (now (keys .exit)) (now (tags .exit)) ⌝ }
 {
-    match read_name(text, keys, tags, c, STRING) {
+    match read_name(text, keys, tags, c, tag) {
         Name::Broken => Place::Broken,
         Name::Got(key, d) => Place::Got(string_place(known, key), d),
     }
@@ -183,13 +192,14 @@ pub fn read_part(
     tags: &mut [u8; NAMES],
     c: Cursor,
     shift: u8,
+    tag: u8,
 ) -> Operand
     requires { ⌜ Ready (now text) (now keys) (now tags) c ⌝ }
     requires { ⌜ Counted (now known) ⌝ }
-    requires { ⌜ shift < 100 ⌝ }
-    ensures { λ r. ⌜ PartRead (now (text .entry)) (now (known .entry)) (now (keys .entry)) (now (tags .entry)) c shift r (now (keys .exit)) (now (tags .exit)) ⌝ }
+    requires { ⌜ (shift < 100) × StringTag tag ⌝ }
+    ensures { λ r. ⌜ PartRead (now (text .entry)) (now (known .entry)) (now (keys .entry)) (now (tags .entry)) c shift tag r (now (keys .exit)) (now (tags .exit)) ⌝ }
 {
-    match read_string(text, known, keys, tags, c) {
+    match read_string(text, known, keys, tags, c, tag) {
         Place::Broken => Operand::Broken,
         Place::Got(place, d) => {
             if stands_at(text, d.at, b'$') {
@@ -208,7 +218,7 @@ pub fn read_part(
 }
 
 // an operand before `)`
-fn closed(text: &[u8], r: Operand) -> Operand
+pub fn closed(text: &[u8], r: Operand) -> Operand
     requires { ⌜ Inside (now text) r ⌝ }
     ensures { λ q. ⌜ q ≡ closedBy (now (text .entry)) r ⌝ }
 {
@@ -224,7 +234,7 @@ fn closed(text: &[u8], r: Operand) -> Operand
 }
 
 // a place, in the cell of a kind
-fn placed(kind: u8, p: Place) -> Operand
+pub fn placed(kind: u8, p: Place) -> Operand
     ensures { λ r. ⌜ r ≡ placedIn kind p ⌝ }
 {
     match p {
@@ -256,11 +266,14 @@ pub fn read_called(
     if begins_at(text, at, b"LENGTH(") {
         return closed(
             text,
-            placed(6, read_string(text, known, keys, tags, skip(c, 7))),
+            placed(6, read_string(text, known, keys, tags, skip(c, 7), STRING)),
         );
     }
     if begins_at(text, at, b"NUMBER(") {
-        return closed(text, read_part(text, known, keys, tags, skip(c, 7), 6));
+        return closed(
+            text,
+            read_part(text, known, keys, tags, skip(c, 7), 6, STRING),
+        );
     }
     placed(5, read_number(text, known, keys, tags, c))
 }

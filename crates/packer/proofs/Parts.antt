@@ -146,6 +146,7 @@ module _ (deck text : List ℕ) (s : Joining) (room : Room deck text s) where
             };
         onward = omega arith;
         paced = omega arith;
+        spare = omega arith;
         further = λ t. absurd (false≢true t);
         holds = λ p h. subst (λ (q : Part). Holds deck text (brokenOff s) q) (off p h) (holds-broken deck text s p h);
       })
@@ -191,6 +192,12 @@ module _ (deck text : List ℕ) (s : Joining) (room : Room deck text s) where
             room = room-added;
             onward = let h = ends .low in omega arith;
             paced = let h = ends .low in omega arith;
+            spare =
+                let h = ends .low in
+                let short = line-length in
+                let part = text-within line in
+                let packs = a .packs .room in
+                omega arith;
             further = λ _. let h = ends .low in omega arith;
             holds =
                 λ p h.
@@ -204,6 +211,7 @@ pub record Chain (deck text₀ : List ℕ) (s₀ : Joining) (text : List ℕ) (s
   pub room : Room deck text s
   pub onward : s₀ .next ≤ s .next
   pub paced : s₀ .next + s .lines ≤ s .next + s₀ .lines
+  pub spare : s₀ .next + s .packing .length ≤ s .next + s₀ .packing .length
   pub complete : (p : Part) → Holds deck text₀ s₀ p → Complete deck text s p
 
 -- what is left to join: nothing, or lines of the deck
@@ -217,6 +225,7 @@ module _ (deck text : List ℕ) (s : Joining) where
         room = room;
         onward = omega arith;
         paced = omega arith;
+        spare = omega arith;
         complete = λ p h. record { part = p; holds = h; same = λ n label. refl };
       }
 
@@ -235,6 +244,7 @@ module _ (deck text : List ℕ) (s : Joining) where
           room = j .room;
           onward = let h = j .onward in let g = k .onward in omega arith;
           paced = let h = j .paced in let g = k .paced in omega arith;
+          spare = let h = j .spare in let g = k .spare in omega arith;
           complete =
               λ p h.
               let q = k .complete p h in
@@ -246,7 +256,7 @@ module _ (deck text : List ℕ) (s : Joining) where
         }
 
     pub chain-done : s .more ≡ false → JoinedAll deck text₀ s₀ text s
-    chain-done over = record { room = k .room; onward = k .onward; paced = k .paced; over = over; complete = k .complete }
+    chain-done over = record { room = k .room; onward = k .onward; paced = k .paced; spare = k .spare; over = over; complete = k .complete }
 
 pub room-nothing : (deck : List ℕ) (from : ℕ) (text : List ℕ) → Readable deck from text → Room deck text (nothingFrom from)
 room-nothing deck from text read =
@@ -289,6 +299,7 @@ module _ (deck : List ℕ) (from : ℕ) (text : List ℕ) (read : Readable deck 
         fits = omega arith;
         onward = let h = ends .low in omega arith;
         paced = let h = ends .low in omega arith;
+        spare = let h = ends .low in omega arith;
         inside = let h = ends .high in omega arith;
         size = read .size;
       })
@@ -336,6 +347,14 @@ module _ (deck : List ℕ) (from : ℕ) (text : List ℕ) (read : Readable deck 
         fits = let h = j .room .within in let g = read .small in omega arith;
         onward = let h = j .onward in let g = ends .low in let b = a .behind in omega arith;
         paced = let h = j .paced in let g = ends .low in let b = a .behind in let c = a .count in omega arith;
+        spare =
+            let h = j .spare in
+            let g = ends .low in
+            let b = a .behind in
+            let short = line-length deck text (nothingFrom from) (room-nothing deck from text read) end ends in
+            let part = text-within first in
+            let packs = a .packs .room in
+            omega arith;
         inside = j .room .next;
         size = j .room .size;
       }

@@ -53,11 +53,13 @@ pub record Added (line : List ℕ) (next : ℕ) (text : List ℕ) (s : Joining) 
   pub behind : r .next ≡ next
   pub packs : Packs (textOf edition1 line) text (s .packing) text′ (r .packing)
 
--- one line is joined; a line takes a byte of the deck at least, and if the next one is to be joined, the code has gone on
+-- one line is joined; a line takes a byte of the deck at least, and as many as it adds to the packed text; if the next one is to be joined,
+-- the code has gone on
 pub record Joined (deck text : List ℕ) (s : Joining) (text′ : List ℕ) (r : Joining) : Type 0 where
   pub room : Room deck text′ r
   pub onward : s .next ≤ r .next
   pub paced : s .next + r .lines ≤ r .next + s .lines
+  pub spare : s .next + r .packing .length ≤ r .next + s .packing .length
   pub further : r .more ≡ true → s .next < r .next
   pub holds : (p : Part) → Holds deck text s p → Holds deck text′ r (joinLine p (p .rest))
 
@@ -72,6 +74,7 @@ pub record JoinedAll (deck text : List ℕ) (s : Joining) (text′ : List ℕ) (
   pub room : Room deck text′ r
   pub onward : s .next ≤ r .next
   pub paced : s .next + r .lines ≤ r .next + s .lines
+  pub spare : s .next + r .packing .length ≤ r .next + s .packing .length
   pub over : r .more ≡ false
   pub complete : (p : Part) → Holds deck text s p → Complete deck text′ r p
 
@@ -97,7 +100,7 @@ pub record Readable (deck : List ℕ) (from : ℕ) (text : List ℕ) : Type 0 wh
   pub small : length deck ≤ 32768
   pub size : length text ≡ 32768
 
--- the entry that begins with the line at from, and those behind it
+-- the entry that begins with the line at from, and those behind it; its packed text is shorter than the bytes of the deck that it takes
 pub record Gathers (deck : List ℕ) (from : ℕ) (text : List ℕ) (r : Gathered) : Type 0 where
   pub raw : List ℕ
   pub label : List ℕ
@@ -112,5 +115,6 @@ pub record Gathers (deck : List ℕ) (from : ℕ) (text : List ℕ) (r : Gathere
   pub fits : r .length ≤ 32768
   pub onward : from < r .next
   pub paced : from + r .lines ≤ r .next
+  pub spare : from + r .length < r .next
   pub inside : r .next ≤ length deck + 1
   pub size : length text ≡ 32768

@@ -5,18 +5,16 @@ use mathlib.Core.List.{List, [], _∷_, _++_}
 use mathlib.Core.Path.{_≡_, refl, sym, _∙_, ap, ap₂}
 use Prim.Native.Nat.{ℕ, zero, suc, _+_, _*_, _-_, _^_, _≤_, _<_}
 use native.Mathlib.Omega.{arith}
-use lib.ListN.{length, take, drop, getD, replicate, length-append}
+use lib.ListN.{length, take, drop, getD, replicate}
 use Rattle.base.specs.Edition.{edition1}
 use Rattle.base.specs.ListLaws.{same-refl}
 use Rattle.base.specs.Lists.{same}
-use Rattle.language.specs.Program.{Item, PatternElement}
-use Rattle.calls.specs.CellLaws.{length-cellBytes}
 use Rattle.calls.specs.NumeralLaws.{Stands, stands-back, byte-read, number-behind}
 use Rattle.calls.specs.Numerals.{inBytes, numberAt}
 use Rattle.calls.specs.Rules.{isProgram, keepsRules}
-use Rattle.calls.specs.Table.{stepRows, allElements, allItems, allLiterals, elementRows, itemRows, literalIn, filledTo}
+use Rattle.calls.specs.Table.{stepRows, allElements, allItems, allLiterals, elementRows, itemRows, filledTo}
 use Rattle.calls.specs.Table.{stepsAt, elementsAt, itemsAt, literalsAt, format, header, image}
-use Rattle.calls.specs.TableLaws.{InRange, in-range, length-filledTo, keeps-image}
+use Rattle.calls.specs.TableLaws.{InRange, in-range, length-filledTo, length-elementRows, length-itemRows, keeps-image}
 use Rattle.calls.specs.TableReading.{programIn}
 use Rattle.rows.specs.Kept.{step-count}
 use Rattle.rows.specs.Meaning.{tableSize}
@@ -114,17 +112,6 @@ image-written t bytes room c =
 pub checked-keeps : (t : List ℕ) → ((i : ℕ) → getD t i 0 < 256) → tableSize ≤ length t → Checked t → keepsRules edition1 t ≡ true
 unfolding keepsRules edition1
 checked-keeps t bytes room c = rw (c .inside, image-written t bytes room c) (same-refl (take tableSize t))
-
--- the bytes of the rows of elements, and of items
-length-elementRows : (l : ℕ) (xs : List PatternElement) → length (elementRows l xs) ≡ 8 * length xs
-unfolding elementRows
-length-elementRows l [] = refl
-length-elementRows l (x ∷ xs) = simp (length-append, length-cellBytes, length-elementRows (l + length (literalIn x)) xs) (omega arith)
-
-length-itemRows : (xs : List Item) → length (itemRows xs) ≡ 8 * length xs
-unfolding itemRows
-length-itemRows [] = refl
-length-itemRows (x ∷ xs) = simp (length-append, length-cellBytes, length-itemRows xs) (omega arith)
 
 -- the counts of the header are the program's
 record Counted (t : List ℕ) : Type 0 where

@@ -60,7 +60,7 @@ module _ (t : List ℕ) where
       (l + length (allLiterals (elementsOf (x .statement)))) xs
 
   -- all elements of the steps, with their literals, and all items
-  same-append : (e l : ℕ) (xs ys : List PatternElement) → SameElements e l xs → SameElements (e + length xs) (l + length (allLiterals xs)) ys
+  pub same-append : (e l : ℕ) (xs ys : List PatternElement) → SameElements e l xs → SameElements (e + length xs) (l + length (allLiterals xs)) ys
       → SameElements e l (xs ++ ys)
   unfolding allLiterals
   same-append e l [] ys h g =

@@ -97,11 +97,11 @@ module _ (t : List ℕ) where
       )
 
   -- of the elements of two rows the first stand at their places, and the others behind them
-  same-front : (e l : ℕ) (xs ys : List PatternElement) → SameElements t e l (xs ++ ys) → SameElements t e l xs
+  pub same-front : (e l : ℕ) (xs ys : List PatternElement) → SameElements t e l (xs ++ ys) → SameElements t e l xs
   same-front e l [] ys h = tt
   same-front e l (x ∷ xs) ys h = (h .0, same-front (e + 1) (l + length (literalIn x)) xs ys (h .1))
 
-  same-back : (e l : ℕ) (xs ys : List PatternElement) → SameElements t e l (xs ++ ys)
+  pub same-back : (e l : ℕ) (xs ys : List PatternElement) → SameElements t e l (xs ++ ys)
       → SameElements t (e + length xs) (l + length (allLiterals xs)) ys
   unfolding allLiterals
   same-back e l [] ys h =

@@ -1,1 +1,89 @@
-// Laws only: the rules of a table, region by region, as a check in code looks at them.
+// Whether a table keeps its rules (docs/TABLE.md). Each cell and row is judged by its kind, in one pass; the running places of elements,
+// items and literals say what a range has to be. The contracts cite tests that mirror the code, and the rules themselves at the end.
+// Assumes nothing.
+mod kinds;
+mod steps;
+
+ghost use mathlib.Core.Path.{_≡_};
+ghost use Prim.Native.Nat.{_≤_};
+ghost use lib.ListN.{length};
+ghost use Rattle.base.specs.Edition.{edition1};
+ghost use Rattle.calls.specs.Rules.{keepsRules};
+ghost use Rattle.rows.specs.Meaning.{tableSize};
+ghost use Rattle.rules.specs.Tests.{Few, countsTest, zerosTest, unusedTest, endsTest, totalsTest};
+use rows::Counts;
+use steps::Places;
+
+// the limits of the counts; that of the literals is named where literals are counted
+const STEPS: usize = 256;
+
+const STRINGS: usize = 32;
+
+const NUMBERS: usize = 32;
+
+const ELEMENTS: usize = 1024;
+
+const ITEMS: usize = 1024;
+
+// the bytes of a table
+const SIZE: usize = 28_672;
+
+// Whether the counts of the header are within their limits, and there is a step.
+fn counts_hold(n: Counts) -> bool
+    ensures { λ r. ⌜ r ≡ countsTest n ⌝ }
+{
+    (1 <= n.steps)
+        & (n.steps <= STEPS)
+        & (n.strings <= STRINGS)
+        & (n.numbers <= NUMBERS)
+        & (n.elements <= ELEMENTS)
+        & (n.items <= ITEMS)
+        & (n.literals <= kinds::LITERALS)
+}
+
+// Whether the bytes from..to are zero.
+fn zeros(t: &[u8], from: usize, to: usize) -> bool
+    requires { ⌜ (from ≤ to) × (to ≤ length (now t)) ⌝ }
+    ensures { λ r. ⌜ r ≡ zerosTest (now (t .entry)) from to ⌝ }
+{
+    cells::spans::marks(&t[from..to]) == 0
+}
+
+// Whether the bytes that hold nothing are zero: behind the header's counts, and behind the rows of each region.
+fn unused_zero(t: &[u8], n: Counts) -> bool
+    requires { ⌜ (tableSize ≤ length (now t)) × Few n ⌝ }
+    ensures { λ r. ⌜ r ≡ unusedTest n (now (t .entry)) ⌝ }
+{
+    zeros(t, 14, rows::STEPS_AT)
+        & zeros(t, rows::STEPS_AT + 24 * n.steps, rows::ELEMENTS_AT)
+        & zeros(t, rows::ELEMENTS_AT + 8 * n.elements, rows::ITEMS_AT)
+        & zeros(t, rows::ITEMS_AT + 8 * n.items, rows::LITERALS_AT)
+        & zeros(t, rows::LITERALS_AT + n.literals, SIZE)
+}
+
+// Whether the table starts as every table does, and its last step finishes.
+fn ends_hold(t: &[u8], n: Counts) -> bool
+    requires { ⌜ (tableSize ≤ length (now t)) × Few n ⌝ }
+    ensures { λ r. ⌜ r ≡ endsTest n (now (t .entry)) ⌝ }
+{
+    (t[0] == 1) & (t[1] == 0) & (t[rows::STEPS_AT + 24 * (n.steps - 1)] == 4)
+}
+
+// Whether the places behind all steps are the header's counts.
+fn totals_hold(p: Places, n: Counts) -> bool
+    ensures { λ r. ⌜ r ≡ totalsTest n p ⌝ }
+{
+    (p.elements == n.elements) & (p.items == n.items) & (p.literals == n.literals)
+}
+
+// Whether the table keeps its rules.
+pub fn keeps(table: &[u8]) -> bool
+    requires { ⌜ tableSize ≤ length (now table) ⌝ }
+    ensures { λ r. ⌜ r ≡ keepsRules edition1 (now (table .entry)) ⌝ }
+{
+    let n = rows::counts_of(table);
+    if !counts_hold(n) {
+        return false;
+    }
+    ends_hold(table, n) & unused_zero(table, n) & totals_hold(steps::steps_end(table, n), n)
+}

@@ -1,6 +1,6 @@
 -- `numeric::operands::read_called` reads LENGTH, NUMBER or a number.
 -- Assumes nothing.
-use mathlib.Core.Path.{_≡_, sym, subst, _∙_}
+use mathlib.Core.Path.{_≡_, refl, sym, subst, _∙_}
 use Rattle.base.specs.Text.{bytes}
 use Rattle.calls.specs.Table.{operandCell}
 use Rattle.base.specs.Edition.{edition1}
@@ -30,7 +30,7 @@ read-string-requires c κs =
     let word = sym (c .before .before .before .before .begins-at .ensures) ∙ c .before .before .before .if1 .taken in (
       subst (Ready (p .args .text .now) (p .args .keys .now) (p .args .tags .now)) (sym (c .skip .ensures))
           (ready-moved (bytes "LENGTH(") (p .pre .0) word),
-      p .pre .1,
+      (p .pre .1, record { is = refl }),
     )
 
 placed-requires : tie.Need-placed-requires
@@ -72,7 +72,7 @@ read-part-requires c κs =
     let word = sym (c .before .before .before .before .begins-at2 .ensures) ∙ c .before .before .before .if2 .taken in (
       subst (Ready (p .args .text .now) (p .args .keys .now) (p .args .tags .now)) (sym (c .skip2 .ensures))
           (ready-moved (bytes "NUMBER(") (p .pre .0) word),
-      (p .pre .1, omega arith),
+      (p .pre .1, (omega arith, record { is = refl })),
     )
 
 closed-requires-2 : tie.Need-closed-requires-2

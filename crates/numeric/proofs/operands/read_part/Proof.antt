@@ -2,11 +2,12 @@
 -- Assumes nothing.
 use mathlib.Core.List.{[], _∷_}
 use mathlib.Core.Path.{sym, subst, _∙_}
-use Prim.Native.Nat.{_+_}
+use Prim.Native.Nat.{_+_, _/_}
 use lib.ListN.{drop}
 use Rattle.base.specs.Edition.{edition1}
 use Rattle.calls.specs.Table.{lengthCell}
 use Rattle.language.specs.Words.{bound}
+use Rattle.met.specs.Entries.{roleOf}
 use Rattle.met.specs.Known.{placesIn}
 use Rattle.numeric.specs.OperandLaws.{place-case, place-none, ready-moved, part-first, part-whole, part-broken}
 use Rattle.numeric.specs.Operands.{Ready, CellRead}
@@ -42,7 +43,7 @@ read-bound-requires c κs =
     let g = place-case (s .ensures) (c .before .before .before .before .before .before .place .given .1) in
     let dollar = sym (c .before .before .before .before .stands-at .ensures) ∙ c .before .before .before .if1 .taken in (
       subst (Ready (p .args .text .now) (s .last .1 .1 .0) (s .last .1 .1 .1 .0)) (sym (c .skip .ensures)) (ready-moved (36 ∷ []) (g .ready) dollar),
-      (p .pre .1 .0, omega arith),
+      (p .pre .1 .0, omega (arith, p .pre .1 .1 .0)),
     )
 
 returns : tie.Need-returns
@@ -55,22 +56,22 @@ returns c =
     let known = placesIn (a .known .now) in
     let place = c .before .before .before .before .before .before .before .place .given .0 .0 in
     let b = c .read-bound in
-    part-first known (a .shift) g (p .pre .0) dollar (b .result)
+    part-first known (a .shift) (roleOf (a .tag / 16)) g (p .pre .0) dollar (b .result)
     (subst
     (λ z.
     CellRead (lengthCell (a .shift + 2) place) (a .text .now) (s .last .1 .1 .0) (s .last .1 .1 .1 .0) z
     (bound edition1 known (drop (z .at) (a .text .now))) (b .result) (b .last .1 .1 .0) (b .last .1 .1 .1 .0))
     (c .before .skip .ensures) (b .ensures))
 
-add-t18 : tie.Need-add-t18
-add-t18 c = search needs
+add-t19 : tie.Need-add-t19
+add-t19 c = search needs
 
 returns-2 : tie.Need-returns-2
 returns-2 c =
     let a = c .before .before .before .before .before .before .args in
     record {
       answer =
-          part-broken (placesIn (a .known .now)) (drop (a .c .at) (a .text .now))
+          part-broken (placesIn (a .known .now)) (drop (a .c .at) (a .text .now)) (roleOf (a .tag / 16))
           (place-none (c .before .before .read-string .ensures) (c .enum-told .given .1));
     }
 
@@ -79,7 +80,7 @@ returns-3 c =
     let a = c .before .before .before .before .before .before .before .before .before .args in
     record {
       answer =
-          part-whole (placesIn (a .known .now)) (a .shift)
+          part-whole (placesIn (a .known .now)) (a .shift) (roleOf (a .tag / 16))
           (place-case (c .before .before .before .before .before .read-string .ensures) (c .before .before .before .place .given .1))
           (sym (c .before .stands-at .ensures) ∙ c .if1 .left);
     }
@@ -96,6 +97,6 @@ read-part-spec =
     add-read-bound
     read-bound-requires
     returns
-    add-t18
+    add-t19
     returns-2
     returns-3)

@@ -1,6 +1,8 @@
 -- `numeric::operands::read_string` reads a string's name.
 -- Assumes nothing.
+use Prim.Native.Nat.{_/_}
 use lib.ListN.{drop}
+use Rattle.met.specs.Entries.{roleOf}
 use Rattle.met.specs.Known.{placesIn}
 use Rattle.numeric.specs.OperandLaws.{name-case, name-none, string-broken, string-got}
 use borrow.Author.Needs.{needs}
@@ -24,14 +26,14 @@ returns c =
     let a = c .before .before .before .before .before .before .args in
     record {
       answer = string-broken (placesIn (a .known .now)) (drop (a .c .at) (a .text .now))
-          (name-none (c .before .before .read-name .ensures) (c .enum-told .given .1));
+          (name-none (c .before .before .read-name .ensures) (c .enum-told .given .1)) (roleOf (a .tag / 16));
     }
 
 returns-2 : tie.Need-returns-2
 returns-2 c =
-    let a = c .before .before .before .before .before .before .before .before .args in
+    let p = c .before .before .before .before .before .before .before .before in
     let n = c .before .before .before .before .read-name in
-    record { answer = string-got (a .known .now) (name-case (n .ensures) (c .before .before .key .given .1)) (c .string-place .ensures) }
+    record { answer = string-got (p .args .known .now) (p .pre .1 .1) (name-case (n .ensures) (c .before .before .key .given .1)) (c .string-place .ensures) }
 
 pub read-string-spec : {M : Type 1} → statement M
 read-string-spec =

@@ -1,0 +1,49 @@
+# The front door: build, test, bench, install. PREFIX says where to; DESTDIR, for packagers, is put before it.
+PREFIX = /usr/local
+DESTDIR =
+CC = gcc
+CFLAGS = -O2
+STRICT = -std=c11 -Wall -Wextra -Werror -pedantic
+
+library = target/lib/libstrigol.a
+program = target/bin/strigol
+to = $(DESTDIR)$(PREFIX)
+
+.PHONY: build library test bench install uninstall clean
+
+# the proved library and the program
+build: $(program)
+
+library:
+	@tools/library
+
+$(library): library ;
+
+$(program): program/strigol.c include/strigol.h $(library)
+	@mkdir -p $(@D)
+	$(CC) $(STRICT) $(CFLAGS) -Iinclude -o $@ program/strigol.c $(library)
+
+# all proofs and all tests: the last line is 'N passed, 0 failed' exactly when all passed
+test:
+	bash .ci/run
+
+# how fast; nothing that is timed passes or fails
+bench:
+	bench/scan
+	bench/read
+	bench/run
+	bench/threads
+
+# header, static library, program, pkg-config file
+install: build
+	install -d $(to)/include $(to)/lib/pkgconfig $(to)/bin
+	install -m 644 include/strigol.h $(to)/include/strigol.h
+	install -m 644 $(library) $(to)/lib/libstrigol.a
+	install -m 755 $(program) $(to)/bin/strigol
+	sed 's,@PREFIX@,$(PREFIX),' program/strigol.pc >$(to)/lib/pkgconfig/strigol.pc
+
+uninstall:
+	rm -f $(to)/include/strigol.h $(to)/lib/libstrigol.a $(to)/bin/strigol $(to)/lib/pkgconfig/strigol.pc
+
+clean:
+	rm -rf target

@@ -1,0 +1,120 @@
+/* Helpers of bench/run and bench/read.
+
+   run_bench values DECK: runs the deck for 1,000,000 steps on no input and prints all its strings, then its numbers, a line each.
+   run_bench step DECK..: times one step through the stepping call, with all its checks, beside one pass over as many bytes as table and store
+   have; the best of several rounds.
+   run_bench check DECK: times the check of the deck's table, by a step that is turned down by 14 right behind it, beside one pass over the
+   table. */
+#include "now.h"
+#include "strigol.h"
+
+#include <inttypes.h>
+#include <stdio.h>
+#include <stdlib.h>
+#include <string.h>
+
+enum { STEPS = 1000000, ROUNDS = 200, CALLS = 100, STRINGS_AT = 4, NUMBERS_AT = 6 };
+
+static uint8_t deck[STRIGOL_DECK_MOST], table[STRIGOL_TABLE_SIZE], store[STRIGOL_STORE_SIZE], output[16384];
+static uint64_t state[STRIGOL_STATE_SIZE];
+static const uint8_t input[1];
+static volatile uint32_t sink;
+static size_t stored = sizeof store; /* bytes of the store lent, and passed over */
+
+static void read_deck(const char *name)
+{
+    FILE *file = fopen(name, "rb");
+    uint32_t card;
+    size_t n = file == NULL ? 0 : fread(deck, 1, sizeof deck, file);
+    if (file != NULL) fclose(file);
+    if (strigol_read(deck, n, table, sizeof table, &card) != 0) {
+        fprintf(stderr, "run_bench: %s is no deck\n", name);
+        exit(1);
+    }
+    strigol_start(store, sizeof store, state);
+}
+
+static void values(const char *name)
+{
+    uint64_t result[STRIGOL_RESULT_SIZE];
+    read_deck(name);
+    strigol_run(table, sizeof table, store, sizeof store, state, input, 0, output, sizeof output, STEPS, result);
+    for (unsigned i = 0; i < table[STRINGS_AT]; i++) {
+        size_t n;
+        const uint8_t *s = strigol_string_in(store, i, &n);
+        printf("%.*s\n", (int)n, s);
+    }
+    for (unsigned i = 0; i < table[NUMBERS_AT]; i++) printf("%" PRId64 "\n", strigol_number_in(state, i));
+}
+
+/* One step. */
+static void step(void)
+{
+    uint32_t answer[STRIGOL_ANSWER_SIZE];
+    sink = strigol_step(table, sizeof table, store, stored, state, input, 0, output, sizeof output, answer);
+}
+
+/* One pass over table and store, a byte at a time. */
+__attribute__((optimize("no-tree-vectorize"))) static void pass(void)
+{
+    uint32_t sum = 0;
+    for (size_t i = 0; i < sizeof table; i++) sum += table[i];
+    for (size_t i = 0; i < stored; i++) sum += store[i];
+    sink = sum;
+}
+
+/* The same with vector instructions. */
+__attribute__((optimize("O3"))) static void vector_pass(void)
+{
+    uint32_t sum = 0;
+    for (size_t i = 0; i < sizeof table; i++) sum += table[i];
+    for (size_t i = 0; i < stored; i++) sum += store[i];
+    sink = sum;
+}
+
+/* Microseconds for one. */
+static double time_one(void (*one)(void))
+{
+    double best = 1e18;
+    for (int round = 0; round < ROUNDS; round++) {
+        double from = now(), t;
+        for (int i = 0; i < CALLS; i++) one();
+        t = (now() - from) / CALLS / 1e3;
+        if (t < best) best = t;
+    }
+    return best;
+}
+
+/* A step of the deck on the bytes lent, which gets this number, beside a pass over them. */
+static void step_beside_pass(const char *what, const char *name, uint32_t number)
+{
+    const char *slash = strrchr(name, '/');
+    read_deck(name);
+    double ours = time_one(step), plain = time_one(pass), vectors = time_one(vector_pass);
+    step();
+    if (sink != number || state[STRIGOL_STATUS] != STRIGOL_RUNNING) {
+        fprintf(stderr, "run_bench: %s got another number or ended\n", name);
+        exit(1);
+    }
+    printf("%s of %-12s %8.2f us; one pass over %zu bytes %6.2f us, %5.2f passes; in vectors %5.2f us, %5.2f passes\n", what,
+           slash == NULL ? name : slash + 1, ours, sizeof table + stored, plain, ours / plain, vectors, ours / vectors);
+}
+
+int main(int argc, char **argv)
+{
+    if (argc == 3 && strcmp(argv[1], "values") == 0) {
+        values(argv[2]);
+        return 0;
+    }
+    if (argc > 2 && strcmp(argv[1], "step") == 0) {
+        for (int i = 2; i < argc; i++) step_beside_pass("one step", argv[i], 0);
+        return 0;
+    }
+    if (argc == 3 && strcmp(argv[1], "check") == 0) {
+        stored = 0;
+        step_beside_pass("the table's check", argv[2], STRIGOL_BAD_STORE);
+        return 0;
+    }
+    fprintf(stderr, "usage: run_bench values DECK, run_bench step DECK.., run_bench check DECK\n");
+    return 2;
+}

@@ -1,0 +1,6 @@
+BEGIN {
+    while (n < 500000) {
+        n = n + 1
+    }
+    print n
+}

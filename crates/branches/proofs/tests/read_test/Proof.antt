@@ -1,0 +1,117 @@
+-- `branches::tests::read_test` reads NULL, NUMERIC or a comparison.
+-- Assumes nothing.
+use mathlib.Core.Path.{_≡_, refl, sym, subst, _∙_}
+use lib.ListN.{drop}
+use native.Mathlib.Omega.{arith}
+use Rattle.base.specs.Edition.{edition1}
+use Rattle.base.specs.Text.{bytes}
+use Rattle.language.specs.Numeric.{test}
+use Rattle.met.specs.Known.{placesIn}
+use Rattle.numeric.specs.OperandLaws.{ready-moved, place-cell, cell-inside}
+use Rattle.numeric.specs.Operands.{Ready, Inside, placedIn}
+use Rattle.branches.specs.Rows.{DraftRead}
+use Rattle.branches.specs.TestLaws.{test-null, test-numeric, test-compares}
+use Rattle.branches.specs.Tests.{testAlone, testedBy}
+use borrow.Author.Needs.{needs}
+use Rattle.branches.proofs.tests.read_test.Statement.{statement}
+use Rattle.branches.proofs.tests.read_test.Tie as tie
+
+slice-aggregate-begins-at : tie.Need-slice-aggregate-begins-at
+slice-aggregate-begins-at c = search needs
+
+begins-at-requires : tie.Need-begins-at-requires
+begins-at-requires c κs = search needs
+
+skip-requires : tie.Need-skip-requires
+skip-requires c κs = search needs
+
+read-string-requires : tie.Need-read-string-requires
+unfolding bytes
+read-string-requires c κs =
+    let word = sym (c .before .before .before .before .begins-at .ensures) ∙ c .before .before .before .if1 .taken in (
+      subst (Ready (c .before .before .before .before .before .before .before .args .text .now) (c .before .before .before .before .before .before .before .args .keys .now) (c .before .before .before .before .before .before .before .args .tags .now)) (sym (c .skip .ensures)) (ready-moved (bytes "NULL(") (c .before .before .before .before .before .before .before .pre .0) word),
+      (c .before .before .before .before .before .before .before .pre .1, record { is = refl }),
+    )
+
+placed-requires : tie.Need-placed-requires
+placed-requires c κs = search needs
+
+tested-requires : tie.Need-tested-requires
+tested-requires c κs =
+    let s = c .before .read-string in
+    subst (Inside (c .before .before .before .before .before .before .before .before .before .args .text .now)) (sym (c .placed .ensures)) (cell-inside (placedIn 1 (s .result)) (place-cell 1 (s .result) (s .ensures)))
+
+returns : tie.Need-returns
+unfolding bytes
+returns c =
+    let a = c .before .before .before .before .before .before .before .before .before .before .args in
+    let s = c .before .before .read-string in
+    let p = placesIn (a .known .now) in
+    subst
+    (λ r.
+    DraftRead testAlone (a .text .now) (a .keys .now) (a .tags .now) (a .c) (test edition1 p (drop (a .c .at) (a .text .now))) r
+    (s .last .1 .1 .0) (s .last .1 .1 .1 .0))
+    (sym (subst (λ q. c .tested .result ≡ testedBy (a .text .now) 5 q) (c .before .placed .ensures) (c .tested .ensures)))
+    (test-null p (c .before .before .before .skip .ensures) (sym (c .before .before .before .before .before .before .before .begins-at .ensures) ∙ c .before .before .before .before .before .before .if1 .taken) (s .result) (s .ensures))
+
+slice-aggregate-begins-at-2 : tie.Need-slice-aggregate-begins-at-2
+slice-aggregate-begins-at-2 c = search needs
+
+begins-at-requires-2 : tie.Need-begins-at-requires-2
+begins-at-requires-2 c κs = search needs
+
+skip-requires-2 : tie.Need-skip-requires-2
+skip-requires-2 c κs = search needs
+
+read-part-requires : tie.Need-read-part-requires
+unfolding bytes
+read-part-requires c κs =
+    let word = sym (c .before .before .before .before .begins-at2 .ensures) ∙ c .before .before .before .if2 .taken in (
+      subst (Ready (c .before .before .before .before .before .before .before .before .before .before .args .text .now) (c .before .before .before .before .before .before .before .before .before .before .args .keys .now) (c .before .before .before .before .before .before .before .before .before .before .args .tags .now)) (sym (c .skip2 .ensures)) (ready-moved (bytes "NUMERIC(") (c .before .before .before .before .before .before .before .before .before .before .pre .0) word),
+      (c .before .before .before .before .before .before .before .before .before .before .pre .1, (omega arith, record { is = refl })),
+    )
+
+tested-requires-2 : tie.Need-tested-requires-2
+tested-requires-2 c κs = cell-inside (c .read-part .result) (c .read-part .ensures)
+
+returns-2 : tie.Need-returns-2
+unfolding bytes
+returns-2 c =
+    let a = c .before .before .before .before .before .before .before .before .before .before .before .before .args in
+    let s = c .before .read-part in
+    let p = placesIn (a .known .now) in
+    subst
+    (λ r.
+    DraftRead testAlone (a .text .now) (a .keys .now) (a .tags .now) (a .c) (test edition1 p (drop (a .c .at) (a .text .now))) r
+    (s .last .1 .1 .0) (s .last .1 .1 .1 .0))
+    (sym (c .tested2 .ensures))
+    (test-numeric p (c .before .before .skip2 .ensures) (sym (c .before .before .before .before .before .before .before .before .before .begins-at .ensures) ∙ c .before .before .before .before .before .before .before .before .if1 .left) (sym (c .before .before .before .before .before .before .begins-at2 .ensures) ∙ c .before .before .before .before .before .if2 .taken) (s .result) (s .ensures))
+
+comparing-requires : tie.Need-comparing-requires
+comparing-requires c κs = search needs
+
+returns-3 : tie.Need-returns-3
+unfolding bytes
+returns-3 c =
+    test-compares (placesIn (c .before .before .before .before .before .before .before .before .before .before .args .known .now)) (sym (c .before .before .before .before .before .before .before .begins-at .ensures) ∙ c .before .before .before .before .before .before .if1 .left) (sym (c .before .before .before .before .begins-at2 .ensures) ∙ c .before .before .before .if2 .left)
+    (c .comparing .result) (c .comparing .ensures)
+
+pub read-test-spec : {M : Type 1} → statement M
+read-test-spec =
+    tie.close
+    (tie.spec
+    slice-aggregate-begins-at
+    begins-at-requires
+    skip-requires
+    read-string-requires
+    placed-requires
+    tested-requires
+    returns
+    slice-aggregate-begins-at-2
+    begins-at-requires-2
+    skip-requires-2
+    read-part-requires
+    tested-requires-2
+    returns-2
+    comparing-requires
+    returns-3)

@@ -1,0 +1,33 @@
+-- The code's rows as the table has them, and readings answered by one. Assumes nothing.
+use mathlib.Core.List.{List}
+use mathlib.Core.Path.{_≡_, subst}
+use Prim.Native.Nat.{ℕ}
+use Rattle.calls.specs.Table as Table
+use Rattle.language.specs.Reading.{Read, broken}
+use Rattle.met.specs.declared.Cursor.{Cursor}
+use Rattle.numeric.specs.Operands.{Gets, meaning}
+use Rattle.branches.specs.declared.Draft as DraftCode
+use Rattle.branches.specs.declared.Draft.{Draft}
+use Rattle.branches.specs.declared.Row.{Row}
+
+-- the row of the table that a row of the code stands for
+abbrev pub rowMeaning : Row → Table.Row
+rowMeaning r = Table.row (r .kind) (r .flag) (r .success) (r .failure) (meaning (r .left)) (meaning (r .right))
+
+abbrev pub DraftAnswer : {A : Type 0} (f : A → Table.Row) (text keys tags : List ℕ) (c : Cursor) → Read A → Draft
+    → (keys′ tags′ : List ℕ) → Type 0
+DraftAnswer f text keys tags c x (DraftCode.the-variants.Got row d) keys′ tags′ = Gets f (rowMeaning row) text keys tags c x keys′ tags′ d
+DraftAnswer f text keys tags c x DraftCode.the-variants.Broken keys′ tags′ = x ≡ broken
+
+pub record DraftRead {A : Type 0} (f : A → Table.Row) (text keys tags : List ℕ) (c : Cursor) (x : Read A) (r : Draft)
+    (keys′ tags′ : List ℕ) : Type 0 where
+  pub answer : DraftAnswer f text keys tags c x r keys′ tags′
+
+-- the answer by its case
+module _ {A : Type 0} {f : A → Table.Row} {text keys tags : List ℕ} {c : Cursor} {x : Read A} {r : Draft} {k t : List ℕ}
+    (a : DraftRead f text keys tags c x r k t) where
+  pub draft-case : {row : Row} {d : Cursor} → r ≡ DraftCode.the-variants.Got row d → Gets f (rowMeaning row) text keys tags c x k t d
+  draft-case e = subst (λ z. DraftAnswer f text keys tags c x z k t) e (a .answer)
+
+  pub draft-none : r ≡ DraftCode.the-variants.Broken → x ≡ broken
+  draft-none e = subst (λ z. DraftAnswer f text keys tags c x z k t) e (a .answer)

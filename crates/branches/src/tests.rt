@@ -1,0 +1,226 @@
+// The tests of IF: NULL, NUMERIC, or two operands and a sign.
+// Assumes nothing.
+use crate::Draft;
+use crate::Row;
+use convert::Int;
+use convert::is_negative;
+use convert::size;
+use met::Cursor;
+use met::KNOWN;
+use met::NAMES;
+use numeric::operands::BIAS;
+use numeric::operands::Cell;
+use numeric::operands::Operand;
+use numeric::operands::STRING;
+use numeric::operands::placed;
+use numeric::operands::read_called;
+use numeric::operands::read_part;
+use numeric::operands::read_string;
+use numeric::operands::skip;
+use packer::classes::is_digit;
+use words::begins_at;
+use words::byte_at;
+use words::constants::SignedConstant;
+use words::constants::signed;
+use words::sign_at;
+use words::stands_at;
+ghost use mathlib.Core.List.{List};
+ghost use mathlib.Core.Path.{_≡_};
+ghost use Prim.Native.Nat.{ℕ, _≤_};
+ghost use lib.ListN.{length};
+ghost use Rattle.branches.specs.Tests.{ComparisonAt, SignedRead, IfOperandRead, testedBy, ComparedRead, ComparingRead, TestRead};
+ghost use Rattle.calls.specs.Numerals.{biased};
+ghost use Rattle.convert.specs.Numbers.{InRange};
+ghost use Rattle.met.specs.Known.{Counted};
+ghost use Rattle.numeric.specs.Operands.{Ready, Inside};
+
+// the sign of a comparison at a place: its number, 0 for none, and how many bytes it has
+struct Sign {
+    number: u8,
+    size: usize,
+}
+
+// the two-byte signs first
+fn comparison(text: &[u8], at: usize) -> Sign
+    ensures { λ r. ⌜ ComparisonAt (now (text .entry)) at r ⌝ }
+{
+    if begins_at(text, at, b"<>") {
+        return Sign { number: 2, size: 2 };
+    }
+    if begins_at(text, at, b"<=") {
+        return Sign { number: 5, size: 2 };
+    }
+    if begins_at(text, at, b">=") {
+        return Sign { number: 6, size: 2 };
+    }
+    if stands_at(text, at, b'=') {
+        return Sign { number: 1, size: 1 };
+    }
+    if stands_at(text, at, b'<') {
+        return Sign { number: 3, size: 1 };
+    }
+    if stands_at(text, at, b'>') {
+        return Sign { number: 4, size: 1 };
+    }
+    Sign { number: 0, size: 0 }
+}
+
+// a number as a cell has it
+fn value_of(z: Int) -> usize
+    requires { ⌜ InRange z ⌝ }
+    ensures { λ r. ⌜ r ≡ biased (z .value) ⌝ }
+{
+    if is_negative(z) {
+        return BIAS - size(z) as usize;
+    }
+    BIAS + size(z) as usize
+}
+
+// a constant that may have a sign
+fn signed_constant(text: &[u8], c: Cursor) -> Operand
+    requires { ⌜ (c .at ≤ length (now text)) × (length (now text) ≤ 32768) ⌝ }
+    ensures { λ r. ⌜ ((keys tags : List ℕ) → Ready (now (text .entry)) keys tags c → SignedRead (now (text .entry)) keys tags c r) ⌝ }
+{
+    let at = c.at;
+    match signed(text, at) {
+        SignedConstant::Broken => Operand::Broken,
+        SignedConstant::Is { value, next } => Operand::Got(
+            Cell {
+                kind: 4,
+                place: 0,
+                value: value_of(value),
+            },
+            skip(c, next - at),
+        ),
+    }
+}
+
+// a signed constant, a number, LENGTH or NUMBER
+fn if_operand(
+    text: &[u8],
+    known: &[u64; KNOWN],
+    keys: &mut [u64; NAMES],
+    tags: &mut [u8; NAMES],
+    c: Cursor,
+) -> Operand
+    requires { ⌜ Ready (now text) (now keys) (now tags) c ⌝ }
+    requires { ⌜ Counted (now known) ⌝ }
+    ensures { λ r. ⌜ IfOperandRead (now (text .entry)) (now (known .entry)) (now (keys .entry)) (now (tags .entry)) c r (now (keys .exit)) (now (tags .exit)) ⌝ }
+{
+    let at = c.at;
+    if is_digit(byte_at(text, at)) | sign_at(text, at) {
+        return signed_constant(text, c);
+    }
+    read_called(text, known, keys, tags, c)
+}
+
+// a sign and the operand behind it
+fn compared(
+    text: &[u8],
+    known: &[u64; KNOWN],
+    keys: &mut [u64; NAMES],
+    tags: &mut [u8; NAMES],
+    c: Cursor,
+    left: Cell,
+) -> Draft
+    requires { ⌜ Ready (now text) (now keys) (now tags) c ⌝ }
+    requires { ⌜ Counted (now known) ⌝ }
+    ensures { λ r. ⌜ ComparedRead (now (text .entry)) (now (known .entry)) (now (keys .entry)) (now (tags .entry)) c left r (now (keys .exit)) (now (tags .exit)) ⌝ }
+{
+    let sign = comparison(text, c.at);
+    if sign.number == 0 {
+        return Draft::Broken;
+    }
+    match if_operand(text, known, keys, tags, skip(c, sign.size)) {
+        Operand::Broken => Draft::Broken,
+        Operand::Got(right, d) => Draft::Got(
+            Row {
+                kind: 7,
+                flag: sign.number,
+                success: 0,
+                failure: 0,
+                left,
+                right,
+            },
+            d,
+        ),
+    }
+}
+
+// two operands and a sign
+fn comparing(
+    text: &[u8],
+    known: &[u64; KNOWN],
+    keys: &mut [u64; NAMES],
+    tags: &mut [u8; NAMES],
+    c: Cursor,
+) -> Draft
+    requires { ⌜ Ready (now text) (now keys) (now tags) c ⌝ }
+    requires { ⌜ Counted (now known) ⌝ }
+    ensures { λ r. ⌜ ComparingRead (now (text .entry)) (now (known .entry)) (now (keys .entry)) (now (tags .entry)) c r (now (keys .exit)) (now (tags .exit)) ⌝ }
+{
+    match if_operand(text, known, keys, tags, c) {
+        Operand::Broken => Draft::Broken,
+        Operand::Got(left, d) => compared(text, known, keys, tags, d, left),
+    }
+}
+
+// a test of one cell before `)`
+fn tested(text: &[u8], kind: u8, r: Operand) -> Draft
+    requires { ⌜ Inside (now text) r ⌝ }
+    ensures { λ q. ⌜ q ≡ testedBy (now (text .entry)) kind r ⌝ }
+{
+    match r {
+        Operand::Broken => Draft::Broken,
+        Operand::Got(left, d) => {
+            if stands_at(text, d.at, b')') {
+                return Draft::Got(
+                    Row {
+                        kind,
+                        flag: 0,
+                        success: 0,
+                        failure: 0,
+                        left,
+                        right: Cell {
+                            kind: 0,
+                            place: 0,
+                            value: 0,
+                        },
+                    },
+                    skip(d, 1),
+                );
+            }
+            Draft::Broken
+        }
+    }
+}
+
+// the test of an IF, as a row with no steps yet
+pub fn read_test(
+    text: &[u8],
+    known: &[u64; KNOWN],
+    keys: &mut [u64; NAMES],
+    tags: &mut [u8; NAMES],
+    c: Cursor,
+) -> Draft
+    requires { ⌜ Ready (now text) (now keys) (now tags) c ⌝ }
+    requires { ⌜ Counted (now known) ⌝ }
+    ensures { λ r. ⌜ TestRead (now (text .entry)) (now (known .entry)) (now (keys .entry)) (now (tags .entry)) c r (now (keys .exit)) (now (tags .exit)) ⌝ }
+{
+    let at = c.at;
+    if begins_at(text, at, b"NULL(") {
+        return tested(
+            text,
+            5,
+            placed(1, read_string(text, known, keys, tags, skip(c, 5), STRING)),
+        );
+    }
+    if begins_at(text, at, b"NUMERIC(") {
+        return tested(
+            text,
+            6,
+            read_part(text, known, keys, tags, skip(c, 8), 0, STRING),
+        );
+    }
+    comparing(text, known, keys, tags, c)
+}

@@ -1,0 +1,31 @@
+-- `set_string` meets its contract. Assumes nothing.
+use borrow.Author.Needs.{needs}
+use Rattle.rows.specs.Meaning.{partMeaning}
+use Rattle.carry.specs.Carrying.{lent}
+use Rattle.carry.specs.Laws.{carries-on, sets-string}
+use Rattle.carry.proofs.set_string.Statement.{statement}
+use Rattle.carry.proofs.set_string.Tie as tie
+
+set-string-requires : tie.Need-set-string-requires
+set-string-requires c κs = search needs
+
+move-on-requires : tie.Need-move-on-requires
+move-on-requires c κs = search needs
+
+same-length : tie.Need-same-length
+same-length c = search needs
+
+returns : tie.Need-returns
+returns c =
+    let stored = c .before .before .before .before .set-string in
+    let a = c .before .before .before .before .before .before .before .before .before .before .before .args in
+    let pre = c .before .before .before .before .before .before .before .before .before .before .before .pre in (
+      λ input output p s.
+          let b = lent (a .store .now) (a .state .now) output in
+          carries-on input b (stored .last .1 .0) output _ (c .move-on .ensures)
+          (sets-string p input b s (stored .result) (stored .last .1 .0) _ _ (a .next) (partMeaning (a .p)) _ (pre .1 .1) (stored .ensures)),
+      (stored .ensures .spare, stored .ensures .room),
+    )
+
+pub set-string-spec : {M : Type 1} → statement M
+set-string-spec = tie.close (tie.spec set-string-requires move-on-requires same-length returns)

@@ -1,0 +1,30 @@
+-- `write` meets its contract. Assumes nothing.
+use borrow.Author.Needs.{needs}
+use Rattle.carry.specs.Carrying.{lent}
+use Rattle.carry.specs.Laws.{carries-on, writes}
+use Rattle.carry.proofs.write.Statement.{statement}
+use Rattle.carry.proofs.write.Tie as tie
+
+write-record-requires : tie.Need-write-record-requires
+write-record-requires c κs = search needs
+
+move-on-requires : tie.Need-move-on-requires
+move-on-requires c κs = search needs
+
+same-length : tie.Need-same-length
+same-length c = search needs
+
+returns : tie.Need-returns
+returns c =
+    let written = c .before .before .before .before .write-record in
+    let a = c .before .before .before .before .before .before .before .before .before .before .before .before .args in
+    let pre = c .before .before .before .before .before .before .before .before .before .before .before .before .pre in
+    let b = lent (a .store .now) (a .state .now) (a .output .now) in (
+      λ input p s.
+          carries-on input b (a .store .now) (written .last .1 .1 .1 .1 .0) _ (c .move-on .ensures)
+          (writes p input b s (written .result) (written .last .1 .1 .0) (written .last .1 .1 .1 .1 .0) (a .next) _ (pre .1 .1) (written .ensures .0)),
+      written .ensures .1,
+    )
+
+pub write-spec : {M : Type 1} → statement M
+write-spec = tie.close (tie.spec write-record-requires move-on-requires same-length returns)

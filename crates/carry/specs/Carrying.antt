@@ -1,0 +1,60 @@
+-- What carrying out a statement that doesn't scan leaves in the buffers. Assumes nothing.
+use mathlib.Core.Bool.{true}
+use mathlib.Core.List.{List}
+use mathlib.Core.Path.{_≡_}
+use Prim.Native.Nat.{ℕ}
+use lib.ListN.{length, getD, set}
+use Rattle.base.specs.Edition.{edition1}
+use Rattle.calls.specs.Buffers.{storeKeeps, stateKeeps, stateIn}
+use Rattle.calls.specs.Calls.{Buffers}
+use Rattle.calls.specs.Holding.{leftOf}
+use Rattle.language.specs.Program.{Program, Statement}
+use Rattle.machine.specs.State.{State}
+use Rattle.machine.specs.Step.{Done, noScan, carrying}
+use Rattle.statements.specs.declared.Did.{Did}
+use Rattle.statements.specs.declared.Did.the-variants as did
+use Rattle.values.specs.Work.{Work, done, stop}
+
+-- the buffers lent
+abbrev pub lent : (store state output : List ℕ) → Buffers
+lent store state output = record { store = store; state = state; output = output }
+
+-- buffers that a step may be given, of a machine that runs the program p and hasn't ended
+pub record Standing (p : Program) (input : List ℕ) (b : Buffers) : Type 0 where
+  pub store-good : storeKeeps (b .store) ≡ true
+  pub size : length (b .state) ≡ 64
+  pub range : stateKeeps edition1 (length (p .steps)) (length input) (length (b .output)) (b .state) ≡ true
+  pub running : getD (b .state) 0 0 ≡ 0
+
+-- the machine that they hold
+abbrev pub machineIn : List ℕ → Buffers → State
+machineIn input b = stateIn (b .store) (b .state) input (b .output)
+
+-- work done without a scan: the buffers left are what is left of the machine
+pub record Moved (input : List ℕ) (b left : Buffers) (notes : ℕ) (w : Work Done) : Type 0 where
+  pub machine : State
+  pub work : w ≡ done (record { state = machine; scanned = noScan }) notes
+  pub left-is : left ≡ leftOf input b machine
+
+-- work that is stopped: nothing is changed
+pub record Unmoved (b left : Buffers) (k : ℕ) (w : Work Done) : Type 0 where
+  pub work : w ≡ stop k
+  pub same : left ≡ b
+
+abbrev pub Carries : Did → (input : List ℕ) (b left : Buffers) → Work Done → Type 0
+Carries (did.Done notes) input b left w = Moved input b left notes w
+Carries (did.Stops k) input b left w = Unmoved b left k w
+
+-- a statement carried out on buffers that a step may be given
+abbrev pub Does : Statement → Did → (b left : Buffers) → (input : List ℕ) → Type 0
+Does x r b left input =
+    (p : Program) → Standing p input b → Carries r input b left (carrying edition1 (length (b .output)) x (machineIn input b))
+
+-- the state moved on to a step, if a statement's work is done
+abbrev pub movedOn : Did → List ℕ → ℕ → List ℕ
+movedOn (did.Done notes) state k = set state 1 k
+movedOn (did.Stops n) state k = state
+
+pub record MovesOn (asked r : Did) (state left : List ℕ) (k : ℕ) : Type 0 where
+  pub same : r ≡ asked
+  pub left-is : left ≡ movedOn asked state k

@@ -1,0 +1,310 @@
+-- The law of each kind of statement: its work on the machine that the buffers hold, and what that leaves in them. Assumes nothing.
+use mathlib.Core.Bool.{Bool}
+use mathlib.Core.List.{List, [], _∷_, _++_}
+use mathlib.Core.Path.{_≡_, refl, sym, _∙_, ap, subst}
+use Prim.Native.Nat.{ℕ, suc, _+_, _-_, _≤_, _<_}
+use native.Mathlib.Nat.{add-zero}
+use native.Mathlib.Numerals.{add-one}
+use native.Mathlib.Omega.{arith}
+use lib.ListN.{length, take, drop, getD, set, take-append-drop, length-reverse, length-drop}
+use lib.Seq.{length-take-le, drop-set-lt, getD-set-same}
+use Rattle.base.specs.Edition.{edition1}
+use Rattle.calls.specs.BufferLaws.{Good, keeps-good}
+use Rattle.calls.specs.Buffers.{stringsIn, numbersIn, numbersAt, returnsIn, returnsAt, statusOf, stateIn, storeImage, storeLeft, outputLeft, storeSize, stateSize}
+use Rattle.calls.specs.Calls.{Buffers}
+use Rattle.calls.specs.GivenLaws.{StateInRange, state-in-range, given-holds}
+use Rattle.calls.specs.Holding.{leftOf}
+use Rattle.expressions.specs.Memory.{memoryIn}
+use Rattle.language.specs.Program as Program
+use Rattle.language.specs.Program.{Program, Branch, Part}
+use Rattle.machine.specs.Expressions.{numericIn, stringIn, testIn}
+use Rattle.machine.specs.State as Machine
+use Rattle.machine.specs.State.{State, Memory, finished, isRunning, withNumber, goingTo, withReturns, withInput, withOutput, withStatus}
+use Rattle.machine.specs.Step.{Done, noScan, moving, chosen, setStringIn, shortened, putting, returning, carrying}
+use Rattle.statements.specs.Laws.{left-is, stays-same}
+use Rattle.statements.specs.Leaving.{Stays, memoryOf}
+use Rattle.statements.specs.Reading.{Has, Moves, Halts, onward}
+use Rattle.statements.specs.Valued.{Assigns, PutBy, Stored}
+use Rattle.statements.specs.declared.Did.{Did}
+use Rattle.statements.specs.declared.Did.the-variants as did
+use Rattle.states.specs.Contracts.{Popped}
+use Rattle.states.specs.Laws.{Leaves, leaves-all, holding-leaves, leaves-going, leaves-finished, leaves-stopped, leaves-input, leaves-output, leaves-number, leaves-push, leaves-return, leaves-front}
+use Rattle.values.specs.Work.{Work, done, stop, noting, quietly, _>>=_}
+use Rattle.carry.specs.Carrying.{lent, Standing, machineIn, Moved, Unmoved, Carries, movedOn, MovesOn}
+
+-- work on a value that is known
+pub bound : {A B : Type 0} (w : Work A) (f : A → Work B) (a : A) (n : ℕ) (b : B) → w ≡ done a n → f a ≡ done b 0 → (w >>= f) ≡ done b n
+unfolding _>>=_ noting
+bound w f a n b e h = ap (λ x. x >>= f) e ∙ ap (noting n) h ∙ ap (λ (k : ℕ). done b k) (add-zero n)
+
+-- work that is stopped stops what would follow
+pub stopped : {A B : Type 0} (w : Work A) (f : A → Work B) (k : ℕ) → w ≡ stop k → (w >>= f) ≡ stop k
+unfolding _>>=_
+stopped w f k e = ap (λ x. x >>= f) e
+
+-- notes add up in any order
+noting-twice : {A : Type 0} (n m : ℕ) (w : Work A) → noting (n + m) w ≡ noting n (noting m w)
+unfolding noting
+noting-twice n m (done b k) = ap (λ (j : ℕ). done b j) (omega arith)
+noting-twice n m (stop k) = refl
+
+noting-bound : {A B : Type 0} (n : ℕ) (w : Work A) (f : A → Work B) → (noting n w >>= f) ≡ noting n (w >>= f)
+unfolding _>>=_ noting
+noting-bound n (done a m) f = noting-twice n m (f a)
+noting-bound n (stop k) f = refl
+
+-- three works one behind the other
+bound-twice : {A B C : Type 0} (w : Work A) (f : A → Work B) (g : B → Work C) → (w >>= λ a. f a >>= g) ≡ (w >>= f >>= g)
+unfolding _>>=_
+bound-twice (done a n) f g = sym (noting-bound n (f a) g)
+bound-twice (stop k) f g = refl
+
+-- the numbers of a state with one of the first five numbers set
+numbers-stay : (state : List ℕ) (i x : ℕ) → i < 21 → numbersIn (set state i x) ≡ numbersIn state
+unfolding numbersIn numbersAt
+numbers-stay state i x h = rw (drop-set-lt 21 state i x h)
+
+-- a return changes no string and no output
+returning-keeps : (rs : List ℕ) (c : State) → (returning rs c .memory ≡ c .memory) × (returning rs c .output ≡ c .output)
+unfolding returning withReturns goingTo
+returning-keeps [] c = (refl, refl)
+returning-keeps (k ∷ rs) c = (refl, refl)
+
+-- buffers that a step may be given
+module _ (p : Program) (input : List ℕ) (b : Buffers) (s : Standing p input b) where
+  -- the machine they hold
+  abbrev c : State
+  c = machineIn input b
+
+  facts : StateInRange edition1 (length (p .steps)) (length input) (length (b .output)) (b .state)
+  facts = state-in-range edition1 (length (p .steps)) (length input) (length (b .output)) (b .state) (s .range)
+
+  pub good : Good (b .store)
+  good = keeps-good (b .store) (s .store-good)
+
+  -- its numbers
+  pub given-leaves : Leaves (b .state) input c (b .state)
+  unfolding stateIn stateSize statusOf isRunning
+  given-leaves =
+      holding-leaves (given-holds edition1 p input b (s .size) (s .store-good) (s .range)) (ap (λ (n : ℕ). isRunning (statusOf n)) (s .running))
+
+  -- the output as it was
+  pub output-same : (m : State) → m .output ≡ c .output → outputLeft (b .output) m ≡ b .output
+  unfolding outputLeft stateIn
+  output-same m e =
+      ap (λ (o : List ℕ). o ++ drop (length o) (b .output)) e
+      ∙ rw (length-take-le (getD (b .state) 4 0) (b .output) (facts .written)) (take-append-drop (getD (b .state) 4 0) (b .output))
+
+  -- what is left of a machine, by its store, its numbers and its output
+  pub left-parts : (m : State) (store state output : List ℕ) → Stays (b .store) store → m .memory .strings ≡ stringsIn store
+      → Leaves (b .state) input m state → outputLeft (b .output) m ≡ output → lent store state output ≡ leftOf input b m
+  unfolding storeLeft
+  left-parts m store state output stays strings leaves outputs =
+      let stores : store ≡ storeLeft (b .store) m =
+      sym (left-is (b .store) store stays) ∙ ap (λ (v : List (List ℕ)). storeImage v ++ drop storeSize (b .store)) (sym strings) in
+      λ i. record { store = stores i; state = leaves-all leaves i; output = sym outputs i }
+
+  -- a machine that has moved on, with the store and the output as they were
+  pub stays-parts : (m : State) (state : List ℕ) → m .memory .strings ≡ stringsIn (b .store) → m .output ≡ c .output
+      → Leaves (b .state) input m state → lent (b .store) state (b .output) ≡ leftOf input b m
+  stays-parts m state strings outputs leaves =
+      left-parts m (b .store) state (b .output) (stays-same (b .store) good) strings leaves (output-same m outputs)
+
+  -- a step that is stopped
+  pub stops : lent (b .store) (set (b .state) 0 2) (b .output) ≡ leftOf input b (withStatus Machine.stopped (machineIn input b))
+  unfolding withStatus stateIn
+  stops = stays-parts (withStatus Machine.stopped c) _ refl refl (leaves-stopped given-leaves)
+
+  -- SCAN and BACKSCAN
+  pub scans : (store : List ℕ) (k : ℕ) → Stays (b .store) store
+      → lent store (set (b .state) 1 k) (b .output) ≡ leftOf input b (goingTo k (memoryIn store (b .state)) (machineIn input b))
+  unfolding goingTo stateIn
+  scans store k stays =
+      let m = goingTo k (memoryIn store (b .state)) c in
+      left-parts m store _ (b .output) stays refl (leaves-going given-leaves k (memoryIn store (b .state)) refl) (output-same m refl)
+
+  -- GOTO
+  pub goes : (k : ℕ) → Moved input b (lent (b .store) (set (b .state) 1 k) (b .output)) 0
+      (carrying edition1 (length (b .output)) (Program.goto k) (machineIn input b))
+  unfolding carrying moving quietly goingTo stateIn
+  goes k =
+      let m = goingTo k (c .memory) c in
+      record { machine = m; work = refl; left-is = stays-parts m _ refl refl (leaves-going given-leaves k (c .memory) refl) }
+
+  -- END
+  pub finishes : Moved input b (lent (b .store) (set (b .state) 0 1) (b .output)) 0
+      (carrying edition1 (length (b .output)) Program.finish (machineIn input b))
+  unfolding carrying moving quietly withStatus stateIn
+  finishes =
+      record { machine = withStatus finished c; work = refl; left-is = stays-parts (withStatus finished c) _ refl refl (leaves-finished given-leaves) }
+
+  -- a number set
+  pub sets-number : (r : Did) (state : List ℕ) (place next : ℕ) (xs : List Program.Item) → place < 32 → next ≡ getD (b .state) 1 0 + 1
+      → Assigns r (b .state) state place (numericIn edition1 (memoryIn (b .store) (b .state)) xs)
+      → Carries r input b (lent (b .store) (movedOn r state next) (b .output))
+      (carrying edition1 (length (b .output)) (Program.setNumber place xs) (machineIn input b))
+  unfolding carrying moving quietly goingTo withNumber stateIn
+  sets-number (did.Done notes) state place next xs h e a =
+      let z = a .value in
+      let m = goingTo (suc (c .next)) (withNumber (c .memory) place z) c in
+      let step : next ≡ suc (c .next) = e ∙ add-one (getD (b .state) 1 0) in
+      let moved : Leaves (b .state) input m (set state 1 next) =
+      rw (a .left-is, step) (leaves-number given-leaves place z (suc (c .next)) h) in
+      record {
+        machine = m;
+        work = bound _ _ z notes (record { state = m; scanned = noScan }) (a .work) refl;
+        left-is = stays-parts m _ refl refl moved;
+      }
+  sets-number (did.Stops k) state place next xs h e a =
+      record { work = stopped _ _ k (a .1); same = ap (λ (l : List ℕ). lent (b .store) l (b .output)) (a .0) }
+
+  -- a string set
+  pub sets-string : (r : Did) (store scratch out : List ℕ) (next : ℕ) (q : Part) (xs : List Program.Element) → next ≡ getD (b .state) 1 0 + 1
+      → Stored r (b .store) store (b .state) scratch out (setStringIn edition1 (memoryIn (b .store) (b .state)) q xs)
+      → Carries r input b (lent store (movedOn r (b .state) next) (b .output))
+      (carrying edition1 (length (b .output)) (Program.setString q xs) (machineIn input b))
+  unfolding carrying moving quietly goingTo stateIn
+  sets-string (did.Done notes) store scratch out next q xs e a =
+      let left = memoryOf store (numbersIn (b .state)) in
+      let m = goingTo (suc (c .next)) left c in
+      let step : next ≡ suc (c .next) = e ∙ add-one (getD (b .state) 1 0) in
+      let moved : Leaves (b .state) input m (set (b .state) 1 next) = rw step (leaves-going given-leaves (suc (c .next)) left refl) in
+      record {
+        machine = m;
+        work = bound _ _ left notes (record { state = m; scanned = noScan }) (a .leaves .1) refl;
+        left-is = left-parts m store _ (b .output) (a .leaves .0) refl moved (output-same m refl);
+      }
+  sets-string (did.Stops k) store scratch out next q xs e a =
+      record { work = stopped _ _ k (a .leaves .1); same = ap (λ (l : List ℕ). lent l (b .state) (b .output)) (a .leaves .0) }
+
+  -- IF
+  pub tests : (holds : Bool) (notes k : ℕ) (t : Program.Test) (f : Branch) → k ≡ chosen holds f
+      → testIn edition1 (memoryIn (b .store) (b .state)) t ≡ done holds notes
+      → Moved input b (lent (b .store) (set (b .state) 1 k) (b .output)) notes
+      (carrying edition1 (length (b .output)) (Program.ifTest t f) (machineIn input b))
+  unfolding carrying moving quietly goingTo stateIn
+  tests holds notes k t f e w =
+      let m = goingTo (chosen holds f) (c .memory) c in
+      record {
+        machine = m;
+        work = bound _ _ holds notes (record { state = m; scanned = noScan }) w refl;
+        left-is = stays-parts m _ refl refl (rw e (leaves-going given-leaves (chosen holds f) (c .memory) refl));
+      }
+
+  pub test-stops : (k : ℕ) (t : Program.Test) (f : Branch) → testIn edition1 (memoryIn (b .store) (b .state)) t ≡ stop k
+      → Unmoved b b k (carrying edition1 (length (b .output)) (Program.ifTest t f) (machineIn input b))
+  unfolding carrying stateIn
+  test-stops k t f w = record { work = stopped _ _ k w; same = refl }
+
+  -- READ
+  has-all : Has (b .store) (b .state) input c
+  unfolding stateIn
+  has-all = record { memory = refl; input-left = refl }
+
+  pub reads : (takes : Bool) (store state : List ℕ) (q : Part) (f : Branch) → Moves takes (b .store) store (b .state) state input q
+      → Moved input b (lent store (set state 1 (chosen takes f)) (b .output)) 0
+      (carrying edition1 (length (b .output)) (Program.read q f) (machineIn input b))
+  unfolding carrying moving quietly goingTo withInput stateIn
+  reads takes store state q f a =
+      let k = chosen takes f in
+      let m = onward takes store state input f c in
+      let here : getD state 3 0 ≡ a .to = ap (λ (l : List ℕ). getD l 3 0) (a .state-is) ∙ getD-set-same (b .state) 3 (a .to) 0 (omega (arith, s .size)) in
+      let numbers : numbersIn state ≡ numbersIn (b .state) = ap numbersIn (a .state-is) ∙ numbers-stay (b .state) 3 (a .to) (omega arith) in
+      let place : getD state 3 0 ≡ length input - length (drop (getD state 3 0) input) = simp length-drop (omega (arith, a .inside)) in
+      let taken : Leaves (b .state) input (withInput (drop (getD state 3 0) input) c) state =
+      subst (Leaves (b .state) input (withInput (drop (getD state 3 0) input) c))
+      (ap (λ (n : ℕ). set (b .state) 3 n) here ∙ sym (a .state-is))
+      (leaves-input given-leaves (getD state 3 0) (drop (getD state 3 0) input) place) in
+      record {
+        machine = m;
+        work = a .work f c has-all;
+        left-is = left-parts m store _ (b .output) (a .stays) refl (leaves-going taken k (memoryIn store state) numbers) (output-same m refl);
+      }
+
+  pub read-stops : (k : ℕ) (store state : List ℕ) (q : Part) (f : Branch) → Halts (b .store) store (b .state) state input k q
+      → Unmoved b (lent store state (b .output)) k (carrying edition1 (length (b .output)) (Program.read q f) (machineIn input b))
+  unfolding carrying
+  read-stops k store state q f a =
+      record { work = a .work f c has-all; same = λ i. record { store = a .same i; state = a .state-same i; output = b .output } }
+
+  -- WRITE
+  pub writes : (r : Did) (state output : List ℕ) (next : ℕ) (xs : List Program.Element) → next ≡ getD (b .state) 1 0 + 1
+      → PutBy r (b .state) state (b .output) output
+      (λ m. stringIn edition1 (memoryIn (b .store) (b .state)) xs >>= λ v. shortened v >>= λ w. putting (length (b .output)) w m)
+      → Carries r input b (lent (b .store) (movedOn r state next) output)
+      (carrying edition1 (length (b .output)) (Program.write xs) (machineIn input b))
+  unfolding carrying moving quietly goingTo withOutput stateIn outputLeft
+  writes (did.Done notes) state output next xs e a =
+      let n = a .reaches in
+      let text = stringIn edition1 (memoryIn (b .store) (b .state)) xs in
+      let put : State → Work Done = λ d. moving (goingTo (suc (c .next)) (c .memory) d) in
+      let d = withOutput (take n output) c in
+      let m = goingTo (suc (c .next)) (c .memory) d in
+      let inside : n ≤ length output = omega (arith, a .inside, a .size) in
+      let size = length-take-le n output inside in
+      let outputs : take n output ++ drop (length (take n output)) (b .output) ≡ output = rw size (rw (sym (a .rest)) (take-append-drop n output)) in
+      let step : next ≡ suc (c .next) = e ∙ add-one (getD (b .state) 1 0) in
+      let written : Leaves (b .state) input d state = rw (a .state-is) (leaves-output given-leaves n (take n output) (sym size)) in
+      let moved : Leaves (b .state) input m (set state 1 next) = rw step (leaves-going written (suc (c .next)) (c .memory) refl) in
+      let order : (text >>= λ v. shortened v >>= λ w. putting (length (b .output)) w c >>= put)
+      ≡ (text >>= (λ v. shortened v >>= λ w. putting (length (b .output)) w c) >>= put) =
+      ap (λ (f : List ℕ → Work Done). text >>= f) (λ i v. bound-twice (shortened v) (λ w. putting (length (b .output)) w c) put i)
+      ∙ bound-twice text (λ v. shortened v >>= λ w. putting (length (b .output)) w c) put in
+      record {
+        machine = m;
+        work = order ∙ bound _ _ d notes (record { state = m; scanned = noScan }) (a .work c refl) refl;
+        left-is = left-parts m (b .store) _ output (stays-same (b .store) good) refl moved outputs;
+      }
+  writes (did.Stops k) state output next xs e a =
+      let text = stringIn edition1 (memoryIn (b .store) (b .state)) xs in
+      let put : State → Work Done = λ d. moving (goingTo (suc (c .next)) (c .memory) d) in
+      let order : (text >>= λ v. shortened v >>= λ w. putting (length (b .output)) w c >>= put)
+      ≡ (text >>= (λ v. shortened v >>= λ w. putting (length (b .output)) w c) >>= put) =
+      ap (λ (f : List ℕ → Work Done). text >>= f) (λ i v. bound-twice (shortened v) (λ w. putting (length (b .output)) w c) put i)
+      ∙ bound-twice text (λ v. shortened v >>= λ w. putting (length (b .output)) w c) put in
+      record {
+        work = order ∙ stopped _ _ k (a .work c refl);
+        same = λ i. record { store = b .store; state = a .state-same i; output = a .same i };
+      }
+
+  -- the returns held
+  returns-held : length (c .returns) ≡ getD (b .state) 2 0
+  unfolding stateIn returnsIn returnsAt
+  returns-held =
+      let n = getD (b .state) 2 0 in
+      length-reverse (take n (drop 5 (b .state)))
+      ∙ length-take-le n (drop 5 (b .state)) (simp length-drop (omega (arith, s .size, given-leaves .few, leaves-front given-leaves 2 (omega arith))))
+
+  -- EXECUTE
+  pub executes : (next k : ℕ) → next ≡ getD (b .state) 1 0 + 1 → getD (b .state) 2 0 < 16
+      → Moved input b
+      (lent (b .store) (set (set (set (b .state) (5 + getD (b .state) 2 0) next) 2 (getD (b .state) 2 0 + 1)) 1 k) (b .output)) 0
+      (carrying edition1 (length (b .output)) (Program.execute k) (machineIn input b))
+  unfolding carrying moving quietly goingTo withReturns stateIn
+  executes next k e h =
+      let m = withReturns (suc (c .next) ∷ c .returns) (goingTo k (c .memory) c) in
+      let step : next ≡ suc (c .next) = e ∙ add-one (getD (b .state) 1 0) in
+      let room : length (c .returns) < 16 = omega (arith, returns-held) in
+      let held = leaves-push given-leaves (suc (c .next)) room in
+      record { machine = m; work = refl; left-is = stays-parts m _ refl refl (rw step (leaves-going held k (c .memory) refl)) }
+
+  -- RETURN
+  pub returns-to : (state : List ℕ) (k : ℕ) → Popped (b .state) k state → 0 < getD (b .state) 2 0
+      → Moved input b (lent (b .store) (set state 1 k) (b .output)) 0
+      (carrying edition1 (length (b .output)) Program.return (machineIn input b))
+  unfolding carrying moving quietly stateIn
+  returns-to state k a h =
+      let m = returning (c .returns) c in
+      let some : 0 < length (c .returns) = omega (arith, returns-held) in
+      let kept = returning-keeps (c .returns) c in
+      record {
+        machine = m;
+        work = refl;
+        left-is = stays-parts m _ (ap (λ (x : Memory). x .strings) (kept .0)) (kept .1) (rw (a .others, a .latest) (leaves-return given-leaves some));
+      }
+
+-- what a statement's work leaves, with the state that move_on leaves
+pub carries-on : {asked r : Did} {state left : List ℕ} {k : ℕ} (input : List ℕ) (b : Buffers) (store output : List ℕ) (w : Work Done)
+    → MovesOn asked r state left k → Carries asked input b (lent store (movedOn asked state k) output) w
+    → Carries r input b (lent store left output) w
+carries-on input b store output w m h = rw (m .same, m .left-is) h

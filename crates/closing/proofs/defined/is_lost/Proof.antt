@@ -1,0 +1,34 @@
+-- `closing::defined::is_lost` looks a use up by its purpose.
+-- Assumes nothing.
+use Rattle.closing.proofs.Losses.{lost-label, lost-routine, lost-none}
+use borrow.Author.Needs.{needs}
+use mathlib.Core.Bool.{not}
+use mathlib.Core.Path.{ap, _∙_}
+use Rattle.closing.proofs.defined.is_lost.Statement.{statement}
+use Rattle.closing.proofs.defined.is_lost.Tie as tie
+
+has-label-requires : tie.Need-has-label-requires
+has-label-requires c κs = search needs
+
+returns : tie.Need-returns
+returns c =
+    let a = c .before .before .args in
+    ap not (c .has-label .ensures) ∙ lost-label (a .known .now) (a .key) (a .scope) (a .purpose) (c .before .if1 .taken)
+
+has-routine-requires : tie.Need-has-routine-requires
+has-routine-requires c κs = search needs
+
+returns-2 : tie.Need-returns-2
+returns-2 c =
+    let a = c .before .before .before .args in
+    ap not (c .has-routine .ensures)
+    ∙ lost-routine (a .known .now) (a .key) (a .scope) (a .purpose) (c .before .before .if1 .left) (c .before .if2 .taken)
+
+returns-3 : tie.Need-returns-3
+returns-3 c =
+    let a = c .before .before .args in
+    lost-none (a .known .now) (a .key) (a .scope) (a .purpose) (c .before .if1 .left) (c .if2 .left)
+
+pub is-lost-spec : {M : Type 1} → statement M
+is-lost-spec =
+    tie.close (tie.spec has-label-requires returns has-routine-requires returns-2 returns-3)

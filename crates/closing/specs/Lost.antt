@@ -1,0 +1,27 @@
+-- Labels and routines used that are not declared, by keys. Assumes nothing.
+use mathlib.Core.Bool.{Bool, false, cond, not, _&&_}
+use mathlib.Core.List.{List}
+use Prim.Native.Nat.{ℕ, _+_}
+use lib.Dec.{eqb}
+use lib.ListN.{getD}
+use Rattle.met.specs.Known.{labelCountAt, routineCountAt, labelKeysAt, labelScopesAt, routineKeysAt}
+use Rattle.closing.specs.Below.{below}
+
+-- label i has this key and stands in this scope
+unfoldable pub labelAt : (known : List ℕ) → (key scope i : ℕ) → Bool
+labelAt known key scope i = eqb key (getD known (labelKeysAt + i) 0) && eqb scope (getD known (labelScopesAt + i) 0)
+
+unfoldable pub hasLabel : (known : List ℕ) → (key scope : ℕ) → Bool
+hasLabel known key scope = below (labelAt known key scope) (getD known labelCountAt 0)
+
+-- routine i has this key
+unfoldable pub routineAt : (known : List ℕ) → (key i : ℕ) → Bool
+routineAt known key i = eqb key (getD known (routineKeysAt + i) 0)
+
+unfoldable pub hasRoutine : (known : List ℕ) → (key : ℕ) → Bool
+hasRoutine known key = below (routineAt known key) (getD known routineCountAt 0)
+
+-- a label (1) that its scope does not have, a routine (2) that is not declared
+unfoldable pub isLost : (known : List ℕ) → (key scope purpose : ℕ) → Bool
+isLost known key scope purpose =
+    cond (eqb purpose 1) (not (hasLabel known key scope)) (cond (eqb purpose 2) (not (hasRoutine known key)) false)

@@ -1,0 +1,417 @@
+-- A form behind names or behind skipped bytes; numbers that are set; statements that are no steps; the form of a kind. Assumes nothing.
+use mathlib.Core.Bool.{Bool, true, false, cond, _&&_, _||_, and-eq-true-iff, or-false}
+use mathlib.Core.List.{List, [], _∷_, _++_}
+use mathlib.Core.Option.{Option, none, some}
+use mathlib.Core.Path.{_≡_, refl, sym, ap, ap₂, subst, _∙_}
+use Prim.Native.Nat.{ℕ, zero, suc, _+_, _-_, _*_, _≤_, _<_}
+use native.Mathlib.Nat.{add-zero, zero-add}
+use native.Mathlib.Omega.{arith}
+use lib.Dec.{ltb}
+use lib.ListN.{length, take, drop, length-append, length-drop}
+use lib.Seq.{drop-drop}
+use borrow.Author.Tests.{ltb-true, ltb-false}
+use Rattle.base.specs.Choice.{cond-cases}
+use Rattle.base.specs.Edition.{edition1}
+use Rattle.base.specs.Limits as Limits
+use Rattle.base.specs.Lists.{all, any, begins, total}
+use Rattle.base.specs.Text.{bytes}
+use Rattle.branches.specs.BranchLaws.{skip-then, skip-broken, name-met, name-as-broken}
+use Rattle.branches.specs.Places.{numberIn}
+use Rattle.branches.specs.declared.Row.{Row}
+use Rattle.calls.specs.Table as Table
+use Rattle.calls.specs.Table.{range, rangeCell, rowOf, itemsOf, elementsOf, allLiterals}
+use Rattle.language.specs.Forms.{stepEnd, noStepEnd, withoutUnit, setsNumber, replacement, programForm, numberForm, formOf, statementForm}
+use Rattle.language.specs.Fuel.{expressionFrom, numeric-from}
+use Rattle.language.specs.Keywords as Keywords
+use Rattle.language.specs.Keywords.{Leading, keywords, longest, isReplacement, leading}
+use Rattle.language.specs.Program.{Item, Statement, setNumber}
+use Rattle.language.specs.Reading.{program, number, declaring, purposeNumber, Met, Read, got, broken, _>>=_, meeting, give, skip}
+use Rattle.language.specs.Strings.{moreOf, listOf}
+use Rattle.language.specs.Words as Words
+use Rattle.language.specs.Words.{nameAs, numberName}
+use Rattle.met.specs.Elements.{withElements}
+use Rattle.met.specs.Entries.{entry, nameOf, metIn}
+use Rattle.met.specs.EntryLaws.{met-both, name-key, declared-met}
+use Rattle.met.specs.Items.{withItems}
+use Rattle.met.specs.Known.{placesIn}
+use Rattle.met.specs.declared.Cursor.{Cursor}
+use Rattle.numeric.specs.OperandLaws.{noting-more, met-nothing, then-broken, chosen, begins-room, ready-moved, skipped}
+use Rattle.numeric.specs.Operands.{Ready, Gets, Names, Skips, moved, meaning}
+use Rattle.numeric.specs.Reads.{GetsItems}
+use Rattle.numeric.specs.declared.operands.Cell.{Cell}
+use Rattle.packer.specs.Keys.{keyOf, isKeyByte}
+use Rattle.strings.specs.ElementLaws.{names-elements, elements-none, elements-skip}
+use Rattle.strings.specs.Elements.{GetsElements}
+use Rattle.words.specs.Kinds.{kindOf, leads}
+use Rattle.words.specs.Laws.{name-keys}
+use Rattle.words.specs.Places.{NameAt}
+use Rattle.words.specs.declared.keywords.Keyword.{Keyword}
+use Rattle.forms.specs.Contracts.{itemsIn, elementsIn, Formed, FormRead}
+use Rattle.forms.specs.Ends.{unsteppedAt}
+use Rattle.forms.specs.FormLaws.{bind-assoc, bind-same, give-then, drop-nothing, step-here, step-not, no-step-here, no-step-not, formed-elements}
+use Rattle.forms.specs.Rows.{rangeIn}
+use Rattle.forms.specs.Steps.{FormAt, BehindUnit, stringSet, assignedTo, numberSet, numbersLeft}
+use Rattle.forms.specs.declared.Form as FormCode
+use Rattle.forms.specs.declared.Form.{Form}
+
+-- ---- a form behind names
+module _ {A : Type 0} {x : Read A} {a : A} {text table keys tags : List ℕ} {c : Cursor} {k g : List ℕ} {d : Cursor} (ready : Ready text keys tags c)
+    (r : GetsElements text table keys tags c x a [] [] table k g d) (next : A × List ℕ → Read (Option Statement)) where
+  formed-behind : {v : Option Statement} {t k′ g′ : List ℕ} {e : Cursor}
+      → Formed v (length text - d .at) table k g d (next (a, drop (d .at) text)) t k′ g′ e
+      → Formed v (length text - c .at) table keys tags c (x >>= next) t k′ g′ e
+  unfolding _>>=_ meeting allLiterals any
+  formed-behind {v} f =
+      let size = length-append (r .entries) (f .entries) in
+      let items : d .items ≡ c .items = r .goes .items in
+      let elements : d .elements ≡ c .elements = r .goes .elements ∙ add-zero (c .elements) in
+      let literals : d .literals ≡ c .literals = r .goes .literals ∙ add-zero (c .literals) in
+      let i = length (itemsIn v) in
+      let l = length (allLiterals (elementsIn v)) in
+      record {
+        entries = r .entries ++ f .entries;
+        rows = f .rows;
+        is =
+            ap (λ (y : Read A). y >>= next) (r .is)
+            ∙ ap (meeting (metIn (r .entries) 0 [] 0)) (f .is)
+            ∙ ap (λ (m : Met). got v m [])
+            (met-both (r .entries) (f .entries) 0 i [] (f .rows) 0 l
+            ∙ ap₂ (λ (m n : ℕ). metIn (r .entries ++ f .entries) m (f .rows) n) (zero-add i) (zero-add l));
+        counted = f .counted;
+        longest =
+            f .longest ∙ ap (λ b. b || any (ltb Limits.row) (f .rows)) (r .goes .longest ∙ or-false (ltb Limits.row (c .longest)));
+        written =
+            f .written
+            ∙ ap (λ n. withElements (withItems table n (itemsIn v)) (d .elements) (d .literals) (elementsIn v)) items
+            ∙ ap₂ (λ (m n : ℕ). withElements (withItems table (c .items) (itemsIn v)) m n (elementsIn v)) elements literals;
+        noting = noting-more (omega (arith, ready)) (omega (arith, ready)) (r .goes .names) (r .noting) (f .noting);
+        names = omega (arith, r .goes .names, f .names);
+        items = f .items ∙ ap (λ n. n + i) items;
+        elements = f .elements ∙ ap (λ n. n + length (elementsIn v)) elements;
+        literals = f .literals ∙ ap (λ n. n + l) literals;
+        few = omega (arith, r .few, f .few, r .ready .inside);
+        keysSize = f .keysSize;
+        tagsSize = f .tagsSize;
+      }
+
+  pub form-behind : (q : Form) {t k′ g′ : List ℕ} → FormRead (length text - d .at) table k g d (next (a, drop (d .at) text)) q t k′ g′
+      → FormRead (length text - c .at) table keys tags c (x >>= next) q t k′ g′
+  unfolding _>>=_ meeting allLiterals
+  form-behind FormCode.the-variants.Broken f =
+      record {
+        answer = ap (λ (y : Read A). y >>= next) (r .is) ∙ ap (meeting (metIn (r .entries) 0 [] 0)) (f .answer);
+      }
+  form-behind (FormCode.the-variants.NoStep e) f = record { answer = formed-behind (f .answer) }
+  form-behind (FormCode.the-variants.Step row e) f =
+      let s = f .answer in
+      let elements : d .elements ≡ c .elements = r .goes .elements ∙ add-zero (c .elements) in
+      record {
+        answer =
+            record {
+              statement = s .statement;
+              made = s .made ∙ ap₂ (λ (m n : ℕ). rowOf m n (s .statement)) elements (r .goes .items);
+              formed = formed-behind (s .formed);
+            };
+      }
+
+-- behind skipped bytes
+pub form-skip : {text table keys tags : List ℕ} (n : ℕ) {b c : Cursor} → Skips b n c → Ready text keys tags b → Ready text keys tags c
+    → (x : List ℕ → Read (Option Statement)) (q : Form) {t k g : List ℕ}
+    → FormRead (length text - c .at) table keys tags c (x (drop (c .at) text)) q t k g
+    → FormRead (length text - b .at) table keys tags b (x (drop (c .at) text)) q t k g
+form-skip {text} {table} {keys} {tags} n {b} {c} s before ready x q {t} {k} {g} f =
+    subst (λ z. FormRead (length text - b .at) table keys tags b z q t k g) (give-then (tt {0}) (drop (c .at) text) (λ (_, l). x l))
+    (form-behind before (elements-skip n s (elements-none (tt {0}) ready)) (λ (_, l). x l) q f)
+
+-- ---- numbers that are set
+module _ (known : List ℕ) (place : ℕ) where
+  pub assigned-broken : (bs : List ℕ) → expressionFrom edition1 (placesIn known) 0 bs ≡ broken → assignedTo known place bs ≡ broken
+  unfolding assignedTo
+  assigned-broken bs e = then-broken _ (numeric-from edition1 (placesIn known) bs ∙ e)
+
+  abbrev pub numberRow : Cell → Row
+  numberRow right =
+      record { kind = 1; flag = 0; success = 0; failure = 0; left = record { kind = 5; place = place; value = 0 }; right = right }
+
+  module _ {text table keys tags : List ℕ} {c : Cursor} {t k g : List ℕ} {d : Cursor}
+      (a : GetsItems [] text table keys tags c (expressionFrom edition1 (placesIn known) 0 (drop (c .at) text)) t k g d) where
+    assigned-is : (y : Read (Option Statement)) → stepEnd (setNumber place (a .items)) (drop (d .at) text) ≡ y
+        → assignedTo known place (drop (c .at) text) ≡ meeting (metIn (a .entries) (length (a .items)) [] 0) y
+    unfolding assignedTo _>>=_ meeting
+    assigned-is y e =
+        ap (λ (z : Read (List Item)). z >>= λ (x, rest). stepEnd (setNumber place x) rest)
+        (numeric-from edition1 (placesIn known) (drop (c .at) text) ∙ a .is)
+        ∙ ap (meeting (metIn (a .entries) (length (a .items)) [] 0)) e
+
+    pub assigned-case : (right : Cell) → right ≡ rangeIn (c .items) (d .items - c .items) 0 → (b : Bool) → ltb (d .at) (length text) ≡ b
+        → FormAt (assignedTo known place (drop (c .at) text)) text table keys tags c
+        (elim b [ true ↦ FormCode.the-variants.Broken | false ↦ FormCode.the-variants.Step (numberRow right) d ]) t k g
+    unfolding meeting give itemsIn elementsIn itemsOf elementsOf allLiterals withElements any total rowOf rangeCell range Table.row Table.cell
+    assigned-case right e true h =
+        record { answer = assigned-is broken (step-not text (d .at) (ltb-true (d .at) (length text) h) (setNumber place (a .items))) }
+    assigned-case right e false h =
+        let end = ltb-false (d .at) (length text) h in
+        let s = setNumber place (a .items) in
+        let met = metIn (a .entries) (length (a .items)) [] 0 in
+        let count : d .items - c .items ≡ length (a .items) = omega (arith, a .goes .items) in
+        record {
+          answer =
+              record {
+                statement = s;
+                made =
+                    ap (λ (v : Cell). Table.row 1 0 0 0 (Table.cell 5 place 0) (meaning v)) e
+                    ∙ ap (λ n. Table.row 1 0 0 0 (Table.cell 5 place 0) (Table.cell 22 0 (c .items + 65_536 * (n + 65_536 * 0)))) count;
+                formed =
+                    record {
+                      entries = a .entries;
+                      rows = [];
+                      is =
+                          assigned-is (give (some s) (drop (d .at) text)) (step-here text (d .at) end s)
+                          ∙ ap (λ (m : Met). got (some s) m (drop (d .at) text)) (met-nothing met)
+                          ∙ ap (got (some s) met) (drop-nothing (d .at) text end);
+                      counted = refl;
+                      longest = ap (ltb Limits.row) (a .goes .longest) ∙ sym (or-false (ltb Limits.row (c .longest)));
+                      written = a .written;
+                      noting = a .noting;
+                      names = a .goes .names;
+                      items = a .goes .items;
+                      elements = a .goes .elements ∙ sym (add-zero (c .elements));
+                      literals = a .goes .literals ∙ sym (add-zero (c .literals));
+                      few = omega (arith, a .few, a .ready .inside);
+                      keysSize = a .ready .keysSize;
+                      tagsSize = a .ready .tagsSize;
+                    };
+              };
+        }
+
+module _ (known : List ℕ) where
+  pub number-broken : (bs : List ℕ) → numberName edition1 (placesIn known) bs ≡ broken → numberSet known bs ≡ broken
+  unfolding numberSet
+  number-broken bs e = then-broken _ e
+
+  module _ {place : ℕ} {text keys tags : List ℕ} {c : Cursor} {k g : List ℕ} {d : Cursor}
+      (a : Gets (λ j. j) place text keys tags c (numberName edition1 (placesIn known) (drop (c .at) text)) k g d) where
+    pub number-open : begins (61 ∷ []) (drop (d .at) text) ≡ false → numberSet known (drop (c .at) text) ≡ broken
+    unfolding numberSet bytes _>>=_ meeting
+    number-open e =
+        ap (λ (y : Read ℕ). y >>= λ (i, rest). skip (61 ∷ []) rest >>= λ (_, l). assignedTo known i l) (a .is)
+        ∙ ap (meeting (metIn (a .entries) 0 [] 0)) (skip-broken (61 ∷ []) (drop (d .at) text) (λ (_, l). assignedTo known (a .value) l) e)
+
+    pub number-then : (table : List ℕ) → Ready text keys tags c → begins (61 ∷ []) (drop (d .at) text) ≡ true → (q : Form) {t k′ g′ : List ℕ}
+        → FormAt (assignedTo known place (drop (d .at + 1) text)) text table k g (moved d 1) q t k′ g′
+        → FormAt (numberSet known (drop (c .at) text)) text table keys tags c q t k′ g′
+    unfolding numberSet bytes
+    number-then table ready e q {t} {k′} {g′} f =
+        form-behind ready (names-elements table a) (λ (i, rest). skip (61 ∷ []) rest >>= λ (_, l). assignedTo known i l) q
+        (subst (λ z. FormRead (length text - d .at) table k g d z q t k′ g′)
+        (sym
+        (skip-then (61 ∷ []) (drop (d .at) text) (λ (_, l). assignedTo known (a .value) l) e
+        ∙ ap (assignedTo known (a .value)) (drop-drop 1 (d .at) text)
+        ∙ ap (λ i. assignedTo known i (drop (d .at + 1) text)) (a .made)))
+        (form-skip 1 (skipped d 1 refl) (a .ready) (ready-moved (61 ∷ []) (a .ready) e) (assignedTo known place) q f))
+
+  -- a name known as a number before `=`
+  pub sets-is : {text : List ℕ} {at n key : ℕ} → NameAt text at n → key ≡ keyOf (take n (drop at text))
+      → setsNumber edition1 (numberIn known) (placesIn known) (drop at text)
+      ≡ (numberIn known (nameOf key) && begins (61 ∷ []) (drop (at + n) text))
+  unfolding setsNumber bytes
+  sets-is {text} {at} {n} {key} a e =
+      let bs = drop at text in
+      let shown : all isKeyByte (take n bs) ≡ true = subst (λ j. all isKeyByte (take j bs) ≡ true) (sym (a .is)) (name-keys bs) in
+      let named : take n bs ≡ nameOf key = sym (ap nameOf e ∙ name-key (take n bs) shown) in
+      ap (λ j. numberIn known (take j bs) && begins (61 ∷ []) (drop j bs)) (sym (a .is))
+      ∙ ap₂ (λ (w l : List ℕ). numberIn known w && begins (61 ∷ []) l) named (drop-drop n at text)
+
+  module _ (bs : List ℕ) where
+    pub replacement-number : setsNumber edition1 (numberIn known) (placesIn known) bs ≡ true
+        → replacement edition1 (numberIn known) (placesIn known) bs ≡ numberSet known bs
+    unfolding replacement numberSet assignedTo
+    replacement-number e = chosen _ _ e
+
+    pub replacement-string : setsNumber edition1 (numberIn known) (placesIn known) bs ≡ false
+        → replacement edition1 (numberIn known) (placesIn known) bs ≡ stringSet known bs
+    unfolding replacement stringSet
+    replacement-string e = chosen _ _ e
+
+-- ---- a unit, if it stands here
+module _ (text unit : List ℕ) {c d : Cursor} where
+  pub unit-here : length unit ≡ 4 → begins unit (drop (c .at) text) ≡ true → c .at ≤ length text → d ≡ moved c 4 → BehindUnit text unit c d
+  unfolding withoutUnit
+  unit-here size e inside s =
+      let at : d .at ≡ c .at + 4 = ap (λ (z : Cursor). z .at) s in
+      record {
+        size = 4;
+        skips = skipped c 4 s;
+        is =
+            ap {B = List ℕ} (λ b. elim b [ true ↦ drop 4 (drop (c .at) text) | false ↦ drop (c .at) text ]) e
+            ∙ drop-drop 4 (c .at) text
+            ∙ ap (λ n. drop n text) (sym at);
+        inside = omega (arith, begins-room unit (drop (c .at) text) e, length-drop (c .at) text);
+      }
+
+  pub unit-none : begins unit (drop (c .at) text) ≡ false → c .at ≤ length text → d ≡ moved c 0 → BehindUnit text unit c d
+  unfolding withoutUnit
+  unit-none e inside s =
+      let at : d .at ≡ c .at = ap (λ (z : Cursor). z .at) s ∙ add-zero (c .at) in
+      record {
+        size = 0;
+        skips = skipped c 0 s;
+        is =
+            ap {B = List ℕ} (λ b. elim b [ true ↦ drop 4 (drop (c .at) text) | false ↦ drop (c .at) text ]) e
+            ∙ ap (λ n. drop n text) (sym at);
+        inside = omega arith;
+      }
+
+-- ---- statements that are no steps
+unstepped-case : {text table keys tags : List ℕ} {c : Cursor} → Ready text keys tags c → (b : Bool) → ltb (c .at) (length text) ≡ b
+    → FormAt (noStepEnd (drop (c .at) text)) text table keys tags c
+    (elim b [ true ↦ FormCode.the-variants.Broken | false ↦ FormCode.the-variants.NoStep c ]) table keys tags
+unfolding itemsIn elementsIn total
+unstepped-case {text} {c = c} ready true e = record { answer = no-step-not text (c .at) (ltb-true (c .at) (length text) e) }
+unstepped-case {text} {table} {keys} {tags} {c} ready false e =
+    let end = ltb-false (c .at) (length text) e in
+    record {
+      answer =
+          subst (λ (z : Read (Option Statement)). Formed none (length text - c .at) table keys tags c z table keys tags c)
+          (sym (no-step-here text (c .at) end)) (formed-elements (elements-none none ready) end refl refl refl);
+    }
+
+pub unstepped-read : {text table keys tags : List ℕ} {c : Cursor} → Ready text keys tags c
+    → FormAt (noStepEnd (drop (c .at) text)) text table keys tags c (unsteppedAt text c) table keys tags
+unstepped-read {text} {c = c} ready = unstepped-case ready (ltb (c .at) (length text)) refl
+
+-- a name that is declared
+module _ {text keys tags : List ℕ} {c : Cursor} {key : ℕ} {k g : List ℕ} {d : Cursor} where
+  program-name : Names text keys tags c 8 key k g d → Gets (λ n. n) (nameOf key) text keys tags c (nameAs (declaring program) (drop (c .at) text)) k g d
+  unfolding purposeNumber
+  program-name n =
+      name-met (declaring program) (λ w. w) (nameOf key) n
+      (ap (λ j. metIn (entry j 8 ∷ []) 0 [] 0) (n .keyed) ∙ declared-met (n .bytes) (n .shown) program)
+      (sym (ap nameOf (n .keyed) ∙ name-key (n .bytes) (n .shown)))
+
+  number-name : Names text keys tags c 11 key k g d → Gets (λ n. n) (nameOf key) text keys tags c (nameAs (declaring number) (drop (c .at) text)) k g d
+  unfolding purposeNumber
+  number-name n =
+      name-met (declaring number) (λ w. w) (nameOf key) n
+      (ap (λ j. metIn (entry j 11 ∷ []) 0 [] 0) (n .keyed) ∙ declared-met (n .bytes) (n .shown) number)
+      (sym (ap nameOf (n .keyed) ∙ name-key (n .bytes) (n .shown)))
+
+  pub program-read : (known table : List ℕ) → Ready text keys tags c → Names text keys tags c 8 key k g d
+      → FormAt (programForm edition1 (numberIn known) (placesIn known) (drop (c .at) text)) text table keys tags c (unsteppedAt text d) table k g
+  unfolding programForm
+  program-read known table ready n =
+      form-behind ready (names-elements table (program-name n)) (λ (_, rest). noStepEnd rest) (unsteppedAt text d) (unstepped-read (n .ready))
+
+pub program-broken : (known bs : List ℕ) → Words.name bs ≡ broken → programForm edition1 (numberIn known) (placesIn known) bs ≡ broken
+unfolding programForm
+program-broken known bs e = then-broken _ (name-as-broken (declaring program) bs e)
+
+-- names parted by commas, to the end
+list-left : {B : Type 0} (x : Read (List ℕ)) (more : List ℕ → Read (List (List ℕ))) (next : List ℕ → Read B)
+    → ((x >>= λ (n, rest). more rest >>= λ (ns, l). give (n ∷ ns) l) >>= λ (_, rest). next rest)
+    ≡ (x >>= λ (n, rest). more rest >>= λ (_, l). next l)
+list-left x more next =
+    bind-assoc x (λ (n, rest). more rest >>= λ (ns, l). give (n ∷ ns) l) (λ (_, rest). next rest)
+    ∙ bind-same x _ _ (λ n rest.
+    bind-assoc (more rest) (λ (ns, l). give (n ∷ ns) l) (λ (_, l). next l)
+    ∙ bind-same (more rest) _ _ (λ ns l. give-then (n ∷ ns) l (λ (_, l). next l)))
+
+numbers-is : (known bs : List ℕ) → numberForm edition1 (numberIn known) (placesIn known) bs
+    ≡ (nameAs (declaring number) bs >>= λ (_, rest). numbersLeft (length rest) rest)
+unfolding numberForm listOf numbersLeft
+numbers-is known bs =
+    list-left (nameAs (declaring number) bs) (λ rest. moreOf (nameAs (declaring number)) (length rest) rest) noStepEnd
+
+module _ (bs : List ℕ) where
+  left-end : (k : ℕ) → begins (44 ∷ []) bs ≡ false → numbersLeft k bs ≡ noStepEnd bs
+  unfolding numbersLeft moreOf bytes
+  left-end zero e = give-then [] bs (λ (_, l). noStepEnd l)
+  left-end (suc k) e =
+      ap (λ (y : Read (List (List ℕ))). y >>= λ (_, l). noStepEnd l) (chosen _ _ e) ∙ give-then [] bs (λ (_, l). noStepEnd l)
+
+  left-more : (k : ℕ) → begins (44 ∷ []) bs ≡ true
+      → numbersLeft (suc k) bs ≡ (nameAs (declaring number) (drop 1 bs) >>= λ (_, rest). numbersLeft k rest)
+  unfolding numbersLeft moreOf bytes
+  left-more k e =
+      ap (λ (y : Read (List (List ℕ))). y >>= λ (_, l). noStepEnd l) (chosen _ _ e)
+      ∙ list-left (nameAs (declaring number) (drop 1 bs)) (λ rest. moreOf (nameAs (declaring number)) k rest) noStepEnd
+
+module _ {text : List ℕ} (table : List ℕ) {keys tags : List ℕ} {c : Cursor} (ready : Ready text keys tags c) where
+  pub numbers-end : begins (44 ∷ []) (drop (c .at) text) ≡ false → (k : ℕ)
+      → FormAt (numbersLeft k (drop (c .at) text)) text table keys tags c (unsteppedAt text c) table keys tags
+  numbers-end e k =
+      subst (λ z. FormRead (length text - c .at) table keys tags c z (unsteppedAt text c) table keys tags) (sym (left-end (drop (c .at) text) k e))
+      (unstepped-read ready)
+
+  pub numbers-first : (known : List ℕ) {key : ℕ} {k g : List ℕ} {d : Cursor} → Names text keys tags c 11 key k g d → (q : Form) {k′ g′ : List ℕ}
+      → FormAt (numbersLeft (length (drop (d .at) text)) (drop (d .at) text)) text table k g d q table k′ g′
+      → FormAt (numberForm edition1 (numberIn known) (placesIn known) (drop (c .at) text)) text table keys tags c q table k′ g′
+  numbers-first known {key} {k} {g} {d} n q {k′} {g′} f =
+      subst (λ z. FormRead (length text - c .at) table keys tags c z q table k′ g′) (sym (numbers-is known (drop (c .at) text)))
+      (form-behind ready (names-elements table (number-name n)) (λ (_, rest). numbersLeft (length rest) rest) q f)
+
+  -- behind a comma
+  module _ (comma : begins (44 ∷ []) (drop (c .at) text) ≡ true) where
+    fuel : (k : ℕ) → length (drop (c .at) text) ≤ k → 0 < k
+    fuel k h = omega (arith, begins-room (44 ∷ []) (drop (c .at) text) comma)
+
+    pub numbers-more : {key : ℕ} {k g : List ℕ} {d : Cursor} → Names text keys tags (moved c 1) 11 key k g d → (q : Form) {k′ g′ : List ℕ}
+        → ((m : ℕ) → length (drop (d .at) text) ≤ m → FormAt (numbersLeft m (drop (d .at) text)) text table k g d q table k′ g′) → (m : ℕ)
+        → length (drop (c .at) text) ≤ m → FormAt (numbersLeft m (drop (c .at) text)) text table keys tags c q table k′ g′
+    numbers-more n q f zero h = absurd (omega (arith, fuel 0 h))
+    numbers-more {key} {k} {g} {d} n q {k′} {g′} f (suc m) h =
+        let enough : length (drop (d .at) text) ≤ m =
+        omega (arith, length-drop (d .at) text, length-drop (c .at) text, n .further, n .ready .inside) in
+        let on = ready-moved (44 ∷ []) ready comma in
+        subst (λ z. FormRead (length text - c .at) table keys tags c z q table k′ g′)
+        (sym
+        (left-more (drop (c .at) text) m comma
+        ∙ ap (λ (l : List ℕ). nameAs (declaring number) l >>= λ (_, rest). numbersLeft m rest) (drop-drop 1 (c .at) text)))
+        (form-skip 1 (skipped c 1 refl) ready on (λ l. nameAs (declaring number) l >>= λ (_, rest). numbersLeft m rest) q
+        (form-behind on (names-elements table (number-name n)) (λ (_, rest). numbersLeft m rest) q (f m enough)))
+
+    pub numbers-broken : Words.name (drop (c .at + 1) text) ≡ broken → (m : ℕ) → length (drop (c .at) text) ≤ m
+        → numbersLeft m (drop (c .at) text) ≡ broken
+    numbers-broken e zero h = absurd (omega (arith, fuel 0 h))
+    numbers-broken e (suc m) h =
+        left-more (drop (c .at) text) m comma
+        ∙ then-broken _
+        (ap (nameAs (declaring number)) (drop-drop 1 (c .at) text) ∙ name-as-broken (declaring number) (drop (c .at + 1) text) e)
+
+pub numbers-none : (known bs : List ℕ) → Words.name bs ≡ broken → numberForm edition1 (numberIn known) (placesIn known) bs ≡ broken
+numbers-none known bs e = numbers-is known bs ∙ then-broken _ (name-as-broken (declaring number) bs e)
+
+-- ---- the form of a kind
+-- a keyword is no longer than the text
+longest-fits : (ws : List (List ℕ × Keywords.Kind)) (bs : List ℕ) (best : Leading) → best .size ≤ length bs → longest ws bs best .size ≤ length bs
+unfolding longest
+longest-fits [] bs best h = h
+longest-fits ((w, k) ∷ ws) bs best h =
+    longest-fits ws bs (cond (begins w bs && ltb (best .size) (length w)) (record { kind = k; size = length w }) best)
+    (cond-cases (λ (l : Leading). l .size ≤ length bs) (begins w bs && ltb (best .size) (length w))
+    (λ e. begins-room w bs (and-eq-true-iff (begins w bs) (ltb (best .size) (length w)) .0 e .0)) (λ _. h))
+
+pub leading-fits : (bs : List ℕ) → leading bs .size ≤ length bs
+unfolding leading
+leading-fits bs =
+    cond-cases (λ (l : Leading). l .size ≤ length bs) (isReplacement bs) (λ _. omega arith)
+    (λ _. longest-fits keywords bs (record { kind = Keywords.UNKNOWN; size = 0 }) (omega arith))
+
+module _ (text : List ℕ) (c : Cursor) (lead : Keyword) (is : leads lead ≡ leading text) (start : c .at ≡ 0) where
+  pub lead-fits : c .at + lead .size ≤ length text
+  lead-fits = omega (arith, ap (λ (l : Leading). l .size) is, leading-fits text)
+
+  pub of-kind : (known : List ℕ) {table keys tags : List ℕ} (kind : Keywords.Kind) → kindOf (lead .kind) ≡ kind → {d : Cursor} → d ≡ moved c (lead .size) → Ready text keys tags c
+      → Ready text keys tags d → (q : Form) {t k g : List ℕ}
+      → FormAt (formOf edition1 (numberIn known) (placesIn known) kind (drop (d .at) text)) text table keys tags d q t k g
+      → FormRead (length text) table keys tags c (statementForm edition1 (numberIn known) (placesIn known) text) q t k g
+  unfolding statementForm
+  of-kind known {table} {keys} {tags} kind e {d} s before ready q {t} {k} {g} f =
+      let forms = formOf edition1 (numberIn known) (placesIn known) in
+      let at : d .at ≡ leading text .size =
+      ap (λ (z : Cursor). z .at) s ∙ ap (λ n. n + lead .size) start ∙ zero-add (lead .size) ∙ ap (λ (l : Leading). l .size) is in
+      let most : length text - c .at ≡ length text = omega arith in
+      subst (λ n. FormRead n table keys tags c (forms (leading text .kind) (drop (leading text .size) text)) q t k g) most
+      (subst (λ z. FormRead (length text - c .at) table keys tags c z q t k g)
+      (ap₂ (λ (j : Keywords.Kind) (n : ℕ). forms j (drop n text)) (sym e ∙ ap (λ (l : Leading). l .kind) is) at)
+      (form-skip (lead .size) (skipped c (lead .size) s) before ready (forms kind) q f))

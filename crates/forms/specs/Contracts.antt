@@ -1,0 +1,108 @@
+-- What the readers of statements do: the row made, the names noted, the items and elements written. Assumes nothing.
+use mathlib.Core.Bool.{Bool, true, _||_}
+use mathlib.Core.List.{List, [], map}
+use mathlib.Core.Option.{Option, none, some}
+use mathlib.Core.Path.{_≡_}
+use Prim.Native.Nat.{ℕ, _+_, _≤_}
+use lib.Dec.{ltb}
+use lib.ListN.{length}
+use Rattle.base.specs.Edition.{edition1}
+use Rattle.base.specs.Limits as Limits
+use Rattle.base.specs.Lists.{all, any, total}
+use Rattle.branches.specs.Rows.{rowMeaning}
+use Rattle.branches.specs.declared.Row.{Row}
+use Rattle.calls.specs.Table.{rowOf, itemsOf, elementsOf, allLiterals}
+use Rattle.cards.specs.Packing.{packed, literalsWhole}
+use Rattle.judgement.specs.Known.{isOneOf}
+use Rattle.judgement.specs.Refusals.{readStatement}
+use Rattle.language.specs.Forms.{statementForm}
+use Rattle.language.specs.Program.{Item, PatternElement, Statement}
+use Rattle.language.specs.Reading.{Read, got, broken}
+use Rattle.met.specs.Elements.{withElements}
+use Rattle.met.specs.Entries.{Entry, nameOf, metIn}
+use Rattle.met.specs.Items.{withItems}
+use Rattle.met.specs.Known.{numberKeys, placesIn}
+use Rattle.met.specs.declared.Cursor.{Cursor}
+use Rattle.numeric.specs.Operands.{Noting}
+use Rattle.packer.specs.Keys.{keyOf, isKeyByte}
+use Rattle.forms.specs.declared.Form as FormCode
+use Rattle.forms.specs.declared.Form.{Form}
+
+-- the arrays have their sizes, and the cursor stands before a statement: at most its label is noted
+pub record Starts (text keys tags : List ℕ) (c : Cursor) : Type 0 where
+  pub textSize : length text ≤ 32_768
+  pub at : c .at ≡ 0
+  pub names : c .names ≤ 1
+  pub items : c .items ≤ 4_294_967_296
+  pub elements : c .elements ≤ 4_294_967_296
+  pub literals : c .literals ≤ 4_294_967_296
+  pub keysSize : length keys ≡ 32_800
+  pub tagsSize : length tags ≡ 32_800
+
+-- the items and elements of a statement; of PROGRAM and NUMBER there are none
+unfoldable pub itemsIn : Option Statement → List Item
+itemsIn none = []
+itemsIn (some s) = itemsOf s
+
+unfoldable pub elementsIn : Option Statement → List PatternElement
+elementsIn none = []
+elementsIn (some s) = elementsOf s
+
+-- the reading x gives v, with the names noted and all of v written; there are at most so many names
+pub record Formed (v : Option Statement) (most : ℕ) (table keys tags : List ℕ) (c : Cursor) (x : Read (Option Statement))
+    (table′ keys′ tags′ : List ℕ) (d : Cursor) : Type 0 where
+  pub entries : List Entry
+  pub rows : List ℕ
+  pub is : x ≡ got v (metIn entries (length (itemsIn v)) rows (length (allLiterals (elementsIn v)))) []
+  pub counted : total (λ n. n) rows ≡ length (elementsIn v)
+  pub longest : ltb Limits.row (d .longest) ≡ (ltb Limits.row (c .longest) || any (ltb Limits.row) rows)
+  pub written : table′ ≡ withElements (withItems table (c .items) (itemsIn v)) (c .elements) (c .literals) (elementsIn v)
+  pub noting : Noting keys tags (c .names) entries keys′ tags′
+  pub names : d .names ≡ c .names + length entries
+  pub items : d .items ≡ c .items + length (itemsIn v)
+  pub elements : d .elements ≡ c .elements + length (elementsIn v)
+  pub literals : d .literals ≡ c .literals + length (allLiterals (elementsIn v))
+  pub few : length entries ≤ most
+  pub keysSize : length keys′ ≡ 32_800
+  pub tagsSize : length tags′ ≡ 32_800
+
+-- a step has its row
+pub record Stepped (row : Row) (most : ℕ) (table keys tags : List ℕ) (c : Cursor) (x : Read (Option Statement))
+    (table′ keys′ tags′ : List ℕ) (d : Cursor) : Type 0 where
+  pub statement : Statement
+  pub made : rowMeaning row ≡ rowOf (c .elements) (c .items) statement
+  pub formed : Formed (some statement) most table keys tags c x table′ keys′ tags′ d
+
+abbrev pub FormAnswer : (most : ℕ) (table keys tags : List ℕ) (c : Cursor) → Read (Option Statement) → Form
+    → (table′ keys′ tags′ : List ℕ) → Type 0
+FormAnswer most table keys tags c x FormCode.the-variants.Broken table′ keys′ tags′ = x ≡ broken
+FormAnswer most table keys tags c x (FormCode.the-variants.NoStep d) table′ keys′ tags′ =
+    Formed none most table keys tags c x table′ keys′ tags′ d
+FormAnswer most table keys tags c x (FormCode.the-variants.Step row d) table′ keys′ tags′ =
+    Stepped row most table keys tags c x table′ keys′ tags′ d
+
+pub record FormRead (most : ℕ) (table keys tags : List ℕ) (c : Cursor) (x : Read (Option Statement)) (r : Form)
+    (table′ keys′ tags′ : List ℕ) : Type 0 where
+  pub answer : FormAnswer most table keys tags c x r table′ keys′ tags′
+
+-- whether a name is one of the numbers known
+abbrev pub numberIn : List ℕ → List ℕ → Bool
+numberIn known = isOneOf (map nameOf (numberKeys known))
+
+-- the statement that a text is: no more names than bytes
+abbrev pub StatementFormRead : (text known table keys tags : List ℕ) (c : Cursor) → Form → (table′ keys′ tags′ : List ℕ) → Type 0
+StatementFormRead text known table keys tags c =
+    FormRead (length text) table keys tags c (statementForm edition1 (numberIn known) (placesIn known) text)
+
+-- what the code has of a statement: the key of its label, its text packed, whether its literals are whole
+pub record Wording (labelBytes raw text : List ℕ) (label : ℕ) (complete : Bool) : Type 0 where
+  pub key : label ≡ keyOf labelBytes
+  pub clean : all isKeyByte labelBytes ≡ true
+  pub short : length labelBytes ≤ 8
+  pub bytes : packed raw ≡ text
+  pub whole : complete ≡ literalsWhole raw
+
+-- the statement with its label: one name more
+abbrev pub StatementRead : (labelBytes raw text known table keys tags : List ℕ) (c : Cursor) → Form → (table′ keys′ tags′ : List ℕ) → Type 0
+StatementRead labelBytes raw text known table keys tags c =
+    FormRead (length text + 1) table keys tags c (readStatement edition1 (numberIn known) (placesIn known) labelBytes raw)

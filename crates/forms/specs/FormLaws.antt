@@ -1,0 +1,287 @@
+-- Forms read part by part: what is read so far and what is still to be read, up to the end of the statement. Assumes nothing.
+use mathlib.Core.Bool.{Bool, true, false}
+use mathlib.Core.List.{List, [], _∷_, _++_, append-assoc}
+use mathlib.Core.Option.{Option, none, some}
+use mathlib.Core.Path.{_≡_, refl, sym, ap, ap₂, subst, _∙_}
+use Prim.Native.Nat.{ℕ, _+_, _-_, _≤_, _<_}
+use native.Mathlib.Nat.{add-zero, add-assoc}
+use native.Mathlib.Omega.{arith}
+use lib.Dec.{ltb}
+use lib.ListN.{length, drop, length-append, length-drop}
+use borrow.Author.Tests.{ltb-true, ltb-false}
+use Rattle.base.specs.Lists.{total}
+use Rattle.branches.specs.BranchLaws.{meeting-nothing}
+use Rattle.branches.specs.Rows.{rowMeaning}
+use Rattle.branches.specs.declared.Draft as DraftCode
+use Rattle.branches.specs.declared.Draft.{Draft}
+use Rattle.branches.specs.declared.Row.{Row}
+use Rattle.calls.specs.Table as Table
+use Rattle.calls.specs.Table.{rowOf, itemsOf, elementsOf, allLiterals}
+use Rattle.calls.specs.Yielding.{total-append}
+use Rattle.language.specs.Forms.{stepEnd, noStepEnd}
+use Rattle.language.specs.Program.{Item, PatternElement, Statement}
+use Rattle.language.specs.Reading.{Met, both, Read, got, broken, _>>=_, meeting, give, finished}
+use Rattle.met.specs.Elements.{withElements}
+use Rattle.met.specs.Entries.{metIn}
+use Rattle.met.specs.Items.{withItems}
+use Rattle.met.specs.declared.Cursor.{Cursor}
+use Rattle.numeric.specs.OperandLaws.{then-broken}
+use Rattle.numeric.specs.Operands.{Ready, Skips}
+use Rattle.strings.specs.ElementLaws.{elements-none, elements-give, elements-then, elements-broken, elements-skip}
+use Rattle.strings.specs.Elements.{GetsElements}
+use Rattle.forms.specs.Contracts.{itemsIn, elementsIn, Formed, FormRead}
+use Rattle.forms.specs.Ends.{endedBy}
+use Rattle.forms.specs.Stages.{Drawn, StageRead}
+use Rattle.forms.specs.declared.Form as FormCode
+
+-- ---- readings behind each other
+both-assoc : (m n k : Met) → both m (both n k) ≡ both (both m n) k
+unfolding both
+both-assoc m n k =
+    λ t.
+    record {
+      declared = sym (append-assoc (m .declared) (n .declared) (k .declared)) t;
+      used = sym (append-assoc (m .used) (n .used) (k .used)) t;
+      items = sym (add-assoc (m .items) (n .items) (k .items)) t;
+      rows = sym (append-assoc (m .rows) (n .rows) (k .rows)) t;
+      literals = sym (add-assoc (m .literals) (n .literals) (k .literals)) t;
+      roles = sym (append-assoc (m .roles) (n .roles) (k .roles)) t;
+    }
+
+meeting-both : {A : Type 0} (m n : Met) (x : Read A) → meeting m (meeting n x) ≡ meeting (both m n) x
+unfolding meeting
+meeting-both m n (got a k rest) = ap (λ (z : Met). got a z rest) (both-assoc m n k)
+meeting-both m n broken = refl
+
+meeting-then : {A B : Type 0} (m : Met) (x : Read A) (next : A × List ℕ → Read B) → (meeting m x >>= next) ≡ meeting m (x >>= next)
+unfolding meeting _>>=_
+meeting-then m (got a n rest) next = sym (meeting-both m n (next (a, rest)))
+meeting-then m broken next = refl
+
+pub bind-assoc : {A B C : Type 0} (x : Read A) (f : A × List ℕ → Read B) (g : B × List ℕ → Read C) → (x >>= f >>= g) ≡ (x >>= λ p. f p >>= g)
+unfolding _>>=_
+bind-assoc (got a m rest) f g = meeting-then m (f (a, rest)) g
+bind-assoc broken f g = refl
+
+pub bind-same : {A B : Type 0} (x : Read A) (f g : A × List ℕ → Read B) → ((a : A) (rest : List ℕ) → f (a, rest) ≡ g (a, rest))
+    → (x >>= f) ≡ (x >>= g)
+unfolding _>>=_
+bind-same (got a m rest) f g h = ap (meeting m) (h a rest)
+bind-same broken f g h = refl
+
+pub give-then : {A B : Type 0} (a : A) (bs : List ℕ) (next : A × List ℕ → Read B) → (give a bs >>= next) ≡ next (a, bs)
+unfolding give _>>=_
+give-then a bs next = meeting-nothing (next (a, bs))
+
+-- ---- a form so far
+pub record Going {A S : Type 0} (form : Read S) (left : A → List ℕ → Read S) (mk : A → Table.Row) (es : A → List PatternElement)
+    (text table keys tags : List ℕ) (c : Cursor) (row : Row) (table′ keys′ tags′ : List ℕ) (d : Cursor) : Type 0 where
+  pub value : A
+  pub before : Read A
+  pub rows : List ℕ
+  pub counted : total (λ n. n) rows ≡ length (es value)
+  pub gets : GetsElements text table keys tags c before value (es value) rows table′ keys′ tags′ d
+  pub made : rowMeaning row ≡ mk value
+  pub whole : form ≡ (before >>= λ (a, rest). left a rest)
+
+abbrev pub GoingAnswer : {A S : Type 0} (form : Read S) (left : A → List ℕ → Read S) (mk : A → Table.Row) (es : A → List PatternElement)
+    (text table keys tags : List ℕ) (c : Cursor) → Draft → (table′ keys′ tags′ : List ℕ) → Type 0
+GoingAnswer form left mk es text table keys tags c (DraftCode.the-variants.Got row d) table′ keys′ tags′ =
+    Going form left mk es text table keys tags c row table′ keys′ tags′ d
+GoingAnswer form left mk es text table keys tags c DraftCode.the-variants.Broken table′ keys′ tags′ = form ≡ broken
+
+-- of the form this is left to be read; the row so far is what mk makes of the values so far, and es are their elements
+pub record GoesOn {A S : Type 0} (form : Read S) (left : A → List ℕ → Read S) (mk : A → Table.Row) (es : A → List PatternElement)
+    (text table keys tags : List ℕ) (c : Cursor) (r : Draft) (table′ keys′ tags′ : List ℕ) : Type 0 where
+  pub answer : GoingAnswer form left mk es text table keys tags c r table′ keys′ tags′
+
+-- nothing is read yet
+pub going-start : {S : Type 0} {form : Read S} (left : List ℕ → Read S) {text table keys tags : List ℕ} {c : Cursor} (n : ℕ) {row : Row}
+    {d : Cursor} → Skips c n d → Ready text keys tags d → form ≡ left (drop (d .at) text)
+    → GoesOn {A = Unit {0}} form (λ _ rest. left rest) (λ _. rowMeaning row) (λ _. []) text table keys tags c (DraftCode.the-variants.Got row d)
+    table keys tags
+unfolding total
+going-start left {text} n {d = d} s ready e =
+    record {
+      answer =
+          record {
+            value = tt;
+            before = give tt (drop (d .at) text);
+            rows = [];
+            counted = refl;
+            gets = elements-skip n s (elements-none tt ready);
+            made = refl;
+            whole = e ∙ sym (give-then tt (drop (d .at) text) _);
+          };
+    }
+
+-- a value with the one read behind it
+abbrev pairs : {A U : Type 0} (y : List ℕ → Read U) → A → List ℕ → Read (A × U)
+pairs y a bs = y bs >>= λ (u, rest). give (a, u) rest
+
+pairs-left : {A U S : Type 0} (y : List ℕ → Read U) (left : A × U → List ℕ → Read S) (a : A) (bs : List ℕ)
+    → (y bs >>= λ (u, rest). left (a, u) rest) ≡ (pairs y a bs >>= λ (p, rest). left p rest)
+pairs-left y left a bs =
+    sym (bind-assoc (y bs) _ _ ∙ bind-same (y bs) _ _ (λ u rest. give-then (a, u) rest (λ (p, l). left p l)))
+
+-- one part more
+module _ {A U S : Type 0} {form : Read S} {left : A → List ℕ → Read S} {mk : A → Table.Row} {es : A → List PatternElement}
+    (y : List ℕ → Read U) (puts : ℕ → U → Table.Row → Table.Row) (eu : U → List PatternElement) (left′ : A × U → List ℕ → Read S)
+    (mk′ : A × U → Table.Row) (es′ : A × U → List PatternElement) {text table keys tags : List ℕ} {c : Cursor} (ready : Ready text keys tags c)
+    (next : (a : A) (bs : List ℕ) → left a bs ≡ (y bs >>= λ (u, rest). left′ (a, u) rest))
+    (makes : (a : A) (u : U) → puts (c .elements + length (es a)) u (mk a) ≡ mk′ (a, u))
+    (sum : (a : A) (u : U) → es a ++ eu u ≡ es′ (a, u)) where
+  more-got : {row : Row} {b : Cursor} {t k g : List ℕ} {row′ : Row} {d : Cursor} {t′ k′ g′ : List ℕ}
+      → Going form left mk es text table keys tags c row t k g b
+      → Drawn (y (drop (b .at) text)) (puts (b .elements)) eu text t k g row b row′ t′ k′ g′ d
+      → Going form left′ mk′ es′ text table keys tags c row′ t′ k′ g′ d
+  more-got {row} {b} {t} {k} {g} {row′} {d} {t′} {k′} {g′} a s =
+      let p : A × U = (a .value, s .value) in
+      let rows = a .rows ++ s .rows in
+      let x : Read (A × U) = a .before >>= λ (z, rest). pairs y z rest in
+      record {
+        value = p;
+        before = x;
+        rows = rows;
+        counted =
+            total-append (λ n. n) (a .rows) (s .rows)
+            ∙ ap₂ (λ (i j : ℕ). i + j) (a .counted) (s .counted)
+            ∙ sym (length-append (es (a .value)) (eu (s .value)))
+            ∙ ap length (sum (a .value) (s .value));
+        gets =
+            subst (λ (l : List PatternElement). GetsElements text table keys tags c x p l rows t′ k′ g′ d) (sum (a .value) (s .value))
+            (elements-then (a .gets) (λ (z, rest). pairs y z rest) ready (elements-give (s .gets) _ p refl));
+        made =
+            s .made
+            ∙ ap (λ (n : ℕ). puts n (s .value) (rowMeaning row)) (a .gets .goes .elements)
+            ∙ ap (puts (c .elements + length (es (a .value))) (s .value)) (a .made)
+            ∙ makes (a .value) (s .value);
+        whole =
+            a .whole
+            ∙ bind-same (a .before) _ _ (λ z rest. next z rest ∙ pairs-left y left′ z rest)
+            ∙ sym (bind-assoc (a .before) (λ (z, rest). pairs y z rest) (λ (z, rest). left′ z rest));
+      }
+
+  pub going-more : (r q : Draft) {t k g : List ℕ} {t′ k′ g′ : List ℕ} → GoesOn form left mk es text table keys tags c r t k g
+      → StageRead y puts eu text t k g r q t′ k′ g′ → GoesOn form left′ mk′ es′ text table keys tags c q t′ k′ g′
+  going-more (DraftCode.the-variants.Got row b) (DraftCode.the-variants.Got row′ d) a s = record { answer = more-got (a .answer) (s .answer) }
+  going-more (DraftCode.the-variants.Got row b) DraftCode.the-variants.Broken a s =
+      let going = a .answer in
+      record {
+        answer =
+            going .whole
+            ∙ elements-broken (going .gets) _ (next (going .value) (drop (b .at) text) ∙ then-broken _ (s .answer));
+      }
+  going-more DraftCode.the-variants.Broken (DraftCode.the-variants.Got row′ d) a s = absurd (s .answer)
+  going-more DraftCode.the-variants.Broken DraftCode.the-variants.Broken a s = record { answer = a .answer }
+
+-- ---- the end of a statement
+pub drop-nothing : (n : ℕ) (bs : List ℕ) → length bs ≤ n → drop n bs ≡ []
+drop-nothing n bs h = none-left (drop n bs) (omega (arith, length-drop n bs))
+  where
+    none-left : (l : List ℕ) → length l ≤ 0 → l ≡ []
+    none-left [] h = refl
+    none-left (x ∷ l) h = absurd (omega arith)
+
+drop-something : (n : ℕ) (bs : List ℕ) → n < length bs → finished (drop n bs) ≡ broken
+unfolding finished
+drop-something n bs h = some-left (drop n bs) (omega (arith, length-drop n bs))
+  where
+    some-left : (l : List ℕ) → 0 < length l → finished l ≡ broken
+    some-left [] h = absurd (omega arith)
+    some-left (x ∷ l) h = refl
+
+module _ (text : List ℕ) (at : ℕ) where
+  module _ (e : length text ≤ at) where
+    end-here : {B : Type 0} (b : B) → (finished (drop at text) >>= λ (_, rest). give b rest) ≡ give b (drop at text)
+    unfolding finished
+    end-here b =
+        ap (λ (l : List ℕ). finished l >>= λ (_, rest). give b rest) (drop-nothing at text e)
+        ∙ give-then tt [] (λ (_, rest). give b rest)
+        ∙ ap (give b) (sym (drop-nothing at text e))
+
+    pub step-here : (s : Statement) → stepEnd s (drop at text) ≡ give (some s) (drop at text)
+    unfolding stepEnd
+    step-here s = end-here (some s)
+
+    pub no-step-here : noStepEnd (drop at text) ≡ give none (drop at text)
+    unfolding noStepEnd
+    no-step-here = end-here none
+
+  module _ (e : at < length text) where
+    pub step-not : (s : Statement) → stepEnd s (drop at text) ≡ broken
+    unfolding stepEnd
+    step-not s = then-broken _ (drop-something at text e)
+
+    pub no-step-not : noStepEnd (drop at text) ≡ broken
+    unfolding noStepEnd
+    no-step-not = then-broken _ (drop-something at text e)
+
+-- a statement with no items, read to the end
+pub formed-elements : {v : Option Statement} {es : List PatternElement} {rows : List ℕ} {text table keys tags : List ℕ} {c : Cursor}
+    {x : Read (Option Statement)} {t k g : List ℕ} {d : Cursor} → GetsElements text table keys tags c x v es rows t k g d → length text ≤ d .at
+    → total (λ n. n) rows ≡ length es → es ≡ elementsIn v → [] ≡ itemsIn v → Formed v (length text - c .at) table keys tags c x t k g d
+unfolding withItems
+formed-elements {v} {es} {rows} {text} {table} {keys} {tags} {c} {x} {t} {k} {g} {d} a end counted same none′ =
+    let size : length es ≡ length (elementsIn v) = ap length same in
+    let bytes : length (allLiterals es) ≡ length (allLiterals (elementsIn v)) = ap (λ (l : List PatternElement). length (allLiterals l)) same in
+    let items : 0 ≡ length (itemsIn v) = ap (λ (l : List Item). length l) none′ in
+    record {
+      entries = a .entries;
+      rows = rows;
+      is =
+          a .is
+          ∙ ap (got v (metIn (a .entries) 0 rows (length (allLiterals es)))) (drop-nothing (d .at) text end)
+          ∙ ap₂ (λ (i j : ℕ). got v (metIn (a .entries) i rows j) []) items bytes;
+      counted = counted ∙ size;
+      longest = a .goes .longest;
+      written =
+          a .written
+          ∙ ap (withElements table (c .elements) (c .literals)) same
+          ∙ ap (λ (l : List Item). withElements (withItems table (c .items) l) (c .elements) (c .literals) (elementsIn v)) none′;
+      noting = a .noting;
+      names = a .goes .names;
+      items = a .goes .items ∙ sym (add-zero (c .items)) ∙ ap (λ n. c .items + n) items;
+      elements = a .goes .elements ∙ ap (λ n. c .elements + n) size;
+      literals = a .goes .literals ∙ ap (λ n. c .literals + n) bytes;
+      few = omega (arith, a .few, a .ready .inside);
+      keysSize = a .ready .keysSize;
+      tagsSize = a .ready .tagsSize;
+    }
+
+-- the whole form is a step
+module _ {A : Type 0} {form : Read (Option Statement)} {left : A → List ℕ → Read (Option Statement)} {mk : A → Table.Row}
+    {es : A → List PatternElement} (step : A → Statement) {text table keys tags : List ℕ} {c : Cursor} {t k g : List ℕ}
+    (ends : (a : A) (bs : List ℕ) → left a bs ≡ stepEnd (step a) bs) (makes : (a : A) → mk a ≡ rowOf (c .elements) (c .items) (step a))
+    (same : (a : A) → es a ≡ elementsOf (step a)) (none′ : (a : A) → [] ≡ itemsOf (step a)) where
+  ended-case : (row : Row) (d : Cursor) (b : Bool) → ltb (d .at) (length text) ≡ b → Going form left mk es text table keys tags c row t k g d
+      → FormRead (length text - c .at) table keys tags c form
+      (elim b [ true ↦ FormCode.the-variants.Broken | false ↦ FormCode.the-variants.Step row d ]) t k g
+  unfolding itemsIn elementsIn
+  ended-case row d true e a =
+      record {
+        answer =
+            a .whole
+            ∙ elements-broken (a .gets) _
+            (ends (a .value) (drop (d .at) text) ∙ step-not text (d .at) (ltb-true (d .at) (length text) e) (step (a .value)));
+      }
+  ended-case row d false e a =
+      let end = ltb-false (d .at) (length text) e in
+      let s = step (a .value) in
+      record {
+        answer =
+            record {
+              statement = s;
+              made = a .made ∙ makes (a .value);
+              formed =
+                  subst (λ (z : Read (Option Statement)). Formed (some s) (length text - c .at) table keys tags c z t k g d) (sym (a .whole))
+                  (formed-elements
+                  (elements-give (a .gets) (λ (z, rest). left z rest) (some s)
+                  (ends (a .value) (drop (d .at) text) ∙ step-here text (d .at) end s)) end (a .counted) (same (a .value)) (none′ (a .value)));
+            };
+      }
+
+  pub going-ended : (r : Draft) → GoesOn form left mk es text table keys tags c r t k g
+      → FormRead (length text - c .at) table keys tags c form (endedBy text r) t k g
+  going-ended (DraftCode.the-variants.Got row d) a = ended-case row d (ltb (d .at) (length text)) refl (a .answer)
+  going-ended DraftCode.the-variants.Broken a = record { answer = a .answer }

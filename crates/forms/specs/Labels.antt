@@ -1,0 +1,368 @@
+-- A statement's label: it is a name or nothing, and is met first. Assumes nothing.
+use mathlib.Core.Bool.{Bool, true, false, cond, _&&_, _||_, and-eq-true-iff}
+use mathlib.Core.List.{List, [], _∷_}
+use mathlib.Core.Option.{Option}
+use mathlib.Core.Path.{_≡_, refl, sym, ap, ap₂, subst, _∙_}
+use Prim.Native.Nat.{ℕ, zero, suc, _+_, _*_, _/_, _%_, _≤_}
+use native.Mathlib.Nat.{zero-add}
+use native.Mathlib.Omega.{arith}
+use lib.Dec.{eqb, leb, ltb}
+use lib.ListN.{length, drop}
+use borrow.Author.Tests.{eqb-true, eqb-false, eq-eqb, ne-eqb, le-leb, leb-true}
+use Rattle.base.specs.Choice.{test-cases}
+use Rattle.base.specs.Edition.{edition1}
+use Rattle.base.specs.Limits as Limits
+use Rattle.base.specs.Lists.{all, any}
+use Rattle.branches.specs.BranchLaws.{meeting-nothing}
+use Rattle.branches.specs.Places.{numberIn}
+use Rattle.calls.specs.Splices.{length-splice}
+use Rattle.calls.specs.Table.{allLiterals, rowOf}
+use Rattle.cards.specs.Bytes.{between, isLetter, isDigit}
+use Rattle.cards.specs.Packing.{packed, literalsWhole}
+use Rattle.judgement.specs.Refusals.{labelForm, labelled, readStatement}
+use Rattle.language.specs.Forms.{formOf, statementForm}
+use Rattle.language.specs.Keywords as Keywords
+use Rattle.language.specs.Keywords.{leading}
+use Rattle.language.specs.Program.{Statement}
+use Rattle.language.specs.Reading.{label, declaring, purposeNumber, Met, nothing, Read, got, broken, meeting}
+use Rattle.language.specs.Words.{run, isNameByte, nameLength}
+use Rattle.met.specs.Contracts.{Noted}
+use Rattle.met.specs.Elements.{withElements}
+use Rattle.met.specs.Entries.{entry, nameFrom, nameOf, metIn}
+use Rattle.met.specs.EntryLaws.{met-both, name-key, declared-met}
+use Rattle.met.specs.Items.{withItems}
+use Rattle.met.specs.Known.{placesIn}
+use Rattle.met.specs.declared.Cursor.{Cursor}
+use Rattle.numeric.specs.KindLaws.{ready-on}
+use Rattle.numeric.specs.OperandLaws.{noting-more}
+use Rattle.numeric.specs.Operands.{Ready, Noting, moved}
+use Rattle.packer.specs.Keys.{keyOf, isKeyByte}
+use Rattle.words.specs.Kinds.{kindOf, leads}
+use Rattle.words.specs.declared.keywords.Keyword.{Keyword}
+use Rattle.forms.specs.BehindLaws.{lead-fits, of-kind}
+use Rattle.forms.specs.Steps.{FormAt}
+use Rattle.forms.specs.Contracts.{Starts, itemsIn, elementsIn, Formed, FormRead, Wording}
+use Rattle.forms.specs.declared.Form as FormCode
+use Rattle.forms.specs.declared.Form.{Form}
+
+-- ---- the bytes of a key, one by one
+unfoldable pub nameShown : ℕ → Bool
+nameShown key = isLetter (key % 256) && all isNameByte (nameOf (key / 256))
+
+from-same : (m n k : ℕ) → k ≤ m → k ≤ n → nameFrom m k ≡ nameFrom n k
+unfolding nameFrom
+from-same zero zero k h g = refl
+from-same zero (suc n) k h g = ap {B = List ℕ} (λ t. elim t [ true ↦ [] | false ↦ k % 256 ∷ nameFrom n (k / 256) ]) (sym (eq-eqb k 0 (omega arith)))
+from-same (suc m) zero k h g = ap {B = List ℕ} (λ t. elim t [ true ↦ [] | false ↦ k % 256 ∷ nameFrom m (k / 256) ]) (eq-eqb k 0 (omega arith))
+from-same (suc m) (suc n) k h g =
+    test-cases
+    (λ t.
+    eqb k 0 ≡ t
+    → _≡_ {A = List ℕ} (elim t [ true ↦ [] | false ↦ k % 256 ∷ nameFrom m (k / 256) ])
+    (elim t [ true ↦ [] | false ↦ k % 256 ∷ nameFrom n (k / 256) ]))
+    (eqb k 0) (λ _ _. refl)
+    (λ _ e.
+    let some = eqb-false k 0 e in
+    let small : k / 256 ≤ m = omega arith in
+    let short : k / 256 ≤ n = omega arith in
+    ap (λ (l : List ℕ). k % 256 ∷ l) (from-same m n (k / 256) small short))
+    refl
+
+name-more : (k : ℕ) → (k ≡ 0 → ⊥) → nameOf k ≡ k % 256 ∷ nameOf (k / 256)
+unfolding nameOf nameFrom
+name-more zero h = absurd (h refl)
+name-more (suc k) h =
+    let small : suc k / 256 ≤ k = omega arith in
+    ap {B = List ℕ} (λ t. elim t [ true ↦ [] | false ↦ suc k % 256 ∷ nameFrom k (suc k / 256) ]) (ne-eqb (suc k) 0 h)
+    ∙ ap (λ (l : List ℕ). suc k % 256 ∷ l) (from-same k (suc k / 256) (suc k / 256) small (omega arith))
+
+-- the bytes of rest are all that is left to be looked at
+pub record Looked (key rest : ℕ) : Type 0 where
+  pub letter : isLetter (key % 256) ≡ true
+  pub left : all isNameByte (nameOf (key / 256)) ≡ all isNameByte (nameOf rest)
+
+pub looked-start : (key : ℕ) → isLetter (key % 256) ≡ true → Looked key (key / 256)
+looked-start key e = record { letter = e; left = refl }
+
+module _ (key rest : ℕ) (a : Looked key rest) where
+  looked-on : (rest ≡ 0 → ⊥) → all isNameByte (nameOf (key / 256)) ≡ (isNameByte (rest % 256) && all isNameByte (nameOf (rest / 256)))
+  unfolding all
+  looked-on h = a .left ∙ ap (all isNameByte) (name-more rest h)
+
+  pub looked-more : (rest ≡ 0 → ⊥) → isNameByte (rest % 256) ≡ true → Looked key (rest / 256)
+  looked-more h e =
+      record { letter = a .letter; left = looked-on h ∙ ap (λ b. b && all isNameByte (nameOf (rest / 256))) e }
+
+  shown-is : (b : Bool) → all isNameByte (nameOf (key / 256)) ≡ b → nameShown key ≡ b
+  unfolding nameShown
+  shown-is b e = ap₂ (λ (x y : Bool). x && y) (a .letter) e
+
+  pub looked-not : (rest ≡ 0 → ⊥) → isNameByte (rest % 256) ≡ false → false ≡ nameShown key
+  looked-not h e = sym (shown-is false (looked-on h ∙ ap (λ b. b && all isNameByte (nameOf (rest / 256))) e))
+
+  pub looked-all : rest ≡ 0 → true ≡ nameShown key
+  unfolding all nameOf nameFrom
+  looked-all h = sym (shown-is true (a .left ∙ ap (λ n. all isNameByte (nameOf n)) h))
+
+pub shown-not : (key : ℕ) → isLetter (key % 256) ≡ false → false ≡ nameShown key
+unfolding nameShown
+shown-not key e = sym (ap (λ b. b && all isNameByte (nameOf (key / 256))) e)
+
+-- ---- a label's form
+eqb-suc : (a b : ℕ) → eqb (suc a) (suc b) ≡ eqb a b
+eqb-suc a b =
+    test-cases (λ t. eqb a b ≡ t → eqb (suc a) (suc b) ≡ t) (eqb a b) (λ _ e. eq-eqb (suc a) (suc b) (ap suc (eqb-true a b e)))
+    (λ _ e. ne-eqb (suc a) (suc b) (λ h. eqb-false a b e (omega arith))) refl
+
+run-whole : (f : ℕ → Bool) (bs : List ℕ) → eqb (run f bs) (length bs) ≡ all f bs
+unfolding run all
+run-whole f [] = refl
+run-whole f (b ∷ bs) =
+    test-cases (λ t. f b ≡ t → eqb (elim t [ true ↦ suc (run f bs) | false ↦ 0 ]) (suc (length bs)) ≡ (t && all f bs)) (f b)
+    (λ _ _. eqb-suc (run f bs) (length bs) ∙ run-whole f bs) (λ _ _. ne-eqb 0 (suc (length bs)) (λ h. omega arith)) refl
+
+run-short : (f : ℕ → Bool) (bs : List ℕ) → run f bs ≤ length bs
+unfolding run
+run-short f [] = omega arith
+run-short f (b ∷ bs) =
+    test-cases (λ t. elim t [ true ↦ suc (run f bs) | false ↦ 0 ] ≤ suc (length bs)) (f b)
+    (λ _. let rest = run-short f bs in omega arith) (λ _. omega arith)
+
+label-name : (b : ℕ) (bs : List ℕ) → length (b ∷ bs) ≤ 8
+    → eqb (nameLength (b ∷ bs)) (length (b ∷ bs)) ≡ (isLetter b && all isNameByte bs)
+unfolding nameLength run isNameByte
+label-name b bs h =
+    test-cases
+    (λ t.
+    isLetter b ≡ t
+    → eqb
+    (cond (t && leb (elim (t || isDigit b) [ true ↦ suc (run isNameByte bs) | false ↦ 0 ]) 8)
+    (elim (t || isDigit b) [ true ↦ suc (run isNameByte bs) | false ↦ 0 ]) 0)
+    (suc (length bs))
+    ≡ (t && all isNameByte bs))
+    (isLetter b)
+    (λ _ e.
+    let few : suc (run isNameByte bs) ≤ 8 = omega (arith, run-short isNameByte bs) in
+    ap (λ t. eqb (cond t (suc (run isNameByte bs)) 0) (suc (length bs))) (le-leb (suc (run isNameByte bs)) 8 few)
+    ∙ eqb-suc (run isNameByte bs) (length bs)
+    ∙ run-whole isNameByte bs)
+    (λ _ e. ne-eqb 0 (suc (length bs)) (λ z. omega arith))
+    refl
+
+-- a clean byte is none of zero
+byte-some : (b : ℕ) (bs : List ℕ) → all isKeyByte (b ∷ bs) ≡ true → (1 ≤ b) × ((b ≤ 255) × (all isKeyByte bs ≡ true))
+unfolding all isKeyByte between
+byte-some b bs e =
+    let parts = and-eq-true-iff (isKeyByte b) (all isKeyByte bs) .0 e in
+    let range = and-eq-true-iff (leb 1 b) (leb b 255) .0 (parts .0) in
+    (leb-true 1 b (range .0), (leb-true b 255 (range .1), parts .1))
+
+key-some : (b : ℕ) (bs : List ℕ) → 1 ≤ b → keyOf (b ∷ bs) ≡ 0 → ⊥
+unfolding keyOf
+key-some b bs h e = omega arith
+
+shown-name : (b : ℕ) (bs : List ℕ) → all isKeyByte (b ∷ bs) ≡ true → length (b ∷ bs) ≤ 8
+    → nameShown (keyOf (b ∷ bs)) ≡ eqb (nameLength (b ∷ bs)) (length (b ∷ bs))
+unfolding nameShown keyOf
+shown-name b bs e h =
+    let clean = byte-some b bs e in
+    let low = clean .0 in
+    let high = clean .1 .0 in
+    let first : (256 * keyOf bs + b) % 256 ≡ b = omega arith in
+    let behind : (256 * keyOf bs + b) / 256 ≡ keyOf bs = omega arith in
+    ap₂ (λ (x : ℕ) (l : List ℕ). isLetter x && all isNameByte l) first (ap nameOf behind ∙ name-key bs (clean .1 .1))
+    ∙ sym (label-name b bs h)
+
+-- ---- the whole statement
+labelled-off : (x : Read (Unit {0})) (form : Read (Option Statement)) → labelled x false form ≡ broken
+unfolding labelled
+labelled-off (got u m rest) form = refl
+labelled-off broken form = refl
+
+abbrev pub formIn : (known text : List ℕ) → Read (Option Statement)
+formIn known text = statementForm edition1 (numberIn known) (placesIn known) text
+
+abbrev pub statementIn : (known labelBytes raw : List ℕ) → Read (Option Statement)
+statementIn known labelBytes raw = readStatement edition1 (numberIn known) (placesIn known) labelBytes raw
+
+module _ (known : List ℕ) where
+  -- literals that aren't whole
+  pub statement-off : {labelBytes raw text : List ℕ} {key : ℕ} → Wording labelBytes raw text key false → statementIn known labelBytes raw ≡ broken
+  unfolding readStatement
+  statement-off {labelBytes} {raw} w =
+      ap (λ b. labelled (labelForm labelBytes) b (formIn known (packed raw))) (sym (w .whole)) ∙ labelled-off (labelForm labelBytes) _
+
+  -- no label
+  pub statement-plain : (labelBytes : List ℕ) {raw text : List ℕ} {key : ℕ} → Wording labelBytes raw text key true → key ≡ 0
+      → statementIn known labelBytes raw ≡ formIn known text
+  unfolding readStatement labelForm labelled
+  statement-plain [] {raw} w e =
+      ap {B = Read (Option Statement)} (λ b. elim b [ true ↦ meeting nothing (formIn known (packed raw)) | false ↦ broken ]) (sym (w .whole))
+      ∙ meeting-nothing (formIn known (packed raw))
+      ∙ ap (formIn known) (w .bytes)
+  statement-plain (b ∷ bs) w e = absurd (some-key b bs (w .clean) (sym (w .key) ∙ e))
+    where
+      some-key : (b : ℕ) (bs : List ℕ) → all isKeyByte (b ∷ bs) ≡ true → keyOf (b ∷ bs) ≡ 0 → ⊥
+      some-key b bs c z = key-some b bs (byte-some b bs c .0) z
+
+  -- a label that is no name
+  pub statement-unnamed : (labelBytes : List ℕ) {raw text : List ℕ} {key : ℕ} → Wording labelBytes raw text key true → (key ≡ 0 → ⊥)
+      → nameShown key ≡ false → statementIn known labelBytes raw ≡ broken
+  unfolding readStatement labelForm labelled keyOf
+  statement-unnamed [] w h e = absurd (h (w .key))
+  statement-unnamed (b ∷ bs) {raw} w h e =
+      let form = formIn known (packed raw) in
+      let not-name : eqb (nameLength (b ∷ bs)) (length (b ∷ bs)) ≡ false =
+      sym (shown-name b bs (w .clean) (w .short)) ∙ ap nameShown (sym (w .key)) ∙ e in
+      ap
+      (λ (t : Bool).
+      labelled (elim t [ true ↦ got tt (declaring label (b ∷ bs)) [] | false ↦ broken ]) (literalsWhole raw) form)
+      not-name
+
+  -- a label, and then the statement
+  pub statement-named : (labelBytes : List ℕ) {raw text : List ℕ} {key : ℕ} → Wording labelBytes raw text key true → (key ≡ 0 → ⊥)
+      → nameShown key ≡ true → statementIn known labelBytes raw ≡ meeting (metIn (entry key 9 ∷ []) 0 [] 0) (formIn known text)
+  unfolding readStatement labelForm labelled purposeNumber keyOf
+  statement-named [] w h e = absurd (h (w .key))
+  statement-named (b ∷ bs) {raw} {text} {key} w h e =
+      let form = formIn known (packed raw) in
+      let name : eqb (nameLength (b ∷ bs)) (length (b ∷ bs)) ≡ true =
+      sym (shown-name b bs (w .clean) (w .short)) ∙ ap nameShown (sym (w .key)) ∙ e in
+      ap
+      (λ (t : Bool).
+      labelled (elim t [ true ↦ got tt (declaring label (b ∷ bs)) [] | false ↦ broken ]) (literalsWhole raw) form)
+      name
+      ∙ ap {B = Read (Option Statement)} (λ t. elim t [ true ↦ meeting (declaring label (b ∷ bs)) form | false ↦ broken ]) (sym (w .whole))
+      ∙ ap₂ (λ (m : Met) (l : List ℕ). meeting m (formIn known l))
+      (sym (declared-met (b ∷ bs) (w .clean) label) ∙ ap (λ j. metIn (entry j 9 ∷ []) 0 [] 0) (sym (w .key))) (w .bytes)
+
+-- ---- what is met with the label
+module _ {table keys tags : List ℕ} {c : Cursor} {x : Read (Option Statement)} {t k g : List ℕ} where
+  formed-most : {v : Option Statement} {most most′ : ℕ} {d : Cursor} → most ≤ most′ → Formed v most table keys tags c x t k g d
+      → Formed v most′ table keys tags c x t k g d
+  formed-most h f =
+      record {
+        entries = f .entries;
+        rows = f .rows;
+        is = f .is;
+        counted = f .counted;
+        longest = f .longest;
+        written = f .written;
+        noting = f .noting;
+        names = f .names;
+        items = f .items;
+        elements = f .elements;
+        literals = f .literals;
+        few = omega (arith, f .few);
+        keysSize = f .keysSize;
+        tagsSize = f .tagsSize;
+      }
+
+  pub form-most : {most most′ : ℕ} (q : Form) → most ≤ most′ → FormRead most table keys tags c x q t k g → FormRead most′ table keys tags c x q t k g
+  form-most FormCode.the-variants.Broken h f = record { answer = f .answer }
+  form-most (FormCode.the-variants.NoStep d) h f = record { answer = formed-most h (f .answer) }
+  form-most (FormCode.the-variants.Step row d) h f =
+      record {
+        answer =
+            record { statement = f .answer .statement; made = f .answer .made; formed = formed-most h (f .answer .formed) };
+      }
+
+label-noted : {key : ℕ} {keys tags : List ℕ} {c : Cursor} {k g : List ℕ} {d : Cursor} → Noted keys tags c key 9 k g d
+    → Noting keys tags (c .names) (entry key 9 ∷ []) k g
+unfolding entry
+label-noted n = record { keyed = n .keyed; tagged = n .tagged }
+
+module _ {most key : ℕ} {table keys tags : List ℕ} {c : Cursor} {x : Read (Option Statement)} {k g : List ℕ} {d : Cursor} {t k′ g′ : List ℕ}
+    (room : (c .names ≤ length keys) × (c .names ≤ length tags)) (n : Noted keys tags c key 9 k g d) where
+  formed-labelled : {v : Option Statement} {e : Cursor} → Formed v most table k g d x t k′ g′ e
+      → Formed v (most + 1) table keys tags c (meeting (metIn (entry key 9 ∷ []) 0 [] 0) x) t k′ g′ e
+  unfolding meeting
+  formed-labelled {v} f =
+      let names : d .names ≡ c .names + 1 = ap (λ (z : Cursor). z .names) (n .goes) in
+      let items : d .items ≡ c .items = ap (λ (z : Cursor). z .items) (n .goes) in
+      let elements : d .elements ≡ c .elements = ap (λ (z : Cursor). z .elements) (n .goes) in
+      let literals : d .literals ≡ c .literals = ap (λ (z : Cursor). z .literals) (n .goes) in
+      let i = length (itemsIn v) in
+      let l = length (allLiterals (elementsIn v)) in
+      record {
+        entries = entry key 9 ∷ f .entries;
+        rows = f .rows;
+        is =
+            ap (meeting (metIn (entry key 9 ∷ []) 0 [] 0)) (f .is)
+            ∙ ap (λ (m : Met). got v m [])
+            (met-both (entry key 9 ∷ []) (f .entries) 0 i [] (f .rows) 0 l
+            ∙ ap₂ (λ (m j : ℕ). metIn (entry key 9 ∷ f .entries) m (f .rows) j) (zero-add i) (zero-add l));
+        counted = f .counted;
+        longest =
+            f .longest ∙ ap (λ j. ltb Limits.row j || any (ltb Limits.row) (f .rows)) (ap (λ (z : Cursor). z .longest) (n .goes));
+        written =
+            f .written
+            ∙ ap (λ j. withElements (withItems table j (itemsIn v)) (d .elements) (d .literals) (elementsIn v)) items
+            ∙ ap₂ (λ (m j : ℕ). withElements (withItems table (c .items) (itemsIn v)) m j (elementsIn v)) elements literals;
+        noting = noting-more (room .0) (room .1) names (label-noted n) (f .noting);
+        names = omega (arith, f .names);
+        items = f .items ∙ ap (λ j. j + i) items;
+        elements = f .elements ∙ ap (λ j. j + length (elementsIn v)) elements;
+        literals = f .literals ∙ ap (λ j. j + l) literals;
+        few = omega (arith, f .few);
+        keysSize = f .keysSize;
+        tagsSize = f .tagsSize;
+      }
+
+  pub form-labelled : (q : Form) → FormRead most table k g d x q t k′ g′
+      → FormRead (most + 1) table keys tags c (meeting (metIn (entry key 9 ∷ []) 0 [] 0) x) q t k′ g′
+  unfolding meeting
+  form-labelled FormCode.the-variants.Broken f = record { answer = ap (meeting (metIn (entry key 9 ∷ []) 0 [] 0)) (f .answer) }
+  form-labelled (FormCode.the-variants.NoStep e) f = record { answer = formed-labelled (f .answer) }
+  form-labelled (FormCode.the-variants.Step row e) f =
+      let s = f .answer in
+      record {
+        answer =
+            record {
+              statement = s .statement;
+              made =
+                  s .made
+                  ∙ ap₂ (λ (m j : ℕ). rowOf m j (s .statement)) (ap (λ (z : Cursor). z .elements) (n .goes))
+                  (ap (λ (z : Cursor). z .items) (n .goes));
+              formed = formed-labelled (s .formed);
+            };
+      }
+
+-- ---- before a statement the cursor is ready, and so it is behind its label
+pub starts-ready : {text keys tags : List ℕ} {c : Cursor} → Starts text keys tags c → Ready text keys tags c
+starts-ready s =
+    record {
+      textSize = s .textSize;
+      inside = omega (arith, s .at);
+      names = omega (arith, s .names);
+      items = omega (arith, s .items);
+      elements = omega (arith, s .elements);
+      literals = omega (arith, s .literals);
+      keysSize = s .keysSize;
+      tagsSize = s .tagsSize;
+    }
+
+pub starts-labelled : {text keys tags : List ℕ} {c : Cursor} {key : ℕ} {k g : List ℕ} {d : Cursor} → Starts text keys tags c → c .names ≡ 0
+    → Noted keys tags c key 9 k g d → Starts text k g d
+starts-labelled {keys = keys} {tags = tags} {c = c} {key = key} s first n =
+    record {
+      textSize = s .textSize;
+      at = ap (λ (z : Cursor). z .at) (n .goes) ∙ s .at;
+      names = omega (arith, ap (λ (z : Cursor). z .names) (n .goes));
+      items = omega (arith, s .items, ap (λ (z : Cursor). z .items) (n .goes));
+      elements = omega (arith, s .elements, ap (λ (z : Cursor). z .elements) (n .goes));
+      literals = omega (arith, s .literals, ap (λ (z : Cursor). z .literals) (n .goes));
+      keysSize = ap length (n .keyed) ∙ length-splice keys (c .names) (key ∷ []) (omega (arith, s)) ∙ s .keysSize;
+      tagsSize = ap length (n .tagged) ∙ length-splice tags (c .names) (9 ∷ []) (omega (arith, s)) ∙ s .tagsSize;
+    }
+
+-- behind the keyword
+module _ {text keys tags : List ℕ} {c : Cursor} (lead : Keyword) {d : Cursor} (s : Starts text keys tags c) (is : leads lead ≡ leading text)
+    (e : d ≡ moved c (lead .size)) where
+  pub lead-ready : Ready text keys tags d
+  lead-ready = subst (Ready text keys tags) (sym e) (ready-on (lead .size) (starts-ready s) (lead-fits text c lead is (s .at)))
+
+  pub of-lead : (known : List ℕ) {table : List ℕ} (kind : Keywords.Kind) → kindOf (lead .kind) ≡ kind → (q : Form) {t k g : List ℕ}
+      → FormAt (formOf edition1 (numberIn known) (placesIn known) kind (drop (d .at) text)) text table keys tags d q t k g
+      → FormRead (length text) table keys tags c (formIn known text) q t k g
+  of-lead known kind f q a = of-kind text c lead is (s .at) known kind f e (starts-ready s) lead-ready q a

@@ -1,0 +1,309 @@
+-- How the parts of forms answer: by the case of the draft they go on from, and of what they read. Assumes nothing.
+use mathlib.Core.Bool.{Bool, true, false}
+use mathlib.Core.List.{List, [], _∷_, map}
+use mathlib.Core.Option.{Option, none, some}
+use mathlib.Core.Path.{_≡_, refl, sym, ap, subst, _∙_}
+use Prim.Native.Nat.{ℕ, _+_, _-_, _*_, _≤_}
+use native.Mathlib.Omega.{arith}
+use lib.ListN.{length, drop, length-map}
+use lib.Seq.{drop-drop}
+use Rattle.base.specs.Edition.{edition1}
+use Rattle.base.specs.Lists.{begins, total}
+use Rattle.base.specs.Text.{bytes}
+use Rattle.branches.specs.Places.{numberIn}
+use Rattle.branches.specs.Rows.{rowMeaning}
+use Rattle.branches.specs.declared.Draft as DraftCode
+use Rattle.branches.specs.declared.Draft.{Draft}
+use Rattle.branches.specs.declared.Row.{Row}
+use Rattle.calls.specs.Table as Table
+use Rattle.calls.specs.Table.{replacementOf, range, rangeCell}
+use Rattle.language.specs.Forms.{branch, branchIfAny, replacementIfAny}
+use Rattle.language.specs.Program.{Branch, Element, PatternElement, value, Statement}
+use Rattle.language.specs.Reading.{Read, broken, _>>=_, give, skip}
+use Rattle.language.specs.Strings.{stringExpression}
+use Rattle.met.specs.Known.{placesIn}
+use Rattle.met.specs.declared.Cursor.{Cursor}
+use Rattle.numeric.specs.OperandLaws.{ready-moved, skipped, chosen, then-broken}
+use Rattle.numeric.specs.Operands.{Ready, Gets, Skips, moved, meaning}
+use Rattle.numeric.specs.declared.operands.Cell.{Cell}
+use Rattle.strings.specs.ElementLaws.{names-elements, elements-none, elements-give, elements-skip, rows-total}
+use Rattle.strings.specs.Elements.{GetsElements, GetsRow, rowsOf}
+use Rattle.forms.specs.Contracts.{FormRead}
+use Rattle.forms.specs.declared.Form.{Form}
+use Rattle.forms.specs.Rows.{withSteps, withBranch, withLeft, withRange, withReplacement, stepsIn, leftIn, rightIn, rangeIn}
+use Rattle.forms.specs.Stages.{Inward, Standing, Following, markedBy, Drawn, StageRead}
+
+-- a draft that may go on is inside the text
+pub standing-inward : (text keys tags : List ℕ) (r : Draft) → Standing text keys tags r → Inward text r
+standing-inward text keys tags (DraftCode.the-variants.Got row c) s = (s .inside, s .textSize)
+standing-inward text keys tags DraftCode.the-variants.Broken s = tt
+
+-- and by its case its cursor is ready
+pub standing-case : {text keys tags : List ℕ} {r : Draft} {row : Row} {c : Cursor} → r ≡ DraftCode.the-variants.Got row c
+    → Standing text keys tags r → Ready text keys tags c
+standing-case {text} {keys} {tags} e s = subst (Standing text keys tags) e s
+
+module _ {U : Type 0} (y : List ℕ → Read U) (puts : ℕ → U → Table.Row → Table.Row) (es : U → List PatternElement) {text table keys tags : List ℕ}
+    {r : Draft} where
+  pub stage-none : r ≡ DraftCode.the-variants.Broken → StageRead y puts es text table keys tags r DraftCode.the-variants.Broken table keys tags
+  stage-none e =
+      subst (λ z. StageRead y puts es text table keys tags z DraftCode.the-variants.Broken table keys tags) (sym e)
+      (record { stands = tt; answer = tt })
+
+  module _ {row : Row} {c : Cursor} (e : r ≡ DraftCode.the-variants.Got row c) {t k g : List ℕ} where
+    pub stage-broken : y (drop (c .at) text) ≡ broken → StageRead y puts es text table keys tags r DraftCode.the-variants.Broken t k g
+    stage-broken h =
+        subst (λ z. StageRead y puts es text table keys tags z DraftCode.the-variants.Broken t k g) (sym e)
+        (record { stands = tt; answer = h })
+
+    pub stage-got : {row′ : Row} {d : Cursor}
+        → Drawn (y (drop (c .at) text)) (puts (c .elements)) es text table keys tags row c row′ t k g d
+        → StageRead y puts es text table keys tags r (DraftCode.the-variants.Got row′ d) t k g
+    stage-got {row′} {d} a =
+        subst (λ z. StageRead y puts es text table keys tags z (DraftCode.the-variants.Got row′ d) t k g) (sym e)
+        (record { stands = a .gets .ready; answer = a })
+
+-- a stage from a draft whose case is known
+pub stage-from : {U : Type 0} {y : List ℕ → Read U} {puts : ℕ → U → Table.Row → Table.Row} {es : U → List PatternElement}
+    {text table keys tags : List ℕ} {r : Draft} {row : Row} {c : Cursor} {q : Draft} {t k g : List ℕ} → r ≡ DraftCode.the-variants.Got row c
+    → StageRead y puts es text table keys tags (DraftCode.the-variants.Got row c) q t k g
+    → StageRead y puts es text table keys tags r q t k g
+stage-from {U} {y} {puts} {es} {text} {table} {keys} {tags} {q = q} {t = t} {k = k} {g = g} e a =
+    subst (λ z. StageRead y puts es text table keys tags z q t k g) (sym e) a
+
+-- names alone are drawn with any table
+pub drawn-names : {U C : Type 0} {f : U → C} {v : C} {y : Read U} (puts : U → Table.Row → Table.Row) {text keys tags : List ℕ} {row : Row}
+    {c : Cursor} {row′ : Row} {k g : List ℕ} {d : Cursor} (table : List ℕ) (a : Gets f v text keys tags c y k g d)
+    → rowMeaning row′ ≡ puts (a .value) (rowMeaning row)
+    → Drawn y puts (λ _. []) text table keys tags row c row′ table k g d
+unfolding total
+drawn-names puts table a made =
+    record { value = a .value; rows = []; counted = refl; gets = names-elements table a; made = made }
+
+-- a mark
+marked-case : (text : List ℕ) (mark : ℕ) {table keys tags : List ℕ} (row : Row) (c : Cursor) (b : Bool) → Ready text keys tags c
+    → begins (mark ∷ []) (drop (c .at) text) ≡ b
+    → StageRead (skip (mark ∷ [])) (λ _ _ z. z) (λ _. []) text table keys tags (DraftCode.the-variants.Got row c)
+    (elim b [ true ↦ DraftCode.the-variants.Got row (moved c 1) | false ↦ DraftCode.the-variants.Broken ]) table keys tags
+unfolding skip total
+marked-case text mark {table} {keys} {tags} row c true ready e =
+    let on = ready-moved (mark ∷ []) ready e in
+    record {
+      stands = on;
+      answer =
+          record {
+            value = tt;
+            rows = [];
+            counted = refl;
+            gets =
+                subst (λ (x : Read (Unit {0})). GetsElements text table keys tags c x tt [] [] table keys tags (moved c 1))
+                (sym
+                (chosen {b = true} (give tt (drop 1 (drop (c .at) text))) broken e
+                ∙ ap (give tt) (drop-drop 1 (c .at) text)))
+                (elements-skip 1 (skipped c 1 refl) (elements-none tt on));
+            made = refl;
+          };
+    }
+marked-case text mark row c false ready e =
+    record { stands = tt; answer = chosen {b = false} (give tt (drop 1 (drop (c .at) text))) broken e }
+
+pub marked-stage : (text : List ℕ) (mark : ℕ) {table keys tags : List ℕ} (r : Draft) → Standing text keys tags r
+    → StageRead (skip (mark ∷ [])) (λ _ _ z. z) (λ _. []) text table keys tags r (markedBy text mark r) table keys tags
+marked-stage text mark (DraftCode.the-variants.Got row c) ready = marked-case text mark row c (begins (mark ∷ []) (drop (c .at) text)) ready refl
+marked-stage text mark DraftCode.the-variants.Broken ready = record { stands = tt; answer = tt }
+
+-- the code's answer at a mark, and where there is none
+module _ (text : List ℕ) (mark : ℕ) {r : Draft} {row : Row} {c : Cursor} (e : r ≡ DraftCode.the-variants.Got row c) where
+  pub marked-here : begins (mark ∷ []) (drop (c .at) text) ≡ true → {d : Cursor} → d ≡ moved c 1
+      → DraftCode.the-variants.Got row d ≡ markedBy text mark r
+  marked-here h g =
+      ap (DraftCode.the-variants.Got row) g
+      ∙ ap {B = Draft} (λ t. elim t [ true ↦ DraftCode.the-variants.Got row (moved c 1) | false ↦ DraftCode.the-variants.Broken ]) (sym h)
+      ∙ ap (markedBy text mark) (sym e)
+
+  pub marked-not : begins (mark ∷ []) (drop (c .at) text) ≡ false → DraftCode.the-variants.Broken ≡ markedBy text mark r
+  marked-not h =
+      ap {B = Draft} (λ t. elim t [ true ↦ DraftCode.the-variants.Got row (moved c 1) | false ↦ DraftCode.the-variants.Broken ]) (sym h)
+      ∙ ap (markedBy text mark) (sym e)
+
+-- a stage of one reader is that of another that reads the same here
+pub stage-same : {U : Type 0} {y z : List ℕ → Read U} {puts : ℕ → U → Table.Row → Table.Row} {es : U → List PatternElement}
+    {text table keys tags : List ℕ} {row : Row} {c : Cursor} (q : Draft) {t k g : List ℕ} → z (drop (c .at) text) ≡ y (drop (c .at) text)
+    → StageRead y puts es text table keys tags (DraftCode.the-variants.Got row c) q t k g
+    → StageRead z puts es text table keys tags (DraftCode.the-variants.Got row c) q t k g
+stage-same {U} {puts = puts} {es = es} {text} {table} {keys} {tags} {row} {c} (DraftCode.the-variants.Got row′ d) {t} {k} {g} h a =
+    record {
+      stands = a .stands;
+      answer = subst (λ (x : Read U). Drawn x (puts (c .elements)) es text table keys tags row c row′ t k g d) (sym h) (a .answer);
+    }
+stage-same DraftCode.the-variants.Broken h a = record { stands = tt; answer = h ∙ a .answer }
+
+-- a branch field, if there is one
+module _ (known : List ℕ) where
+  pub branch-any : (bs : List ℕ) → begins (47 ∷ []) bs ≡ true
+      → branchIfAny edition1 (numberIn known) (placesIn known) bs ≡ branch edition1 (numberIn known) (placesIn known) bs
+  unfolding branchIfAny bytes
+  branch-any bs e = chosen _ _ e
+
+  pub branch-not : {text : List ℕ} (table : List ℕ) {keys tags : List ℕ} (row row′ : Row) (c : Cursor) → Ready text keys tags c
+      → begins (47 ∷ []) (drop (c .at) text) ≡ false
+      → rowMeaning row′ ≡ withBranch (record { success = placesIn known .next; failure = placesIn known .next }) (rowMeaning row)
+      → Drawn (branchIfAny edition1 (numberIn known) (placesIn known) (drop (c .at) text)) withBranch (λ _. []) text table keys tags row c row′
+      table keys tags c
+  unfolding branchIfAny bytes total
+  branch-not {text} table {keys} {tags} row row′ c ready e made =
+      let next : Branch = record { success = placesIn known .next; failure = placesIn known .next } in
+      record {
+        value = next;
+        rows = [];
+        counted = refl;
+        gets =
+            subst (λ (x : Read Branch). GetsElements text table keys tags c x next [] [] table keys tags c)
+            (sym (chosen _ _ e)) (elements-none next ready);
+        made = made;
+      }
+
+-- a row of elements, and the range it has
+pub drawn-row : {A : Type 0} {f : List A → List PatternElement} (sized : (xs : List A) → length (f xs) ≡ length xs) {y : Read (List A)}
+    {text table keys tags : List ℕ} (row : Row) {c : Cursor} {row′ : Row} {cell : _} {t k g : List ℕ} {d : Cursor}
+    → GetsRow f text table keys tags c y t k g d → row′ ≡ rightIn row (row .flag) cell → cell ≡ rangeIn (c .elements) (d .elements - c .elements) 0
+    → Drawn y (λ xs. withRange (c .elements) xs) f text table keys tags row c row′ t k g d
+unfolding rangeCell range Table.cell Table.row
+drawn-row sized row {c} {d = d} a put made =
+    let count : d .elements - c .elements ≡ length (a .values) = omega (arith, a .size) in
+    record {
+      value = a .values;
+      rows = rowsOf (length (a .values));
+      counted = rows-total (length (a .values)) ∙ sym (sized (a .values));
+      gets = a .gets;
+      made =
+          ap rowMeaning put
+          ∙ ap (λ v. rowMeaning (rightIn row (row .flag) v)) made
+          ∙ ap
+          (λ n.
+          Table.row (row .kind) (row .flag) (row .success) (row .failure) (meaning (row .left))
+          (Table.cell 22 0 (c .elements + 65_536 * (n + 65_536 * 0))))
+          count;
+    }
+
+-- a replacement, if there is one
+abbrev pub replacementAt : (known text : List ℕ) → ℕ → Read (Option (List Element))
+replacementAt known text at = replacementIfAny edition1 (numberIn known) (placesIn known) (drop at text)
+
+module _ (known text : List ℕ) (at : ℕ) where
+  replacement-is : begins (61 ∷ []) (drop at text) ≡ true
+      → replacementAt known text at
+      ≡ (stringExpression edition1 (placesIn known) (drop (at + 1) text) >>= λ (xs, rest). give (some xs) rest)
+  unfolding replacementIfAny bytes
+  replacement-is e =
+      chosen _ _ e
+      ∙ ap (λ (l : List ℕ). stringExpression edition1 (placesIn known) l >>= λ (xs, rest). give (some xs) rest) (drop-drop 1 at text)
+
+  pub replaced-broken : begins (61 ∷ []) (drop at text) ≡ true → stringExpression edition1 (placesIn known) (drop (at + 1) text) ≡ broken
+      → replacementAt known text at ≡ broken
+  replaced-broken e h = replacement-is e ∙ then-broken _ h
+
+module _ (known : List ℕ) (direction from : ℕ) {text table keys tags : List ℕ} {row : Row} {c : Cursor} where
+  pub replaced-not : Ready text keys tags c → begins (61 ∷ []) (drop (c .at) text) ≡ false
+      → Drawn (replacementAt known text (c .at)) (withReplacement direction from (c .elements)) (λ o. map value (replacementOf o)) text table keys tags row c row table keys
+      tags c
+  unfolding replacementIfAny bytes total replacementOf
+  replaced-not ready e =
+      record {
+        value = none;
+        rows = [];
+        counted = refl;
+        gets =
+            subst (λ (x : Read (Option (List Element))). GetsElements text table keys tags c x none [] [] table keys tags c) (sym (chosen _ _ e))
+            (elements-none none ready);
+        made = refl;
+      }
+
+  pub replaced-got : begins (61 ∷ []) (drop (c .at) text) ≡ true → {row′ : Row} {cell : _} {t k g : List ℕ} {d : Cursor}
+      → GetsRow (map value) text table keys tags (moved c 1) (stringExpression edition1 (placesIn known) (drop (c .at + 1) text)) t k g d
+      → row′ ≡ rightIn row (direction + 2) cell → cell ≡ rangeIn from (c .elements - from) (d .elements - c .elements)
+      → Drawn (replacementAt known text (c .at)) (withReplacement direction from (c .elements)) (λ o. map value (replacementOf o)) text table keys tags row c row′ t k g d
+  unfolding replacementOf rangeCell range Table.cell Table.row
+  replaced-got e {row′} {cell} {t} {k} {g} {d} a put made =
+      let count : d .elements - c .elements ≡ length (a .values) = omega (arith, a .size) in
+      record {
+        value = some (a .values);
+        rows = rowsOf (length (a .values));
+        counted = rows-total (length (a .values)) ∙ sym (length-map (a .values) value);
+        gets =
+            subst
+            (λ (x : Read (Option (List Element))). GetsElements text table keys tags c x (some (a .values)) (map value (a .values)) (rowsOf (length (a .values))) t k g d)
+            (sym (replacement-is known text (c .at) e))
+            (elements-give (elements-skip 1 (skipped c 1 refl) (a .gets)) _ (some (a .values)) refl);
+        made =
+            ap rowMeaning put
+            ∙ ap (λ v. rowMeaning (rightIn row (direction + 2) v)) made
+            ∙ ap
+            (λ n.
+            Table.row (row .kind) (direction + 2) (row .success) (row .failure) (meaning (row .left))
+            (Table.cell 22 0 (from + 65_536 * (c .elements - from + 65_536 * n))))
+            count;
+      }
+
+-- the table's row of a row that was changed
+module _ (row : Row) {row′ : Row} where
+  pub steps-made : {s f : ℕ} → row′ ≡ stepsIn row s f → rowMeaning row′ ≡ withSteps s f (rowMeaning row)
+  unfolding Table.row
+  steps-made e = ap rowMeaning e
+
+  pub left-made : {v : Cell} → row′ ≡ leftIn row v → rowMeaning row′ ≡ withLeft (meaning v) (rowMeaning row)
+  unfolding Table.row
+  left-made e = ap rowMeaning e
+
+-- a mark keeps a draft that may go on
+pub marked-standing : (text : List ℕ) (mark : ℕ) (keys tags : List ℕ) (r : Draft) → Standing text keys tags r
+    → Standing text keys tags (markedBy text mark r)
+marked-standing text mark keys tags r s = marked-stage text mark {table = []} r s .stands
+
+-- a stage from the same draft, and a form that ends in the same way or reads the same
+pub from-draft : {U : Type 0} {y : List ℕ → Read U} {puts : ℕ → U → Table.Row → Table.Row} {es : U → List PatternElement}
+    {text table keys tags : List ℕ} {r r′ q : Draft} {t k g : List ℕ} → r ≡ r′ → StageRead y puts es text table keys tags r q t k g
+    → StageRead y puts es text table keys tags r′ q t k g
+from-draft {U} {y} {puts} {es} {text} {table} {keys} {tags} {q = q} {t = t} {k = k} {g = g} e a =
+    subst (λ z. StageRead y puts es text table keys tags z q t k g) e a
+
+pub form-ends : {most : ℕ} {table keys tags : List ℕ} {c : Cursor} {x : Read (Option Statement)} {q r : Form} {t k g : List ℕ} → q ≡ r
+    → FormRead most table keys tags c x r t k g → FormRead most table keys tags c x q t k g
+form-ends {most} {table} {keys} {tags} {c} {x} {t = t} {k = k} {g = g} e a =
+    subst (λ z. FormRead most table keys tags c x z t k g) (sym e) a
+
+pub form-same : {most : ℕ} {table keys tags : List ℕ} {c : Cursor} {x y : Read (Option Statement)} {q : Form} {t k g : List ℕ} → x ≡ y
+    → FormRead most table keys tags c y q t k g → FormRead most table keys tags c x q t k g
+form-same {most} {table} {keys} {tags} {c} {q = q} {t = t} {k = k} {g = g} e a =
+    subst (λ z. FormRead most table keys tags c z q t k g) (sym e) a
+
+-- a cursor further on, still inside
+pub ready-at : {text keys tags : List ℕ} {c : Cursor} {n : ℕ} {d : Cursor} → Skips c n d → Ready text keys tags c → d .at ≤ length text
+    → Ready text keys tags d
+ready-at s ready h =
+    record {
+      textSize = ready .textSize;
+      inside = h;
+      names = omega (arith, ready .names, s .goes .names, s .at);
+      items = omega (arith, ready .items, s .goes .items, s .at);
+      elements = omega (arith, ready .elements, s .goes .elements, s .at);
+      literals = omega (arith, ready .literals, s .goes .literals, s .at);
+      keysSize = ready .keysSize;
+      tagsSize = ready .tagsSize;
+    }
+
+-- behind a reading from a cursor on, a draft stands behind the cursor's elements
+pub following : {U : Type 0} {y : List ℕ → Read U} {puts : ℕ → U → Table.Row → Table.Row} {es : U → List PatternElement}
+    {text table keys tags : List ℕ} (from : ℕ) (r q : Draft) {t k g : List ℕ} → Following text keys tags from r
+    → StageRead y puts es text table keys tags r q t k g → Following text k g from q
+following from (DraftCode.the-variants.Got row c) (DraftCode.the-variants.Got row′ d) f a =
+    (a .stands, omega (arith, f .1, a .answer .gets .goes .elements))
+following from (DraftCode.the-variants.Got row c) DraftCode.the-variants.Broken f a = tt
+following from DraftCode.the-variants.Broken (DraftCode.the-variants.Got row′ d) f a = absurd (a .answer)
+following from DraftCode.the-variants.Broken DraftCode.the-variants.Broken f a = tt
+
+pub marked-following : (text : List ℕ) (mark : ℕ) (keys tags : List ℕ) (from : ℕ) (r : Draft) → Following text keys tags from r
+    → Following text keys tags from (markedBy text mark r)
+marked-following text mark keys tags from (DraftCode.the-variants.Got row c) f =
+    following from (DraftCode.the-variants.Got row c) _ f (marked-stage text mark {table = []} (DraftCode.the-variants.Got row c) (f .0))
+marked-following text mark keys tags from DraftCode.the-variants.Broken f = tt

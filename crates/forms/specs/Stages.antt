@@ -1,0 +1,117 @@
+-- What the parts of forms do: each goes on from the row so far. Assumes nothing.
+use mathlib.Core.Bool.{true, false}
+use mathlib.Core.List.{List, [], _∷_, map}
+use mathlib.Core.Path.{_≡_}
+use Prim.Native.Nat.{ℕ, _/_, _≤_}
+use lib.ListN.{length, drop}
+use Rattle.base.specs.Edition.{edition1}
+use Rattle.base.specs.Lists.{begins, total}
+use Rattle.branches.specs.Branches.{labelIn}
+use Rattle.branches.specs.Places.{numberIn}
+use Rattle.branches.specs.Rows.{rowMeaning}
+use Rattle.branches.specs.Tests.{testAlone}
+use Rattle.branches.specs.declared.Draft as DraftCode
+use Rattle.branches.specs.declared.Draft.{Draft}
+use Rattle.branches.specs.declared.Row.{Row}
+use Rattle.calls.specs.Table as Table
+use Rattle.calls.specs.Table.{partCell, replacementOf}
+use Rattle.language.specs.Forms.{branch, branchIfAny, replacementIfAny}
+use Rattle.language.specs.Numeric.{test}
+use Rattle.language.specs.Program.{PatternElement, value}
+use Rattle.language.specs.Reading.{routine, declaring, naming, Read, broken}
+use Rattle.language.specs.Strings.{stringExpression, pattern}
+use Rattle.language.specs.Words.{nameAs, numberName, partName}
+use Rattle.met.specs.Entries.{roleOf}
+use Rattle.met.specs.Known.{placesIn}
+use Rattle.met.specs.declared.Cursor.{Cursor}
+use Rattle.numeric.specs.Operands.{Ready, moved}
+use Rattle.strings.specs.Elements.{GetsElements}
+use Rattle.forms.specs.Rows.{withSteps, withBranch, withLeft, withRange, withReplacement}
+
+-- a draft's cursor is inside the text; it may go on; and it stands behind an element's place
+abbrev pub Inward : List ℕ → Draft → Type 0
+Inward text (DraftCode.the-variants.Got row c) = (c .at ≤ length text) × (length text ≤ 32_768)
+Inward text DraftCode.the-variants.Broken = Unit {0}
+
+abbrev pub Standing : (text keys tags : List ℕ) → Draft → Type 0
+Standing text keys tags (DraftCode.the-variants.Got row c) = Ready text keys tags c
+Standing text keys tags DraftCode.the-variants.Broken = Unit {0}
+
+abbrev pub Following : (text keys tags : List ℕ) (from : ℕ) → Draft → Type 0
+Following text keys tags from (DraftCode.the-variants.Got row c) = Ready text keys tags c × (from ≤ c .elements)
+Following text keys tags from DraftCode.the-variants.Broken = Unit {0}
+
+-- a draft before a mark, its cursor behind it
+abbrev pub markedBy : List ℕ → ℕ → Draft → Draft
+markedBy text mark (DraftCode.the-variants.Got row c) = elim (begins (mark ∷ []) (drop (c .at) text)) [
+  | true ↦ DraftCode.the-variants.Got row (moved c 1)
+  | false ↦ DraftCode.the-variants.Broken
+]
+markedBy text mark DraftCode.the-variants.Broken = DraftCode.the-variants.Broken
+
+-- The reading y at c gives a value, with its elements written; the row is that of before with what puts does of the value.
+pub record Drawn {U : Type 0} (y : Read U) (puts : U → Table.Row → Table.Row) (es : U → List PatternElement) (text table keys tags : List ℕ)
+    (row : Row) (c : Cursor) (row′ : Row) (table′ keys′ tags′ : List ℕ) (d : Cursor) : Type 0 where
+  pub value : U
+  pub rows : List ℕ
+  pub counted : total (λ n. n) rows ≡ length (es value)
+  pub gets : GetsElements text table keys tags c y value (es value) rows table′ keys′ tags′ d
+  pub made : rowMeaning row′ ≡ puts value (rowMeaning row)
+
+abbrev pub StageAnswer : {U : Type 0} (y : List ℕ → Read U) (puts : ℕ → U → Table.Row → Table.Row) (es : U → List PatternElement)
+    (text table keys tags : List ℕ) → Draft → Draft → (table′ keys′ tags′ : List ℕ) → Type 0
+StageAnswer y puts es text table keys tags (DraftCode.the-variants.Got row c) (DraftCode.the-variants.Got row′ d) table′ keys′ tags′ =
+    Drawn (y (drop (c .at) text)) (puts (c .elements)) es text table keys tags row c row′ table′ keys′ tags′ d
+StageAnswer y puts es text table keys tags (DraftCode.the-variants.Got row c) DraftCode.the-variants.Broken table′ keys′ tags′ =
+    y (drop (c .at) text) ≡ broken
+StageAnswer y puts es text table keys tags DraftCode.the-variants.Broken (DraftCode.the-variants.Got row′ d) table′ keys′ tags′ = ⊥
+StageAnswer y puts es text table keys tags DraftCode.the-variants.Broken DraftCode.the-variants.Broken table′ keys′ tags′ = Unit {0}
+
+-- the reader y goes on from the draft r to the draft q
+pub record StageRead {U : Type 0} (y : List ℕ → Read U) (puts : ℕ → U → Table.Row → Table.Row) (es : U → List PatternElement)
+    (text table keys tags : List ℕ) (r q : Draft) (table′ keys′ tags′ : List ℕ) : Type 0 where
+  pub stands : Standing text keys′ tags′ q
+  pub answer : StageAnswer y puts es text table keys tags r q table′ keys′ tags′
+
+-- one that meets names alone, with any table
+abbrev pub NamesStage : {U : Type 0} (y : List ℕ → Read U) (puts : U → Table.Row → Table.Row) (text keys tags : List ℕ) (r q : Draft)
+    (keys′ tags′ : List ℕ) → Type 0
+NamesStage y puts text keys tags r q keys′ tags′ =
+    (table : List ℕ) → StageRead y (λ _. puts) (λ _. []) text table keys tags r q table keys′ tags′
+
+-- each part of a form
+abbrev pub LabelStage : (text known keys tags : List ℕ) (r q : Draft) (keys′ tags′ : List ℕ) → Type 0
+LabelStage text known = NamesStage (labelIn known) (λ s. withSteps s 0) text
+
+abbrev pub EntryStage : (text known keys tags : List ℕ) (r q : Draft) (keys′ tags′ : List ℕ) → Type 0
+EntryStage text known = NamesStage (nameAs (naming routine [])) (λ n. withSteps (placesIn known .entry n) 0) text
+
+abbrev pub ExitStage : (text known keys tags : List ℕ) (r q : Draft) (keys′ tags′ : List ℕ) → Type 0
+ExitStage text known = NamesStage (nameAs (declaring routine)) (λ n. withSteps (placesIn known .exit n) 0) text
+
+abbrev pub NumberStage : (text known keys tags : List ℕ) (r q : Draft) (keys′ tags′ : List ℕ) → Type 0
+NumberStage text known = NamesStage (numberName edition1 (placesIn known)) (λ i. withLeft (Table.cell 5 i 0)) text
+
+abbrev pub PartStage : (text known keys tags : List ℕ) (tag : ℕ) (r q : Draft) (keys′ tags′ : List ℕ) → Type 0
+PartStage text known keys tags tag =
+    NamesStage (partName edition1 (placesIn known) (roleOf (tag / 16))) (λ p. withLeft (partCell 0 p)) text keys tags
+
+abbrev pub TestStage : (text known keys tags : List ℕ) (r q : Draft) (keys′ tags′ : List ℕ) → Type 0
+TestStage text known = NamesStage (test edition1 (placesIn known)) (λ t _. testAlone t) text
+
+abbrev pub BranchStage : (text known keys tags : List ℕ) (r q : Draft) (keys′ tags′ : List ℕ) → Type 0
+BranchStage text known = NamesStage (branch edition1 (numberIn known) (placesIn known)) withBranch text
+
+abbrev pub BranchIfAnyStage : (text known keys tags : List ℕ) (r q : Draft) (keys′ tags′ : List ℕ) → Type 0
+BranchIfAnyStage text known = NamesStage (branchIfAny edition1 (numberIn known) (placesIn known)) withBranch text
+
+abbrev pub StringsStage : (text known table keys tags : List ℕ) (r q : Draft) (table′ keys′ tags′ : List ℕ) → Type 0
+StringsStage text known = StageRead (stringExpression edition1 (placesIn known)) (λ n xs. withRange n xs) (map value) text
+
+abbrev pub PatternStage : (text known table keys tags : List ℕ) (r q : Draft) (table′ keys′ tags′ : List ℕ) → Type 0
+PatternStage text known = StageRead (pattern edition1 (placesIn known)) (λ n xs. withRange n xs) (λ xs. xs) text
+
+abbrev pub ReplacedStage : (text known table keys tags : List ℕ) (from direction : ℕ) (r q : Draft) (table′ keys′ tags′ : List ℕ) → Type 0
+ReplacedStage text known table keys tags from direction =
+    StageRead (replacementIfAny edition1 (numberIn known) (placesIn known)) (λ n o. withReplacement direction from n o)
+    (λ o. map value (replacementOf o)) text table keys tags

@@ -1,0 +1,257 @@
+-- Each form by its parts. Assumes nothing.
+use mathlib.Core.List.{List, [], _∷_, _++_, append-nil, map}
+use mathlib.Core.Option.{Option, none, some}
+use mathlib.Core.Path.{_≡_, refl, sym, ap, subst}
+use Prim.Native.Nat.{ℕ, _+_, _-_}
+use native.Mathlib.Nat.{add-zero}
+use native.Mathlib.Omega.{arith}
+use lib.ListN.{length, drop}
+use Rattle.base.specs.Edition.{edition1}
+use Rattle.base.specs.Text.{bytes}
+use Rattle.branches.specs.Branches.{labelIn}
+use Rattle.branches.specs.Places.{numberIn}
+use Rattle.branches.specs.Tests.{testAlone}
+use Rattle.branches.specs.declared.Draft.{Draft}
+use Rattle.calls.specs.Table as Table
+use Rattle.calls.specs.Table.{partCell, rangeCell, rowOf, testRow, elementsOf, itemsOf, replacementOf, replacementFlag, directionNumber, noCell}
+use Rattle.language.specs.Forms.{stepEnd, withoutUnit, branch, branchIfAny, ifForm, replacementIfAny, scanForm, readForm, writeForm}
+use Rattle.language.specs.Forms.{gotoForm, routineForm, executeForm}
+use Rattle.language.specs.Numeric.{test}
+use Rattle.language.specs.Program.{Part, Branch, Test, isNull, isNumeric, compares, Element, PatternElement, value, Direction, Statement}
+use Rattle.language.specs.Program.{setString, goto, ifTest, scan, read, write, execute}
+use Rattle.language.specs.Reading.{routine, declaring, naming, Read, _>>=_, skip}
+use Rattle.language.specs.Strings.{stringExpression, pattern}
+use Rattle.language.specs.Words.{nameAs, noRole, partName}
+use Rattle.met.specs.Entries.{roleOf}
+use Rattle.met.specs.Known.{placesIn}
+use Rattle.met.specs.declared.Cursor.{Cursor}
+use Rattle.numeric.specs.Operands.{Ready, Skips}
+use Rattle.forms.specs.Ends.{endedBy}
+use Rattle.forms.specs.FormLaws.{going-start, going-more, going-ended}
+use Rattle.forms.specs.Rows.{begunAs, bare, withSteps, withBranch, withLeft, withRange, withReplacement}
+use Rattle.forms.specs.StageLaws.{marked-stage}
+use Rattle.forms.specs.Stages.{markedBy, StageRead, NamesStage}
+use Rattle.forms.specs.Steps.{FormAt, stringSet}
+
+-- a cursor that stays
+pub stays : (c : Cursor) → Skips c 0 c
+stays c =
+    record {
+      at = sym (add-zero (c .at));
+      goes =
+          record {
+            names = sym (add-zero (c .names));
+            items = sym (add-zero (c .items));
+            elements = refl;
+            literals = refl;
+            longest = refl;
+          };
+    }
+
+-- a keyword alone
+pub plain-read : (s : Statement) (kind : ℕ) {text table keys tags : List ℕ} {c : Cursor} → Ready text keys tags c
+    → bare kind 0 ≡ rowOf (c .elements) (c .items) s → [] ≡ elementsOf s → [] ≡ itemsOf s
+    → FormAt (stepEnd s (drop (c .at) text)) text table keys tags c (endedBy text (begunAs kind 0 c)) table keys tags
+plain-read s kind {c = c} ready makes same none′ =
+    going-ended {A = Unit {0}} (λ _. s) (λ _ _. refl) (λ _. makes) (λ _. same) (λ _. none′) (begunAs kind 0 c)
+    (going-start (stepEnd s) 0 (stays c) ready refl)
+
+-- a form of one part
+pub one-stage : {U : Type 0} (y : List ℕ → Read U) (puts : ℕ → U → Table.Row → Table.Row) (eu : U → List PatternElement) (step : U → Statement)
+    (kind flag : ℕ) {form : Read (Option Statement)} {text table keys tags : List ℕ} {c : Cursor} (n : ℕ) {d : Cursor} → Skips c n d
+    → Ready text keys tags c → Ready text keys tags d → form ≡ (y (drop (d .at) text) >>= λ (u, rest). stepEnd (step u) rest)
+    → ((u : U) → puts (c .elements) u (bare kind flag) ≡ rowOf (c .elements) (c .items) (step u)) → ((u : U) → eu u ≡ elementsOf (step u))
+    → ((u : U) → [] ≡ itemsOf (step u)) → (q : Draft) {t k g : List ℕ} → StageRead y puts eu text table keys tags (begunAs kind flag d) q t k g
+    → FormAt form text table keys tags c (endedBy text q) t k g
+one-stage {U} y puts eu step kind flag {c = c} n {d} s ready on is makes same none′ q a =
+    going-ended {A = Unit {0} × U} (λ (_, u). step u) (λ _ _. refl) (λ (_, u). makes u) (λ (_, u). same u) (λ (_, u). none′ u) q
+    (going-more y puts eu (λ (_, u) rest. stepEnd (step u) rest) (λ (_, u). puts (c .elements) u (bare kind flag)) (λ (_, u). eu u) ready
+    (λ _ _. refl) (λ _ u. ap (λ m. puts m u (bare kind flag)) (add-zero (c .elements))) (λ _ _. refl) (begunAs kind flag d) q
+    (going-start (λ rest. y rest >>= λ (u, l). stepEnd (step u) l) n s on is) a)
+
+module _ (known : List ℕ) {text table keys tags : List ℕ} {c : Cursor} (ready : Ready text keys tags c) (q : Draft) {k g : List ℕ} where
+  pub goto-read : StageRead (labelIn known) (λ _ s. withSteps s 0) (λ _. []) text table keys tags (begunAs 3 0 c) q table k g
+      → FormAt (gotoForm edition1 (numberIn known) (placesIn known) (drop (c .at) text)) text table keys tags c (endedBy text q) table k g
+  unfolding gotoForm rowOf elementsOf itemsOf Table.row noCell
+  goto-read a =
+      one-stage (labelIn known) (λ _ s. withSteps s 0) (λ _. []) goto 3 0 0 (stays c) ready ready refl (λ _. refl) (λ _. refl) (λ _. refl) q a
+
+  pub routine-read : StageRead (nameAs (declaring routine)) (λ _ n. withSteps (placesIn known .exit n) 0) (λ _. []) text table keys tags
+      (begunAs 3 0 c) q table k g
+      → FormAt (routineForm edition1 (numberIn known) (placesIn known) (drop (c .at) text)) text table keys tags c (endedBy text q) table k g
+  unfolding routineForm rowOf elementsOf itemsOf Table.row noCell
+  routine-read a =
+      one-stage (nameAs (declaring routine)) (λ _ n. withSteps (placesIn known .exit n) 0) (λ _. []) (λ n. goto (placesIn known .exit n)) 3 0 0
+      (stays c) ready ready refl (λ _. refl) (λ _. refl) (λ _. refl) q a
+
+  pub execute-read : StageRead (nameAs (naming routine [])) (λ _ n. withSteps (placesIn known .entry n) 0) (λ _. []) text table keys tags
+      (begunAs 11 0 c) q table k g
+      → FormAt (executeForm edition1 (numberIn known) (placesIn known) (drop (c .at) text)) text table keys tags c (endedBy text q) table k g
+  unfolding executeForm rowOf elementsOf itemsOf Table.row noCell
+  execute-read a =
+      one-stage (nameAs (naming routine [])) (λ _ n. withSteps (placesIn known .entry n) 0) (λ _. []) (λ n. execute (placesIn known .entry n)) 11 0
+      0 (stays c) ready ready refl (λ _. refl) (λ _. refl) (λ _. refl) q a
+
+-- WRITE and PRINT
+pub output-read : (known : List ℕ) {text table keys tags : List ℕ} {c : Cursor} (n : ℕ) {d : Cursor} → Skips c n d → Ready text keys tags c
+    → Ready text keys tags d → withoutUnit (bytes "(61)") (drop (c .at) text) ≡ drop (d .at) text → (q : Draft) {t k g : List ℕ}
+    → StageRead (stringExpression edition1 (placesIn known)) (λ m xs. withRange m xs) (map value) text table keys tags (begunAs 10 0 d) q t k g
+    → FormAt (writeForm edition1 (numberIn known) (placesIn known) (drop (c .at) text)) text table keys tags c (endedBy text q) t k g
+unfolding writeForm rowOf elementsOf itemsOf Table.row noCell
+output-read known n s ready on is q a =
+    one-stage (stringExpression edition1 (placesIn known)) (λ m xs. withRange m xs) (map value) write 10 0 n s ready on
+    (ap (λ (l : List ℕ). stringExpression edition1 (placesIn known) l >>= λ (xs, rest). stepEnd (write xs) rest) is) (λ _. refl) (λ _. refl)
+    (λ _. refl) q a
+
+-- READ
+pub input-read : (known : List ℕ) {text : List ℕ} (table : List ℕ) {keys tags : List ℕ} {c : Cursor} (n : ℕ) {d : Cursor} → Skips c n d
+    → Ready text keys tags c → Ready text keys tags d → withoutUnit (bytes "(60)") (drop (c .at) text) ≡ drop (d .at) text → (q₁ q₂ : Draft)
+    {k g k′ g′ : List ℕ}
+    → NamesStage (partName edition1 (placesIn known) (roleOf 0)) (λ p. withLeft (partCell 0 p)) text keys tags (begunAs 9 0 d) q₁ k g
+    → NamesStage (branchIfAny edition1 (numberIn known) (placesIn known)) withBranch text k g q₁ q₂ k′ g′
+    → FormAt (readForm edition1 (numberIn known) (placesIn known) (drop (c .at) text)) text table keys tags c (endedBy text q₂) table k′ g′
+unfolding readForm rowOf elementsOf itemsOf Table.row noCell roleOf noRole
+input-read known table {c = c} n {d} s ready on is q₁ q₂ a b =
+    let p = placesIn known in
+    let any = branchIfAny edition1 (numberIn known) p in
+    going-ended {A = (Unit {0} × Part) × Branch} (λ ((_, x), y). read x y) (λ _ _. refl) (λ _. refl) (λ _. refl) (λ _. refl) q₂
+    (going-more any (λ _. withBranch) (λ _. []) (λ ((_, x), y) rest. stepEnd (read x y) rest)
+    (λ ((_, x), y). Table.row 9 0 (y .success) (y .failure) (partCell 0 x) noCell) (λ _. []) ready (λ _ _. refl) (λ _ _. refl) (λ _ _. refl) q₁ q₂
+    (going-more (partName edition1 p (roleOf 0)) (λ _ x. withLeft (partCell 0 x)) (λ _. [])
+    (λ (_, x) rest. any rest >>= λ (y, l). stepEnd (read x y) l) (λ (_, x). Table.row 9 0 0 0 (partCell 0 x) noCell) (λ _. []) ready
+    (λ _ _. refl) (λ _ _. refl) (λ _ _. refl) (begunAs 9 0 d) q₁
+    (going-start (λ rest. partName edition1 p (roleOf 0) rest >>= λ (x, l). any l >>= λ (y, l). stepEnd (read x y) l) n s on
+    (ap (λ (l : List ℕ). partName edition1 p (roleOf 0) l >>= λ (x, l). any l >>= λ (y, l). stepEnd (read x y) l) is)) (a table)) (b table))
+
+-- a string is set
+pub string-read : (known : List ℕ) {text table keys tags : List ℕ} {c : Cursor} → Ready text keys tags c → (q₁ q₂ q₃ : Draft)
+    {k g t k′ g′ : List ℕ}
+    → NamesStage (partName edition1 (placesIn known) (roleOf 0)) (λ p. withLeft (partCell 0 p)) text keys tags (begunAs 2 0 c) q₁ k g
+    → q₂ ≡ markedBy text 61 q₁
+    → StageRead (stringExpression edition1 (placesIn known)) (λ m xs. withRange m xs) (map value) text table k g q₂ q₃ t k′ g′
+    → FormAt (stringSet known (drop (c .at) text)) text table keys tags c (endedBy text q₃) t k′ g′
+unfolding stringSet rowOf elementsOf itemsOf Table.row noCell roleOf noRole bytes
+string-read known {text} {table} {keys} {tags} {c} ready q₁ q₂ q₃ {k} {g} {t} {k′} {g′} a e b =
+    let p = placesIn known in
+    let strings = stringExpression edition1 p in
+    let part = a table in
+    let marked = subst (λ z. StageRead (skip (61 ∷ [])) (λ _ _ r. r) (λ _. []) text table k g q₁ z table k g) (sym e)
+    (marked-stage text 61 q₁ (part .stands)) in
+    going-ended {A = ((Unit {0} × Part) × Unit {0}) × List Element} (λ (((_, x), _), xs). setString x xs) (λ _ _. refl) (λ _. refl) (λ _. refl)
+    (λ _. refl) q₃
+    (going-more strings (λ m xs. withRange m xs) (map value) (λ (((_, x), _), xs) rest. stepEnd (setString x xs) rest)
+    (λ (((_, x), _), xs). Table.row 2 0 0 0 (partCell 0 x) (rangeCell (c .elements) (length xs) 0)) (λ (_, xs). map value xs) ready
+    (λ _ _. refl)
+    (λ ((_, x), _) xs. ap (λ m. Table.row 2 0 0 0 (partCell 0 x) (rangeCell m (length xs) 0)) (add-zero (c .elements))) (λ _ _. refl) q₂ q₃
+    (going-more (skip (61 ∷ [])) (λ _ _ r. r) (λ _. []) (λ ((_, x), _) rest. strings rest >>= λ (xs, l). stepEnd (setString x xs) l)
+    (λ ((_, x), _). Table.row 2 0 0 0 (partCell 0 x) noCell) (λ _. []) ready (λ _ _. refl) (λ _ _. refl) (λ _ _. refl) q₁ q₂
+    (going-more (partName edition1 p (roleOf 0)) (λ _ x. withLeft (partCell 0 x)) (λ _. [])
+    (λ (_, x) rest. skip (61 ∷ []) rest >>= λ (_, l). strings l >>= λ (xs, l). stepEnd (setString x xs) l)
+    (λ (_, x). Table.row 2 0 0 0 (partCell 0 x) noCell) (λ _. []) ready (λ _ _. refl) (λ _ _. refl) (λ _ _. refl) (begunAs 2 0 c) q₁
+    (going-start (stringSet known) 0 (stays c) ready refl) part) marked) b)
+
+-- a test with its branch
+test-branch : (t : Test) (b : Branch) → withBranch b (testAlone t) ≡ testRow t b
+unfolding testRow Table.row
+test-branch (isNull s) b = refl
+test-branch (isNumeric p) b = refl
+test-branch (compares x c y) b = refl
+
+-- IF
+pub if-read : (known : List ℕ) {text : List ℕ} (table : List ℕ) {keys tags : List ℕ} {c : Cursor} → Ready text keys tags c
+    → (q₁ q₂ q₃ q₄ : Draft) {k g k′ g′ : List ℕ} → q₁ ≡ markedBy text 40 (begunAs 5 0 c)
+    → NamesStage (test edition1 (placesIn known)) (λ t _. testAlone t) text keys tags q₁ q₂ k g → q₃ ≡ markedBy text 41 q₂
+    → NamesStage (branch edition1 (numberIn known) (placesIn known)) withBranch text k g q₃ q₄ k′ g′
+    → FormAt (ifForm edition1 (numberIn known) (placesIn known) (drop (c .at) text)) text table keys tags c (endedBy text q₄) table k′ g′
+unfolding ifForm rowOf elementsOf itemsOf bytes
+if-read known {text} table {keys} {tags} {c} ready q₁ q₂ q₃ q₄ {k} {g} e₁ a e₂ b =
+    let p = placesIn known in
+    let tests = test edition1 p in
+    let field = branch edition1 (numberIn known) p in
+    let opened = subst (λ z. StageRead (skip (40 ∷ [])) (λ _ _ r. r) (λ _. []) text table keys tags (begunAs 5 0 c) z table keys tags) (sym e₁)
+    (marked-stage text 40 (begunAs 5 0 c) ready) in
+    let tested = a table in
+    let closed = subst (λ z. StageRead (skip (41 ∷ [])) (λ _ _ r. r) (λ _. []) text table k g q₂ z table k g) (sym e₂)
+    (marked-stage text 41 q₂ (tested .stands)) in
+    going-ended {A = (((Unit {0} × Unit {0}) × Test) × Unit {0}) × Branch} (λ (((_, t), _), y). ifTest t y) (λ _ _. refl) (λ _. refl) (λ _. refl)
+    (λ _. refl) q₄
+    (going-more field (λ _. withBranch) (λ _. []) (λ (((_, t), _), y) rest. stepEnd (ifTest t y) rest) (λ (((_, t), _), y). testRow t y) (λ _. [])
+    ready (λ _ _. refl) (λ ((_, t), _) y. test-branch t y) (λ _ _. refl) q₃ q₄
+    (going-more (skip (41 ∷ [])) (λ _ _ r. r) (λ _. []) (λ ((_, t), _) rest. field rest >>= λ (y, l). stepEnd (ifTest t y) l)
+    (λ ((_, t), _). testAlone t) (λ _. []) ready (λ _ _. refl) (λ _ _. refl) (λ _ _. refl) q₂ q₃
+    (going-more tests (λ _ t _. testAlone t) (λ _. [])
+    (λ (_, t) rest. skip (41 ∷ []) rest >>= λ (_, l). field l >>= λ (y, l). stepEnd (ifTest t y) l) (λ (_, t). testAlone t) (λ _. []) ready
+    (λ _ _. refl) (λ _ _. refl) (λ _ _. refl) q₁ q₂
+    (going-more (skip (40 ∷ [])) (λ _ _ r. r) (λ _. [])
+    (λ _ rest. tests rest >>= λ (t, l). skip (41 ∷ []) l >>= λ (_, l). field l >>= λ (y, l). stepEnd (ifTest t y) l) (λ _. bare 5 0) (λ _. []) ready
+    (λ _ _. refl) (λ _ _. refl) (λ _ _. refl) (begunAs 5 0 c) q₁
+    (going-start (ifForm edition1 (numberIn known) p) 0 (stays c) ready refl) opened) tested) closed) (b table))
+
+-- SCAN's row with its replacement
+replacement-row : (flag from n : ℕ) (left : Table.Cell) (o : Option (List Element))
+    → withReplacement flag from (from + n) o (Table.row 8 flag 0 0 left (rangeCell from n 0))
+    ≡ Table.row 8 (flag + replacementFlag o) 0 0 left (rangeCell from n (length (replacementOf o)))
+unfolding replacementFlag replacementOf Table.row
+replacement-row flag from n left none =
+    ap (λ m. Table.row 8 m 0 0 left (rangeCell from n 0)) (sym (add-zero flag))
+replacement-row flag from n left (some xs) =
+    let count : from + n - from ≡ n = omega arith in
+    ap (λ m. Table.row 8 (flag + 2) 0 0 left (rangeCell from m (length xs))) count
+
+-- SCAN
+pub scan-read : (known : List ℕ) (way : Direction) {text table keys tags : List ℕ} {c : Cursor} → Ready text keys tags c
+    → (q₁ q₂ q₃ q₄ q₅ q₆ : Draft) {k₁ g₁ t₃ k₃ g₃ t₅ k₅ g₅ k₆ g₆ : List ℕ}
+    → NamesStage (partName edition1 (placesIn known) (roleOf 1)) (λ p. withLeft (partCell 0 p)) text keys tags
+    (begunAs 8 (directionNumber way) c) q₁ k₁ g₁ → q₂ ≡ markedBy text 91 q₁
+    → StageRead (pattern edition1 (placesIn known)) (λ m xs. withRange m xs) (λ xs. xs) text table k₁ g₁ q₂ q₃ t₃ k₃ g₃ → q₄ ≡ markedBy text 93 q₃
+    → StageRead (replacementIfAny edition1 (numberIn known) (placesIn known)) (λ m o. withReplacement (directionNumber way) (c .elements) m o)
+    (λ o. map value (replacementOf o)) text t₃ k₃ g₃ q₄ q₅ t₅ k₅ g₅
+    → NamesStage (branchIfAny edition1 (numberIn known) (placesIn known)) withBranch text k₅ g₅ q₅ q₆ k₆ g₆
+    → FormAt (scanForm edition1 (numberIn known) (placesIn known) way (drop (c .at) text)) text table keys tags c (endedBy text q₆) t₅ k₆ g₆
+unfolding scanForm rowOf elementsOf itemsOf Table.row noCell roleOf bytes
+scan-read known way {text} {table} {keys} {tags} {c} ready q₁ q₂ q₃ q₄ q₅ q₆ {k₁} {g₁} {t₃} {k₃} {g₃} {t₅} a e₁ b e₂ r f =
+    let p = placesIn known in
+    let parts = partName edition1 p (roleOf 1) in
+    let sought = pattern edition1 p in
+    let replacement = replacementIfAny edition1 (numberIn known) p in
+    let any = branchIfAny edition1 (numberIn known) p in
+    let flag = directionNumber way in
+    let part = a table in
+    let opened = subst (λ z. StageRead (skip (91 ∷ [])) (λ _ _ r. r) (λ _. []) text table k₁ g₁ q₁ z table k₁ g₁) (sym e₁)
+    (marked-stage text 91 q₁ (part .stands)) in
+    let closed = subst (λ z. StageRead (skip (93 ∷ [])) (λ _ _ r. r) (λ _. []) text t₃ k₃ g₃ q₃ z t₃ k₃ g₃) (sym e₂)
+    (marked-stage text 93 q₃ (b .stands)) in
+    going-ended {A = (((((Unit {0} × Part) × Unit {0}) × List PatternElement) × Unit {0}) × Option (List Element)) × Branch}
+    (λ ((((((_, x), _), xs), _), o), y). scan way x xs o y) (λ _ _. refl) (λ _. refl) (λ _. refl) (λ _. refl) q₆
+    (going-more any (λ _. withBranch) (λ _. []) (λ ((((((_, x), _), xs), _), o), y) rest. stepEnd (scan way x xs o y) rest)
+    (λ ((((((_, x), _), xs), _), o), y).
+    Table.row 8 (flag + replacementFlag o) (y .success) (y .failure) (partCell 0 x) (rangeCell (c .elements) (length xs) (length (replacementOf o))))
+    (λ ((((_, xs), _), o), _). xs ++ map value (replacementOf o)) ready (λ _ _. refl) (λ _ _. refl)
+    (λ (((_, xs), _), o) _. append-nil (xs ++ map value (replacementOf o))) q₅ q₆
+    (going-more replacement (λ m o. withReplacement flag (c .elements) m o) (λ o. map value (replacementOf o))
+    (λ (((((_, x), _), xs), _), o) rest. any rest >>= λ (y, l). stepEnd (scan way x xs o y) l)
+    (λ (((((_, x), _), xs), _), o).
+    Table.row 8 (flag + replacementFlag o) 0 0 (partCell 0 x) (rangeCell (c .elements) (length xs) (length (replacementOf o))))
+    (λ (((_, xs), _), o). xs ++ map value (replacementOf o)) ready (λ _ _. refl)
+    (λ ((((_, x), _), xs), _) o. replacement-row flag (c .elements) (length xs) (partCell 0 x) o) (λ _ _. refl) q₄ q₅
+    (going-more (skip (93 ∷ [])) (λ _ _ r. r) (λ _. [])
+    (λ ((((_, x), _), xs), _) rest. replacement rest >>= λ (o, l). any l >>= λ (y, l). stepEnd (scan way x xs o y) l)
+    (λ ((((_, x), _), xs), _). Table.row 8 flag 0 0 (partCell 0 x) (rangeCell (c .elements) (length xs) 0)) (λ ((_, xs), _). xs) ready
+    (λ _ _. refl) (λ _ _. refl) (λ (_, xs) _. append-nil xs) q₃ q₄
+    (going-more sought (λ m xs. withRange m xs) (λ xs. xs)
+    (λ (((_, x), _), xs) rest.
+    skip (93 ∷ []) rest >>= λ (_, l). replacement l >>= λ (o, l). any l >>= λ (y, l). stepEnd (scan way x xs o y) l)
+    (λ (((_, x), _), xs). Table.row 8 flag 0 0 (partCell 0 x) (rangeCell (c .elements) (length xs) 0)) (λ (_, xs). xs) ready (λ _ _. refl)
+    (λ ((_, x), _) xs. ap (λ m. Table.row 8 flag 0 0 (partCell 0 x) (rangeCell m (length xs) 0)) (add-zero (c .elements))) (λ _ _. refl) q₂ q₃
+    (going-more (skip (91 ∷ [])) (λ _ _ r. r) (λ _. [])
+    (λ ((_, x), _) rest.
+    sought rest
+    >>= λ (xs, l). skip (93 ∷ []) l >>= λ (_, l). replacement l >>= λ (o, l). any l >>= λ (y, l). stepEnd (scan way x xs o y) l)
+    (λ ((_, x), _). Table.row 8 flag 0 0 (partCell 0 x) noCell) (λ _. []) ready (λ _ _. refl) (λ _ _. refl) (λ _ _. refl) q₁ q₂
+    (going-more parts (λ _ x. withLeft (partCell 0 x)) (λ _. [])
+    (λ (_, x) rest.
+    skip (91 ∷ []) rest
+    >>= λ (_, l).
+    sought l >>= λ (xs, l). skip (93 ∷ []) l >>= λ (_, l). replacement l >>= λ (o, l). any l >>= λ (y, l). stepEnd (scan way x xs o y) l)
+    (λ (_, x). Table.row 8 flag 0 0 (partCell 0 x) noCell) (λ _. []) ready (λ _ _. refl) (λ _ _. refl) (λ _ _. refl) (begunAs 8 flag c) q₁
+    (going-start (scanForm edition1 (numberIn known) p way) 0 (stays c) ready refl) part) opened) b) closed) r) (f t₅))

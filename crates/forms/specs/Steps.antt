@@ -1,0 +1,116 @@
+-- What the readers of each form do, from behind its keyword on. Assumes nothing.
+use mathlib.Core.Bool.{Bool}
+use mathlib.Core.List.{List}
+use mathlib.Core.Option.{Option}
+use mathlib.Core.Path.{_≡_}
+use Prim.Native.Nat.{ℕ, _-_, _≤_}
+use lib.ListN.{length, drop}
+use Rattle.base.specs.Edition.{edition1}
+use Rattle.branches.specs.Places.{numberIn}
+use Rattle.calls.specs.Table.{directionNumber}
+use Rattle.language.specs.Forms.{stepEnd, noStepEnd, withoutUnit, setsNumber, replacement, ifForm, scanForm, readForm, writeForm}
+use Rattle.language.specs.Forms.{gotoForm, routineForm, executeForm, programForm, numberForm}
+use Rattle.language.specs.Numeric.{numericExpression}
+use Rattle.language.specs.Program.{Direction, Statement, setNumber, setString}
+use Rattle.language.specs.Reading.{number, declaring, Read, _>>=_, skip}
+use Rattle.language.specs.Strings.{moreOf, stringExpression}
+use Rattle.language.specs.Words.{nameAs, noRole, numberName, partName}
+use Rattle.base.specs.Text.{bytes}
+use Rattle.met.specs.Known.{placesIn}
+use Rattle.met.specs.declared.Cursor.{Cursor}
+use Rattle.numeric.specs.Operands.{Skips}
+use Rattle.forms.specs.Contracts.{FormRead}
+use Rattle.forms.specs.declared.Form.{Form}
+
+-- a form at a cursor: no more names than bytes are left; and one that meets names alone, with any table
+abbrev pub FormAt : Read (Option Statement) → (text table keys tags : List ℕ) (c : Cursor) → Form → (table′ keys′ tags′ : List ℕ) → Type 0
+FormAt x text table keys tags c r table′ keys′ tags′ = FormRead (length text - c .at) table keys tags c x r table′ keys′ tags′
+
+abbrev pub NamesFormAt : Read (Option Statement) → (text keys tags : List ℕ) (c : Cursor) → Form → (keys′ tags′ : List ℕ) → Type 0
+NamesFormAt x text keys tags c r keys′ tags′ = (table : List ℕ) → FormRead (length text - c .at) table keys tags c x r table keys′ tags′
+
+-- the cursor behind a unit, if it stands here
+pub record BehindUnit (text unit : List ℕ) (c d : Cursor) : Type 0 where
+  pub size : ℕ
+  pub skips : Skips c size d
+  pub is : withoutUnit unit (drop (c .at) text) ≡ drop (d .at) text
+  pub inside : d .at ≤ length text
+
+abbrev pub GotoRead : (text known keys tags : List ℕ) (c : Cursor) → Form → (keys′ tags′ : List ℕ) → Type 0
+GotoRead text known keys tags c = NamesFormAt (gotoForm edition1 (numberIn known) (placesIn known) (drop (c .at) text)) text keys tags c
+
+abbrev pub RoutineRead : (text known keys tags : List ℕ) (c : Cursor) → Form → (keys′ tags′ : List ℕ) → Type 0
+RoutineRead text known keys tags c = NamesFormAt (routineForm edition1 (numberIn known) (placesIn known) (drop (c .at) text)) text keys tags c
+
+abbrev pub ExecuteRead : (text known keys tags : List ℕ) (c : Cursor) → Form → (keys′ tags′ : List ℕ) → Type 0
+ExecuteRead text known keys tags c = NamesFormAt (executeForm edition1 (numberIn known) (placesIn known) (drop (c .at) text)) text keys tags c
+
+abbrev pub IfRead : (text known keys tags : List ℕ) (c : Cursor) → Form → (keys′ tags′ : List ℕ) → Type 0
+IfRead text known keys tags c = NamesFormAt (ifForm edition1 (numberIn known) (placesIn known) (drop (c .at) text)) text keys tags c
+
+abbrev pub InputRead : (text known keys tags : List ℕ) (c : Cursor) → Form → (keys′ tags′ : List ℕ) → Type 0
+InputRead text known keys tags c = NamesFormAt (readForm edition1 (numberIn known) (placesIn known) (drop (c .at) text)) text keys tags c
+
+abbrev pub OutputRead : (text known table keys tags : List ℕ) (c : Cursor) → Form → (table′ keys′ tags′ : List ℕ) → Type 0
+OutputRead text known table keys tags c = FormAt (writeForm edition1 (numberIn known) (placesIn known) (drop (c .at) text)) text table keys tags c
+
+abbrev pub ScanRead : (text known table keys tags : List ℕ) (c : Cursor) (direction : ℕ) → Form → (table′ keys′ tags′ : List ℕ) → Type 0
+ScanRead text known table keys tags c direction r table′ keys′ tags′ =
+    (d : Direction) → directionNumber d ≡ direction
+    → FormAt (scanForm edition1 (numberIn known) (placesIn known) d (drop (c .at) text)) text table keys tags c r table′ keys′ tags′
+
+-- the two replacements
+unfoldable pub stringSet : (known : List ℕ) → List ℕ → Read (Option Statement)
+stringSet known bs = do
+  (p, rest) ← partName edition1 (placesIn known) noRole bs
+  (_, rest) ← skip (bytes "=") rest
+  (xs, rest) ← stringExpression edition1 (placesIn known) rest
+  stepEnd (setString p xs) rest
+
+unfoldable pub assignedTo : (known : List ℕ) → ℕ → List ℕ → Read (Option Statement)
+assignedTo known i bs = do
+  (x, rest) ← numericExpression edition1 (placesIn known) bs
+  stepEnd (setNumber i x) rest
+
+unfoldable pub numberSet : (known : List ℕ) → List ℕ → Read (Option Statement)
+numberSet known bs = do
+  (i, rest) ← numberName edition1 (placesIn known) bs
+  (_, rest) ← skip (bytes "=") rest
+  assignedTo known i rest
+
+abbrev pub StringSetRead : (text known table keys tags : List ℕ) (c : Cursor) → Form → (table′ keys′ tags′ : List ℕ) → Type 0
+StringSetRead text known table keys tags c = FormAt (stringSet known (drop (c .at) text)) text table keys tags c
+
+abbrev pub AssignedRead : (text known table keys tags : List ℕ) (c : Cursor) (place : ℕ) → Form → (table′ keys′ tags′ : List ℕ) → Type 0
+AssignedRead text known table keys tags c place = FormAt (assignedTo known place (drop (c .at) text)) text table keys tags c
+
+abbrev pub NumberSetRead : (text known table keys tags : List ℕ) (c : Cursor) → Form → (table′ keys′ tags′ : List ℕ) → Type 0
+NumberSetRead text known table keys tags c = FormAt (numberSet known (drop (c .at) text)) text table keys tags c
+
+abbrev pub SetsNumber : (text known : List ℕ) (at : ℕ) → Bool → Type 0
+SetsNumber text known at r = r ≡ setsNumber edition1 (numberIn known) (placesIn known) (drop at text)
+
+abbrev pub ReplacementRead : (text known table keys tags : List ℕ) (c : Cursor) → Form → (table′ keys′ tags′ : List ℕ) → Type 0
+ReplacementRead text known table keys tags c =
+    FormAt (replacement edition1 (numberIn known) (placesIn known) (drop (c .at) text)) text table keys tags c
+
+-- PROGRAM and NUMBER look nothing up
+abbrev pub ProgramRead : (text keys tags : List ℕ) (c : Cursor) → Form → (keys′ tags′ : List ℕ) → Type 0
+ProgramRead text keys tags c r keys′ tags′ =
+    (known : List ℕ)
+    → NamesFormAt (programForm edition1 (numberIn known) (placesIn known) (drop (c .at) text)) text keys tags c r keys′ tags′
+
+abbrev pub NumbersRead : (text keys tags : List ℕ) (c : Cursor) → Form → (keys′ tags′ : List ℕ) → Type 0
+NumbersRead text keys tags c r keys′ tags′ =
+    (known : List ℕ)
+    → NamesFormAt (numberForm edition1 (numberIn known) (placesIn known) (drop (c .at) text)) text keys tags c r keys′ tags′
+
+-- further numbers to the end, with fuel for the bytes left
+unfoldable pub numbersLeft : ℕ → List ℕ → Read (Option Statement)
+numbersLeft k bs = do
+  (_, rest) ← moreOf (nameAs (declaring number)) k bs
+  noStepEnd rest
+
+abbrev pub MoreNumbersRead : (text keys tags : List ℕ) (c : Cursor) → Form → (keys′ tags′ : List ℕ) → Type 0
+MoreNumbersRead text keys tags c r keys′ tags′ =
+    (k : ℕ) → length (drop (c .at) text) ≤ k → NamesFormAt (numbersLeft k (drop (c .at) text)) text keys tags c r keys′ tags′

@@ -1,0 +1,128 @@
+// Every form of a statement, read into a row of the table; a statement with its label.
+// Assumes nothing.
+pub mod stages;
+pub mod steps;
+
+use branches::Row;
+use met::Cursor;
+use met::KNOWN;
+use met::NAMES;
+use met::note_name;
+use numeric::operands::skip;
+use packer::classes::is_letter;
+use packer::classes::is_letter_or_digit;
+use steps::execute_form;
+use steps::goto_form;
+use steps::if_form;
+use steps::input_form;
+use steps::numbers_form;
+use steps::output_form;
+use steps::plain_form;
+use steps::program_form;
+use steps::replacement_form;
+use steps::routine_form;
+use steps::scan_form;
+use words::keywords::Kind;
+use words::keywords::leading;
+ghost use mathlib.Core.List.{List};
+ghost use mathlib.Core.Path.{_≡_};
+ghost use Prim.Native.Nat.{ℕ, _≤_};
+ghost use lib.ListN.{length};
+ghost use Rattle.forms.specs.Contracts.{Starts, StatementFormRead, Wording, StatementRead};
+ghost use Rattle.forms.specs.Labels.{nameShown};
+ghost use Rattle.met.specs.Known.{Counted};
+
+// the tag of a label that is declared
+const LABEL_DECLARED: u8 = 9;
+
+// the form is broken; or the statement is no step, or a step with its row, read up to this cursor
+pub enum Form {
+    Broken,
+    NoStep(Cursor),
+    Step(Row, Cursor),
+}
+
+// the statement that a packed text is
+pub fn read_form(
+    text: &[u8],
+    known: &[u64; KNOWN],
+    table: &mut [u8],
+    keys: &mut [u64; NAMES],
+    tags: &mut [u8; NAMES],
+    c: Cursor,
+) -> Form
+    requires { ⌜ Starts (now text) (now keys) (now tags) c ⌝ }
+    requires { ⌜ Counted (now known) ⌝ }
+    requires { ⌜ 28672 ≤ length (now table) ⌝ }
+    ensures { λ r. ⌜ StatementFormRead (now (text .entry)) (now (known .entry)) (now (table .entry)) (now (keys .entry)) (now (tags .entry)) c r (now (table .exit)) (now (keys .exit)) (now (tags .exit)) ⌝ }
+{
+    let lead = leading(text);
+    let d = skip(c, lead.size);
+    let kind = lead.kind;
+    match kind {
+        Kind::Replacement => replacement_form(text, known, table, keys, tags, d),
+        Kind::Number => numbers_form(text, keys, tags, d),
+        Kind::Program => program_form(text, keys, tags, d),
+        Kind::End => plain_form(text, d, 4),
+        Kind::Goto => goto_form(text, known, keys, tags, d),
+        Kind::Exit => plain_form(text, d, 4),
+        Kind::If => if_form(text, known, keys, tags, d),
+        Kind::Scan => scan_form(text, known, table, keys, tags, d, 1),
+        Kind::Backscan => scan_form(text, known, table, keys, tags, d, 2),
+        Kind::Read => input_form(text, known, keys, tags, d),
+        Kind::Write => output_form(text, known, table, keys, tags, d),
+        Kind::Print => output_form(text, known, table, keys, tags, d),
+        Kind::Routine => routine_form(text, known, keys, tags, d),
+        Kind::Execute => execute_form(text, known, keys, tags, d),
+        Kind::EndRoutine => plain_form(text, d, 12),
+        Kind::Return => plain_form(text, d, 12),
+        Kind::Unknown => Form::Broken,
+    }
+}
+
+// whether the bytes that a key shows are a letter, and letters and digits behind it
+fn is_name(key: u64) -> bool
+    ensures { λ r. ⌜ r ≡ nameShown key ⌝ }
+{
+    if !is_letter((key % 256) as u8) {
+        return false;
+    }
+    let mut rest = key / 256;
+    while rest != 0 {
+        if !is_letter_or_digit((rest % 256) as u8) {
+            return false;
+        }
+        rest = rest / 256;
+    }
+    true
+}
+
+// the statement with its label, by the label's key; whole says whether the text's literals are whole
+pub fn read_statement(
+    text: &[u8],
+    label: u64,
+    whole: bool,
+    known: &[u64; KNOWN],
+    table: &mut [u8],
+    keys: &mut [u64; NAMES],
+    tags: &mut [u8; NAMES],
+    c: Cursor,
+) -> Form
+    requires { ⌜ Starts (now text) (now keys) (now tags) c ⌝ }
+    requires { ⌜ c .names ≡ 0 ⌝ }
+    requires { ⌜ Counted (now known) ⌝ }
+    requires { ⌜ 28672 ≤ length (now table) ⌝ }
+    ensures { λ r. ⌜ ((labelBytes raw : List ℕ) → Wording labelBytes raw (now (text .entry)) label whole → StatementRead labelBytes raw (now (text .entry)) (now (known .entry)) (now (table .entry)) (now (keys .entry)) (now (tags .entry)) c r (now (table .exit)) (now (keys .exit)) (now (tags .exit))) ⌝ }
+{
+    if !whole {
+        return Form::Broken;
+    }
+    if label == 0 {
+        return read_form(text, known, table, keys, tags, c);
+    }
+    if !is_name(label) {
+        return Form::Broken;
+    }
+    let d = note_name(keys, tags, c, label, LABEL_DECLARED);
+    read_form(text, known, table, keys, tags, d)
+}

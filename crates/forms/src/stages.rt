@@ -1,0 +1,398 @@
+// The parts of forms, one behind the other: each goes on from the row so far, if there is one, and sets what it reads.
+// Assumes nothing.
+use branches::Branching;
+use branches::Draft;
+use branches::Row;
+use branches::Target;
+use branches::places::next_step;
+use branches::read_branch;
+use branches::read_entry;
+use branches::read_exit;
+use branches::read_label;
+use branches::tests::read_test;
+use met::Cursor;
+use met::KNOWN;
+use met::NAMES;
+use numeric::Outcome;
+use numeric::operands::Cell;
+use numeric::operands::Operand;
+use numeric::operands::Place;
+use numeric::operands::read_number;
+use numeric::operands::read_part;
+use numeric::operands::skip;
+use strings::pattern;
+use strings::string_expression;
+use words::stands_at;
+ghost use mathlib.Core.Path.{_≡_};
+ghost use Prim.Native.Nat.{_≤_, _<_};
+ghost use lib.ListN.{length};
+ghost use Rattle.forms.specs.Rows.{begunAs, stepsIn, leftIn, rightIn, rangeIn};
+ghost use Rattle.forms.specs.Stages.{Inward, markedBy, Standing, LabelStage, EntryStage, ExitStage, NumberStage, PartStage};
+ghost use Rattle.forms.specs.Stages.{TestStage, BranchStage, BranchIfAnyStage, StringsStage, PatternStage, Following, ReplacedStage};
+ghost use Rattle.met.specs.Known.{Counted};
+ghost use Rattle.numeric.specs.Operands.{StringTag};
+
+// a row of which only the kind and the flag are known
+pub fn begun(kind: u8, flag: u8, c: Cursor) -> Draft
+    ensures { λ r. ⌜ r ≡ begunAs kind flag c ⌝ }
+{
+    Draft::Got(
+        Row {
+            kind,
+            flag,
+            success: 0,
+            failure: 0,
+            left: Cell {
+                kind: 0,
+                place: 0,
+                value: 0,
+            },
+            right: Cell {
+                kind: 0,
+                place: 0,
+                value: 0,
+            },
+        },
+        c,
+    )
+}
+
+fn with_steps(row: Row, success: usize, failure: usize) -> Row
+    ensures { λ r. ⌜ r ≡ stepsIn row success failure ⌝ }
+{
+    let left = row.left;
+    let right = row.right;
+    Row {
+        kind: row.kind,
+        flag: row.flag,
+        success,
+        failure,
+        left,
+        right,
+    }
+}
+
+fn with_left(row: Row, left: Cell) -> Row
+    ensures { λ r. ⌜ r ≡ leftIn row left ⌝ }
+{
+    let right = row.right;
+    Row {
+        kind: row.kind,
+        flag: row.flag,
+        success: row.success,
+        failure: row.failure,
+        left,
+        right,
+    }
+}
+
+pub fn with_right(row: Row, flag: u8, right: Cell) -> Row
+    ensures { λ r. ⌜ r ≡ rightIn row flag right ⌝ }
+{
+    let left = row.left;
+    Row {
+        kind: row.kind,
+        flag,
+        success: row.success,
+        failure: row.failure,
+        left,
+        right,
+    }
+}
+
+// a stretch of elements or items from a place on, with more elements behind it
+pub fn range_cell(from: usize, count: usize, more: usize) -> Cell
+    requires { ⌜ (from < 8_589_934_592) × ((count < 8_589_934_592) × (more < 65_536)) ⌝ }
+    ensures { λ r. ⌜ r ≡ rangeIn from count more ⌝ }
+{
+    Cell {
+        kind: 22,
+        place: 0,
+        value: from + 65_536 * (count + 65_536 * more),
+    }
+}
+
+// a mark that must stand here
+pub fn marked(text: &[u8], r: Draft, mark: u8) -> Draft
+    requires { ⌜ Inward (now text) r ⌝ }
+    ensures { λ q. ⌜ q ≡ markedBy (now (text .entry)) mark r ⌝ }
+{
+    match r {
+        Draft::Broken => Draft::Broken,
+        Draft::Got(row, c) => {
+            if stands_at(text, c.at, mark) {
+                return Draft::Got(row, skip(c, 1));
+            }
+            Draft::Broken
+        }
+    }
+}
+
+// to the step of a label
+pub fn to_label(
+    text: &[u8],
+    known: &[u64; KNOWN],
+    keys: &mut [u64; NAMES],
+    tags: &mut [u8; NAMES],
+    r: Draft,
+) -> Draft
+    requires { ⌜ Standing (now text) (now keys) (now tags) r ⌝ }
+    requires { ⌜ Counted (now known) ⌝ }
+    ensures { λ q. ⌜ LabelStage (now (text .entry)) (now (known .entry)) (now (keys .entry)) (now (tags .entry)) r q (now (keys .exit)) (now (tags .exit)) ⌝ }
+{
+    match r {
+        Draft::Broken => Draft::Broken,
+        Draft::Got(row, c) => match read_label(text, known, keys, tags, c) {
+            Target::Broken => Draft::Broken,
+            Target::Got(step, d) => Draft::Got(with_steps(row, step, 0), d),
+        },
+    }
+}
+
+// to the step behind a routine's ROUTINE
+pub fn to_entry(
+    text: &[u8],
+    known: &[u64; KNOWN],
+    keys: &mut [u64; NAMES],
+    tags: &mut [u8; NAMES],
+    r: Draft,
+) -> Draft
+    requires { ⌜ Standing (now text) (now keys) (now tags) r ⌝ }
+    requires { ⌜ Counted (now known) ⌝ }
+    ensures { λ q. ⌜ EntryStage (now (text .entry)) (now (known .entry)) (now (keys .entry)) (now (tags .entry)) r q (now (keys .exit)) (now (tags .exit)) ⌝ }
+{
+    match r {
+        Draft::Broken => Draft::Broken,
+        Draft::Got(row, c) => match read_entry(text, known, keys, tags, c) {
+            Target::Broken => Draft::Broken,
+            Target::Got(step, d) => Draft::Got(with_steps(row, step, 0), d),
+        },
+    }
+}
+
+// to the step behind the ENDROUTINE of a routine that is declared
+pub fn to_exit(
+    text: &[u8],
+    known: &[u64; KNOWN],
+    keys: &mut [u64; NAMES],
+    tags: &mut [u8; NAMES],
+    r: Draft,
+) -> Draft
+    requires { ⌜ Standing (now text) (now keys) (now tags) r ⌝ }
+    requires { ⌜ Counted (now known) ⌝ }
+    ensures { λ q. ⌜ ExitStage (now (text .entry)) (now (known .entry)) (now (keys .entry)) (now (tags .entry)) r q (now (keys .exit)) (now (tags .exit)) ⌝ }
+{
+    match r {
+        Draft::Broken => Draft::Broken,
+        Draft::Got(row, c) => match read_exit(text, known, keys, tags, c) {
+            Target::Broken => Draft::Broken,
+            Target::Got(step, d) => Draft::Got(with_steps(row, step, 0), d),
+        },
+    }
+}
+
+// a number's name
+pub fn left_number(
+    text: &[u8],
+    known: &[u64; KNOWN],
+    keys: &mut [u64; NAMES],
+    tags: &mut [u8; NAMES],
+    r: Draft,
+) -> Draft
+    requires { ⌜ Standing (now text) (now keys) (now tags) r ⌝ }
+    requires { ⌜ Counted (now known) ⌝ }
+    ensures { λ q. ⌜ NumberStage (now (text .entry)) (now (known .entry)) (now (keys .entry)) (now (tags .entry)) r q (now (keys .exit)) (now (tags .exit)) ⌝ }
+{
+    match r {
+        Draft::Broken => Draft::Broken,
+        Draft::Got(row, c) => match read_number(text, known, keys, tags, c) {
+            Place::Broken => Draft::Broken,
+            Place::Got(place, d) => Draft::Got(
+                with_left(
+                    row,
+                    Cell {
+                        kind: 5,
+                        place,
+                        value: 0,
+                    },
+                ),
+                d,
+            ),
+        },
+    }
+}
+
+// a string or a substring, noted with a tag
+pub fn left_part(
+    text: &[u8],
+    known: &[u64; KNOWN],
+    keys: &mut [u64; NAMES],
+    tags: &mut [u8; NAMES],
+    r: Draft,
+    tag: u8,
+) -> Draft
+    requires { ⌜ Standing (now text) (now keys) (now tags) r ⌝ }
+    requires { ⌜ Counted (now known) ⌝ }
+    requires { ⌜ StringTag tag ⌝ }
+    ensures { λ q. ⌜ PartStage (now (text .entry)) (now (known .entry)) (now (keys .entry)) (now (tags .entry)) tag r q (now (keys .exit)) (now (tags .exit)) ⌝ }
+{
+    match r {
+        Draft::Broken => Draft::Broken,
+        Draft::Got(row, c) => match read_part(text, known, keys, tags, c, 0, tag) {
+            Operand::Broken => Draft::Broken,
+            Operand::Got(left, d) => Draft::Got(with_left(row, left), d),
+        },
+    }
+}
+
+// the test of an IF: a row of its own
+pub fn tested(
+    text: &[u8],
+    known: &[u64; KNOWN],
+    keys: &mut [u64; NAMES],
+    tags: &mut [u8; NAMES],
+    r: Draft,
+) -> Draft
+    requires { ⌜ Standing (now text) (now keys) (now tags) r ⌝ }
+    requires { ⌜ Counted (now known) ⌝ }
+    ensures { λ q. ⌜ TestStage (now (text .entry)) (now (known .entry)) (now (keys .entry)) (now (tags .entry)) r q (now (keys .exit)) (now (tags .exit)) ⌝ }
+{
+    match r {
+        Draft::Broken => Draft::Broken,
+        Draft::Got(row, c) => match read_test(text, known, keys, tags, c) {
+            Draft::Broken => Draft::Broken,
+            Draft::Got(test, d) => Draft::Got(test, d),
+        },
+    }
+}
+
+// a branch field
+pub fn branched(
+    text: &[u8],
+    known: &[u64; KNOWN],
+    keys: &mut [u64; NAMES],
+    tags: &mut [u8; NAMES],
+    r: Draft,
+) -> Draft
+    requires { ⌜ Standing (now text) (now keys) (now tags) r ⌝ }
+    requires { ⌜ Counted (now known) ⌝ }
+    ensures { λ q. ⌜ BranchStage (now (text .entry)) (now (known .entry)) (now (keys .entry)) (now (tags .entry)) r q (now (keys .exit)) (now (tags .exit)) ⌝ }
+{
+    match r {
+        Draft::Broken => Draft::Broken,
+        Draft::Got(row, c) => match read_branch(text, known, keys, tags, c) {
+            Branching::Broken => Draft::Broken,
+            Branching::Got(b, d) => Draft::Got(with_steps(row, b.success, b.failure), d),
+        },
+    }
+}
+
+// a branch field, if there is one; else the next step either way
+pub fn branched_if_any(
+    text: &[u8],
+    known: &[u64; KNOWN],
+    keys: &mut [u64; NAMES],
+    tags: &mut [u8; NAMES],
+    r: Draft,
+) -> Draft
+    requires { ⌜ Standing (now text) (now keys) (now tags) r ⌝ }
+    requires { ⌜ Counted (now known) ⌝ }
+    ensures { λ q. ⌜ BranchIfAnyStage (now (text .entry)) (now (known .entry)) (now (keys .entry)) (now (tags .entry)) r q (now (keys .exit)) (now (tags .exit)) ⌝ }
+{
+    match r {
+        Draft::Broken => Draft::Broken,
+        Draft::Got(row, c) => {
+            if stands_at(text, c.at, b'/') {
+                return branched(text, known, keys, tags, r);
+            }
+            let next = next_step(known);
+            Draft::Got(with_steps(row, next, next), c)
+        }
+    }
+}
+
+// a string expression
+pub fn right_strings(
+    text: &[u8],
+    known: &[u64; KNOWN],
+    table: &mut [u8],
+    keys: &mut [u64; NAMES],
+    tags: &mut [u8; NAMES],
+    r: Draft,
+) -> Draft
+    requires { ⌜ Standing (now text) (now keys) (now tags) r ⌝ }
+    requires { ⌜ Counted (now known) ⌝ }
+    requires { ⌜ 28672 ≤ length (now table) ⌝ }
+    ensures { λ q. ⌜ StringsStage (now (text .entry)) (now (known .entry)) (now (table .entry)) (now (keys .entry)) (now (tags .entry)) r q (now (table .exit)) (now (keys .exit)) (now (tags .exit)) ⌝ }
+{
+    match r {
+        Draft::Broken => Draft::Broken,
+        Draft::Got(row, c) => match string_expression(text, known, table, keys, tags, c) {
+            Outcome::Broken => Draft::Broken,
+            Outcome::Got(d) => {
+                let right = range_cell(c.elements, d.elements - c.elements, 0);
+                Draft::Got(with_right(row, row.flag, right), d)
+            }
+        },
+    }
+}
+
+// a pattern
+pub fn right_pattern(
+    text: &[u8],
+    known: &[u64; KNOWN],
+    table: &mut [u8],
+    keys: &mut [u64; NAMES],
+    tags: &mut [u8; NAMES],
+    r: Draft,
+) -> Draft
+    requires { ⌜ Standing (now text) (now keys) (now tags) r ⌝ }
+    requires { ⌜ Counted (now known) ⌝ }
+    requires { ⌜ 28672 ≤ length (now table) ⌝ }
+    ensures { λ q. ⌜ PatternStage (now (text .entry)) (now (known .entry)) (now (table .entry)) (now (keys .entry)) (now (tags .entry)) r q (now (table .exit)) (now (keys .exit)) (now (tags .exit)) ⌝ }
+{
+    match r {
+        Draft::Broken => Draft::Broken,
+        Draft::Got(row, c) => match pattern(text, known, table, keys, tags, c) {
+            Outcome::Broken => Draft::Broken,
+            Outcome::Got(d) => {
+                let right = range_cell(c.elements, d.elements - c.elements, 0);
+                Draft::Got(with_right(row, row.flag, right), d)
+            }
+        },
+    }
+}
+
+// the replacement of a SCAN, if it has `=`: behind the elements of its pattern, which stand from a place on
+pub fn replaced(
+    text: &[u8],
+    known: &[u64; KNOWN],
+    table: &mut [u8],
+    keys: &mut [u64; NAMES],
+    tags: &mut [u8; NAMES],
+    r: Draft,
+    from: usize,
+    direction: u8,
+) -> Draft
+    requires { ⌜ Following (now text) (now keys) (now tags) from r ⌝ }
+    requires { ⌜ Counted (now known) ⌝ }
+    requires { ⌜ 28672 ≤ length (now table) ⌝ }
+    requires { ⌜ direction < 3 ⌝ }
+    ensures { λ q. ⌜ ReplacedStage (now (text .entry)) (now (known .entry)) (now (table .entry)) (now (keys .entry)) (now (tags .entry)) from direction r q (now (table .exit)) (now (keys .exit)) (now (tags .exit)) ⌝ }
+{
+    match r {
+        Draft::Broken => Draft::Broken,
+        Draft::Got(row, c) => {
+            if !stands_at(text, c.at, b'=') {
+                return r;
+            }
+            match string_expression(text, known, table, keys, tags, skip(c, 1)) {
+                Outcome::Broken => Draft::Broken,
+                Outcome::Got(d) => {
+                    let right = range_cell(from, c.elements - from, d.elements - c.elements);
+                    Draft::Got(with_right(row, direction + 2, right), d)
+                }
+            }
+        }
+    }
+}

@@ -1,0 +1,371 @@
+// The forms of the kinds of statements, each read from behind its keyword.
+// Assumes nothing.
+use crate::Form;
+use crate::stages::begun;
+use crate::stages::branched;
+use crate::stages::branched_if_any;
+use crate::stages::left_part;
+use crate::stages::marked;
+use crate::stages::range_cell;
+use crate::stages::replaced;
+use crate::stages::right_pattern;
+use crate::stages::right_strings;
+use crate::stages::tested;
+use crate::stages::to_entry;
+use crate::stages::to_exit;
+use crate::stages::to_label;
+use branches::Draft;
+use branches::Row;
+use branches::places::number_known;
+use met::Cursor;
+use met::KNOWN;
+use met::NAMES;
+use numeric::Outcome;
+use numeric::expression;
+use numeric::operands::Cell;
+use numeric::operands::Name;
+use numeric::operands::Place;
+use numeric::operands::REFERENCE;
+use numeric::operands::STRING;
+use numeric::operands::read_name;
+use numeric::operands::read_number;
+use numeric::operands::skip;
+use words::begins_at;
+use words::names::key_of;
+use words::names::name_length;
+use words::stands_at;
+ghost use mathlib.Core.Path.{_≡_};
+ghost use Prim.Native.Nat.{_≤_, _<_};
+ghost use lib.ListN.{length, drop};
+ghost use Rattle.forms.specs.Ends.{endedBy, unsteppedAt};
+ghost use Rattle.forms.specs.Rows.{begunAs};
+ghost use Rattle.forms.specs.Steps.{GotoRead, RoutineRead, ExecuteRead, IfRead, InputRead, OutputRead, StringSetRead, ScanRead};
+ghost use Rattle.forms.specs.Steps.{AssignedRead, NumberSetRead, SetsNumber, ReplacementRead, ProgramRead, NumbersRead, MoreNumbersRead, BehindUnit};
+ghost use Rattle.met.specs.Known.{Counted};
+ghost use Rattle.numeric.specs.Operands.{Ready};
+
+// the tags of names that are declared
+const PROGRAM_DECLARED: u8 = 8;
+
+const NUMBER_DECLARED: u8 = 11;
+
+// a row at the end of the text is a step
+fn ended(text: &[u8], r: Draft) -> Form
+    ensures { λ q. ⌜ q ≡ endedBy (now (text .entry)) r ⌝ }
+{
+    match r {
+        Draft::Broken => Form::Broken,
+        Draft::Got(row, d) => {
+            if d.at < text.len() {
+                return Form::Broken;
+            }
+            Form::Step(row, d)
+        }
+    }
+}
+
+// the end of a statement that is no step
+fn unstepped(text: &[u8], d: Cursor) -> Form
+    ensures { λ q. ⌜ q ≡ unsteppedAt (now (text .entry)) d ⌝ }
+{
+    if d.at < text.len() {
+        return Form::Broken;
+    }
+    Form::NoStep(d)
+}
+
+// a keyword alone
+pub fn plain_form(text: &[u8], c: Cursor, kind: u8) -> Form
+    ensures { λ q. ⌜ q ≡ endedBy (now (text .entry)) (begunAs kind 0 c) ⌝ }
+{
+    ended(text, begun(kind, 0, c))
+}
+
+pub fn goto_form(
+    text: &[u8],
+    known: &[u64; KNOWN],
+    keys: &mut [u64; NAMES],
+    tags: &mut [u8; NAMES],
+    c: Cursor,
+) -> Form
+    requires { ⌜ Ready (now text) (now keys) (now tags) c ⌝ }
+    requires { ⌜ Counted (now known) ⌝ }
+    ensures { λ r. ⌜ GotoRead (now (text .entry)) (now (known .entry)) (now (keys .entry)) (now (tags .entry)) c r (now (keys .exit)) (now (tags .exit)) ⌝ }
+{
+    ended(text, to_label(text, known, keys, tags, begun(3, 0, c)))
+}
+
+pub fn routine_form(
+    text: &[u8],
+    known: &[u64; KNOWN],
+    keys: &mut [u64; NAMES],
+    tags: &mut [u8; NAMES],
+    c: Cursor,
+) -> Form
+    requires { ⌜ Ready (now text) (now keys) (now tags) c ⌝ }
+    requires { ⌜ Counted (now known) ⌝ }
+    ensures { λ r. ⌜ RoutineRead (now (text .entry)) (now (known .entry)) (now (keys .entry)) (now (tags .entry)) c r (now (keys .exit)) (now (tags .exit)) ⌝ }
+{
+    ended(text, to_exit(text, known, keys, tags, begun(3, 0, c)))
+}
+
+pub fn execute_form(
+    text: &[u8],
+    known: &[u64; KNOWN],
+    keys: &mut [u64; NAMES],
+    tags: &mut [u8; NAMES],
+    c: Cursor,
+) -> Form
+    requires { ⌜ Ready (now text) (now keys) (now tags) c ⌝ }
+    requires { ⌜ Counted (now known) ⌝ }
+    ensures { λ r. ⌜ ExecuteRead (now (text .entry)) (now (known .entry)) (now (keys .entry)) (now (tags .entry)) c r (now (keys .exit)) (now (tags .exit)) ⌝ }
+{
+    ended(text, to_entry(text, known, keys, tags, begun(11, 0, c)))
+}
+
+// IF: the test's row has its own kind
+pub fn if_form(
+    text: &[u8],
+    known: &[u64; KNOWN],
+    keys: &mut [u64; NAMES],
+    tags: &mut [u8; NAMES],
+    c: Cursor,
+) -> Form
+    requires { ⌜ Ready (now text) (now keys) (now tags) c ⌝ }
+    requires { ⌜ Counted (now known) ⌝ }
+    ensures { λ r. ⌜ IfRead (now (text .entry)) (now (known .entry)) (now (keys .entry)) (now (tags .entry)) c r (now (keys .exit)) (now (tags .exit)) ⌝ }
+{
+    let open = marked(text, begun(5, 0, c), b'(');
+    let test = tested(text, known, keys, tags, open);
+    let close = marked(text, test, b')');
+    ended(text, branched(text, known, keys, tags, close))
+}
+
+// the cursor behind a unit, if it stands here
+fn behind_unit(text: &[u8], c: Cursor, unit: &[u8]) -> Cursor
+    requires { ⌜ (length (now unit) ≡ 4) × ((c .at ≤ length (now text)) × (length (now text) ≤ 32768)) ⌝ }
+    ensures { λ r. ⌜ BehindUnit (now (text .entry)) (now (unit .entry)) c r ⌝ }
+{
+    if begins_at(text, c.at, unit) {
+        return skip(c, 4);
+    }
+    skip(c, 0)
+}
+
+// READ
+pub fn input_form(
+    text: &[u8],
+    known: &[u64; KNOWN],
+    keys: &mut [u64; NAMES],
+    tags: &mut [u8; NAMES],
+    c: Cursor,
+) -> Form
+    requires { ⌜ Ready (now text) (now keys) (now tags) c ⌝ }
+    requires { ⌜ Counted (now known) ⌝ }
+    ensures { λ r. ⌜ InputRead (now (text .entry)) (now (known .entry)) (now (keys .entry)) (now (tags .entry)) c r (now (keys .exit)) (now (tags .exit)) ⌝ }
+{
+    let d = behind_unit(text, c, b"(60)");
+    let part = left_part(text, known, keys, tags, begun(9, 0, d), STRING);
+    ended(text, branched_if_any(text, known, keys, tags, part))
+}
+
+// WRITE and PRINT
+pub fn output_form(
+    text: &[u8],
+    known: &[u64; KNOWN],
+    table: &mut [u8],
+    keys: &mut [u64; NAMES],
+    tags: &mut [u8; NAMES],
+    c: Cursor,
+) -> Form
+    requires { ⌜ Ready (now text) (now keys) (now tags) c ⌝ }
+    requires { ⌜ Counted (now known) ⌝ }
+    requires { ⌜ 28672 ≤ length (now table) ⌝ }
+    ensures { λ r. ⌜ OutputRead (now (text .entry)) (now (known .entry)) (now (table .entry)) (now (keys .entry)) (now (tags .entry)) c r (now (table .exit)) (now (keys .exit)) (now (tags .exit)) ⌝ }
+{
+    let d = behind_unit(text, c, b"(61)");
+    ended(
+        text,
+        right_strings(text, known, table, keys, tags, begun(10, 0, d)),
+    )
+}
+
+// a string or a part of it is set
+fn string_form(
+    text: &[u8],
+    known: &[u64; KNOWN],
+    table: &mut [u8],
+    keys: &mut [u64; NAMES],
+    tags: &mut [u8; NAMES],
+    c: Cursor,
+) -> Form
+    requires { ⌜ Ready (now text) (now keys) (now tags) c ⌝ }
+    requires { ⌜ Counted (now known) ⌝ }
+    requires { ⌜ 28672 ≤ length (now table) ⌝ }
+    ensures { λ r. ⌜ StringSetRead (now (text .entry)) (now (known .entry)) (now (table .entry)) (now (keys .entry)) (now (tags .entry)) c r (now (table .exit)) (now (keys .exit)) (now (tags .exit)) ⌝ }
+{
+    let part = left_part(text, known, keys, tags, begun(2, 0, c), STRING);
+    let sets = marked(text, part, b'=');
+    ended(text, right_strings(text, known, table, keys, tags, sets))
+}
+
+// SCAN with direction 1, BACKSCAN with direction 2
+pub fn scan_form(
+    text: &[u8],
+    known: &[u64; KNOWN],
+    table: &mut [u8],
+    keys: &mut [u64; NAMES],
+    tags: &mut [u8; NAMES],
+    c: Cursor,
+    direction: u8,
+) -> Form
+    requires { ⌜ Ready (now text) (now keys) (now tags) c ⌝ }
+    requires { ⌜ Counted (now known) ⌝ }
+    requires { ⌜ 28672 ≤ length (now table) ⌝ }
+    requires { ⌜ direction < 3 ⌝ }
+    ensures { λ r. ⌜ ScanRead (now (text .entry)) (now (known .entry)) (now (table .entry)) (now (keys .entry)) (now (tags .entry)) c direction r (now (table .exit)) (now (keys .exit)) (now (tags .exit)) ⌝ }
+{
+    let part = left_part(text, known, keys, tags, begun(8, direction, c), REFERENCE);
+    let open = marked(text, part, b'[');
+    let sought = right_pattern(text, known, table, keys, tags, open);
+    let close = marked(text, sought, b']');
+    let from = c.elements;
+    let behind = replaced(text, known, table, keys, tags, close, from, direction);
+    ended(text, branched_if_any(text, known, keys, tags, behind))
+}
+
+// the expression that a number is set to
+fn assigned(
+    text: &[u8],
+    known: &[u64; KNOWN],
+    table: &mut [u8],
+    keys: &mut [u64; NAMES],
+    tags: &mut [u8; NAMES],
+    c: Cursor,
+    place: u8,
+) -> Form
+    requires { ⌜ Ready (now text) (now keys) (now tags) c ⌝ }
+    requires { ⌜ Counted (now known) ⌝ }
+    requires { ⌜ 28672 ≤ length (now table) ⌝ }
+    ensures { λ r. ⌜ AssignedRead (now (text .entry)) (now (known .entry)) (now (table .entry)) (now (keys .entry)) (now (tags .entry)) c place r (now (table .exit)) (now (keys .exit)) (now (tags .exit)) ⌝ }
+{
+    match expression(text, known, table, keys, tags, c, 0) {
+        Outcome::Broken => Form::Broken,
+        Outcome::Got(d) => {
+            let right = range_cell(c.items, d.items - c.items, 0);
+            let left = Cell {
+                kind: 5,
+                place,
+                value: 0,
+            };
+            ended(
+                text,
+                Draft::Got(
+                    Row {
+                        kind: 1,
+                        flag: 0,
+                        success: 0,
+                        failure: 0,
+                        left,
+                        right,
+                    },
+                    d,
+                ),
+            )
+        }
+    }
+}
+
+// a number is set
+fn number_form(
+    text: &[u8],
+    known: &[u64; KNOWN],
+    table: &mut [u8],
+    keys: &mut [u64; NAMES],
+    tags: &mut [u8; NAMES],
+    c: Cursor,
+) -> Form
+    requires { ⌜ Ready (now text) (now keys) (now tags) c ⌝ }
+    requires { ⌜ Counted (now known) ⌝ }
+    requires { ⌜ 28672 ≤ length (now table) ⌝ }
+    ensures { λ r. ⌜ NumberSetRead (now (text .entry)) (now (known .entry)) (now (table .entry)) (now (keys .entry)) (now (tags .entry)) c r (now (table .exit)) (now (keys .exit)) (now (tags .exit)) ⌝ }
+{
+    match read_number(text, known, keys, tags, c) {
+        Place::Broken => Form::Broken,
+        Place::Got(place, d) => {
+            if stands_at(text, d.at, b'=') {
+                return assigned(text, known, table, keys, tags, skip(d, 1), place);
+            }
+            Form::Broken
+        }
+    }
+}
+
+// whether a name known as a number stands before `=`
+fn sets_number(text: &[u8], known: &[u64; KNOWN], at: usize) -> bool
+    requires { ⌜ Counted (now known) ⌝ }
+    requires { ⌜ (at ≤ length (now text)) × (length (now text) ≤ 32768) ⌝ }
+    ensures { λ r. ⌜ SetsNumber (now (text .entry)) (now (known .entry)) at r ⌝ }
+{
+    let n = name_length(text, at);
+    if number_known(known, key_of(text, at, n)) {
+        return stands_at(text, at + n, b'=');
+    }
+    false
+}
+
+// a replacement
+pub fn replacement_form(
+    text: &[u8],
+    known: &[u64; KNOWN],
+    table: &mut [u8],
+    keys: &mut [u64; NAMES],
+    tags: &mut [u8; NAMES],
+    c: Cursor,
+) -> Form
+    requires { ⌜ Ready (now text) (now keys) (now tags) c ⌝ }
+    requires { ⌜ Counted (now known) ⌝ }
+    requires { ⌜ 28672 ≤ length (now table) ⌝ }
+    ensures { λ r. ⌜ ReplacementRead (now (text .entry)) (now (known .entry)) (now (table .entry)) (now (keys .entry)) (now (tags .entry)) c r (now (table .exit)) (now (keys .exit)) (now (tags .exit)) ⌝ }
+{
+    if sets_number(text, known, c.at) {
+        return number_form(text, known, table, keys, tags, c);
+    }
+    string_form(text, known, table, keys, tags, c)
+}
+
+// PROGRAM is no step
+pub fn program_form(text: &[u8], keys: &mut [u64; NAMES], tags: &mut [u8; NAMES], c: Cursor) -> Form
+    requires { ⌜ Ready (now text) (now keys) (now tags) c ⌝ }
+    ensures { λ r. ⌜ ProgramRead (now (text .entry)) (now (keys .entry)) (now (tags .entry)) c r (now (keys .exit)) (now (tags .exit)) ⌝ }
+{
+    match read_name(text, keys, tags, c, PROGRAM_DECLARED) {
+        Name::Broken => Form::Broken,
+        Name::Got(key, d) => unstepped(text, d),
+    }
+}
+
+// further names of a NUMBER statement
+fn more_numbers(text: &[u8], keys: &mut [u64; NAMES], tags: &mut [u8; NAMES], c: Cursor) -> Form
+    requires { ⌜ Ready (now text) (now keys) (now tags) c ⌝ }
+    ensures { λ r. ⌜ MoreNumbersRead (now (text .entry)) (now (keys .entry)) (now (tags .entry)) c r (now (keys .exit)) (now (tags .exit)) ⌝ }
+{
+    if !stands_at(text, c.at, b',') {
+        return unstepped(text, c);
+    }
+    match read_name(text, keys, tags, skip(c, 1), NUMBER_DECLARED) {
+        Name::Broken => Form::Broken,
+        Name::Got(key, d) => more_numbers(text, keys, tags, d),
+    }
+}
+
+// NUMBER is no step
+pub fn numbers_form(text: &[u8], keys: &mut [u64; NAMES], tags: &mut [u8; NAMES], c: Cursor) -> Form
+    requires { ⌜ Ready (now text) (now keys) (now tags) c ⌝ }
+    ensures { λ r. ⌜ NumbersRead (now (text .entry)) (now (keys .entry)) (now (tags .entry)) c r (now (keys .exit)) (now (tags .exit)) ⌝ }
+{
+    match read_name(text, keys, tags, c, NUMBER_DECLARED) {
+        Name::Broken => Form::Broken,
+        Name::Got(key, d) => more_numbers(text, keys, tags, d),
+    }
+}

@@ -1,0 +1,213 @@
+-- The contracts of judging, put together. Assumes nothing.
+use mathlib.Core.Bool.{Bool, true, false, cond, not, _||_, Bool·beq, or-true}
+use mathlib.Core.List.{List, map}
+use mathlib.Core.Path.{_≡_, refl, sym, _∙_, ap, subst}
+use Prim.Native.Nat.{ℕ, _-_}
+use native.Mathlib.Omega.{arith}
+use lib.Dec.{eqb}
+use lib.ListN.{length, take, getD, length-map}
+use lib.Seq.{take-all}
+use borrow.Author.Tests.{eq-eqb, ne-eqb}
+use Rattle.judgement.specs.Known as Known
+use Rattle.judgement.specs.Known.{Known, namesFor}
+use Rattle.judgement.specs.Refusals.{metNumber}
+use Rattle.language.specs.Keywords.{kindNumber}
+use Rattle.language.specs.Reading.{number, string}
+use Rattle.met.specs.Entries.{Entry, nameOf, metIn}
+use Rattle.met.specs.Holding.{Arrays, Holds, namesFrom, namesIn}
+use Rattle.met.specs.Known.{stringKeys, numberKeys}
+use Rattle.met.specs.declared.Cursor.{Cursor}
+use Rattle.naming.specs.ArrayLaws.{names-kept}
+use Rattle.naming.specs.Arrays.{knownIn, entriesFrom, arrays}
+use Rattle.naming.specs.Judged.{namesNumber, Named, NamesJudged}
+use Rattle.naming.specs.declared.Verdict.{Verdict}
+use Rattle.words.specs.Kinds.{kindOf}
+use Rattle.words.specs.declared.keywords.Kind.{Kind}
+use Rattle.judging.specs.Cells.{cells, cells-part, length-cells}
+use Rattle.judging.specs.Counts.{isOver}
+use Rattle.judging.specs.Judged.{Ready, Behind, Judged, Misplaced}
+use Rattle.judging.specs.JudgedLaws.{misplaced, number-some, number-nine, number-rest, over-is, learnt-holds}
+use Rattle.judging.specs.Learning.{wrongIn, Learnable, Learnt}
+
+-- 4: at the first statement, and behind it
+first-is : (b : Bool) → not b ≡ (not (Bool·beq true b) || false)
+first-is true = refl
+first-is false = refl
+
+later-is : (b : Bool) → b ≡ (not (Bool·beq false b) || false)
+later-is true = refl
+later-is false = refl
+
+module _ (known : List ℕ) (kind : Kind) where
+  misplaced-by : (r : Bool) → r ≡ (not (Bool·beq (eqb (getD known 71 0) 0) (eqb (kindNumber (kindOf kind)) 2)) || eqb (getD known 73 0) 1)
+      → Misplaced known kind r
+  misplaced-by r e =
+      record {
+        misplaced = λ a is taken k h.
+            e
+            ∙ ap (λ l. not (Bool·beq (eqb (getD l 71 0) 0) (eqb (kindNumber (kindOf kind)) 2)) || eqb (getD l 73 0) 1) (sym is)
+            ∙ sym (misplaced a taken k h (kindOf kind));
+      }
+
+  pub misplaced-ended : getD known 73 0 ≡ 1 → Misplaced known kind true
+  misplaced-ended e =
+      misplaced-by true
+      (rw (eq-eqb (getD known 73 0) 1 e) (sym (or-true (not (Bool·beq (eqb (getD known 71 0) 0) (eqb (kindNumber (kindOf kind)) 2))))))
+
+  module _ (n : ℕ) (is : n ≡ kindNumber (kindOf kind)) (going : getD known 73 0 ≡ 1 → ⊥) where
+    pub misplaced-first : getD known 71 0 ≡ 0 → Misplaced known kind (not (eqb n 2))
+    misplaced-first e =
+        misplaced-by (not (eqb n 2))
+        (ap (λ x. not (eqb x 2)) is
+        ∙ rw (eq-eqb (getD known 71 0) 0 e, ne-eqb (getD known 73 0) 1 going) (first-is (eqb (kindNumber (kindOf kind)) 2)))
+
+    pub misplaced-later : (getD known 71 0 ≡ 0 → ⊥) → Misplaced known kind (eqb n 2)
+    misplaced-later e =
+        misplaced-by (eqb n 2)
+        (ap (λ x. eqb x 2) is
+        ∙ rw (ne-eqb (getD known 71 0) 0 e, ne-eqb (getD known 73 0) 1 going) (later-is (eqb (kindNumber (kindOf kind)) 2)))
+
+-- arrays that are ready have names to judge
+pub named : (a : Arrays) (keys tags : List ℕ) (c : Cursor) → Ready a keys tags c
+    → Named (a .known) (a .nameKeys) (a .namePurposes) keys tags (c .names)
+unfolding knownIn namesIn
+named a keys tags c r =
+    record {
+      counted = r .held .counted;
+      names =
+          record {
+            keysSize = r .held .nameKeysSize;
+            othersSize = r .held .namePurposesSize;
+            room = omega (arith, r .held .fewNames, r .room);
+          };
+      entries = record { keysSize = r .keysSize; othersSize = r .tagsSize; room = r .room };
+      single = r .held .single;
+    }
+
+module _ (a : Arrays) (keys tags : List ℕ) (c : Cursor) (ready : Ready a keys tags c) (nameKeys′ namePurposes′ : List ℕ) (v : Verdict)
+    (names : NamesJudged (a .known) (a .nameKeys) (a .namePurposes) keys tags (c .names) nameKeys′ namePurposes′ v) where
+  abbrev known : List ℕ
+  known = a .known
+
+  abbrev count : ℕ
+  count = getD (a .known) 78 0
+
+  names-same : namesFrom nameKeys′ namePurposes′ 0 count ≡ namesIn a
+  unfolding namesIn
+  names-same =
+      names-kept (a .nameKeys) (a .namePurposes) nameKeys′ namePurposes′ 0 count (λ j h. names .keysKept j (omega arith))
+      (λ j h. names .purposesKept j (omega arith))
+
+  strings-shown : map nameOf (cells known 2 (getD known 0 0)) ≡ take 33 (namesFor string (namesFrom nameKeys′ namePurposes′ 0 count))
+  unfolding knownIn stringKeys Known.strings
+  strings-shown =
+      let part = ap (map nameOf) (cells-part known 2 (getD known 0 0) (omega (arith, ready .held .counted .size, ready .held .counted .strings))) in
+      let is = sym part ∙ ready .held .strings in
+      let size = ap length (sym is) ∙ length-map (cells known 2 (getD known 0 0)) nameOf ∙ length-cells known 2 (getD known 0 0) in
+      is
+      ∙ sym (take-all 33 (namesFor string (namesIn a)) (omega (arith, ready .held .counted .strings)))
+      ∙ ap (λ ns. take 33 (namesFor string ns)) (sym names-same)
+
+  numbers-shown : map nameOf (cells known 35 (getD known 1 0)) ≡ take 33 (namesFor number (namesFrom nameKeys′ namePurposes′ 0 count))
+  unfolding knownIn numberKeys Known.numbers
+  numbers-shown =
+      let part = ap (map nameOf) (cells-part known 35 (getD known 1 0) (omega (arith, ready .held .counted .size, ready .held .counted .numbers))) in
+      let is = sym part ∙ ready .held .numbers in
+      let size = ap length (sym is) ∙ length-map (cells known 35 (getD known 1 0)) nameOf ∙ length-cells known 35 (getD known 1 0) in
+      is
+      ∙ sym (take-all 33 (namesFor number (namesIn a)) (omega (arith, ready .held .counted .numbers)))
+      ∙ ap (λ ns. take 33 (namesFor number ns)) (sym names-same)
+
+  -- and can learn the statement
+  pub learnable : Learnable known nameKeys′ namePurposes′ (a .useKeys) (a .useScopes) (a .usePurposes) keys tags (c .names) (v .count)
+  learnable =
+      let h = ready .held in
+      record {
+        listing =
+            record {
+              shows =
+                  record {
+                    size = h .counted .size;
+                    fewStrings = h .counted .strings;
+                    fewNumbers = h .counted .numbers;
+                    strings = strings-shown;
+                    numbers = numbers-shown;
+                  };
+              keysSize = names .keysSize;
+              purposesSize = names .purposesSize;
+              inside = names .more;
+              room = omega (arith, names .few, h .fewNames, ready .room);
+            };
+        entries = record { keysSize = ready .keysSize; othersSize = ready .tagsSize; room = ready .room };
+        spacious =
+            record {
+              keysSize = h .useKeysSize;
+              scopesSize = h .useScopesSize;
+              purposesSize = h .usePurposesSize;
+              room = omega (arith, h .fewUses, ready .room);
+            };
+        statements = h .fewStatements;
+        steps = omega (arith, h .fewSteps, h .fewStatements);
+        labels = h .counted .labels;
+        routines = h .fewRoutines;
+      }
+
+  module _ (kind : Kind) where
+    abbrev es : List Entry
+    es = entriesFrom keys tags 0 (c .names)
+
+    number-is : v .number ≡ namesNumber known (namesIn a) es
+    unfolding namesIn
+    number-is = names .number
+
+    pub judged-names : (a′ : Arrays) → (v .number ≡ 0 → ⊥) → Judged a keys tags c kind a′ (v .number)
+    judged-names a′ f =
+        record {
+          number = λ taken k h items rows literals b. number-some a taken k h (kindOf kind) es items rows literals (v .number) number-is f;
+          learnt = λ z taken k h items rows literals b taken′ room. absurd (f z);
+        }
+
+    module _ (z : v .number ≡ 0) (n : ℕ) (is : n ≡ kindNumber (kindOf kind)) where
+      pub judged-nine : (a′ : Arrays) → wrongIn n (getD known 74 0) ≡ true → Judged a keys tags c kind a′ 9
+      judged-nine a′ w =
+          record {
+            number = λ taken k h items rows literals b.
+                number-nine a taken k h (kindOf kind) es items rows literals (v .number) number-is z
+                (ap (λ x. wrongIn x (getD known 74 0)) (sym is) ∙ w);
+            learnt = λ e taken k h items rows literals b taken′ room. absurd (omega arith);
+          }
+
+      module _ (w : wrongIn n (getD known 74 0) ≡ false) (known′ useKeys′ useScopes′ usePurposes′ : List ℕ)
+          (l : Learnt known nameKeys′ namePurposes′ (a .useKeys) (a .useScopes) (a .usePurposes) es c n (v .count) known′ useKeys′ useScopes′
+          usePurposes′) where
+        right : wrongIn (kindNumber (kindOf kind)) (getD known 74 0) ≡ false
+        right = ap (λ x. wrongIn x (getD known 74 0)) (sym is) ∙ w
+
+        learnt′ : Learnt known nameKeys′ namePurposes′ (a .useKeys) (a .useScopes) (a .usePurposes) es c (kindNumber (kindOf kind)) (v .count) known′
+            useKeys′ useScopes′ usePurposes′
+        learnt′ =
+            subst
+            (λ x. Learnt known nameKeys′ namePurposes′ (a .useKeys) (a .useScopes) (a .usePurposes) es c x (v .count) known′ useKeys′ useScopes′ usePurposes′)
+            is l
+
+        ten : (t : Bool) → isOver known′ (c .longest) ≡ t → (taken : ℕ) (k : Known) → Holds a taken k → (items : ℕ) (rows : List ℕ) (literals : ℕ)
+            → Behind k c items rows literals → cond t 10 0 ≡ metNumber k (kindOf kind) (metIn es items rows literals)
+        ten t e taken k h items rows literals b =
+            ap (λ x. cond x 10 0)
+            (sym e ∙ over-is a taken k h (kindOf kind) keys tags c items rows literals b nameKeys′ namePurposes′ v names z known′ useKeys′ useScopes′
+            usePurposes′ learnt′)
+            ∙ number-rest a taken k h (kindOf kind) es items rows literals (v .number) number-is z right
+
+        pub judged-over : (a′ : Arrays) → isOver known′ (c .longest) ≡ true → Judged a keys tags c kind a′ 10
+        judged-over a′ e =
+            record { number = ten true e; learnt = λ f taken k h items rows literals b taken′ room. absurd (omega arith) }
+
+        pub judged-zero : isOver known′ (c .longest) ≡ false
+            → Judged a keys tags c kind (arrays known′ nameKeys′ namePurposes′ useKeys′ useScopes′ usePurposes′) 0
+        judged-zero e =
+            record {
+              number = ten false e;
+              learnt = λ f taken k h items rows literals b taken′ room.
+                  learnt-holds a taken k h (kindOf kind) keys tags c items rows literals b nameKeys′ namePurposes′ v names z known′ useKeys′
+                  useScopes′ usePurposes′ learnt′ e taken′ room;
+            }

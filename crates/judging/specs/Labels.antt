@@ -1,0 +1,35 @@
+-- Labels noted, each with the step that comes next and its scope. Assumes nothing.
+use mathlib.Core.Bool.{cond}
+use mathlib.Core.List.{List, _++_, map}
+use mathlib.Core.Path.{_≡_}
+use Prim.Native.Nat.{ℕ, _+_, _%_, _≤_, _<_}
+use lib.Dec.{eqb, ltb}
+use lib.ListN.{length, take, getD, set}
+use Rattle.judgement.specs.Known.{Label, namesFor}
+use Rattle.language.specs.Reading.{label}
+use Rattle.met.specs.Entries.{Entry, nameOf, gather, declaredBy}
+use Rattle.met.specs.Known.{labelsIn}
+
+-- a label behind the others, of which 65 at most are noted
+unfoldable pub labelled : List ℕ → (key : ℕ) → List ℕ
+labelled known key =
+    let n = getD known 68 0 in
+    cond (ltb n 65)
+    (set (set (set (set known (80 + n) key) (145 + n) (getD known 72 0)) (210 + n) (getD known 74 0)) 68 (n + 1)) known
+
+-- a name met, if it is a label declared
+unfoldable pub labelledBy : List ℕ → (key tag : ℕ) → List ℕ
+labelledBy known key tag = cond (eqb (tag % 16) 9) (labelled known key) known
+
+-- the labels that entries declare at a step in a scope
+unfoldable pub labelsBy : (step : ℕ) (scope : List ℕ) → List Entry → List Label
+labelsBy step scope es = map (λ n. record { name = n; step = step; scope = scope }) (namesFor label (gather declaredBy es))
+
+-- the labels that entries declare are noted
+pub record Labelled (known : List ℕ) (es : List Entry) (known′ : List ℕ) : Type 0 where
+  pub size : length known′ ≡ 326
+  pub few : getD known′ 68 0 ≤ 65
+  pub labels : labelsIn known′ ≡ take 65 (labelsIn known ++ labelsBy (getD known 72 0) (nameOf (getD known 74 0)) es)
+  pub low : (j : ℕ) → j < 68 → getD known′ j 0 ≡ getD known j 0
+  pub middle : (j : ℕ) → 69 ≤ j → j < 80 → getD known′ j 0 ≡ getD known j 0
+  pub high : (j : ℕ) → 275 ≤ j → getD known′ j 0 ≡ getD known j 0

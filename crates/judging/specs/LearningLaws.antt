@@ -1,0 +1,135 @@
+-- The parts of learning a statement put together. Assumes nothing.
+use mathlib.Core.List.{List, _++_, map}
+use mathlib.Core.Path.{_≡_, sym, _∙_, ap, ap₂, subst}
+use Prim.Native.Nat.{ℕ, _+_, _≤_, _<_}
+use native.Mathlib.Omega.{arith}
+use lib.ListN.{length, take, getD}
+use lib.Seq.{sets, length-sets}
+use Rattle.judgement.specs.Known.{Label, Routine}
+use Rattle.met.specs.Entries.{Entry, nameOf}
+use Rattle.met.specs.Known.{labelsFrom, labelsIn, routinesDown, routinesIn}
+use Rattle.met.specs.declared.Cursor.{Cursor}
+use Rattle.judging.specs.Cells.{cells, cells-kept, sets-below, sets-above, sets-inside}
+use Rattle.judging.specs.Counts.{stepsBehind, countsBehind, counted}
+use Rattle.judging.specs.LabelLaws.{labels-kept, label-kept}
+use Rattle.judging.specs.Labels.{labelsBy, Labelled}
+use Rattle.judging.specs.Learning.{Learnt}
+use Rattle.judging.specs.Listing.{Shows, Listed}
+use Rattle.judging.specs.RoutineLaws.{routines-kept, routine-kept}
+use Rattle.judging.specs.Routines.{routineNames, Opens, routinesBehind, scopeBehind, Routed}
+use Rattle.judging.specs.Uses.{Used}
+use Rattle.judging.specs.declared.routines.Opened.{Opened}
+
+-- labels and routines are kept where their numbers are
+labels-same : (l m : List ℕ) → getD l 68 0 ≤ 65 → getD m 68 0 ≡ getD l 68 0
+    → ((j : ℕ) → 80 ≤ j → j < 275 → getD m j 0 ≡ getD l j 0) → labelsIn m ≡ labelsIn l
+unfolding labelsIn
+labels-same l m few count f =
+    ap (labelsFrom m 0) count
+    ∙ labels-kept l m 0 (getD l 68 0)
+    (λ j h.
+    label-kept l m j (f (80 + j) (omega arith) (omega arith)) (f (145 + j) (omega arith) (omega arith)) (f (210 + j) (omega arith) (omega arith)))
+
+routines-same : (l m : List ℕ) → getD m 69 0 ≡ getD l 69 0 → ((j : ℕ) → 275 ≤ j → getD m j 0 ≡ getD l j 0) → routinesIn m ≡ routinesIn l
+unfolding routinesIn
+routines-same l m count f =
+    ap (routinesDown m) count
+    ∙ routines-kept l m (getD l 69 0)
+    (λ j h. routine-kept l m j (f (275 + j) (omega arith)) (f (292 + j) (omega arith)) (f (309 + j) (omega arith)))
+
+shows-same : (l m keys purposes : List ℕ) (i : ℕ) → length m ≡ 326 → ((j : ℕ) → j < 68 → getD m j 0 ≡ getD l j 0) → Shows l keys purposes i
+    → Shows m keys purposes i
+shows-same l m keys purposes i size f s =
+    let zeroth = f 0 (omega arith) in
+    let first = f 1 (omega arith) in
+    record {
+      size = size;
+      fewStrings = omega (arith, s .fewStrings);
+      fewNumbers = omega (arith, s .fewNumbers);
+      strings =
+          ap (map nameOf) (ap (cells m 2) zeroth ∙ cells-kept l m 2 (getD l 0 0) (λ j h g. f j (omega (arith, s .fewStrings)))) ∙ s .strings;
+      numbers =
+          ap (map nameOf) (ap (cells m 35) first ∙ cells-kept l m 35 (getD l 1 0) (λ j h g. f j (omega (arith, s .fewNumbers)))) ∙ s .numbers;
+    }
+
+-- names, labels, uses, routines and counts, one after the other
+module _ (known known₁ known₂ known₃ known₄ nameKeys namePurposes useKeys useScopes usePurposes useKeys′ useScopes′ usePurposes′ : List ℕ)
+    (es : List Entry) (c : Cursor) (kind count behind uses : ℕ) (opened : Opened) (few : getD known 68 0 ≤ 65)
+    (m₁ : Listed known known₁ nameKeys namePurposes count) (m₂ : Labelled known₁ es known₂)
+    (u : Used useKeys useScopes usePurposes (getD known 79 0) (getD known 74 0) es useKeys′ useScopes′ usePurposes′ uses)
+    (o : Opens (routineNames es) opened) (m₃ : Routed known₂ opened kind known₃) (b : behind ≡ scopeBehind (getD known 74 0) opened kind)
+    (m₄ : known₄ ≡ counted known₃ c kind behind count uses) where
+  abbrev counts : List ℕ
+  counts = countsBehind known₃ c kind behind count uses
+
+  whole : known₄ ≡ sets known₃ 71 counts
+  unfolding counted
+  whole = m₄
+
+  below : (j : ℕ) → j < 71 → getD known₄ j 0 ≡ getD known₃ j 0
+  below j h = ap (λ l. getD l j 0) whole ∙ sets-below known₃ 71 j counts h
+
+  above : (j : ℕ) → 80 ≤ j → getD known₄ j 0 ≡ getD known₃ j 0
+  above j h = ap (λ l. getD l j 0) whole ∙ sets-above known₃ 71 j counts h
+
+  inside : (k : ℕ) → k < 9 → getD known₄ (71 + k) 0 ≡ getD counts k 0
+  inside k h = ap (λ l. getD l (71 + k) 0) whole ∙ sets-inside known₃ 71 k counts (omega (arith, m₃ .size)) h
+
+  size₄ : length known₄ ≡ 326
+  size₄ = ap length whole ∙ length-sets known₃ 71 counts ∙ m₃ .size
+
+  -- the counts before, as they still stand
+  middle : (j : ℕ) → 70 ≤ j → j < 80 → getD known₃ j 0 ≡ getD known j 0
+  middle j h g = m₃ .middle j h (omega arith) ∙ m₂ .middle j (omega arith) g ∙ m₁ .kept j (omega arith)
+
+  names-shown : Shows known₄ nameKeys namePurposes count
+  names-shown =
+      shows-same known₁ known₄ nameKeys namePurposes count size₄
+      (λ j h. below j (omega arith) ∙ m₃ .low j (omega arith) ∙ m₂ .low j h) (m₁ .shows)
+
+  label-count : getD known₄ 68 0 ≡ getD known₂ 68 0
+  label-count = below 68 (omega arith) ∙ m₃ .low 68 (omega arith)
+
+  labels-are : labelsIn known₄ ≡ take 65 (labelsIn known ++ labelsBy (getD known 72 0) (nameOf (getD known 74 0)) es)
+  labels-are =
+      labels-same known₂ known₄ (m₂ .few) label-count (λ j h g. above j h ∙ m₃ .middle j (omega arith) g)
+      ∙ m₂ .labels
+      ∙ ap₂ {C = List Label} (λ (ls : List Label) n. take 65 (ls ++ labelsBy n (nameOf (getD known₁ 74 0)) es))
+      (labels-same known known₁ few (m₁ .kept 68 (omega arith)) (λ j h g. m₁ .kept j (omega arith))) (m₁ .kept 72 (omega arith))
+      ∙ ap (λ n. take 65 (labelsIn known ++ labelsBy (getD known 72 0) (nameOf n) es)) (m₁ .kept 74 (omega arith))
+
+  routines-are : routinesIn known₄ ≡ routinesBehind (getD known 72 0) (routinesIn known) opened kind
+  routines-are =
+      routines-same known₃ known₄ (below 69 (omega arith)) (λ j h. above j (omega arith))
+      ∙ m₃ .routines
+      ∙ ap₂ {C = List Routine} (λ n (rs : List Routine). routinesBehind n rs opened kind)
+      (m₂ .middle 72 (omega arith) (omega arith) ∙ m₁ .kept 72 (omega arith))
+      (routines-same known known₂ (m₂ .middle 69 (omega arith) (omega arith) ∙ m₁ .kept 69 (omega arith))
+      (λ j h. m₂ .high j h ∙ m₁ .kept j (omega arith)))
+
+  pub learnt-all : Learnt known nameKeys namePurposes useKeys useScopes usePurposes es c kind count known₄ useKeys′ useScopes′ usePurposes′
+  learnt-all =
+      record {
+        opened = opened;
+        opens = o;
+        shows = names-shown;
+        fewLabels = omega (arith, label-count, m₂ .few);
+        labels = labels-are;
+        fewRoutines = omega (arith, below 69 (omega arith), m₃ .few);
+        routines = routines-are;
+        statements = inside 0 (omega arith) ∙ ap (λ n. n + 1) (middle 71 (omega arith) (omega arith));
+        steps = inside 1 (omega arith) ∙ ap (λ n. stepsBehind n kind) (middle 72 (omega arith) (omega arith));
+        ended = inside 2 (omega arith);
+        scope = inside 3 (omega arith) ∙ b;
+        elements = inside 4 (omega arith);
+        items = inside 5 (omega arith);
+        literals = inside 6 (omega arith);
+        names = inside 7 (omega arith);
+        used =
+            subst (Used useKeys useScopes usePurposes (getD known 79 0) (getD known 74 0) es useKeys′ useScopes′ usePurposes′)
+            (sym (inside 8 (omega arith))) u;
+      }
+
+-- a number that is kept stays below its bound
+pub kept-few : {x y b : ℕ} → x ≡ y → y ≤ b → x ≤ b
+kept-few e h = omega arith

@@ -1,0 +1,227 @@
+-- Strings and numbers noted one by one. Assumes nothing.
+use mathlib.Core.Bool.{Bool, true, false, cond}
+use mathlib.Core.List.{List, [], _∷_, _++_, map, map-append, append-nil}
+use mathlib.Core.Path.{_≡_, refl, sym, _∙_, ap, ap₂, subst}
+use Prim.Native.Nat.{ℕ, suc, _+_, _≤_, _<_}
+use native.Mathlib.Omega.{arith}
+use lib.Dec.{eqb, ltb}
+use lib.ListN.{length, take, getD, set, length-set, length-map}
+use lib.Seq.{getD-set-same, getD-set-other}
+use borrow.Author.Tests.{ltb-true, ltb-false, eqb-true, eqb-false, eq-eqb, ne-eqb, lt-ltb, le-ltb}
+use Rattle.base.specs.Choice.{test-cases}
+use Rattle.judgement.specs.Known.{namesFor}
+use Rattle.language.specs.Reading.{Purpose, number, string}
+use Rattle.met.specs.Entries.{nameOf}
+use Rattle.met.specs.Holding.{namingIn, namesFrom}
+use Rattle.naming.specs.ArrayLaws.{names-last}
+use Rattle.naming.specs.Names.{naming}
+use Rattle.judging.specs.Cells.{cells, cells-kept, cells-more, length-cells, cut-more, cut-full}
+use Rattle.judging.specs.Listing.{pushed, listed, Shows, Listed}
+use Rattle.judging.specs.NamesFor.{names-append, number-one, string-one}
+
+-- a key noted, or not where there are as many as can be
+pub record Push (known known′ : List ℕ) (countAt from key : ℕ) (t : Bool) : Type 0 where
+  pub size : length known′ ≡ 326
+  pub few : getD known′ countAt 0 ≤ 33
+  pub keys : cells known′ from (getD known′ countAt 0)
+      ≡ cond t (cells known from (getD known countAt 0) ++ (key ∷ [])) (cells known from (getD known countAt 0))
+  pub below : (j : ℕ) → j < from → (j ≡ countAt → ⊥) → getD known′ j 0 ≡ getD known j 0
+  pub above : (j : ℕ) → from + 33 ≤ j → getD known′ j 0 ≡ getD known j 0
+
+module _ (known : List ℕ) (countAt from key : ℕ) (size : length known ≡ 326) (few : getD known countAt 0 ≤ 33) (apart : countAt < from)
+    (room : from + 33 ≤ 326) where
+  push-one : getD known countAt 0 < 33
+      → Push known (set (set known (from + getD known countAt 0) key) countAt (getD known countAt 0 + 1)) countAt from key true
+  push-one h =
+      let n = getD known countAt 0 in
+      let k₁ = set known (from + n) key in
+      let k₂ = set k₁ countAt (n + 1) in
+      let s₁ = length-set known (from + n) key in
+      let count : getD k₂ countAt 0 ≡ n + 1 = getD-set-same k₁ countAt (n + 1) 0 (omega arith) in
+      let next : getD k₂ countAt 0 ≡ suc n = omega arith in
+      let here : getD k₂ (from + n) 0 ≡ key =
+      getD-set-other k₁ countAt (from + n) (n + 1) 0 (λ e. omega arith) ∙ getD-set-same known (from + n) key 0 (omega arith)
+      in
+      let kept =
+      cells-kept known k₂ from n
+      (λ j g f. getD-set-other k₁ countAt j (n + 1) 0 (λ e. omega arith) ∙ getD-set-other known (from + n) j key 0 (λ e. omega arith))
+      in
+      record {
+        size = length-set k₁ countAt (n + 1) ∙ s₁ ∙ size;
+        few = omega arith;
+        keys = ap (cells k₂ from) next ∙ cells-more k₂ from n ∙ ap₂ {C = List ℕ} (λ (l : List ℕ) v. l ++ (v ∷ [])) kept here;
+        below = λ j g f.
+            getD-set-other k₁ countAt j (n + 1) 0 f ∙ getD-set-other known (from + n) j key 0 (λ e. omega arith);
+        above = λ j g.
+            getD-set-other k₁ countAt j (n + 1) 0 (λ e. omega arith) ∙ getD-set-other known (from + n) j key 0 (λ e. omega arith);
+      }
+
+  pub push-is : Push known (pushed known countAt from key) countAt from key (ltb (getD known countAt 0) 33)
+  unfolding pushed
+  push-is =
+      let n = getD known countAt 0 in
+      test-cases (λ t. ltb n 33 ≡ t → Push known (cond t (set (set known (from + n) key) countAt (n + 1)) known) countAt from key t) (ltb n 33)
+      (λ _ e. push-one (ltb-true n 33 e))
+      (λ _ e. record { size = size; few = few; keys = refl; below = λ j g f. refl; above = λ j g. refl }) refl
+
+-- the names of noted keys with one more
+noted-more : (ks : List ℕ) (names : List (List ℕ)) (n key : ℕ) → length ks ≡ n → map nameOf ks ≡ take 33 names
+    → map nameOf (cond (ltb n 33) (ks ++ (key ∷ [])) ks) ≡ take 33 (names ++ (nameOf key ∷ []))
+noted-more ks names n key size is =
+    let same = ap length (sym is) ∙ length-map ks nameOf ∙ size in
+    test-cases (λ t. ltb n 33 ≡ t → map nameOf (cond t (ks ++ (key ∷ [])) ks) ≡ take 33 (names ++ (nameOf key ∷ []))) (ltb n 33)
+    (λ _ e.
+    let less = ltb-true n 33 e in
+    map-append nameOf ks (key ∷ [])
+    ∙ ap (λ (l : List (List ℕ)). l ++ (nameOf key ∷ [])) is
+    ∙ sym (cut-more 33 names (nameOf key) (omega arith)))
+    (λ _ e. let full = ltb-false n 33 e in is ∙ sym (cut-full 33 names (nameOf key) (omega arith))) refl
+
+module _ (keys purposes : List ℕ) (i : ℕ) where
+  abbrev key : ℕ
+  key = getD keys i 0
+
+  abbrev p : ℕ
+  p = getD purposes i 0
+
+  names-next : (q : Purpose) → namesFor q (namesFrom keys purposes 0 (i + 1)) ≡ namesFor q (namesFrom keys purposes 0 i) ++ namesFor q (naming key p ∷ [])
+  unfolding namingIn
+  names-next q =
+      let next : i + 1 ≡ suc i = omega arith in
+      ap (λ n. namesFor q (namesFrom keys purposes 0 n)) next
+      ∙ ap (namesFor q) (names-last keys purposes i)
+      ∙ names-append q (namesFrom keys purposes 0 i) (naming key p ∷ [])
+
+  numbers-next : namesFor number (namesFrom keys purposes 0 (i + 1)) ≡ namesFor number (namesFrom keys purposes 0 i) ++ cond (eqb p 3) (nameOf key ∷ []) []
+  numbers-next = names-next number ∙ ap (λ (l : List (List ℕ)). namesFor number (namesFrom keys purposes 0 i) ++ l) (number-one key p)
+
+  strings-next : namesFor string (namesFrom keys purposes 0 (i + 1)) ≡ namesFor string (namesFrom keys purposes 0 i) ++ cond (ltb p 4) [] (nameOf key ∷ [])
+  strings-next = names-next string ∙ ap (λ (l : List (List ℕ)). namesFor string (namesFrom keys purposes 0 i) ++ l) (string-one key p)
+
+  module _ (known : List ℕ) (s : Shows known keys purposes i) where
+    abbrev numbersBefore : List (List ℕ)
+    numbersBefore = namesFor number (namesFrom keys purposes 0 i)
+
+    abbrev stringsBefore : List (List ℕ)
+    stringsBefore = namesFor string (namesFrom keys purposes 0 i)
+
+    listed-number : p ≡ 3 → Listed known (pushed known 1 35 key) keys purposes (i + 1)
+    listed-number e =
+        let r = push-is known 1 35 key (s .size) (s .fewNumbers) (omega arith) (omega arith) in
+        let k′ = pushed known 1 35 key in
+        let zeroth : getD k′ 0 0 ≡ getD known 0 0 = r .below 0 (omega arith) (λ z. omega arith) in
+        let less : ltb p 4 ≡ true = lt-ltb p 4 (omega arith) in
+        record {
+          shows =
+              record {
+                size = r .size;
+                fewStrings = omega (arith, zeroth, s .fewStrings);
+                fewNumbers = r .few;
+                strings =
+                    ap (map nameOf) (ap (cells k′ 2) zeroth
+                    ∙ cells-kept known k′ 2 (getD known 0 0) (λ j g f. r .below j (omega (arith, s .fewStrings)) (λ z. omega arith)))
+                    ∙ s .strings
+                    ∙ ap (take 33)
+                    (sym (strings-next ∙ ap (λ t. stringsBefore ++ cond t [] (nameOf key ∷ [])) less ∙ append-nil stringsBefore));
+                numbers =
+                    ap (map nameOf) (r .keys)
+                    ∙ noted-more (cells known 35 (getD known 1 0)) numbersBefore (getD known 1 0) key
+                    (length-cells known 35 (getD known 1 0)) (s .numbers)
+                    ∙ ap (take 33) (sym (numbers-next ∙ ap (λ t. numbersBefore ++ cond t (nameOf key ∷ []) []) (eq-eqb p 3 e)));
+              };
+          kept = λ j h. r .above j (omega arith);
+        }
+
+    listed-other : p < 3 → Listed known known keys purposes (i + 1)
+    listed-other h =
+        let less : ltb p 4 ≡ true = lt-ltb p 4 (omega arith) in
+        let none : eqb p 3 ≡ false = ne-eqb p 3 (λ z. omega arith) in
+        record {
+          shows =
+              record {
+                size = s .size;
+                fewStrings = s .fewStrings;
+                fewNumbers = s .fewNumbers;
+                strings =
+                    s .strings
+                    ∙ ap (take 33)
+                    (sym (strings-next ∙ ap (λ t. stringsBefore ++ cond t [] (nameOf key ∷ [])) less ∙ append-nil stringsBefore));
+                numbers =
+                    s .numbers
+                    ∙ ap (take 33)
+                    (sym (numbers-next ∙ ap (λ t. numbersBefore ++ cond t (nameOf key ∷ []) []) none ∙ append-nil numbersBefore));
+              };
+          kept = λ j g. refl;
+        }
+
+    listed-string : 4 ≤ p → Listed known (pushed known 0 2 key) keys purposes (i + 1)
+    listed-string h =
+        let r = push-is known 0 2 key (s .size) (s .fewStrings) (omega arith) (omega arith) in
+        let k′ = pushed known 0 2 key in
+        let first : getD k′ 1 0 ≡ getD known 1 0 = r .below 1 (omega arith) (λ z. omega arith) in
+        let more : ltb p 4 ≡ false = le-ltb p 4 h in
+        let none : eqb p 3 ≡ false = ne-eqb p 3 (λ z. omega arith) in
+        record {
+          shows =
+              record {
+                size = r .size;
+                fewStrings = r .few;
+                fewNumbers = omega (arith, first, s .fewNumbers);
+                strings =
+                    ap (map nameOf) (r .keys)
+                    ∙ noted-more (cells known 2 (getD known 0 0)) stringsBefore (getD known 0 0) key
+                    (length-cells known 2 (getD known 0 0)) (s .strings)
+                    ∙ ap (take 33) (sym (strings-next ∙ ap (λ t. stringsBefore ++ cond t [] (nameOf key ∷ [])) more));
+                numbers =
+                    ap (map nameOf) (ap (cells k′ 35) first
+                    ∙ cells-kept known k′ 35 (getD known 1 0) (λ j g f. r .above j (omega arith)))
+                    ∙ s .numbers
+                    ∙ ap (take 33)
+                    (sym (numbers-next ∙ ap (λ t. numbersBefore ++ cond t (nameOf key ∷ []) []) none ∙ append-nil numbersBefore));
+              };
+          kept = λ j g. r .above j (omega arith);
+        }
+
+    -- one more name
+    pub listed-next : Listed known (listed known key p) keys purposes (i + 1)
+    unfolding listed
+    listed-next =
+        test-cases
+        (λ t. eqb p 3 ≡ t → Listed known (cond t (pushed known 1 35 key) (cond (ltb p 4) known (pushed known 0 2 key))) keys purposes (i + 1))
+        (eqb p 3) (λ _ e. listed-number (eqb-true p 3 e))
+        (λ _ e.
+        let other = eqb-false p 3 e in
+        test-cases (λ t. ltb p 4 ≡ t → Listed known (cond t known (pushed known 0 2 key)) keys purposes (i + 1)) (ltb p 4)
+        (λ _ f. let low = ltb-true p 4 f in listed-other (omega arith)) (λ _ f. listed-string (ltb-false p 4 f)) refl) refl
+
+-- names listed, and then one more
+pub listing-more : (known₀ known known′ keys purposes : List ℕ) (i : ℕ) → Listed known₀ known keys purposes i
+    → known′ ≡ listed known (getD keys i 0) (getD purposes i 0) → Listed known₀ known′ keys purposes (i + 1)
+listing-more known₀ known known′ keys purposes i l e =
+    let next = listed-next keys purposes i known (l .shows) in
+    subst (λ k. Listed known₀ k keys purposes (i + 1)) (sym e)
+    (record { shows = next .shows; kept = λ j h. next .kept j h ∙ l .kept j h })
+
+-- what the code of each part does
+module _ (known : List ℕ) (countAt from key : ℕ) where
+  pub pushed-one : getD known countAt 0 < 33
+      → set (set known (from + getD known countAt 0) key) countAt (getD known countAt 0 + 1) ≡ pushed known countAt from key
+  unfolding pushed
+  pushed-one h = rw (lt-ltb (getD known countAt 0) 33 h)
+
+  pub pushed-full : 33 ≤ getD known countAt 0 → known ≡ pushed known countAt from key
+  unfolding pushed
+  pushed-full h = rw (le-ltb (getD known countAt 0) 33 h)
+
+module _ (known : List ℕ) (key p : ℕ) where
+  pub list-number : p ≡ 3 → pushed known 1 35 key ≡ listed known key p
+  unfolding listed
+  list-number e = rw (eq-eqb p 3 e)
+
+  pub list-other : (p ≡ 3 → ⊥) → p < 4 → known ≡ listed known key p
+  unfolding listed
+  list-other e h = rw (ne-eqb p 3 e, lt-ltb p 4 h)
+
+  pub list-string : 4 ≤ p → pushed known 0 2 key ≡ listed known key p
+  unfolding listed
+  list-string h = rw (ne-eqb p 3 (λ z. omega arith), le-ltb p 4 h)

@@ -1,0 +1,103 @@
+// The counts of statements, steps and all that 10 counts.
+// Assumes nothing.
+use crate::kinds::END;
+use crate::kinds::NUMBER;
+use crate::kinds::PROGRAM;
+use met::Cursor;
+use met::KNOWN;
+use naming::places::ELEMENTS;
+use naming::places::ENDED;
+use naming::places::ITEMS;
+use naming::places::LABEL_COUNT;
+use naming::places::LITERALS;
+use naming::places::NAME_COUNT;
+use naming::places::NUMBER_COUNT;
+use naming::places::ROUTINE_COUNT;
+use naming::places::SCOPE;
+use naming::places::STATEMENTS;
+use naming::places::STEPS;
+use naming::places::STRING_COUNT;
+use naming::places::USE_COUNT;
+ghost use mathlib.Core.Path.{_≡_};
+ghost use Prim.Native.Nat.{_≤_};
+ghost use lib.ListN.{length, getD};
+ghost use Rattle.judging.specs.Counts.{stepsBehind, endedBehind, counted, isOver};
+
+// the steps behind a statement of a kind
+fn steps_behind(steps: u64, kind: u8) -> u64
+    requires { ⌜ steps ≤ 256 ⌝ }
+    ensures { λ r. ⌜ r ≡ stepsBehind steps kind ⌝ }
+{
+    if kind == PROGRAM {
+        return steps;
+    }
+    if kind == NUMBER {
+        return steps;
+    }
+    steps + 1
+}
+
+// 1 behind END, else 0
+fn ended_behind(kind: u8) -> u64
+    ensures { λ r. ⌜ r ≡ endedBehind kind ⌝ }
+{
+    if kind == END { 1 } else { 0 }
+}
+
+// writes the counts behind a statement
+pub fn put_counts(
+    known: &mut [u64; KNOWN],
+    c: Cursor,
+    kind: u8,
+    scope: u64,
+    names: usize,
+    uses: usize,
+)
+    requires { ⌜ (length (now known) ≡ 326) × ((getD (now known) 71 0 ≤ 256) × (getD (now known) 72 0 ≤ 256)) ⌝ }
+    ensures { λ _. ⌜ now (known .exit) ≡ counted (now (known .entry)) c kind scope names uses ⌝ }
+{
+    let statements = known[STATEMENTS];
+    let steps = steps_behind(known[STEPS], kind);
+    let ended = ended_behind(kind);
+    known[STATEMENTS] = statements + 1;
+    known[STEPS] = steps;
+    known[ENDED] = ended;
+    known[SCOPE] = scope;
+    known[ELEMENTS] = c.elements as u64;
+    known[ITEMS] = c.items as u64;
+    known[LITERALS] = c.literals as u64;
+    known[NAME_COUNT] = names as u64;
+    known[USE_COUNT] = uses as u64;
+}
+
+// 10: whether a count passes what is allowed, or the longest row of the statement does
+pub fn is_over(known: &[u64; KNOWN], longest: usize) -> bool
+    requires { ⌜ length (now known) ≡ 326 ⌝ }
+    ensures { λ r. ⌜ r ≡ isOver (now (known .entry)) longest ⌝ }
+{
+    if known[STATEMENTS] > 256 {
+        return true;
+    }
+    if known[STRING_COUNT] > 32 {
+        return true;
+    }
+    if known[NUMBER_COUNT] > 32 {
+        return true;
+    }
+    if known[LABEL_COUNT] > 64 {
+        return true;
+    }
+    if known[ROUTINE_COUNT] > 16 {
+        return true;
+    }
+    if longest > 20 {
+        return true;
+    }
+    if known[ELEMENTS] > 1024 {
+        return true;
+    }
+    if known[ITEMS] > 1024 {
+        return true;
+    }
+    known[LITERALS] > 4096
+}

@@ -1,0 +1,130 @@
+// 4, and 6 to 10, of a statement whose form holds, and what is learnt from it.
+// Assumes nothing.
+pub mod counts;
+pub mod kinds;
+pub mod labels;
+pub mod listing;
+pub mod routines;
+pub mod uses;
+
+use counts::is_over;
+use counts::put_counts;
+use kinds::PROGRAM;
+use kinds::kind_number;
+use kinds::stands_wrong;
+use labels::list_labels;
+use listing::list_names;
+use met::Cursor;
+use met::KNOWN;
+use met::NAMES;
+use naming::judge_names;
+use naming::places::ENDED;
+use naming::places::SCOPE;
+use naming::places::STATEMENTS;
+use naming::places::USE_COUNT;
+use routines::first_routine;
+use routines::learn_routine;
+use routines::scope_behind;
+use uses::note_uses;
+use words::keywords::Kind;
+ghost use mathlib.Core.Path.{_≡_};
+ghost use lib.ListN.{length};
+ghost use Rattle.judging.specs.Judged.{Ready, Judged, Misplaced};
+ghost use Rattle.judging.specs.Learning.{Learnable, Learnt};
+ghost use Rattle.naming.specs.Arrays.{arrays, entriesFrom};
+
+// 4: PROGRAM isn't first or comes twice, or a statement follows END
+pub fn is_misplaced(known: &[u64; KNOWN], kind: Kind) -> bool
+    requires { ⌜ length (now known) ≡ 326 ⌝ }
+    ensures { λ r. ⌜ Misplaced (now (known .entry)) kind r ⌝ }
+{
+    if known[ENDED] == 1 {
+        return true;
+    }
+    let number = kind_number(kind);
+    if known[STATEMENTS] == 0 {
+        return number != PROGRAM;
+    }
+    number == PROGRAM
+}
+
+// learns what a statement adds: the names are there already
+fn learn(
+    known: &mut [u64; KNOWN],
+    name_keys: &[u64; NAMES],
+    name_purposes: &[u8; NAMES],
+    use_keys: &mut [u64; NAMES],
+    use_scopes: &mut [u64; NAMES],
+    use_purposes: &mut [u8; NAMES],
+    keys: &[u64; NAMES],
+    tags: &[u8; NAMES],
+    c: Cursor,
+    kind: u8,
+    count: usize,
+)
+    requires { ⌜ Learnable (now known) (now «name_keys») (now «name_purposes») (now «use_keys») (now «use_scopes») (now «use_purposes») (now keys) (now tags) (c .names) count ⌝ }
+    ensures { λ _. ⌜ Learnt (now (known .entry)) (now («name_keys» .entry)) (now («name_purposes» .entry)) (now («use_keys» .entry)) (now («use_scopes» .entry)) (now («use_purposes» .entry)) (entriesFrom (now (keys .entry)) (now (tags .entry)) 0 (c .names)) c kind count (now (known .exit)) (now («use_keys» .exit)) (now («use_scopes» .exit)) (now («use_purposes» .exit)) ⌝ }
+{
+    let met = c.names;
+    let scope = known[SCOPE];
+    let used = known[USE_COUNT] as usize;
+    list_names(known, name_keys, name_purposes, count);
+    list_labels(known, keys, tags, met);
+    let uses = note_uses(
+        use_keys,
+        use_scopes,
+        use_purposes,
+        used,
+        scope,
+        keys,
+        tags,
+        met,
+    );
+    let opened = first_routine(keys, tags, met);
+    learn_routine(known, opened, kind);
+    let behind = scope_behind(scope, opened, kind);
+    put_counts(known, c, kind, behind, count, uses);
+}
+
+// 6 to 10 of a statement with the names met so far, or 0: then the arrays hold what is known behind it
+pub fn judge_statement(
+    known: &mut [u64; KNOWN],
+    name_keys: &mut [u64; NAMES],
+    name_purposes: &mut [u8; NAMES],
+    use_keys: &mut [u64; NAMES],
+    use_scopes: &mut [u64; NAMES],
+    use_purposes: &mut [u8; NAMES],
+    keys: &[u64; NAMES],
+    tags: &[u8; NAMES],
+    c: Cursor,
+    kind: Kind,
+) -> u32
+    requires { ⌜ Ready (arrays (now known) (now «name_keys») (now «name_purposes») (now «use_keys») (now «use_scopes») (now «use_purposes»)) (now keys) (now tags) c ⌝ }
+    ensures { λ r. ⌜ Judged (arrays (now (known .entry)) (now («name_keys» .entry)) (now («name_purposes» .entry)) (now («use_keys» .entry)) (now («use_scopes» .entry)) (now («use_purposes» .entry))) (now (keys .entry)) (now (tags .entry)) c kind (arrays (now (known .exit)) (now («name_keys» .exit)) (now («name_purposes» .exit)) (now («use_keys» .exit)) (now («use_scopes» .exit)) (now («use_purposes» .exit))) r ⌝ }
+{
+    let names = judge_names(known, name_keys, name_purposes, keys, tags, c.names);
+    if names.number != 0 {
+        return names.number;
+    }
+    let number = kind_number(kind);
+    if stands_wrong(number, known[SCOPE]) {
+        return 9;
+    }
+    learn(
+        known,
+        name_keys,
+        name_purposes,
+        use_keys,
+        use_scopes,
+        use_purposes,
+        keys,
+        tags,
+        c,
+        number,
+        names.count,
+    );
+    if is_over(known, c.longest) {
+        return 10;
+    }
+    0
+}

@@ -1,0 +1,65 @@
+// The strings and numbers among the names known, one more of each than 10 allows.
+// Assumes nothing.
+use met::KNOWN;
+use met::NAMES;
+use naming::places::NAME_COUNT;
+use naming::places::NUMBER_COUNT;
+use naming::places::NUMBER_KEYS;
+use naming::places::STRING_COUNT;
+use naming::places::STRING_KEYS;
+ghost use mathlib.Core.Path.{_≡_};
+ghost use Prim.Native.Nat.{_+_, _≤_, _<_};
+ghost use lib.ListN.{length, getD};
+ghost use Rattle.judging.specs.Listing.{pushed, listed, Listing, Listed};
+
+// how many of each are noted
+const MOST: u64 = 33;
+
+const NUMBER: u8 = 3;
+
+const STRING: u8 = 4;
+
+// notes a key behind so many from a place on, unless there are as many as can be noted
+fn push(known: &mut [u64; KNOWN], count_at: usize, from: usize, key: u64)
+    requires { ⌜ (length (now known) ≡ 326) × ((«count_at» < 326) × (from + 33 ≤ 326)) ⌝ }
+    ensures { λ _. ⌜ now (known .exit) ≡ pushed (now (known .entry)) «count_at» from key ⌝ }
+{
+    let n = known[count_at];
+    if n < MOST {
+        let at = from + n as usize;
+        known[at] = key;
+        known[count_at] = n + 1;
+    }
+}
+
+// notes a name if it is a number's or a string's
+fn list_name(known: &mut [u64; KNOWN], key: u64, p: u8)
+    requires { ⌜ length (now known) ≡ 326 ⌝ }
+    ensures { λ _. ⌜ now (known .exit) ≡ listed (now (known .entry)) key p ⌝ }
+{
+    if p == NUMBER {
+        push(known, NUMBER_COUNT, NUMBER_KEYS, key);
+        return;
+    }
+    if p < STRING {
+        return;
+    }
+    push(known, STRING_COUNT, STRING_KEYS, key);
+}
+
+// notes the strings and numbers among the names behind those known before
+pub fn list_names(
+    known: &mut [u64; KNOWN],
+    name_keys: &[u64; NAMES],
+    name_purposes: &[u8; NAMES],
+    count: usize,
+)
+    requires { ⌜ Listing (now known) (now «name_keys») (now «name_purposes») (getD (now known) 78 0) count ⌝ }
+    ensures { λ _. ⌜ Listed (now (known .entry)) (now (known .exit)) (now («name_keys» .entry)) (now («name_purposes» .entry)) count ⌝ }
+{
+    let mut i = known[NAME_COUNT] as usize;
+    while i < count {
+        list_name(known, name_keys[i], name_purposes[i]);
+        i += 1;
+    }
+}

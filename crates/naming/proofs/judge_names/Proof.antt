@@ -1,0 +1,44 @@
+-- `judge_names` meets the names declared and then those used, and judges them.
+-- Assumes nothing.
+use mathlib.Core.Path.{refl}
+use lib.ListN.{getD}
+use Rattle.naming.specs.JudgedLaws.{room-first, room-second, names-judged}
+use borrow.Author.Needs.{needs}
+use Rattle.naming.proofs.judge_names.Statement.{statement}
+use Rattle.naming.proofs.judge_names.Tie as tie
+
+element-copy-out-t13 : tie.Need-element-copy-out-t13
+element-copy-out-t13 c = search needs
+
+meet-names-requires : tie.Need-meet-names-requires
+meet-names-requires c κs =
+    let s = c .before .before .before in
+    let a = s .args in
+    (room-first (a .name-keys .now) (a .name-purposes .now) (a .keys .now) (a .tags .now) (getD (a .known .now) 78 0) (a .met) (s .pre .names), s .pre .entries)
+
+meet-names-requires-2 : tie.Need-meet-names-requires-2
+meet-names-requires-2 c κs =
+    let s = c .before .before .before .before .before .before in
+    let a = s .args in
+    (room-second (a .name-keys .now) (a .name-purposes .now) (a .keys .now) (a .tags .now) (getD (a .known .now) 78 0) (a .met) (s .pre .names) _ _ _ _ refl (c .before .before .meet-names .ensures), s .pre .entries)
+
+first-number-requires : tie.Need-first-number-requires
+first-number-requires c κs =
+    let s = c .before .before .before .before .before .before .before in
+    (s .pre .counted, s .pre .entries)
+
+returns : tie.Need-returns
+returns c =
+    let s = c .before .before .before .before .before .before .before .before in
+    let a = s .args in
+    names-judged (a .known .now) (a .name-keys .now) (a .name-purposes .now) (a .keys .now) (a .tags .now) (a .met) _ _ _ _ _ _ _ _ (s .pre) refl (c .before .before .before .before .meet-names .ensures) (c .before .meet-names2 .ensures) (c .first-number .ensures)
+
+pub judge-names-spec : {M : Type 1} → statement M
+judge-names-spec =
+    tie.close
+    (tie.spec
+    element-copy-out-t13
+    meet-names-requires
+    meet-names-requires-2
+    first-number-requires
+    returns)

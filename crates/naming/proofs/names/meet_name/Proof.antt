@@ -1,0 +1,56 @@
+-- `names::meet_name` puts a name behind those known.
+-- Assumes nothing.
+use mathlib.Core.Path.{sym, _∙_}
+use Rattle.naming.specs.MeetLaws.{meets-known, meets-other, meets-new}
+use borrow.Author.Needs.{needs}
+use Rattle.naming.proofs.names.meet_name.Statement.{statement}
+use Rattle.naming.proofs.names.meet_name.Tie as tie
+
+standing-requires : tie.Need-standing-requires
+standing-requires c κs = search needs
+
+returns : tie.Need-returns
+returns c =
+    let s = c .before .before .before .before in
+    let a = s .args in
+    meets-known (a .name-keys .now) (a .name-purposes .now) (a .known) (a .key) (a .p) (s .pre) (sym (c .before .standing .ensures) ∙ c .if1 .taken)
+
+returns-2 : tie.Need-returns-2
+returns-2 c =
+    let s = c .before .before .before .before .before in
+    let a = s .args in
+    meets-other (a .name-keys .now) (a .name-purposes .now) (a .known) (a .key) (a .p) (s .pre)
+    (sym (c .before .before .standing .ensures) ∙ c .if2 .taken)
+
+mul-name-keys : tie.Need-mul-name-keys
+mul-name-keys c = search needs
+
+element-write-name-keys : tie.Need-element-write-name-keys
+element-write-name-keys c = search needs
+
+element-write-name-purposes : tie.Need-element-write-name-purposes
+element-write-name-purposes c = search needs
+
+add-t11 : tie.Need-add-t11
+add-t11 c = search needs
+
+returns-3 : tie.Need-returns-3
+returns-3 c =
+    let s = c .before .before .before .before .before in
+    let a = s .args in
+    let is = c .before .before .standing .ensures in
+    meets-new (a .name-keys .now) (a .name-purposes .now) (a .known) (a .key) (a .p) (s .pre) (λ e. c .before .if1 .left (is ∙ e))
+    (λ e. c .if2 .left (is ∙ e))
+
+pub meet-name-spec : {M : Type 1} → statement M
+meet-name-spec =
+    tie.close
+    (tie.spec
+    standing-requires
+    returns
+    returns-2
+    mul-name-keys
+    element-write-name-keys
+    element-write-name-purposes
+    add-t11
+    returns-3)

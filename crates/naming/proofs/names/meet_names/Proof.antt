@@ -1,0 +1,75 @@
+-- `names::meet_names` puts names behind those known. The invariant: those of the entries passed are.
+-- Assumes nothing.
+use mathlib.Core.Logic.{⊎-elim}
+use Prim.Native.Nat.{_-_}
+use Rattle.naming.specs.MeetLaws.{Meeting, meeting-none, meeting-room, meeting-one, meeting-other, meeting-all, meeting-same}
+use native.Mathlib.Omega.{arith}
+use Rattle.naming.proofs.names.meet_names.Statement.{statement}
+use Rattle.naming.proofs.names.meet_names.Tie as tie
+
+abbrev Inv-loop : tie.InvT-loop
+Inv-loop name-keys₀ name-purposes₀ keys tags met wanted r₀ i₀ name-keys name-purposes r i = Meeting name-keys₀ name-purposes₀ keys tags met wanted r₀ name-keys name-purposes r i
+
+abbrev μ-loop : tie.MeasureT-loop
+μ-loop name-keys₀ name-purposes₀ keys tags met wanted r₀ i₀ name-keys name-purposes r i = met - i
+
+loop-holds : tie.Need-loop-holds Inv-loop μ-loop
+loop-holds c =
+    let a = c .args in
+    meeting-none (a .name-keys .now) (a .name-purposes .now) (a .keys .now) (a .tags .now) (a .met) (a .wanted) (a .before) (c .pre .0)
+
+element-copy-out-tag : tie.Need-element-copy-out-tag Inv-loop μ-loop
+element-copy-out-tag c = omega arith
+
+mul-meet-name : tie.Need-mul-meet-name Inv-loop μ-loop
+mul-meet-name c = omega arith
+
+element-copy-out-meet-name : tie.Need-element-copy-out-meet-name Inv-loop μ-loop
+element-copy-out-meet-name c = omega arith
+
+meet-name-requires : tie.Need-meet-name-requires Inv-loop μ-loop
+meet-name-requires c κs =
+    let a = c .before .before .before .before .before .before .before .args in
+    let l = c .before .before .before .before .before .before .loop in
+    meeting-room (a .name-keys .now) (a .name-purposes .now) (a .keys .now) (a .tags .now) (a .met) (a .wanted) (a .before) (l .name-keys) (l .name-purposes) (l .r) (l .i) (l .inv) (omega arith) (c .before .before .before .if1 .taken)
+
+add-i : tie.Need-add-i Inv-loop μ-loop
+add-i c = omega arith
+
+loop-less : tie.Need-loop-less Inv-loop μ-loop
+loop-less c = omega arith
+
+loop-again : tie.Need-loop-again Inv-loop μ-loop
+loop-again c =
+    let a = c .before .before .before .before .args in
+    let l = c .before .before .before .loop in
+    ⊎-elim
+    (λ w.
+    meeting-same (a .name-keys .now) (a .name-purposes .now) (a .keys .now) (a .tags .now) (a .met) (a .wanted) (a .before) (w .5) (w .6) (w .7)
+    (meeting-one (a .name-keys .now) (a .name-purposes .now) (a .keys .now) (a .tags .now) (a .met) (a .wanted) (a .before) (l .name-keys) (l .name-purposes) (l .r) (l .i) (l .inv) (omega arith) (w .0 .taken) _ _ _ (w .4 .ensures)))
+    (λ w.
+    meeting-same (a .name-keys .now) (a .name-purposes .now) (a .keys .now) (a .tags .now) (a .met) (a .wanted) (a .before) (w .1) (w .2) (w .3)
+    (meeting-other (a .name-keys .now) (a .name-purposes .now) (a .keys .now) (a .tags .now) (a .met) (a .wanted) (a .before) (l .name-keys) (l .name-purposes) (l .r) (l .i) (l .inv) (omega arith) (w .0 .left)))
+    (c .if1 .came)
+
+returns : tie.Need-returns Inv-loop μ-loop
+returns c =
+    let a = c .before .before .args in
+    let l = c .before .loop in
+    meeting-all (a .name-keys .now) (a .name-purposes .now) (a .keys .now) (a .tags .now) (a .met) (a .wanted) (a .before) (l .name-keys) (l .name-purposes) (l .r) (l .i) (l .inv) (omega arith)
+
+pub meet-names-spec : {M : Type 1} → statement M
+meet-names-spec =
+    tie.close
+    (tie.spec
+    Inv-loop
+    μ-loop
+    loop-holds
+    element-copy-out-tag
+    mul-meet-name
+    element-copy-out-meet-name
+    meet-name-requires
+    add-i
+    loop-less
+    loop-again
+    returns)

@@ -1,0 +1,54 @@
+-- What the arrays show: all that is known, and the names met by a statement. Assumes nothing.
+use mathlib.Core.Bool.{Bool, false, _||_}
+use mathlib.Core.List.{List, [], _∷_}
+use Prim.Native.Nat.{ℕ, zero, suc, _+_, _-_}
+use lib.Dec.{eqb}
+use lib.ListN.{getD}
+use Rattle.judgement.specs.Known.{Known}
+use Rattle.met.specs.Entries.{Entry, entry, nameOf}
+use Rattle.met.specs.Holding.{Arrays, namesIn, usesIn}
+use Rattle.met.specs.Known.{labelsIn, routinesIn, statementsAt, stepsAt, endedAt, scopeAt, elementsAt, itemsAt, literalsAt}
+
+-- the arrays by name
+abbrev pub arrays : (known nameKeys namePurposes useKeys useScopes usePurposes : List ℕ) → Arrays
+arrays known nameKeys namePurposes useKeys useScopes usePurposes =
+    record {
+      known = known;
+      nameKeys = nameKeys;
+      namePurposes = namePurposes;
+      useKeys = useKeys;
+      useScopes = useScopes;
+      usePurposes = usePurposes;
+    }
+
+-- all that the arrays show
+unfoldable pub knownIn : Arrays → Known
+knownIn a =
+    record {
+      statements = getD (a .known) statementsAt 0;
+      steps = getD (a .known) stepsAt 0;
+      ended = eqb (getD (a .known) endedAt 0) 1;
+      scope = nameOf (getD (a .known) scopeAt 0);
+      names = namesIn a;
+      labels = labelsIn (a .known);
+      routines = routinesIn (a .known);
+      branches = usesIn 1 a;
+      executes = usesIn 2 a;
+      elements = getD (a .known) elementsAt 0;
+      items = getD (a .known) itemsAt 0;
+      literals = getD (a .known) literalsAt 0;
+    }
+
+-- n names met from place i on
+unfoldable pub entriesFrom : (keys tags : List ℕ) → (i n : ℕ) → List Entry
+entriesFrom keys tags i zero = []
+entriesFrom keys tags i (suc n) = entry (getD keys i 0) (getD tags i 0) ∷ entriesFrom keys tags (suc i) n
+
+-- the names met from place i on, of so many
+abbrev pub entriesLeft : (keys tags : List ℕ) → (met i : ℕ) → List Entry
+entriesLeft keys tags met i = entriesFrom keys tags i (met - i)
+
+-- a key is among n from a place on
+unfoldable pub keysHave : List ℕ → (from n key : ℕ) → Bool
+keysHave known from zero key = false
+keysHave known from (suc n) key = eqb key (getD known (from + n) 0) || keysHave known from n key

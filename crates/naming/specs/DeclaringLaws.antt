@@ -1,0 +1,165 @@
+-- What is declared, by key and purpose's number. Assumes nothing.
+use mathlib.Core.Bool.{Bool, true, false, cond, not, _&&_, _||_, or-false, and-comm}
+use mathlib.Core.List.{List, [], _∷_}
+use mathlib.Core.Path.{_≡_, refl, sym, _∙_, ap, ap₂}
+use Prim.Native.Nat.{ℕ, zero, suc, _+_, _/_, _%_, _≤_, _<_}
+use native.Mathlib.Omega.{arith}
+use lib.Dec.{eqb}
+use lib.ListN.{getD}
+use borrow.Author.Tests.{eq-eqb, ne-eqb}
+use Rattle.base.specs.Choice.{test-cases}
+use Rattle.base.specs.Lists.{same, any}
+use Rattle.judgement.specs.Known.{sameNaming}
+use Rattle.language.specs.Reading.{label, routine, number, string, purposeNumber, samePurpose, Naming}
+use Rattle.met.specs.Entries.{entry, nameOf, purposeOf, namingOf, isDeclared, gather, declaredBy, usedBy}
+use Rattle.met.specs.Known.{Counted, labelsIn, routinesIn, numberKeys}
+use Rattle.naming.specs.ArrayLaws.{name-same, labels-have, routines-have, keys-have}
+use Rattle.naming.specs.Arrays.{entriesLeft, keysHave}
+use Rattle.naming.specs.Declaring.{declaredIn, undeclaredIn, againAt}
+use Rattle.naming.specs.Names.{naming}
+
+-- the number of a purpose: all from 4 on are strings
+pub purpose-string : (p : ℕ) → 4 ≤ p → purposeOf p ≡ string
+unfolding purposeOf
+purpose-string p h =
+    rw (ne-eqb p 0 (λ e. omega arith), ne-eqb p 1 (λ e. omega arith), ne-eqb p 2 (λ e. omega arith), ne-eqb p 3 (λ e. omega arith))
+
+pub purpose-low : (p : ℕ) → p < 4 → p ≡ purposeNumber (purposeOf p)
+unfolding purposeNumber purposeOf
+purpose-low zero h = refl
+purpose-low (suc zero) h = refl
+purpose-low (suc (suc zero)) h = refl
+purpose-low (suc (suc (suc zero))) h = refl
+purpose-low (suc (suc (suc (suc p)))) h = absurd (omega arith)
+
+pub purpose-high : (p : ℕ) → 4 ≤ p → 4 ≡ purposeNumber (purposeOf p)
+unfolding purposeNumber
+purpose-high p h = sym (ap purposeNumber (purpose-string p h))
+
+-- which purpose a number is
+purpose-label : (p : ℕ) → samePurpose (purposeOf p) label ≡ eqb p 1
+unfolding samePurpose purposeNumber purposeOf
+purpose-label zero = refl
+purpose-label (suc zero) = refl
+purpose-label (suc (suc zero)) = refl
+purpose-label (suc (suc (suc zero))) = refl
+purpose-label (suc (suc (suc (suc p)))) =
+    let q = suc (suc (suc (suc p))) in
+    ap (λ x. samePurpose x label) (purpose-string q (omega arith)) ∙ sym (ne-eqb q 1 (λ e. omega arith))
+
+purpose-routine : (p : ℕ) → samePurpose (purposeOf p) routine ≡ eqb p 2
+unfolding samePurpose purposeNumber purposeOf
+purpose-routine zero = refl
+purpose-routine (suc zero) = refl
+purpose-routine (suc (suc zero)) = refl
+purpose-routine (suc (suc (suc zero))) = refl
+purpose-routine (suc (suc (suc (suc p)))) =
+    let q = suc (suc (suc (suc p))) in
+    ap (λ x. samePurpose x routine) (purpose-string q (omega arith)) ∙ sym (ne-eqb q 2 (λ e. omega arith))
+
+purpose-number : (p : ℕ) → samePurpose (purposeOf p) number ≡ eqb p 3
+unfolding samePurpose purposeNumber purposeOf
+purpose-number zero = refl
+purpose-number (suc zero) = refl
+purpose-number (suc (suc zero)) = refl
+purpose-number (suc (suc (suc zero))) = refl
+purpose-number (suc (suc (suc (suc p)))) =
+    let q = suc (suc (suc (suc p))) in
+    ap (λ x. samePurpose x number) (purpose-string q (omega arith)) ∙ sym (ne-eqb q 3 (λ e. omega arith))
+
+-- an entry declares a name
+module _ (key p k tag : ℕ) where
+  declares-is : any (sameNaming (naming key p)) (declaredBy (entry k tag))
+      ≡ (eqb (tag / 8 % 2) 1 && (eqb key k && eqb (purposeNumber (purposeOf p)) (purposeNumber (purposeOf (tag % 8)))))
+  unfolding any sameNaming declaredBy isDeclared namingOf entry samePurpose
+  declares-is =
+      let purposes = eqb (purposeNumber (purposeOf p)) (purposeNumber (purposeOf (tag % 8))) in
+      test-cases (λ t. any (sameNaming (naming key p)) (cond t (naming k (tag % 8) ∷ []) []) ≡ (t && (eqb key k && purposes)))
+      (eqb (tag / 8 % 2) 1)
+      (λ _.
+      or-false (purposes && same (nameOf key) (nameOf k))
+      ∙ ap (λ b. purposes && b) (name-same key k)
+      ∙ and-comm purposes (eqb key k))
+      (λ _. refl)
+
+  pub declares-same : tag / 8 % 2 ≡ 1 → k ≡ key → (q r : ℕ) → q ≡ purposeNumber (purposeOf p) → r ≡ purposeNumber (purposeOf (tag % 8))
+      → eqb q r ≡ any (sameNaming (naming key p)) (declaredBy (entry k tag))
+  declares-same d e q r f g =
+      ap₂ {C = Bool} eqb f g
+      ∙ sym (declares-is ∙ rw (eq-eqb (tag / 8 % 2) 1 d, eq-eqb key k (sym e)))
+
+  pub declares-other : tag / 8 % 2 ≡ 1 → (k ≡ key → ⊥) → false ≡ any (sameNaming (naming key p)) (declaredBy (entry k tag))
+  declares-other d e = sym (declares-is ∙ rw (eq-eqb (tag / 8 % 2) 1 d, ne-eqb key k (λ f. e (sym f))))
+
+  pub declares-none : (tag / 8 % 2 ≡ 1 → ⊥) → false ≡ any (sameNaming (naming key p)) (declaredBy (entry k tag))
+  declares-none d = sym (declares-is ∙ rw (ne-eqb (tag / 8 % 2) 1 d))
+
+-- a name is declared before
+module _ (known : List ℕ) (counted : Counted known) (key p : ℕ) where
+  declared-is : declaredIn known (naming key p)
+      ≡ ((eqb p 1 && keysHave known 80 (getD known 68 0) key)
+      || ((eqb p 2 && keysHave known 275 (getD known 69 0) key) || (eqb p 3 && keysHave known 35 (getD known 1 0) key)))
+  unfolding declaredIn labelsIn routinesIn numberKeys
+  declared-is =
+      ap₂ {C = Bool} _||_
+      (ap₂ {C = Bool} _&&_ (purpose-label p) (labels-have known key (getD known 68 0)))
+      (ap₂ {C = Bool} _||_ (ap₂ {C = Bool} _&&_ (purpose-routine p) (routines-have known key (getD known 69 0)))
+      (ap₂ {C = Bool} _&&_ (purpose-number p) (keys-have known key 35 (getD known 1 0) (omega (arith, counted .size, counted .numbers)))))
+
+  pub declared-label : p ≡ 1 → keysHave known 80 (getD known 68 0) key ≡ declaredIn known (naming key p)
+  declared-label e =
+      sym (declared-is ∙ rw (eq-eqb p 1 e, ne-eqb p 2 (λ f. omega arith), ne-eqb p 3 (λ f. omega arith)) (or-false (keysHave known 80 (getD known 68 0) key)))
+
+  pub declared-routine : p ≡ 2 → keysHave known 275 (getD known 69 0) key ≡ declaredIn known (naming key p)
+  declared-routine e =
+      sym (declared-is ∙ rw (eq-eqb p 2 e, ne-eqb p 1 (λ f. omega arith), ne-eqb p 3 (λ f. omega arith)) (or-false (keysHave known 275 (getD known 69 0) key)))
+
+  pub declared-number : p ≡ 3 → keysHave known 35 (getD known 1 0) key ≡ declaredIn known (naming key p)
+  declared-number e = sym (declared-is ∙ rw (eq-eqb p 3 e, ne-eqb p 1 (λ f. omega arith), ne-eqb p 2 (λ f. omega arith)))
+
+  pub declared-none : (p ≡ 1 → ⊥) → (p ≡ 2 → ⊥) → (p ≡ 3 → ⊥) → false ≡ declaredIn known (naming key p)
+  declared-none e f g = sym (declared-is ∙ rw (ne-eqb p 1 e, ne-eqb p 2 f, ne-eqb p 3 g))
+
+-- an entry uses a number that is not declared
+module _ (known : List ℕ) (counted : Counted known) (key tag : ℕ) where
+  lacks-is : any (undeclaredIn known) (usedBy (entry key tag))
+      ≡ (not (eqb (tag / 8 % 2) 1) && (eqb (tag % 8) 3 && not (keysHave known 35 (getD known 1 0) key)))
+  unfolding any undeclaredIn usedBy isDeclared namingOf entry numberKeys
+  lacks-is =
+      test-cases
+      (λ t. any (undeclaredIn known) (cond t [] (naming key (tag % 8) ∷ [])) ≡ (not t && (eqb (tag % 8) 3 && not (keysHave known 35 (getD known 1 0) key))))
+      (eqb (tag / 8 % 2) 1) (λ _. refl)
+      (λ _.
+      or-false (undeclaredIn known (naming key (tag % 8)))
+      ∙ ap₂ {C = Bool} (λ a b. a && not b) (purpose-number (tag % 8))
+      (keys-have known key 35 (getD known 1 0) (omega (arith, counted .size, counted .numbers))))
+
+  pub lacks-declared : tag / 8 % 2 ≡ 1 → false ≡ any (undeclaredIn known) (usedBy (entry key tag))
+  lacks-declared d = sym (lacks-is ∙ rw (eq-eqb (tag / 8 % 2) 1 d))
+
+  pub lacks-number : (tag / 8 % 2 ≡ 1 → ⊥) → tag % 8 ≡ 3 → not (keysHave known 35 (getD known 1 0) key) ≡ any (undeclaredIn known) (usedBy (entry key tag))
+  lacks-number d e = sym (lacks-is ∙ rw (ne-eqb (tag / 8 % 2) 1 d, eq-eqb (tag % 8) 3 e))
+
+  pub lacks-none : (tag / 8 % 2 ≡ 1 → ⊥) → (tag % 8 ≡ 3 → ⊥) → false ≡ any (undeclaredIn known) (usedBy (entry key tag))
+  lacks-none d e = sym (lacks-is ∙ rw (ne-eqb (tag / 8 % 2) 1 d, ne-eqb (tag % 8) 3 e))
+
+-- an entry declares a name again
+module _ (f : Naming → Bool) (keys tags : List ℕ) (met i : ℕ) where
+  abbrev name : Naming
+  name = naming (getD keys i 0) (getD tags i 0 % 8)
+
+  abbrev behind : Bool
+  behind = any (sameNaming name) (gather declaredBy (entriesLeft keys tags met (i + 1)))
+
+  again-is : againAt f keys tags met i ≡ cond (eqb (getD tags i 0 / 8 % 2) 1) (f name || behind) false
+  unfolding againAt isDeclared namingOf entry
+  again-is = refl
+
+  pub again-before : getD tags i 0 / 8 % 2 ≡ 1 → f name ≡ true → true ≡ againAt f keys tags met i
+  again-before d e = sym (again-is ∙ rw (eq-eqb (getD tags i 0 / 8 % 2) 1 d, e))
+
+  pub again-behind : getD tags i 0 / 8 % 2 ≡ 1 → f name ≡ false → (r : Bool) → r ≡ behind → r ≡ againAt f keys tags met i
+  again-behind d e r g = g ∙ sym (again-is ∙ rw (eq-eqb (getD tags i 0 / 8 % 2) 1 d, e))
+
+  pub again-none : (getD tags i 0 / 8 % 2 ≡ 1 → ⊥) → false ≡ againAt f keys tags met i
+  again-none d = sym (again-is ∙ rw (ne-eqb (getD tags i 0 / 8 % 2) 1 d))

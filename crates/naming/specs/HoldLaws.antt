@@ -1,0 +1,139 @@
+-- What arrays hold is what they show; arrays of zeros hold nothing; entries noted stand in the arrays. Assumes nothing.
+use mathlib.Core.List.{List, [], _∷_, _++_, map}
+use mathlib.Core.Path.{_≡_, refl, sym, ap, _∙_}
+use Prim.Native.Nat.{ℕ, zero, suc, _+_, _≤_}
+use native.Mathlib.Omega.{arith}
+use lib.ListN.{length, getD, replicate}
+use Rattle.base.specs.Lists.{any, keep}
+use Rattle.calls.specs.Splices.{splice}
+use Rattle.judgement.specs.Known as Known
+use Rattle.judgement.specs.Known.{Known, nothingKnown, namesFor}
+use Rattle.judgement.specs.Refusals.{hasOther}
+use Rattle.met.specs.Contracts.{namesRoom}
+use Rattle.met.specs.Entries.{Entry, entry, nameOf, nameFrom}
+use Rattle.met.specs.Holding.{Arrays, Holds, namesIn, usesIn, namesFrom, usesFrom}
+use Rattle.met.specs.Known.{stringKeys, numberKeys, labelsIn, routinesIn, labelsFrom, routinesDown, knownSize}
+use Rattle.naming.specs.Arrays.{knownIn, entriesFrom, arrays}
+
+-- what is held is what is shown
+pub held-shown : (a : Arrays) (taken : ℕ) (k : Known) → Holds a taken k → knownIn a ≡ k
+unfolding knownIn
+held-shown a taken k h =
+    λ t.
+    record {
+      statements = h .statements t;
+      steps = h .steps t;
+      ended = h .ended t;
+      scope = h .scope t;
+      names = h .names t;
+      labels = h .labels t;
+      routines = h .routines t;
+      branches = h .branches t;
+      executes = h .executes t;
+      elements = h .elements t;
+      items = h .items t;
+      literals = h .literals t;
+    }
+
+-- so what is shown is held, and with more bytes taken
+pub shown-held : (a : Arrays) (taken more : ℕ) (k : Known) → taken ≤ more → Holds a taken k → Holds a more (knownIn a)
+shown-held a taken more k le h =
+    let is = sym (held-shown a taken k h) in
+    record {
+      counted = h .counted;
+      nameKeysSize = h .nameKeysSize;
+      namePurposesSize = h .namePurposesSize;
+      useKeysSize = h .useKeysSize;
+      useScopesSize = h .useScopesSize;
+      usePurposesSize = h .usePurposesSize;
+      fewNames = omega (arith, h .fewNames);
+      fewUses = omega (arith, h .fewUses);
+      fewStatements = h .fewStatements;
+      fewSteps = h .fewSteps;
+      fewStrings = h .fewStrings;
+      fewNumbers = h .fewNumbers;
+      fewLabels = h .fewLabels;
+      fewRoutines = h .fewRoutines;
+      fewElements = h .fewElements;
+      fewItems = h .fewItems;
+      fewLiterals = h .fewLiterals;
+      statements = h .statements ∙ ap (λ (k : Known). k .statements) is;
+      steps = h .steps ∙ ap (λ (k : Known). k .steps) is;
+      ended = h .ended ∙ ap (λ (k : Known). k .ended) is;
+      scope = h .scope ∙ ap (λ (k : Known). k .scope) is;
+      strings = h .strings ∙ ap Known.strings is;
+      numbers = h .numbers ∙ ap Known.numbers is;
+      names = h .names ∙ ap (λ (k : Known). k .names) is;
+      labels = h .labels ∙ ap (λ (k : Known). k .labels) is;
+      routines = h .routines ∙ ap (λ (k : Known). k .routines) is;
+      branches = h .branches ∙ ap (λ (k : Known). k .branches) is;
+      executes = h .executes ∙ ap (λ (k : Known). k .executes) is;
+      elements = h .elements ∙ ap (λ (k : Known). k .elements) is;
+      items = h .items ∙ ap (λ (k : Known). k .items) is;
+      literals = h .literals ∙ ap (λ (k : Known). k .literals) is;
+      single = ap (λ (k : Known). any (hasOther (k .names)) (k .names)) (sym is) ∙ h .single;
+    }
+
+-- zeros hold nothing
+pub nothing-held : (nameKeys namePurposes useKeys useScopes usePurposes : List ℕ) → length nameKeys ≡ namesRoom
+    → length namePurposes ≡ namesRoom → length useKeys ≡ namesRoom → length useScopes ≡ namesRoom → length usePurposes ≡ namesRoom
+    → Holds (arrays (replicate knownSize 0) nameKeys namePurposes useKeys useScopes usePurposes) 0 nothingKnown
+unfolding nothingKnown namesIn usesIn namesFrom usesFrom stringKeys numberKeys labelsIn routinesIn labelsFrom routinesDown nameOf nameFrom Known.strings Known.numbers namesFor keep any
+nothing-held nk np uk us up s1 s2 s3 s4 s5 =
+    record {
+      counted = record { size = refl; strings = omega arith; numbers = omega arith; labels = omega arith; routines = omega arith };
+      nameKeysSize = s1;
+      namePurposesSize = s2;
+      useKeysSize = s3;
+      useScopesSize = s4;
+      usePurposesSize = s5;
+      fewNames = omega arith;
+      fewUses = omega arith;
+      fewStatements = omega arith;
+      fewSteps = omega arith;
+      fewStrings = omega arith;
+      fewNumbers = omega arith;
+      fewLabels = omega arith;
+      fewRoutines = omega arith;
+      fewElements = omega arith;
+      fewItems = omega arith;
+      fewLiterals = omega arith;
+      statements = refl;
+      steps = refl;
+      ended = refl;
+      scope = refl;
+      strings = refl;
+      numbers = refl;
+      names = refl;
+      labels = refl;
+      routines = refl;
+      branches = refl;
+      executes = refl;
+      elements = refl;
+      items = refl;
+      literals = refl;
+      single = refl;
+    }
+
+-- behind a first number of each, places are one less
+entries-behind : (x y : ℕ) (keys tags : List ℕ) (i n : ℕ) → entriesFrom (x ∷ keys) (y ∷ tags) (suc i) n ≡ entriesFrom keys tags i n
+unfolding entriesFrom
+entries-behind x y keys tags i zero = refl
+entries-behind x y keys tags i (suc n) =
+    ap (λ (es : List Entry). entry (getD keys i 0) (getD tags i 0) ∷ es) (entries-behind x y keys tags (suc i) n)
+
+-- entries that stand at the beginning of the arrays are those there
+entries-first : (es : List Entry) (behind behind′ : List ℕ)
+    → entriesFrom (map (λ x. x .key) es ++ behind) (map (λ x. x .tag) es ++ behind′) 0 (length es) ≡ es
+unfolding entriesFrom entry
+entries-first [] behind behind′ = refl
+entries-first (e ∷ es) behind behind′ =
+    ap (λ (fs : List Entry). e ∷ fs)
+    (entries-behind (e .key) (e .tag) (map (λ x. x .key) es ++ behind) (map (λ x. x .tag) es ++ behind′) 0 (length es)
+    ∙ entries-first es behind behind′)
+
+-- entries noted from the beginning on are those there
+pub entries-noted : (keys tags keys′ tags′ : List ℕ) (es : List Entry) → keys′ ≡ splice keys 0 (map (λ x. x .key) es)
+    → tags′ ≡ splice tags 0 (map (λ x. x .tag) es) → entriesFrom keys′ tags′ 0 (length es) ≡ es
+unfolding splice
+entries-noted keys tags keys′ tags′ es p q = rw (p, q) (entries-first es _ _)

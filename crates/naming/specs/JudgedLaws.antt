@@ -1,0 +1,172 @@
+-- 6, 7 and 8 of names met one by one are those of document 01. Assumes nothing.
+use mathlib.Core.Bool.{Bool, true, false, cond, _||_}
+use mathlib.Core.List.{List, [], _∷_, _++_}
+use mathlib.Core.Path.{_≡_, refl, sym, _∙_, ap, ap₂, subst}
+use Prim.Native.Nat.{ℕ, zero, suc, _+_, _/_, _%_}
+use native.Mathlib.Omega.{arith}
+use lib.Dec.{eqb}
+use lib.ListN.{length, getD, length-append}
+use borrow.Author.Tests.{eqb-true, eqb-false, eq-eqb, ne-eqb}
+use Rattle.base.specs.Choice.{test-cases}
+use Rattle.base.specs.Lists.{any}
+use Rattle.judgement.specs.Known.{sameNaming}
+use Rattle.judgement.specs.Refusals.{hasOther, hasTwice, clashes}
+use Rattle.language.specs.Reading.{Naming}
+use Rattle.met.specs.Entries.{Entry, namingOf, isDeclared, gather, declaredBy, usedBy, rolesBy}
+use Rattle.met.specs.Holding.{namesFrom}
+use Rattle.met.specs.Known.{namesAt}
+use Rattle.naming.specs.Arrays.{entriesFrom}
+use Rattle.naming.specs.Declaring.{declaredIn, undeclaredIn, again}
+use Rattle.naming.specs.Judged.{namesOf, namesNumber, firstNumber, Named, NamesJudged}
+use Rattle.naming.specs.MeetLaws.{meets-then}
+use Rattle.naming.specs.NameLaws.{conflicts-is, met-known}
+use Rattle.naming.specs.Names.{conflicts, chosenBy, Sized, Meets}
+use Rattle.naming.specs.declared.names.Names.{Names}
+
+-- the names chosen are those declared, or those used
+chosen-declared : (es : List Entry) → gather (chosenBy 1) es ≡ gather declaredBy es
+unfolding gather chosenBy declaredBy isDeclared
+chosen-declared [] = refl
+chosen-declared (e ∷ es) = ap (λ (l : List Naming). declaredBy e ++ l) (chosen-declared es)
+
+chosen-used : (es : List Entry) → gather (chosenBy 0) es ≡ gather usedBy es
+unfolding gather chosenBy usedBy isDeclared
+chosen-used [] = refl
+chosen-used (e ∷ es) =
+    let bit = e .tag / 8 % 2 in
+    let here : _≡_ {A = List Naming} (cond (eqb bit 0) (namingOf e ∷ []) []) (cond (eqb bit 1) [] (namingOf e ∷ [])) =
+    test-cases (λ t. eqb bit 1 ≡ t → _≡_ {A = List Naming} (cond (eqb bit 0) (namingOf e ∷ []) []) (cond t [] (namingOf e ∷ []))) (eqb bit 1)
+    (λ _ d. rw (ne-eqb bit 0 (λ z. omega (arith, eqb-true bit 1 d))))
+    (λ _ d. let other = eqb-false bit 1 d in rw (eq-eqb bit 0 (omega arith))) refl
+    in
+    ap₂ {C = List Naming} _++_ here (chosen-used es)
+
+-- each entry declares a name or uses it
+chosen-size : (es : List Entry) → length (gather declaredBy es) + length (gather usedBy es) ≡ length es
+unfolding gather declaredBy usedBy
+chosen-size [] = refl
+chosen-size (e ∷ es) =
+    let d = gather declaredBy es in
+    let u = gather usedBy es in
+    let rest = chosen-size es in
+    test-cases
+    (λ t. length (cond t (namingOf e ∷ []) [] ++ d) + length (cond t [] (namingOf e ∷ []) ++ u) ≡ suc (length es)) (isDeclared e)
+    (λ _. omega arith) (λ _. omega arith)
+
+pub length-entries : (keys tags : List ℕ) (i n : ℕ) → length (entriesFrom keys tags i n) ≡ n
+unfolding entriesFrom
+length-entries keys tags i zero = refl
+length-entries keys tags i (suc n) = ap suc (length-entries keys tags (suc i) n)
+
+-- there is room for those declared, and then for those used
+module _ (nameKeys namePurposes keys tags : List ℕ) (count met : ℕ) where
+  abbrev entries : List Entry
+  entries = entriesFrom keys tags 0 met
+
+  pub room-first : Sized nameKeys namePurposes (count + met) → Sized nameKeys namePurposes (count + length (gather (chosenBy 1) entries))
+  room-first s =
+      let size = ap length (chosen-declared entries) in
+      let all = chosen-size entries in
+      record { keysSize = s .keysSize; othersSize = s .othersSize; room = omega (arith, s .room, length-entries keys tags 0 met) }
+
+  pub room-second : Sized nameKeys namePurposes (count + met) → (nameKeys′ namePurposes′ : List ℕ) (b r : Names) → b .count ≡ count
+      → Meets nameKeys namePurposes b (gather (chosenBy 1) entries) nameKeys′ namePurposes′ r
+      → Sized nameKeys′ namePurposes′ (r .count + length (gather (chosenBy 0) entries))
+  room-second s nameKeys′ namePurposes′ b r e m =
+      let first = ap length (chosen-declared entries) in
+      let second = ap length (chosen-used entries) in
+      let all = chosen-size entries in
+      record {
+        keysSize = m .keysSize;
+        othersSize = m .purposesSize;
+        room = omega (arith, s .room, m .few, length-entries keys tags 0 met);
+      }
+
+shuffle : (a b c d : Bool) → ((a || c) || (b || d)) ≡ ((a || b) || (c || d))
+shuffle true b c d = refl
+shuffle false true true d = refl
+shuffle false true false d = refl
+shuffle false false c d = refl
+
+-- names declared before or twice
+again-is : (f : Naming → Bool) (ns : List Naming) → again f ns ≡ (any f ns || hasTwice ns)
+unfolding again any hasTwice
+again-is f [] = refl
+again-is f (n ∷ ns) =
+    ap (λ b. (f n || any (sameNaming n) ns) || b) (again-is f ns) ∙ shuffle (f n) (any f ns) (any (sameNaming n) ns) (hasTwice ns)
+
+-- the first of the numbers
+module _ (known : List ℕ) (clash : Bool) (es : List Entry) where
+  abbrev twice : Bool
+  twice = again (declaredIn known) (gather declaredBy es)
+
+  abbrev undeclared : Bool
+  undeclared = any (undeclaredIn known) (gather usedBy es)
+
+  abbrev roles : Bool
+  roles = clashes [] [] (gather rolesBy es)
+
+  pub first-clash : clash ≡ true → 6 ≡ firstNumber known clash es
+  unfolding firstNumber
+  first-clash h = rw h
+
+  module _ (h : clash ≡ false) where
+    pub first-twice : twice ≡ true → 6 ≡ firstNumber known clash es
+    unfolding firstNumber
+    first-twice g = rw (h, g)
+
+    module _ (g : twice ≡ false) where
+      pub first-undeclared : undeclared ≡ true → 7 ≡ firstNumber known clash es
+      unfolding firstNumber
+      first-undeclared f = rw (h, g, f)
+
+      pub first-roles : undeclared ≡ false → roles ≡ true → 8 ≡ firstNumber known clash es
+      unfolding firstNumber
+      first-roles f e = rw (h, g, f, e)
+
+      pub first-none : undeclared ≡ false → roles ≡ false → 0 ≡ firstNumber known clash es
+      unfolding firstNumber
+      first-none f e = rw (h, g, f, e)
+
+  none-clashes : firstNumber known clash es ≡ 0 → clash ≡ false
+  unfolding firstNumber
+  none-clashes z = test-cases (λ t. clash ≡ t → t ≡ false) clash (λ _ h. absurd (omega (arith, first-clash h))) (λ _ _. refl) refl
+
+-- what judging the names does
+pub names-judged : (known nameKeys namePurposes keys tags : List ℕ) (met : ℕ) (nameKeys′ namePurposes′ nameKeys″ namePurposes″ : List ℕ)
+    (b r q : Names) (number : ℕ) → Named known nameKeys namePurposes keys tags met → b ≡ record { count = getD known namesAt 0; clash = false }
+    → Meets nameKeys namePurposes b (gather (chosenBy 1) (entriesFrom keys tags 0 met)) nameKeys′ namePurposes′ r
+    → Meets nameKeys′ namePurposes′ r (gather (chosenBy 0) (entriesFrom keys tags 0 met)) nameKeys″ namePurposes″ q
+    → number ≡ firstNumber known (q .clash) (entriesFrom keys tags 0 met)
+    → NamesJudged known nameKeys namePurposes keys tags met nameKeys″ namePurposes″ (record { number = number; count = q .count })
+unfolding namesNumber firstNumber
+names-judged known nameKeys namePurposes keys tags met nameKeys′ namePurposes′ nameKeys″ namePurposes″ b r q number pre start m n e =
+    let es = entriesFrom keys tags 0 met in
+    let count = getD known namesAt 0 in
+    let ns = namesFrom nameKeys namePurposes 0 count in
+    let new = namesOf es in
+    let before : Names = record { count = count; clash = false } in
+    let together : gather (chosenBy 1) es ++ gather (chosenBy 0) es ≡ new = ap₂ {C = List Naming} _++_ (chosen-declared es) (chosen-used es) in
+    let all : Meets nameKeys namePurposes before new nameKeys″ namePurposes″ q =
+    subst (λ x. Meets nameKeys namePurposes x new nameKeys″ namePurposes″ q) start
+    (subst (λ l. Meets nameKeys namePurposes b l nameKeys″ namePurposes″ q) together
+    (meets-then nameKeys namePurposes nameKeys′ namePurposes′ nameKeys″ namePurposes″ b r q _ _ m n))
+    in
+    let size = length-append (gather declaredBy es) (gather usedBy es) in
+    let clash : q .clash ≡ any (hasOther (ns ++ new)) new = all .clash ∙ conflicts-is ns new (pre .single) in
+    let goes : number ≡ 0 → conflicts ns new ≡ false = λ z. sym (all .clash) ∙ none-clashes known (q .clash) es (sym e ∙ z) in
+    record {
+      number =
+          e
+          ∙ ap₂ {C = ℕ}
+          (λ c t. cond (c || t) 6 (cond (any (undeclaredIn known) (gather usedBy es)) 7 (cond (clashes [] [] (gather rolesBy es)) 8 0)))
+          clash (again-is (declaredIn known) (gather declaredBy es));
+      keysSize = all .keysSize;
+      purposesSize = all .purposesSize;
+      few = omega (arith, all .few, size, chosen-size es, length-entries keys tags 0 met);
+      more = all .more;
+      keysKept = all .keysKept;
+      purposesKept = all .purposesKept;
+      learnt = λ z. all .names ∙ met-known ns new (pre .single) (goes z) .0;
+      single = λ z. subst (λ l. any (hasOther l) l ≡ false) (sym (all .names)) (met-known ns new (pre .single) (goes z) .1);
+    }

@@ -1,0 +1,107 @@
+-- What each loop over names, keys and entries finds at a place. Assumes nothing.
+use mathlib.Core.Bool.{Bool, false, cond, _||_}
+use mathlib.Core.List.{List, [], _∷_, _++_}
+use mathlib.Core.Path.{_≡_, refl, sym, _∙_, ap}
+use Prim.Native.Nat.{ℕ, suc, _+_, _-_, _≤_, _<_}
+use native.Mathlib.Omega.{arith}
+use lib.Dec.{eqb}
+use lib.ListN.{getD}
+use borrow.Author.Tests.{eq-eqb, ne-eqb}
+use Rattle.base.specs.Choice.{test-cases}
+use Rattle.base.specs.Lists.{any}
+use Rattle.judgement.specs.Known.{sameNaming}
+use Rattle.judgement.specs.Names.{any-append}
+use Rattle.language.specs.Reading.{purposeNumber, samePurpose, Naming}
+use Rattle.met.specs.Entries.{Entry, entry, purposeOf, namingOf, isDeclared, gather, declaredBy}
+use Rattle.met.specs.Holding.{namingIn, namesFrom}
+use Rattle.naming.specs.ArrayLaws.{name-same, names-turn, names-none, entries-turn, entries-none}
+use Rattle.naming.specs.Arrays.{entriesFrom, entriesLeft, keysHave}
+use Rattle.naming.specs.Declaring.{again, againAt}
+use Rattle.naming.specs.Names.{naming, standing}
+
+-- a name among those from a place on
+abbrev pub standsFrom : (keys purposes : List ℕ) (n key p : ℕ) → ℕ → ℕ
+standsFrom keys purposes n key p i = standing (namesFrom keys purposes i (n - i)) (naming key p)
+
+module _ (keys purposes : List ℕ) (n key p i : ℕ) where
+  module _ (h : i < n) where
+    standing-turn : standsFrom keys purposes n key p i
+        ≡ cond (eqb key (getD keys i 0))
+        (cond (eqb (purposeNumber (purposeOf p)) (purposeNumber (purposeOf (getD purposes i 0)))) 1 2)
+        (standsFrom keys purposes n key p (i + 1))
+    unfolding standing namingIn samePurpose
+    standing-turn =
+        ap (λ l. standing l (naming key p)) (names-turn keys purposes n i h)
+        ∙ ap
+        (λ b.
+        cond b (cond (eqb (purposeNumber (purposeOf p)) (purposeNumber (purposeOf (getD purposes i 0)))) 1 2)
+        (standsFrom keys purposes n key p (i + 1)))
+        (name-same key (getD keys i 0))
+
+    pub standing-same : getD keys i 0 ≡ key → purposeNumber (purposeOf p) ≡ purposeNumber (purposeOf (getD purposes i 0))
+        → standsFrom keys purposes n key p i ≡ 1
+    standing-same e f = standing-turn ∙ rw (eq-eqb key (getD keys i 0) (sym e), eq-eqb (purposeNumber (purposeOf p)) (purposeNumber (purposeOf (getD purposes i 0))) f)
+
+    pub standing-other : getD keys i 0 ≡ key → (purposeNumber (purposeOf p) ≡ purposeNumber (purposeOf (getD purposes i 0)) → ⊥)
+        → standsFrom keys purposes n key p i ≡ 2
+    standing-other e f = standing-turn ∙ rw (eq-eqb key (getD keys i 0) (sym e), ne-eqb (purposeNumber (purposeOf p)) (purposeNumber (purposeOf (getD purposes i 0))) f)
+
+    pub standing-next : (getD keys i 0 ≡ key → ⊥) → standsFrom keys purposes n key p i ≡ standsFrom keys purposes n key p (i + 1)
+    standing-next f = standing-turn ∙ rw (ne-eqb key (getD keys i 0) (λ e. f (sym e)))
+
+  pub standing-end : n ≤ i → standsFrom keys purposes n key p i ≡ 0
+  unfolding standing
+  standing-end h = ap (λ l. standing l (naming key p)) (names-none keys purposes n i h)
+
+pub standing-whole : (keys purposes : List ℕ) (n key p : ℕ) → standsFrom keys purposes n key p 0 ≡ standing (namesFrom keys purposes 0 n) (naming key p)
+standing-whole keys purposes n key p =
+    let all : n - 0 ≡ n = omega arith in
+    ap (λ m. standing (namesFrom keys purposes 0 m) (naming key p)) all
+
+-- a key among those up to a place
+pub keys-turn : (known : List ℕ) (from key i : ℕ) → 0 < i
+    → keysHave known from i key ≡ (eqb key (getD known (from + (i - 1)) 0) || keysHave known from (i - 1) key)
+unfolding keysHave
+keys-turn known from key i h =
+    let is : i ≡ suc (i - 1) = omega arith in
+    ap (λ m. keysHave known from m key) is
+
+-- a test of each entry left, one by one
+module _ {A : Type 0} (f : A → Bool) (g : Entry → List A) (keys tags : List ℕ) (met : ℕ) where
+  abbrev pub anyFrom : ℕ → Bool
+  anyFrom i = any f (gather g (entriesLeft keys tags met i))
+
+  pub any-turn : (i : ℕ) → i < met → anyFrom i ≡ (any f (g (entry (getD keys i 0) (getD tags i 0))) || anyFrom (i + 1))
+  unfolding gather
+  any-turn i h =
+      ap (λ es. any f (gather g es)) (entries-turn keys tags met i h)
+      ∙ any-append f (g (entry (getD keys i 0) (getD tags i 0))) (gather g (entriesLeft keys tags met (i + 1)))
+
+  pub any-end : (i : ℕ) → met ≤ i → anyFrom i ≡ false
+  unfolding gather any
+  any-end i h = ap (λ es. any f (gather g es)) (entries-none keys tags met i h)
+
+  pub any-whole : anyFrom 0 ≡ any f (gather g (entriesFrom keys tags 0 met))
+  any-whole = let all : met - 0 ≡ met = omega arith in ap (λ m. any f (gather g (entriesFrom keys tags 0 m))) all
+
+-- names declared again, one by one
+module _ (f : Naming → Bool) (keys tags : List ℕ) (met : ℕ) where
+  abbrev pub againFrom : ℕ → Bool
+  againFrom i = again f (gather declaredBy (entriesLeft keys tags met i))
+
+  pub again-turn : (i : ℕ) → i < met → againFrom i ≡ (againAt f keys tags met i || againFrom (i + 1))
+  unfolding gather declaredBy again againAt
+  again-turn i h =
+      let x = entry (getD keys i 0) (getD tags i 0) in
+      let behind = gather declaredBy (entriesLeft keys tags met (i + 1)) in
+      ap (λ es. again f (gather declaredBy es)) (entries-turn keys tags met i h)
+      ∙ test-cases
+      (λ t. again f (cond t (namingOf x ∷ []) [] ++ behind)
+      ≡ (cond t (f (namingOf x) || any (sameNaming (namingOf x)) behind) false || again f behind)) (isDeclared x) (λ _. refl) (λ _. refl)
+
+  pub again-end : (i : ℕ) → met ≤ i → againFrom i ≡ false
+  unfolding gather again
+  again-end i h = ap (λ es. again f (gather declaredBy es)) (entries-none keys tags met i h)
+
+  pub again-whole : againFrom 0 ≡ again f (gather declaredBy (entriesFrom keys tags 0 met))
+  again-whole = let all : met - 0 ≡ met = omega arith in ap (λ m. again f (gather declaredBy (entriesFrom keys tags 0 m))) all

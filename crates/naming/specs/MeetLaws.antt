@@ -1,0 +1,233 @@
+-- Names put behind those known in their arrays, one by one. Assumes nothing.
+use mathlib.Core.Bool.{Bool, true, _||_, or-assoc, or-false, or-true}
+use mathlib.Core.List.{List, [], _∷_, _++_, append-nil}
+use mathlib.Core.Logic.{_⊎_, inl, inr, ⊎-elim}
+use mathlib.Core.Path.{_≡_, refl, sym, _∙_, ap, ap₂, subst}
+use Prim.Native.Nat.{ℕ, suc, _+_, _-_, _/_, _%_, _≤_, _<_}
+use native.Mathlib.Omega.{arith}
+use lib.ListN.{length, getD, set, length-set, length-append}
+use lib.Seq.{getD-set-same, getD-set-other}
+use borrow.Author.Tests.{eq-eqb, ne-eqb}
+use Rattle.base.specs.Choice.{cond-cases}
+use Rattle.base.specs.Lists.{same}
+use Rattle.language.specs.Reading.{samePurpose, Naming}
+use Rattle.met.specs.Contracts.{namesRoom}
+use Rattle.met.specs.Entries.{Entry, entry, namingOf, gather}
+use Rattle.met.specs.EntryLaws.{gather-append}
+use Rattle.met.specs.Holding.{namingIn, namesFrom}
+use Rattle.naming.specs.ArrayLaws.{names-last, names-kept, entries-last, entries-turn}
+use Rattle.naming.specs.Arrays.{entriesFrom, entriesLeft}
+use Rattle.naming.specs.NameLaws.{meets-append, conflicts-append}
+use Rattle.naming.specs.Names.{naming, standing, meet, meets, conflicts, chosenBy, Sized, Meets}
+use Rattle.naming.specs.declared.names.Names.{Names}
+
+-- there are three ways to stand
+standing-few : (ns : List Naming) (x : Naming) → (standing ns x ≡ 0) ⊎ ((standing ns x ≡ 1) ⊎ (standing ns x ≡ 2))
+unfolding standing
+standing-few [] x = inl refl
+standing-few (n ∷ ns) x =
+    let Few : ℕ → Type 0 = λ s. (s ≡ 0) ⊎ ((s ≡ 1) ⊎ (s ≡ 2)) in
+    cond-cases Few (same (x .name) (n .name))
+    (λ _. cond-cases Few (samePurpose (x .purpose) (n .purpose)) (λ _. inr (inl refl)) (λ _. inr (inr refl))) (λ _. standing-few ns x)
+
+-- no name, and names behind names
+pub meets-none : (keys purposes : List ℕ) (b : Names) → length keys ≡ namesRoom → length purposes ≡ namesRoom
+    → Meets keys purposes b [] keys purposes b
+unfolding meets conflicts
+meets-none keys purposes b s t =
+    record {
+      keysSize = s;
+      purposesSize = t;
+      names = refl;
+      clash = sym (or-false (b .clash));
+      few = omega arith;
+      more = omega arith;
+      keysKept = λ i h. refl;
+      purposesKept = λ i h. refl;
+    }
+
+pub meets-then : (keys purposes keys′ purposes′ keys″ purposes″ : List ℕ) (a b c : Names) (xs ys : List Naming)
+    → Meets keys purposes a xs keys′ purposes′ b → Meets keys′ purposes′ b ys keys″ purposes″ c
+    → Meets keys purposes a (xs ++ ys) keys″ purposes″ c
+meets-then keys purposes keys′ purposes′ keys″ purposes″ a b c xs ys m n =
+    let known = namesFrom keys purposes 0 (a .count) in
+    record {
+      keysSize = n .keysSize;
+      purposesSize = n .purposesSize;
+      names = n .names ∙ ap (λ l. meets l ys) (m .names) ∙ sym (meets-append known xs ys);
+      clash =
+          n .clash
+          ∙ ap₂ {C = Bool} (λ t l. t || conflicts l ys) (m .clash) (m .names)
+          ∙ or-assoc (a .clash) (conflicts known xs) (conflicts (meets known xs) ys)
+          ∙ ap (λ t. a .clash || t) (sym (conflicts-append known xs ys));
+      few = omega (arith, m .few, n .few, length-append xs ys);
+      more = omega (arith, m .more, n .more);
+      keysKept = λ i h. n .keysKept i (omega (arith, m .more)) ∙ m .keysKept i h;
+      purposesKept = λ i h. n .purposesKept i (omega (arith, m .more)) ∙ m .purposesKept i h;
+    }
+
+-- one name: known with its purpose, known with another, new
+module _ (keys purposes : List ℕ) (b : Names) (key p : ℕ) (sized : Sized keys purposes (b .count + 1)) where
+  abbrev known : List Naming
+  known = namesFrom keys purposes 0 (b .count)
+
+  pub meets-known : standing known (naming key p) ≡ 1 → Meets keys purposes b (naming key p ∷ []) keys purposes b
+  unfolding meets meet conflicts
+  meets-known e =
+      record {
+        keysSize = sized .keysSize;
+        purposesSize = sized .othersSize;
+        names = rw e;
+        clash = rw e (sym (or-false (b .clash)));
+        few = omega arith;
+        more = omega arith;
+        keysKept = λ i h. refl;
+        purposesKept = λ i h. refl;
+      }
+
+  pub meets-other : standing known (naming key p) ≡ 2
+      → Meets keys purposes b (naming key p ∷ []) keys purposes (record { count = b .count; clash = true })
+  unfolding meets meet conflicts
+  meets-other e =
+      record {
+        keysSize = sized .keysSize;
+        purposesSize = sized .othersSize;
+        names = rw e;
+        clash = rw e (sym (or-true (b .clash)));
+        few = omega arith;
+        more = omega arith;
+        keysKept = λ i h. refl;
+        purposesKept = λ i h. refl;
+      }
+
+  last : namesFrom (set keys (b .count) key) (set purposes (b .count) p) 0 (b .count + 1) ≡ known ++ (naming key p ∷ [])
+  unfolding namingIn
+  last =
+      let n = b .count in
+      let keys′ = set keys n key in
+      let purposes′ = set purposes n p in
+      let next : n + 1 ≡ suc n = omega arith in
+      let kept =
+      names-kept keys purposes keys′ purposes′ 0 n (λ j h. getD-set-other keys n j key 0 (λ e. omega arith))
+      (λ j h. getD-set-other purposes n j p 0 (λ e. omega arith))
+      in
+      let inside = getD-set-same keys n key 0 (omega (arith, sized .keysSize, sized .room)) in
+      let inside′ = getD-set-same purposes n p 0 (omega (arith, sized .othersSize, sized .room)) in
+      ap (namesFrom keys′ purposes′ 0) next
+      ∙ names-last keys′ purposes′ n
+      ∙ ap (λ (l : List Naming). l ++ (naming (getD keys′ n 0) (getD purposes′ n 0) ∷ [])) kept
+      ∙ ap₂ {C = List Naming} (λ k q. known ++ (naming k q ∷ [])) inside inside′
+
+  pub meets-new : (standing known (naming key p) ≡ 1 → ⊥) → (standing known (naming key p) ≡ 2 → ⊥)
+      → Meets keys purposes b (naming key p ∷ []) (set keys (b .count) key) (set purposes (b .count) p)
+      (record { count = b .count + 1; clash = b .clash })
+  unfolding meets meet conflicts
+  meets-new f g =
+      let n = b .count in
+      let e : standing known (naming key p) ≡ 0 =
+      ⊎-elim (λ z. z) (⊎-elim (λ z. absurd (f z)) (λ z. absurd (g z))) (standing-few known (naming key p))
+      in
+      record {
+        keysSize = length-set keys n key ∙ sized .keysSize;
+        purposesSize = length-set purposes n p ∙ sized .othersSize;
+        names = rw e last;
+        clash = rw e (sym (or-false (b .clash)));
+        few = omega arith;
+        more = omega arith;
+        keysKept = λ j h. getD-set-other keys n j key 0 (λ z. omega arith);
+        purposesKept = λ j h. getD-set-other purposes n j p 0 (λ z. omega arith);
+      }
+
+-- i of the entries are met
+pub record Meeting (keys₀ purposes₀ keys tags : List ℕ) (met wanted : ℕ) (before : Names) (keys′ purposes′ : List ℕ) (r : Names) (i : ℕ)
+    : Type 0 where
+  pub inside : i ≤ met
+  pub room : r .count + length (gather (chosenBy wanted) (entriesLeft keys tags met i)) ≤ namesRoom
+  pub so : Meets keys₀ purposes₀ before (gather (chosenBy wanted) (entriesFrom keys tags 0 i)) keys′ purposes′ r
+
+module _ (keys₀ purposes₀ keys tags : List ℕ) (met wanted : ℕ) (before : Names) where
+  pub meeting-none : Sized keys₀ purposes₀ (before .count + length (gather (chosenBy wanted) (entriesFrom keys tags 0 met)))
+      → Meeting keys₀ purposes₀ keys tags met wanted before keys₀ purposes₀ before 0
+  unfolding entriesFrom gather
+  meeting-none s =
+      let all : met - 0 ≡ met = omega arith in
+      let sizes = ap (λ m. length (gather (chosenBy wanted) (entriesFrom keys tags 0 m))) all in
+      record {
+        inside = omega arith;
+        room = omega (arith, sizes, s .room);
+        so = meets-none keys₀ purposes₀ before (s .keysSize) (s .othersSize);
+      }
+
+  module _ (keys′ purposes′ : List ℕ) (r : Names) (i : ℕ) (m : Meeting keys₀ purposes₀ keys tags met wanted before keys′ purposes′ r i)
+      (h : i < met) where
+    here : Entry
+    here = entry (getD keys i 0) (getD tags i 0)
+
+    abbrev f : Entry → List Naming
+    f = chosenBy wanted
+
+    left : length (gather f (entriesLeft keys tags met i)) ≡ length (f here) + length (gather f (entriesLeft keys tags met (i + 1)))
+    unfolding gather here
+    left =
+        ap (λ es. length (gather f es)) (entries-turn keys tags met i h)
+        ∙ length-append (f here) (gather f (entriesLeft keys tags met (i + 1)))
+
+    done : gather f (entriesFrom keys tags 0 (i + 1)) ≡ gather f (entriesFrom keys tags 0 i) ++ f here
+    unfolding gather here
+    done =
+        let next : i + 1 ≡ suc i = omega arith in
+        ap (λ n. gather f (entriesFrom keys tags 0 n)) next
+        ∙ ap (gather f) (entries-last keys tags i)
+        ∙ gather-append f (entriesFrom keys tags 0 i) (here ∷ [])
+        ∙ ap (λ (l : List Naming). gather f (entriesFrom keys tags 0 i) ++ l) (append-nil (f here))
+
+    pub meeting-room : getD tags i 0 / 8 % 2 ≡ wanted → Sized keys′ purposes′ (r .count + 1)
+    unfolding chosenBy here entry
+    meeting-room e =
+        let one : length (f here) ≡ 1 = rw (eq-eqb (getD tags i 0 / 8 % 2) wanted e) in
+        record { keysSize = m .so .keysSize; othersSize = m .so .purposesSize; room = omega (arith, m .room, left) }
+
+    pub meeting-one : getD tags i 0 / 8 % 2 ≡ wanted → (keys″ purposes″ : List ℕ) (r′ : Names)
+        → Meets keys′ purposes′ r (naming (getD keys i 0) (getD tags i 0 % 8) ∷ []) keys″ purposes″ r′
+        → Meeting keys₀ purposes₀ keys tags met wanted before keys″ purposes″ r′ (i + 1)
+    unfolding chosenBy here entry namingOf
+    meeting-one e keys″ purposes″ r′ n =
+        let it : f here ≡ naming (getD keys i 0) (getD tags i 0 % 8) ∷ [] = rw (eq-eqb (getD tags i 0 / 8 % 2) wanted e) in
+        let one = ap length it in
+        let xs = gather f (entriesFrom keys tags 0 i) in
+        record {
+          inside = omega arith;
+          room = omega (arith, m .room, left, n .few);
+          so =
+              subst (λ l. Meets keys₀ purposes₀ before l keys″ purposes″ r′) (sym (done ∙ ap (λ (l : List Naming). xs ++ l) it))
+              (meets-then keys₀ purposes₀ keys′ purposes′ keys″ purposes″ before r r′ xs _ (m .so) n);
+        }
+
+    pub meeting-other : (getD tags i 0 / 8 % 2 ≡ wanted → ⊥) → Meeting keys₀ purposes₀ keys tags met wanted before keys′ purposes′ r (i + 1)
+    unfolding chosenBy here entry
+    meeting-other e =
+        let it : f here ≡ [] = rw (ne-eqb (getD tags i 0 / 8 % 2) wanted e) in
+        let none = ap length it in
+        let xs = gather f (entriesFrom keys tags 0 i) in
+        record {
+          inside = omega arith;
+          room = omega (arith, m .room, left);
+          so =
+              subst (λ l. Meets keys₀ purposes₀ before l keys′ purposes′ r)
+              (sym (done ∙ ap (λ (l : List Naming). xs ++ l) it ∙ append-nil xs)) (m .so);
+        }
+
+  pub meeting-all : (keys′ purposes′ : List ℕ) (r : Names) (i : ℕ) → Meeting keys₀ purposes₀ keys tags met wanted before keys′ purposes′ r i
+      → met ≤ i → Meets keys₀ purposes₀ before (gather (chosenBy wanted) (entriesFrom keys tags 0 met)) keys′ purposes′ r
+  meeting-all keys′ purposes′ r i m h =
+      let all : i ≡ met = omega (arith, m .inside) in
+      subst (λ n. Meets keys₀ purposes₀ before (gather (chosenBy wanted) (entriesFrom keys tags 0 n)) keys′ purposes′ r) all (m .so)
+
+  -- the same by other names of the arrays
+  pub meeting-same : {keys′ keys″ purposes′ purposes″ : List ℕ} {r q : Names} {i : ℕ} → keys′ ≡ keys″ → purposes′ ≡ purposes″ → r ≡ q
+      → Meeting keys₀ purposes₀ keys tags met wanted before keys″ purposes″ q i
+      → Meeting keys₀ purposes₀ keys tags met wanted before keys′ purposes′ r i
+  meeting-same {keys′} {keys″} {purposes′} {purposes″} {r} {q} {i} d e f m =
+      subst (λ k. Meeting keys₀ purposes₀ keys tags met wanted before k purposes′ r i) (sym d)
+      (subst (λ k. Meeting keys₀ purposes₀ keys tags met wanted before keys″ k r i) (sym e)
+      (subst (λ k. Meeting keys₀ purposes₀ keys tags met wanted before keys″ purposes″ k i) (sym f) m))

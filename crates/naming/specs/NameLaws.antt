@@ -1,0 +1,255 @@
+-- Where each name known has one purpose, names met one by one are judged and learnt as document 01 has it. Assumes nothing.
+use mathlib.Core.Bool.{Bool, true, false, cond, not, _&&_, _||_, false≢true, true≢false, or-assoc, or-false, and-false}
+use mathlib.Core.List.{List, [], _∷_, _++_, append-assoc}
+use mathlib.Core.Logic.{_⊎_, inl, inr, ⊎-elim}
+use mathlib.Core.Path.{_≡_, refl, sym, _∙_, ap, ap₂, subst}
+use Prim.Native.Nat.{ℕ}
+use lib.Dec.{eqb}
+use borrow.Author.Tests.{eqb-true, eq-eqb}
+use Rattle.base.specs.Choice.{test-cases, cond-cases, neither-true, either-true}
+use Rattle.base.specs.Lists.{same, any}
+use Rattle.base.specs.ListLaws.{same-true, same-refl}
+use Rattle.judgement.specs.Known.{sameNaming, withNames}
+use Rattle.judgement.specs.Names.{any-append, same-naming}
+use Rattle.judgement.specs.Refusals.{hasOther}
+use Rattle.language.specs.Laws.{same-purpose-refl}
+use Rattle.language.specs.Reading.{purposeNumber, samePurpose, Naming}
+use Rattle.naming.specs.Names.{standing, meet, meets, conflicts}
+
+-- two truth values that follow from each other are equal
+both-ways : (a b : Bool) → (a ≡ true → b ≡ true) → (b ≡ true → a ≡ true) → a ≡ b
+both-ways true b f g = sym (f refl)
+both-ways false true f g = g refl
+both-ways false false f g = refl
+
+pub eqb-sym : (a b : ℕ) → eqb a b ≡ eqb b a
+eqb-sym a b = both-ways (eqb a b) (eqb b a) (λ e. eq-eqb b a (sym (eqb-true a b e))) (λ e. eq-eqb a b (sym (eqb-true b a e)))
+
+same-sym : (xs ys : List ℕ) → same xs ys ≡ same ys xs
+same-sym xs ys =
+    both-ways (same xs ys) (same ys xs)
+    (λ e. subst (λ (z : List ℕ). same z xs ≡ true) (same-true xs ys e) (same-refl xs))
+    (λ e. subst (λ (z : List ℕ). same z ys ≡ true) (same-true ys xs e) (same-refl ys))
+
+-- two names are the same with other purposes
+abbrev other : Naming → Naming → Bool
+other n m = same (n .name) (m .name) && not (samePurpose (n .purpose) (m .purpose))
+
+other-sym : (x y : Naming) → other x y ≡ other y x
+unfolding samePurpose
+other-sym x y =
+    ap₂ {C = Bool} (λ a b. a && not b) (same-sym (x .name) (y .name)) (eqb-sym (purposeNumber (x .purpose)) (purposeNumber (y .purpose)))
+
+other-self : (x : Naming) → other x x ≡ false
+other-self x = rw (same-refl (x .name), same-purpose-refl (x .purpose))
+
+-- a test that none in a list passes is failed by each in it
+none-passes : (f : Naming → Bool) (x : Naming) (ns : List Naming) → any f ns ≡ false → any (sameNaming x) ns ≡ true → f x ≡ false
+unfolding any
+none-passes f x [] h g = absurd (false≢true g)
+none-passes f x (n ∷ ns) h g =
+    let fails = neither-true (f n) (any f ns) h in
+    ⊎-elim (λ s. ap f (same-naming x n s) ∙ fails .0) (none-passes f x ns (fails .1))
+    (either-true (sameNaming x n) (any (sameNaming x) ns) g)
+
+any-cong : (f g : Naming → Bool) (xs : List Naming) → ((x : Naming) → f x ≡ g x) → any f xs ≡ any g xs
+unfolding any
+any-cong f g [] h = refl
+any-cong f g (x ∷ xs) h = ap₂ {C = Bool} _||_ (h x) (any-cong f g xs h)
+
+middle : (a b c d : Bool) → ((a || b) || (c || d)) ≡ ((a || c) || (b || d))
+middle true b c d = refl
+middle false true true d = refl
+middle false true false d = refl
+middle false false c d = refl
+
+-- names that have another purpose in two lists have one in either
+other-append : (ns ms xs : List Naming) → any (hasOther (ns ++ ms)) xs ≡ (any (hasOther ns) xs || any (hasOther ms) xs)
+unfolding any hasOther
+other-append ns ms [] = refl
+other-append ns ms (x ∷ xs) =
+    ap₂ {C = Bool} _||_ (any-append (other x) ns ms) (other-append ns ms xs)
+    ∙ middle (hasOther ns x) (hasOther ms x) (any (hasOther ns) xs) (any (hasOther ms) xs)
+
+-- the names that x gives another purpose are those that give x one
+other-one : (x : Naming) (xs : List Naming) → any (hasOther (x ∷ [])) xs ≡ hasOther xs x
+unfolding any hasOther
+other-one x [] = refl
+other-one x (y ∷ xs) = ap₂ {C = Bool} _||_ (or-false (other y x) ∙ other-sym y x) (other-one x xs)
+
+-- a name put behind the names known, where it is none of them
+abbrev added : List Naming → Naming → List Naming
+added ns x = cond (any (sameNaming x) ns) ns (ns ++ (x ∷ []))
+
+other-added : (ns : List Naming) (x m : Naming) → hasOther (added ns x) m ≡ hasOther (ns ++ (x ∷ [])) m
+unfolding any hasOther
+other-added ns x m =
+    cond-cases (λ l. hasOther l m ≡ hasOther (ns ++ (x ∷ [])) m) (any (sameNaming x) ns)
+    (λ has. test-cases (λ t. hasOther ns m ≡ t → t ≡ (t || (other m x || false))) (hasOther ns m)
+    (λ _ _. refl)
+    (λ _ e. sym (or-false (other m x) ∙ none-passes (other m) x ns e has)) refl
+    ∙ sym (any-append (other m) ns (x ∷ [])))
+    (λ _. refl)
+
+-- names that have two purposes, put behind those known one by one
+unfoldable conflict : List Naming → List Naming → Bool
+conflict ns [] = false
+conflict ns (x ∷ xs) = hasOther ns x || conflict (added ns x) xs
+
+absorbs : (h a b : Bool) → (h || (a || (h || b))) ≡ (a || (h || b))
+absorbs true true b = refl
+absorbs true false b = refl
+absorbs false a b = refl
+
+conflict-is : (ns xs : List Naming) → conflict ns xs ≡ any (hasOther (ns ++ xs)) xs
+unfolding conflict any hasOther
+conflict-is ns [] = refl
+conflict-is ns (x ∷ xs) =
+    let behind = any (hasOther (ns ++ (x ∷ xs))) xs in
+    let one : List Naming = x ∷ [] in
+    let rest : conflict (added ns x) xs ≡ behind =
+    conflict-is (added ns x) xs
+    ∙ other-append (added ns x) xs xs
+    ∙ ap (λ b. b || any (hasOther xs) xs) (any-cong (hasOther (added ns x)) (hasOther (ns ++ one)) xs (other-added ns x))
+    ∙ sym (other-append (ns ++ one) xs xs)
+    ∙ ap (λ (l : List Naming). any (hasOther l) xs) (append-assoc ns one xs)
+    in
+    let parts : behind ≡ (any (hasOther ns) xs || (hasOther xs x || any (hasOther xs) xs)) =
+    other-append ns (x ∷ xs) xs
+    ∙ ap (λ b. any (hasOther ns) xs || b) (other-append one xs xs ∙ ap (λ b. b || any (hasOther xs) xs) (other-one x xs))
+    in
+    let here : hasOther (ns ++ (x ∷ xs)) x ≡ (hasOther ns x || hasOther xs x) =
+    any-append (other x) ns (x ∷ xs) ∙ ap (λ b. hasOther ns x || (b || hasOther xs x)) (other-self x)
+    in
+    ap (λ b. hasOther ns x || b) rest
+    ∙ ap (λ b. hasOther ns x || b) (parts ∙ sym (absorbs (hasOther xs x) (any (hasOther ns) xs) (any (hasOther xs) xs))
+    ∙ ap (λ b. hasOther xs x || b) (sym parts))
+    ∙ sym (or-assoc (hasOther ns x) (hasOther xs x) behind)
+    ∙ ap (λ b. b || behind) (sym here)
+
+-- each name has one purpose
+abbrev pub Single : List Naming → Type 0
+Single ns = any (hasOther ns) ns ≡ false
+
+single-rest : (n : Naming) (ns : List Naming) → Single (n ∷ ns) → (hasOther (n ∷ ns) n ≡ false) × Single ns
+unfolding any
+single-rest n ns h =
+    let parts = neither-true (hasOther (n ∷ ns) n) (any (hasOther (n ∷ ns)) ns) h in
+    let split = neither-true (any (hasOther (n ∷ [])) ns) (any (hasOther ns) ns) (sym (other-append (n ∷ []) ns ns) ∙ parts .1) in
+    (parts .0, split .1)
+
+-- how a name stands tells whether it has another purpose, and whether it is known
+pub record Stands (ns : List Naming) (x : Naming) : Type 0 where
+  pub others : hasOther ns x ≡ eqb (standing ns x) 2
+  pub knows : any (sameNaming x) ns ≡ eqb (standing ns x) 1
+  pub few : (standing ns x ≡ 0) ⊎ ((standing ns x ≡ 1) ⊎ (standing ns x ≡ 2))
+
+-- a name that has the name of the first
+stands-first : (n : Naming) (ns : List Naming) (x : Naming) → hasOther (n ∷ ns) n ≡ false → same (x .name) (n .name) ≡ true
+    → Stands (n ∷ ns) x
+unfolding standing any hasOther sameNaming
+stands-first n ns x alone name =
+    test-cases (λ t. samePurpose (x .purpose) (n .purpose) ≡ t → Stands (n ∷ ns) x) (samePurpose (x .purpose) (n .purpose))
+    (λ _ p.
+    let first : sameNaming x n ≡ true = rw (name, p) in
+    let is = same-naming x n first in
+    let at : standing (n ∷ ns) x ≡ 1 = rw (name, p) in
+    record {
+      others = ap (hasOther (n ∷ ns)) is ∙ alone ∙ ap (λ s. eqb s 2) (sym at);
+      knows = ap (λ b. b || any (sameNaming x) ns) first ∙ ap (λ s. eqb s 1) (sym at);
+      few = inr (inl at);
+    })
+    (λ _ p.
+    let at : standing (n ∷ ns) x ≡ 2 = rw (name, p) in
+    let clash : other x n ≡ true = rw (name, p) in
+    let first : sameNaming x n ≡ false = rw (name, p) in
+    let differs : other n x ≡ true = other-sym n x ∙ clash in
+    let behind = neither-true (other n n) (any (other n) ns) alone .1 in
+    let unknown : any (sameNaming x) ns ≡ false =
+    test-cases (λ t. any (sameNaming x) ns ≡ t → t ≡ false) (any (sameNaming x) ns)
+    (λ _ has. absurd (true≢false (sym differs ∙ none-passes (other n) x ns behind has))) (λ _ _. refl) refl
+    in
+    record {
+      others = ap (λ b. b || any (other x) ns) clash ∙ ap (λ s. eqb s 2) (sym at);
+      knows = ap (λ b. b || any (sameNaming x) ns) first ∙ unknown ∙ ap (λ s. eqb s 1) (sym at);
+      few = inr (inr at);
+    }) refl
+
+pub stands : (ns : List Naming) (x : Naming) → Single ns → Stands ns x
+unfolding standing any hasOther sameNaming
+stands [] x h = record { others = refl; knows = refl; few = inl refl }
+stands (n ∷ ns) x h =
+    let parts = single-rest n ns h in
+    test-cases (λ t. same (x .name) (n .name) ≡ t → Stands (n ∷ ns) x) (same (x .name) (n .name))
+    (λ _ name. stands-first n ns x (parts .0) name)
+    (λ _ name.
+    let rest = stands ns x (parts .1) in
+    let at : standing (n ∷ ns) x ≡ standing ns x = rw name in
+    let first : sameNaming x n ≡ false = rw name (and-false (samePurpose (x .purpose) (n .purpose))) in
+    let clash : other x n ≡ false = rw name in
+    record {
+      others = ap (λ b. b || any (other x) ns) clash ∙ rest .others ∙ ap (λ s. eqb s 2) (sym at);
+      knows = ap (λ b. b || any (sameNaming x) ns) first ∙ rest .knows ∙ ap (λ s. eqb s 1) (sym at);
+      few = rw at (rest .few);
+    }) refl
+
+-- a name with no other purpose goes behind those known as one that is put there, and names keep one purpose
+module _ (ns : List Naming) (x : Naming) (single : Single ns) (alone : hasOther ns x ≡ false) where
+  meet-added : meet ns x ≡ added ns x
+  unfolding meet
+  meet-added =
+      let s = stands ns x single in
+      rw (s .knows)
+      (⊎-elim (λ e. rw e) (⊎-elim (λ e. rw e) (λ e. absurd (true≢false (sym (ap (λ n. eqb n 2) e) ∙ sym (s .others) ∙ alone)))) (s .few))
+
+  added-single : Single (added ns x)
+  unfolding any hasOther
+  added-single =
+      cond-cases Single (any (sameNaming x) ns) (λ _. single)
+      (λ _.
+      let one : List Naming = x ∷ [] in
+      any-append (hasOther (ns ++ one)) ns one
+      ∙ ap₂ {C = Bool} _||_
+      (other-append ns one ns ∙ ap₂ {C = Bool} _||_ single (other-one x ns ∙ alone))
+      (or-false (hasOther (ns ++ one) x) ∙ any-append (other x) ns one ∙ ap₂ {C = Bool} _||_ alone (or-false (other x x) ∙ other-self x)))
+
+-- so names met one by one have two purposes where document 01 says so
+one-by-one : (ns xs : List Naming) → Single ns → conflicts ns xs ≡ conflict ns xs
+unfolding conflicts conflict
+one-by-one ns [] h = refl
+one-by-one ns (x ∷ xs) h =
+    let s = stands ns x h in
+    test-cases (λ t. hasOther ns x ≡ t → (eqb (standing ns x) 2 || conflicts (meet ns x) xs) ≡ (t || conflict (added ns x) xs)) (hasOther ns x)
+    (λ _ e. ap (λ b. b || conflicts (meet ns x) xs) (sym (s .others) ∙ e))
+    (λ _ e.
+    ap (λ b. b || conflicts (meet ns x) xs) (sym (s .others) ∙ e)
+    ∙ ap (λ l. conflicts l xs) (meet-added ns x h e)
+    ∙ one-by-one (added ns x) xs (added-single ns x h e)) refl
+
+pub conflicts-is : (ns xs : List Naming) → Single ns → conflicts ns xs ≡ any (hasOther (ns ++ xs)) xs
+conflicts-is ns xs h = one-by-one ns xs h ∙ conflict-is ns xs
+
+-- and where none has, those are known that document 01 says, each with one purpose
+pub met-known : (ns xs : List Naming) → Single ns → conflicts ns xs ≡ false → (meets ns xs ≡ withNames ns xs) × Single (meets ns xs)
+unfolding meets withNames conflicts
+met-known ns [] h g = (refl, h)
+met-known ns (x ∷ xs) h g =
+    let s = stands ns x h in
+    let parts = neither-true (eqb (standing ns x) 2) (conflicts (meet ns x) xs) g in
+    let alone = s .others ∙ parts .0 in
+    let is = meet-added ns x h alone in
+    let rest = met-known (meet ns x) xs (subst Single (sym is) (added-single ns x h alone)) (parts .1) in
+    (rest .0 ∙ ap (λ l. withNames l xs) is, rest .1)
+
+-- names met, and then more
+pub meets-append : (ns xs ys : List Naming) → meets ns (xs ++ ys) ≡ meets (meets ns xs) ys
+unfolding meets
+meets-append ns [] ys = refl
+meets-append ns (x ∷ xs) ys = meets-append (meet ns x) xs ys
+
+pub conflicts-append : (ns xs ys : List Naming) → conflicts ns (xs ++ ys) ≡ (conflicts ns xs || conflicts (meets ns xs) ys)
+unfolding meets conflicts
+conflicts-append ns [] ys = refl
+conflicts-append ns (x ∷ xs) ys =
+    ap (λ b. eqb (standing ns x) 2 || b) (conflicts-append (meet ns x) xs ys)
+    ∙ sym (or-assoc (eqb (standing ns x) 2) (conflicts (meet ns x) xs) (conflicts (meets (meet ns x) xs) ys))

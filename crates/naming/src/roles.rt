@@ -1,0 +1,77 @@
+// 8 of a SCAN: the reference is also a filler, or a pattern string has the name of a filler left of it.
+// Assumes nothing.
+use met::NAMES;
+ghost use mathlib.Core.Bool.{_&&_};
+ghost use lib.Dec.{eqb};
+ghost use mathlib.Core.Path.{_≡_};
+ghost use mathlib.Core.List.{[]};
+ghost use Prim.Native.Nat.{_+_, _/_};
+ghost use Rattle.judgement.specs.Refusals.{clashes};
+ghost use Rattle.met.specs.Entries.{gather, rolesBy};
+ghost use Rattle.naming.specs.Arrays.{entriesFrom};
+ghost use Rattle.naming.specs.Names.{Sized};
+ghost use Rattle.naming.specs.Roles.{fillersHave, clashAt, searchedBehind};
+
+// whether a name met is a filler with this key
+fn fills(k: u64, tag: u8, key: u64) -> bool
+    ensures { λ r. ⌜ r ≡ (eqb (tag / 16) 3 && eqb k key) ⌝ }
+{
+    if tag / 16 == 3 {
+        return k == key;
+    }
+    false
+}
+
+// whether a filler before place n has this key
+fn is_filler_before(keys: &[u64; NAMES], tags: &[u8; NAMES], n: usize, key: u64) -> bool
+    requires { ⌜ Sized (now keys) (now tags) n ⌝ }
+    ensures { λ r. ⌜ r ≡ fillersHave (now (keys .entry)) (now (tags .entry)) n key ⌝ }
+{
+    let mut i = n;
+    while i > 0 {
+        i -= 1;
+        if fills(keys[i], tags[i], key) {
+            return true;
+        }
+    }
+    false
+}
+
+// whether the role at a place clashes with those before it, with this key of the reference
+fn clashes_at(keys: &[u64; NAMES], tags: &[u8; NAMES], i: usize, searched: u64) -> bool
+    requires { ⌜ Sized (now keys) (now tags) (i + 1) ⌝ }
+    ensures { λ r. ⌜ r ≡ clashAt (now (keys .entry)) (now (tags .entry)) i searched ⌝ }
+{
+    let role = tags[i] / 16;
+    if role == 2 {
+        return is_filler_before(keys, tags, i, keys[i]);
+    }
+    if role == 3 {
+        return searched == keys[i];
+    }
+    false
+}
+
+// the key of the reference behind a name
+fn searched_behind(key: u64, tag: u8, searched: u64) -> u64
+    ensures { λ r. ⌜ r ≡ searchedBehind key tag searched ⌝ }
+{
+    if tag / 16 == 1 { key } else { searched }
+}
+
+// 8: whether the roles of the names met clash
+pub fn has_clash(keys: &[u64; NAMES], tags: &[u8; NAMES], met: usize) -> bool
+    requires { ⌜ Sized (now keys) (now tags) met ⌝ }
+    ensures { λ r. ⌜ r ≡ clashes [] [] (gather rolesBy (entriesFrom (now (keys .entry)) (now (tags .entry)) 0 met)) ⌝ }
+{
+    let mut searched: u64 = 0;
+    let mut i: usize = 0;
+    while i < met {
+        if clashes_at(keys, tags, i, searched) {
+            return true;
+        }
+        searched = searched_behind(keys[i], tags[i], searched);
+        i += 1;
+    }
+    false
+}

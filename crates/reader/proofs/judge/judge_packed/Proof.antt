@@ -1,0 +1,141 @@
+-- `reader::judge::judge_packed`: 4, then 5 or the number of the form.
+-- Assumes nothing.
+use mathlib.Core.Path.{refl, sym, ap, _∙_}
+use native.Mathlib.Omega.{arith}
+use Rattle.reader.specs.JudgeLaws.{broken-case, no-step-case, step-case, starts, formed-ready}
+use Rattle.reader.specs.JudgeLaws.{misplaced-numbered, broken-numbered, formed-numbered, stays-not}
+use Rattle.naming.specs.Arrays.{arrays}
+use borrow.Author.Needs.{needs}
+use Rattle.reader.proofs.judge.judge_packed.Statement.{statement}
+use Rattle.reader.proofs.judge.judge_packed.Tie as tie
+use Rattle.reader.proofs.judge.judge_packed.Reads as reads
+use Rattle.reader.proofs.judge.judge_packed.Lts as lts
+use Rattle.reader.proofs.judge.start.Reads as start-reads
+use Rattle.judging.proofs.is_misplaced.Reads as is-misplaced-reads
+use Rattle.judging.proofs.judge_statement.Reads as judge-statement-reads
+use Rattle.forms.proofs.read_statement.Reads as read-statement-reads
+use Rattle.words.proofs.keywords.leading.Reads as leading-reads
+
+leading-requires : tie.Need-leading-requires
+leading-requires c κs = search needs
+
+is-misplaced-requires : tie.Need-is-misplaced-requires
+is-misplaced-requires c κs = search needs
+
+returns : tie.Need-returns
+returns c =
+    let p = c .before .before .before .before .before .before in
+    let arrs = arrays (p .args .known .now) (p .args .name-keys .now) (p .args .name-purposes .now) (p .args .use-keys .now) (p .args .use-scopes .now) (p .args .use-purposes .now) in (
+      (λ label raw w.
+          misplaced-numbered arrs (c .before .before .before .leading .result .kind) label raw (p .args .text .now)
+          (ap (λ l. l .kind) (c .before .before .before .leading .ensures)) (w .bytes)
+          (λ taken k h. sym (c .before .is-misplaced .ensures .misplaced arrs refl taken k h) ∙ c .if1 .taken)),
+      stays-not (λ z. omega arith),
+    )
+
+start-requires : tie.Need-start-requires
+start-requires c κs = search needs
+
+read-statement-requires : tie.Need-read-statement-requires
+read-statement-requires c κs =
+    let p = c .before .before .before .before .before .before .before .before .before .before .before .before in (
+      starts (p .pre .0 .holds) (p .pre .0 .small) (p .pre .1 .keysSize) (p .pre .1 .tagsSize) (c .before .before .before .before .start .ensures),
+      (ap (λ d. d .names) (c .before .before .before .before .start .ensures), (p .pre .0 .holds .counted, p .pre .1 .tableSize)),
+    )
+
+enum-told : tie.Need-enum-told
+enum-told c = search needs
+
+enum-known-d : tie.Need-enum-known-d
+enum-known-d c = search needs
+
+judge-statement-requires : tie.Need-judge-statement-requires
+judge-statement-requires c κs =
+    let p = c .before .before .before .before .before .before .before .before .before .before .before .before .before .before .before .before .before .before .before .before .before .before .before .before .before .before in
+    let q = p .pre .0 in
+    formed-ready q (ap (λ d. d .names) (c .before .before .before .before .before .before .before .before .before .before .before .before .before .before .before .before .before .before .start .ensures))
+    (no-step-case (c .before .before .before .before .before .before .before .before .before .before .before .before .before .read-statement .ensures (q .label) (q .raw) (q .wording)) (c .before .before .before .before .before .before .before .before .before .d .given .1))
+
+enum-known-d-2 : tie.Need-enum-known-d-2
+enum-known-d-2 c = search needs
+
+judge-statement-requires-2 : tie.Need-judge-statement-requires-2
+judge-statement-requires-2 c κs =
+    let p = c .before .before .before .before .before .before .before .before .before .before .before .before .before .before .before .before .before .before .before .before .before .before .before .before .before .before in
+    let q = p .pre .0 in
+    formed-ready q (ap (λ d. d .names) (c .before .before .before .before .before .before .before .before .before .before .before .before .before .before .before .before .before .before .start .ensures))
+    (step-case (c .before .before .before .before .before .before .before .before .before .before .before .before .before .read-statement .ensures (q .label) (q .raw) (q .wording)) (c .before .before .before .before .before .before .before .before .before .d2 .given .1) .formed)
+
+same-length : tie.Need-same-length
+same-length c = search needs
+
+returns-2 : tie.Need-returns-2
+returns-2 c =
+    let p = c .before .before .before .before .before .before .before .before .before .before .before .before .before .before .before .before .before in
+    let arrs = arrays (p .args .known .now) (p .args .name-keys .now) (p .args .name-purposes .now) (p .args .use-keys .now) (p .args .use-scopes .now) (p .args .use-purposes .now) in (
+      (λ label raw w.
+          broken-numbered arrs (c .before .before .before .before .before .before .before .before .before .before .before .before .before .before .leading .result .kind) label raw (p .args .text .now)
+          (ap (λ l. l .kind) (c .before .before .before .before .before .before .before .before .before .before .before .before .before .before .leading .ensures)) (w .bytes)
+          (λ taken k h. sym (c .before .before .before .before .before .before .before .before .before .before .before .before .is-misplaced .ensures .misplaced arrs refl taken k h) ∙ c .before .before .before .before .before .before .before .before .before .before .before .if1 .left)
+          (broken-case (c .before .before .before .before .read-statement .ensures label raw w) (c .enum-told .given .1))),
+      stays-not (λ z. omega arith),
+    )
+
+same-length-2 : tie.Need-same-length-2
+same-length-2 c = search needs
+
+returns-3 : tie.Need-returns-3
+returns-3 c =
+    let p = c .before .before .before .before .before .before .before .before .before .before .before .before .before .before .before .before .before .before .before .before .before .before .before .before .before .before .before in
+    let arrs = arrays (p .args .known .now) (p .args .name-keys .now) (p .args .name-purposes .now) (p .args .use-keys .now) (p .args .use-scopes .now) (p .args .use-purposes .now) in
+    let q = p .pre .0 in
+    let f = no-step-case (c .before .before .before .before .before .before .before .before .before .before .before .before .before .before .read-statement .ensures (q .label) (q .raw) (q .wording)) (c .before .before .before .before .before .before .before .before .before .before .d .given .1) in (
+      (λ label raw w.
+          formed-numbered arrs (c .before .before .before .before .before .before .before .before .before .before .before .before .before .before .before .before .before .before .before .before .before .before .before .before .leading .result .kind) label raw (p .args .text .now)
+          (ap (λ l. l .kind) (c .before .before .before .before .before .before .before .before .before .before .before .before .before .before .before .before .before .before .before .before .before .before .before .before .leading .ensures)) (w .bytes)
+          (λ taken k h. sym (c .before .before .before .before .before .before .before .before .before .before .before .before .before .before .before .before .before .before .before .before .before .before .is-misplaced .ensures .misplaced arrs refl taken k h) ∙ c .before .before .before .before .before .before .before .before .before .before .before .before .before .before .before .before .before .before .before .before .before .if1 .left)
+          (c .before .before .before .before .before .before .before .before .before .before .before .before .before .before .before .before .before .before .before .start .ensures)
+          (no-step-case (c .before .before .before .before .before .before .before .before .before .before .before .before .before .before .read-statement .ensures label raw w) (c .before .before .before .before .before .before .before .before .before .before .d .given .1))
+          (c .judge-statement .ensures)),
+      record { keysSize = λ _. f .keysSize; tagsSize = λ _. f .tagsSize },
+    )
+
+same-length-3 : tie.Need-same-length-3
+same-length-3 c = search needs
+
+returns-4 : tie.Need-returns-4
+returns-4 c =
+    let p = c .before .before .before .before .before .before .before .before .before .before .before .before .before .before .before .before .before .before .before .before .before .before .before .before .before .before .before in
+    let arrs = arrays (p .args .known .now) (p .args .name-keys .now) (p .args .name-purposes .now) (p .args .use-keys .now) (p .args .use-scopes .now) (p .args .use-purposes .now) in
+    let q = p .pre .0 in
+    let f = step-case (c .before .before .before .before .before .before .before .before .before .before .before .before .before .before .read-statement .ensures (q .label) (q .raw) (q .wording)) (c .before .before .before .before .before .before .before .before .before .before .d2 .given .1) .formed in (
+      (λ label raw w.
+          formed-numbered arrs (c .before .before .before .before .before .before .before .before .before .before .before .before .before .before .before .before .before .before .before .before .before .before .before .before .leading .result .kind) label raw (p .args .text .now)
+          (ap (λ l. l .kind) (c .before .before .before .before .before .before .before .before .before .before .before .before .before .before .before .before .before .before .before .before .before .before .before .before .leading .ensures)) (w .bytes)
+          (λ taken k h. sym (c .before .before .before .before .before .before .before .before .before .before .before .before .before .before .before .before .before .before .before .before .before .before .is-misplaced .ensures .misplaced arrs refl taken k h) ∙ c .before .before .before .before .before .before .before .before .before .before .before .before .before .before .before .before .before .before .before .before .before .if1 .left)
+          (c .before .before .before .before .before .before .before .before .before .before .before .before .before .before .before .before .before .before .before .start .ensures)
+          (step-case (c .before .before .before .before .before .before .before .before .before .before .before .before .before .before .read-statement .ensures label raw w) (c .before .before .before .before .before .before .before .before .before .before .d2 .given .1) .formed)
+          (c .judge-statement2 .ensures)),
+      record { keysSize = λ _. f .keysSize; tagsSize = λ _. f .tagsSize },
+    )
+
+pub judge-packed-spec : {M : Type 1} → statement M
+judge-packed-spec =
+    tie.close
+    (tie.spec
+    leading-requires
+    is-misplaced-requires
+    returns
+    start-requires
+    read-statement-requires
+    enum-told
+    enum-known-d
+    judge-statement-requires
+    enum-known-d-2
+    judge-statement-requires-2
+    same-length
+    returns-2
+    same-length-2
+    returns-3
+    same-length-3
+    returns-4)

@@ -1,0 +1,180 @@
+-- How the whole deck is judged, entry after entry. Assumes nothing.
+use mathlib.Core.Bool.{Bool, true, false, cond, true≢false, false≢true}
+use mathlib.Core.List.{List, [], _∷_}
+use mathlib.Core.Path.{_≡_, refl, sym, ap, ap₂, subst, _∙_}
+use Prim.Native.Nat.{ℕ, suc, _+_, _≤_, _<_}
+use native.Mathlib.Omega.{arith}
+use lib.Dec.{eqb}
+use lib.ListN.{length, drop, getD, drop-of-length-le}
+use Rattle.base.specs.Choice.{test-cases}
+use Rattle.base.specs.Edition.{edition1}
+use Rattle.cards.specs.Cards as Cards
+use Rattle.cards.specs.Cards.{entriesFrom, entries}
+use Rattle.closing.specs.Held.{Closable, heldIn}
+use Rattle.closing.specs.HeldLaws.{closable, held-11, held-12}
+use Rattle.judgement.specs.Deck as Deck
+use Rattle.judgement.specs.Deck.{Judgement, accepted, judge, concluded, judgeFrom, passed, is11, is12, programOf}
+use Rattle.judgement.specs.Known.{Known, nothingKnown}
+use Rattle.judgement.specs.Rules as Rules
+use Rattle.judgement.specs.Rules.{judging}
+use Rattle.met.specs.Holding.{Arrays, Holds}
+use Rattle.met.specs.Known.{endedAt}
+use Rattle.reader.specs.Judging.{Held, EntryJudged, Going, Passed, endedIn, closedBy, StatementsJudged, DeckJudged}
+use Rattle.reader.specs.declared.judge.Judged.{Judged}
+use Rattle.reader.specs.declared.judge.Verdict.{Verdict}
+
+-- the deck is judged as its entries from here on are, from what the arrays hold; so many lines are behind
+pub record Judging (deck : List ℕ) (a : Arrays) (from card : ℕ) : Type 0 where
+  pub known : Known
+  pub holds : Holds a from known
+  pub same : judgeFrom edition1 nothingKnown (entries edition1 deck)
+      ≡ judgeFrom edition1 known (entriesFrom edition1 card (Cards.lines (drop from deck)))
+  pub inside : from ≤ length deck + 1
+  pub few : card ≤ from + 1
+
+pub judging-held : {deck : List ℕ} {a : Arrays} {from card : ℕ} → Judging deck a from card → Held a from
+judging-held j = record { known = j .known; holds = j .holds }
+
+-- before the first line
+pub judging-none : {deck : List ℕ} {a : Arrays} → Holds a 0 nothingKnown → Judging deck a 0 1
+unfolding entries
+judging-none h = record { known = nothingKnown; holds = h; same = refl; inside = omega arith; few = omega arith }
+
+module _ {deck : List ℕ} {a : Arrays} {from card : ℕ} (j : Judging deck a from card) where
+  -- behind an entry that passes
+  pub judging-more : {r : Judged} {a′ : Arrays} → EntryJudged deck from a r a′ → r .number ≡ 0 → Judging deck a′ (r .next) (card + r .lines)
+  judging-more {r} e z =
+      let g = e .goes z card (j .known) (j .holds) in
+      record {
+        known = g .known;
+        holds = g .holds;
+        same = j .same ∙ g .rest;
+        inside = e .inside;
+        few = omega (arith, e .paced, j .few);
+      }
+
+  -- at an entry that is refused
+  pub judging-refused : {r : Judged} {a′ b : Arrays} → EntryJudged deck from a r a′ → (r .number ≡ 0 → ⊥) → from < length deck
+      → StatementsJudged deck (record { number = r .number; card = card }) b
+  judging-refused {r} e z h =
+      record {
+        refuses = λ _. j .same ∙ e .refuses z card (j .known) (j .holds);
+        passes = λ y. absurd (z y);
+        few = omega (arith, j .few);
+      }
+
+  -- behind the last entry
+  at-end : length deck ≤ from → judgeFrom edition1 nothingKnown (entries edition1 deck)
+      ≡ cond (eqb (getD (a .known) endedAt 0) 1) (passed (j .known)) (Deck.Judged.refused 4 0)
+  unfolding judgeFrom entriesFrom Cards.lines
+  at-end h =
+      j .same
+      ∙ ap (λ (bs : List ℕ). judgeFrom edition1 (j .known) (entriesFrom edition1 card (Cards.lines bs))) (drop-of-length-le deck h)
+      ∙ ap (λ t. cond t (passed (j .known)) (Deck.Judged.refused 4 0)) (sym (j .holds .ended))
+
+  pub judging-ends : {r : Verdict} → length deck ≤ 32_768 → length deck ≤ from → r ≡ endedIn (a .known) → StatementsJudged deck r a
+  judging-ends {r} small h e =
+      test-cases (λ t. eqb (getD (a .known) endedAt 0) 1 ≡ t → StatementsJudged deck r a) (eqb (getD (a .known) endedAt 0) 1)
+      (λ _ t.
+      subst (λ (v : Verdict). StatementsJudged deck v a) (sym (e ∙ choose t))
+      (record {
+        refuses = λ z. absurd (z refl);
+        passes =
+            λ _.
+            record { known = j .known; taken = from; holds = j .holds; few = omega (arith, j .inside); is = at-end h ∙ ap (λ u. cond u (passed (j .known)) (Deck.Judged.refused 4 0)) t };
+        few = omega arith;
+      }))
+      (λ _ t.
+      subst (λ (v : Verdict). StatementsJudged deck v a) (sym (e ∙ choose t))
+      (record {
+        refuses = λ _. at-end h ∙ ap (λ u. cond u (passed (j .known)) (Deck.Judged.refused 4 0)) t;
+        passes = λ z. absurd (omega arith);
+        few = omega arith;
+      })) refl
+    where
+      choose : {t : Bool} → eqb (getD (a .known) endedAt 0) 1 ≡ t
+          → endedIn (a .known) ≡ cond t (record { number = 0; card = 0 }) (record { number = 4; card = 0 })
+      choose q = ap {B = Verdict} (λ t. cond t (record { number = 0; card = 0 }) (record { number = 4; card = 0 })) q
+
+-- the judgement of the deck from that of its statements
+module _ (deck : List ℕ) where
+  judged-by : {j : Deck.Judged} → judgeFrom edition1 nothingKnown (entries edition1 deck) ≡ j → judge edition1 deck ≡ concluded edition1 (entries edition1 deck) j
+  unfolding judge
+  judged-by e = ap (concluded edition1 (entries edition1 deck)) e
+
+-- refused by 3 to 10
+pub deck-refused : {deck : List ℕ} {v : Verdict} {a b : Arrays} → StatementsJudged deck v a → (v .number ≡ 0 → ⊥) → DeckJudged deck v b
+unfolding concluded
+deck-refused {deck} s z = record { refuses = λ _. judged-by deck (s .refuses z); accepts = λ e. absurd (z e); few = s .few; without = λ e. absurd (z e) }
+
+module _ {deck : List ℕ} {a : Arrays} (p : Passed deck a) where
+  abbrev k : Known
+  k = p .known
+
+  abbrev passes : Judgement
+  passes = accepted (programOf edition1 k (entries edition1 deck))
+
+  -- by 11, by 12, or not at all
+  by-closing : judge edition1 deck
+      ≡ cond (is11 k) (Judgement.refused 11 0) (cond (is12 k) (Judgement.refused 12 0) passes)
+  unfolding concluded
+  by-closing = judged-by deck (p .is)
+
+  pub deck-closed : {v : Verdict} → v ≡ closedBy k → DeckJudged deck v a
+  deck-closed {v} e =
+      test-cases (λ t. is11 k ≡ t → DeckJudged deck v a) (is11 k)
+      (λ _ t.
+      subst (λ (u : Verdict). DeckJudged deck u a) (sym (e ∙ ap {B = Verdict} (λ u. cond u eleven (cond (is12 k) twelve none)) t))
+      (record {
+        refuses = λ _. by-closing ∙ ap (λ u. cond u (Judgement.refused 11 0) (cond (is12 k) (Judgement.refused 12 0) passes)) t;
+        accepts = λ z. absurd (omega arith);
+        few = omega arith;
+        without = λ _. refl;
+      }))
+      (λ _ t.
+      test-cases (λ s. is12 k ≡ s → DeckJudged deck v a) (is12 k)
+      (λ _ s.
+      subst (λ (u : Verdict). DeckJudged deck u a)
+      (sym (e ∙ ap {B = Verdict} (λ u. cond u eleven (cond (is12 k) twelve none)) t ∙ ap {B = Verdict} (λ u. cond u twelve none) s))
+      (record {
+        refuses = λ _. by-closing ∙ ap (λ u. cond u (Judgement.refused 11 0) (cond (is12 k) (Judgement.refused 12 0) passes)) t ∙ ap (λ u. cond u (Judgement.refused 12 0) passes) s;
+        accepts = λ z. absurd (omega arith);
+        few = omega arith;
+        without = λ _. refl;
+      }))
+      (λ _ s.
+      subst (λ (u : Verdict). DeckJudged deck u a)
+      (sym (e ∙ ap {B = Verdict} (λ u. cond u eleven (cond (is12 k) twelve none)) t ∙ ap {B = Verdict} (λ u. cond u twelve none) s))
+      (record {
+        refuses = λ z. absurd (z refl);
+        accepts =
+            λ _.
+            record {
+              known = k;
+              taken = p .taken;
+              holds = p .holds;
+              judging = subst (Rules.Judging edition1 nothingKnown (entries edition1 deck)) (p .is) (judging edition1 nothingKnown (entries edition1 deck));
+              is = by-closing ∙ ap (λ u. cond u (Judgement.refused 11 0) (cond (is12 k) (Judgement.refused 12 0) passes)) t ∙ ap (λ u. cond u (Judgement.refused 12 0) passes) s;
+            };
+        few = omega arith;
+        without = λ _. refl;
+      })) refl) refl
+    where
+      eleven : Verdict
+      eleven = record { number = 11; card = 0 }
+
+      twelve : Verdict
+      twelve = record { number = 12; card = 0 }
+
+      none : Verdict
+      none = record { number = 0; card = 0 }
+
+  -- what the code asks is what is known
+  pub passed-closable : Closable (a .known) (a .useKeys) (a .useScopes) (a .usePurposes)
+  passed-closable = closable a (p .taken) k (p .holds) (p .few)
+
+  pub passed-closed : {v : Verdict} → v ≡ closedBy (heldIn (a .known) (a .useKeys) (a .useScopes) (a .usePurposes)) → v ≡ closedBy k
+  passed-closed {v} e =
+      e
+      ∙ ap₂ {C = Verdict} (λ s t. cond s (record { number = 11; card = 0 }) (cond t (record { number = 12; card = 0 }) (record { number = 0; card = 0 })))
+      (held-11 a (p .taken) k (p .holds)) (held-12 a (p .taken) k (p .holds))

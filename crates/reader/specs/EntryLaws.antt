@@ -1,0 +1,189 @@
+-- How an entry of the deck is judged from its number. Assumes nothing.
+use mathlib.Core.Bool.{Bool, true, false, cond, not, true≢false, false≢true}
+use mathlib.Core.List.{List, [], _∷_}
+use mathlib.Core.Path.{_≡_, refl, sym, ap, ap₂, subst, _∙_}
+use Prim.Native.Nat.{ℕ, suc, _+_, _≤_, _<_}
+use native.Mathlib.Omega.{arith}
+use lib.Dec.{eqb}
+use lib.ListN.{length, take, drop}
+use lib.Seq.{length-take-le}
+use borrow.Author.Tests.{ne-eqb, eq-eqb}
+use Rattle.base.specs.Choice.{test-cases}
+use Rattle.base.specs.Edition.{edition1}
+use Rattle.base.specs.Lists.{all}
+use Rattle.cards.specs.Cards as Cards
+use Rattle.cards.specs.Cards.{Entry, skipped, statement, entriesFrom}
+use Rattle.cards.specs.Packing.{packed}
+use Rattle.forms.specs.Contracts.{Wording}
+use Rattle.judgement.specs.Deck as Deck
+use Rattle.judgement.specs.Deck.{judgeFrom, metBy, unplaced}
+use Rattle.judgement.specs.Known.{Known, numbers, isOneOf, learn}
+use Rattle.judgement.specs.Refusals.{readStatement, statementNumber}
+use Rattle.language.specs.Keywords.{leading}
+use Rattle.met.specs.Holding.{Arrays, Holds}
+use Rattle.packer.specs.Gathering.{Gathers, entryOf}
+use Rattle.packer.specs.declared.Gathered.{Gathered}
+use Rattle.naming.specs.HoldLaws.{held-shown, shown-held}
+use Rattle.reader.specs.Judging.{Held, Worded, Readied, Entered, Numbered, EntryNumbered, Going, EntryJudged}
+use Rattle.reader.specs.declared.judge.Judged.{Judged}
+
+-- a sound statement as the code has it
+pub wording : {text : List ℕ} {e : Gathered} {label raw : List ℕ} → Worded text e label raw → e .sound ≡ true
+    → Wording label raw (take (e .length) text) (e .label) (e .whole)
+wording w s = record { key = w .key; clean = w .clean s; short = w .short; bytes = sym (w .bytes); whole = w .whole }
+
+-- an entry that is sound can be judged by its text
+pub readied : {text : List ℕ} {e : Gathered} {a : Arrays} → Entered text e a → e .sound ≡ true → Readied (take (e .length) text) e a
+readied {text} {e} r s =
+    let size = length-take-le (e .length) text (r .worded .fits) in
+    record {
+      label = r .label;
+      raw = r .raw;
+      wording = wording (r .worded) s;
+      taken = r .taken;
+      known = r .known;
+      holds = r .holds;
+      small = omega (arith, r .small);
+      room = omega (arith, r .room);
+    }
+
+module _ {text : List ℕ} {e : Gathered} {a : Arrays} where
+  -- 3
+  pub unsound-numbered : e .sound ≡ false → EntryNumbered text e a 3 a
+  unfolding statementNumber
+  unsound-numbered s =
+      record {
+        skips = λ _. (sym (ap (λ t. cond t 0 3) s), refl);
+        judges =
+            λ _ label raw w.
+            record {
+              number =
+                  λ taken k h.
+                  sym
+                  (ap (λ t. statementNumber k (leading (packed raw) .kind) t (readStatement edition1 (isOneOf (numbers k)) unplaced label raw)) s);
+              learnt = λ z. absurd (omega arith);
+            };
+      }
+
+  -- a comment or blank line
+  pub skipped-numbered : e .sound ≡ true → e .skipped ≡ true → EntryNumbered text e a 0 a
+  skipped-numbered s t =
+      record { skips = λ _. (sym (ap (λ u. cond u 0 3) s), refl); judges = λ f. absurd (true≢false (sym t ∙ f)) }
+
+  -- a sound statement
+  pub packed-numbered : {r : ℕ} {a′ : Arrays} → e .sound ≡ true → e .skipped ≡ false
+      → ((label raw : List ℕ) → Wording label raw (take (e .length) text) (e .label) (e .whole) → Numbered label raw true a r a′)
+      → EntryNumbered text e a r a′
+  packed-numbered {r} {a′} s f n =
+      record {
+        skips = λ t. absurd (true≢false (sym t ∙ f));
+        judges = λ _ label raw w. subst (λ u. Numbered label raw u a r a′) (sym s) (n label raw (wording w s));
+      }
+
+-- the entry that the code has gathered
+module _ {deck : List ℕ} {from : ℕ} {text : List ℕ} {e : Gathered} (g : Gathers deck from text e) where
+  pub gathered-worded : Worded text e (g .label) (g .raw)
+  gathered-worded =
+      record {
+        key = g .key;
+        clean = g .clean;
+        short = g .short;
+        bytes = g .bytes;
+        whole = g .whole;
+        fits = omega (arith, g .fits, g .size);
+      }
+
+  pub entered : {a : Arrays} → Held a from → length deck ≤ 32_768 → Entered text e a
+  entered h small =
+      record {
+        label = g .label;
+        raw = g .raw;
+        worded = gathered-worded;
+        taken = from;
+        known = h .known;
+        holds = h .holds;
+        small = g .fits;
+        room = omega (arith, g .spare, g .inside);
+      }
+
+  -- how the entries from here on are judged
+  module _ (a a′ : Arrays) (number : ℕ) (n : EntryNumbered text e a number a′) (card : ℕ) (k : Known) (h : Holds a from k) where
+    abbrev rest : List Entry
+    rest = entriesFrom edition1 (card + e .lines) (Cards.lines (drop (e .next) deck))
+
+    abbrev here : Deck.Judged
+    here = judgeFrom edition1 k (entriesFrom edition1 card (Cards.lines (drop from deck)))
+
+    abbrev kept : Known
+    kept =
+        learn k (leading (packed (g .raw)) .kind) (metBy (readStatement edition1 (isOneOf (numbers k)) unplaced (g .label) (g .raw)))
+
+    -- of a comment or blank line
+    skip-judged : e .skipped ≡ true → here ≡ elim (e .sound) [ true ↦ judgeFrom edition1 k rest | false ↦ Deck.Judged.refused 3 card ]
+    unfolding judgeFrom entryOf
+    skip-judged t =
+        ap (judgeFrom edition1 k) (g .entry card)
+        ∙ ap (λ u. judgeFrom edition1 k (cond u (skipped card (e .sound)) (statement card (e .sound) (g .label) (g .raw)) ∷ rest)) t
+
+    -- of a statement
+    statement-judged : e .skipped ≡ false → here ≡ elim (eqb number 0) [ true ↦ judgeFrom edition1 kept rest | false ↦ Deck.Judged.refused number card ]
+    unfolding judgeFrom entryOf
+    statement-judged f =
+        ap (judgeFrom edition1 k) (g .entry card)
+        ∙ ap (λ u. judgeFrom edition1 k (cond u (skipped card (e .sound)) (statement card (e .sound) (g .label) (g .raw)) ∷ rest)) f
+        ∙ ap {B = Deck.Judged} (λ m. elim (eqb m 0) [ true ↦ judgeFrom edition1 kept rest | false ↦ Deck.Judged.refused m card ])
+        (sym (n .judges f (g .label) (g .raw) gathered-worded .number from k h))
+
+    refuses-entry : (number ≡ 0 → ⊥) → here ≡ Deck.Judged.refused number card
+    refuses-entry z =
+        test-cases (λ t. e .skipped ≡ t → here ≡ Deck.Judged.refused number card) (e .skipped)
+        (λ _ t.
+        test-cases (λ u. e .sound ≡ u → here ≡ Deck.Judged.refused number card) (e .sound)
+        (λ _ u. absurd (z (n .skips t .0 ∙ ap (λ v. cond v 0 3) u)))
+        (λ _ u.
+        skip-judged t
+        ∙ ap {B = Deck.Judged} (λ v. elim v [ true ↦ judgeFrom edition1 k rest | false ↦ Deck.Judged.refused 3 card ]) u
+        ∙ ap (λ m. Deck.Judged.refused m card) (sym (n .skips t .0 ∙ ap (λ v. cond v 0 3) u))) refl)
+        (λ _ f.
+        statement-judged f
+        ∙ ap {B = Deck.Judged} (λ v. elim v [ true ↦ judgeFrom edition1 kept rest | false ↦ Deck.Judged.refused number card ]) (ne-eqb number 0 z))
+        refl
+
+    goes-entry : number ≡ 0 → Going deck from card k (e .lines) (e .next) a′
+    goes-entry z =
+        test-cases (λ t. e .skipped ≡ t → Going deck from card k (e .lines) (e .next) a′) (e .skipped)
+        (λ _ t.
+        test-cases (λ u. e .sound ≡ u → Going deck from card k (e .lines) (e .next) a′) (e .sound)
+        (λ _ u.
+        record {
+          known = k;
+          holds =
+              subst (λ (b : Arrays). Holds b (e .next) k) (sym (n .skips t .1))
+              (subst (Holds a (e .next)) (held-shown a from k h) (shown-held a from (e .next) k (omega (arith, g .onward)) h));
+          rest =
+              skip-judged t
+              ∙ ap {B = Deck.Judged} (λ v. elim v [ true ↦ judgeFrom edition1 k rest | false ↦ Deck.Judged.refused 3 card ]) u;
+        })
+        (λ _ u. let is : number ≡ 3 = n .skips t .0 ∙ ap (λ v. cond v 0 3) u in absurd (omega arith)) refl)
+        (λ _ f.
+        record {
+          known = kept;
+          holds =
+              n .judges f (g .label) (g .raw) gathered-worded .learnt z from k h (e .next)
+              (omega (arith, g .spare, ap length (g .bytes), length-take-le (e .length) text (gathered-worded .fits)));
+          rest =
+              statement-judged f
+              ∙ ap {B = Deck.Judged} (λ v. elim v [ true ↦ judgeFrom edition1 kept rest | false ↦ Deck.Judged.refused number card ])
+              (eq-eqb number 0 z);
+        }) refl
+
+  pub entry-judged : (a a′ : Arrays) (number : ℕ) → EntryNumbered text e a number a′
+      → EntryJudged deck from a (record { number = number; lines = e .lines; next = e .next }) a′
+  entry-judged a a′ number n =
+      record {
+        refuses = λ z card k h. refuses-entry a a′ number n card k h z;
+        goes = λ z card k h. goes-entry a a′ number n card k h z;
+        onward = g .onward;
+        paced = g .paced;
+        inside = g .inside;
+      }

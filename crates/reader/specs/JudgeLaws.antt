@@ -1,0 +1,202 @@
+-- How a statement's number comes about from what its readers and judges say. Assumes nothing.
+use mathlib.Core.Bool.{Bool, true, false, cond, not, _||_}
+use mathlib.Core.List.{List, [], _∷_, map}
+use mathlib.Core.Option.{Option, none}
+use mathlib.Core.Path.{_≡_, refl, sym, ap, ap₂, subst, _∙_}
+use Prim.Native.Nat.{ℕ, suc, _+_, _≤_, _<_}
+use native.Mathlib.Omega.{arith}
+use native.Mathlib.Nat.{zero-add}
+use lib.Dec.{eqb, ltb}
+use lib.ListN.{length, take, drop, getD}
+use Rattle.base.specs.Edition.{edition1}
+use Rattle.base.specs.Limits as Limits
+use Rattle.base.specs.Lists.{any, total}
+use Rattle.calls.specs.Table.{allLiterals}
+use Rattle.cards.specs.Packing.{packed, literalsWhole}
+use Rattle.branches.specs.declared.Row.{Row}
+use Rattle.forms.specs.Contracts.{Starts, Formed, Stepped, FormAnswer, FormRead, Wording, numberIn, itemsIn, elementsIn}
+use Rattle.forms.specs.declared.Form as FormCode
+use Rattle.forms.specs.declared.Form.{Form}
+use Rattle.judgement.specs.Deck.{metBy, unplaced}
+use Rattle.judgement.specs.Known.{Known, numbers, isOneOf, learn}
+use Rattle.judgement.specs.Placed.{number-anywhere, met-anywhere}
+use Rattle.judgement.specs.Refusals.{readStatement, statementNumber, formNumber, metNumber, isMisplaced}
+use Rattle.judging.specs.Callers.{ready}
+use Rattle.judging.specs.Judged.{Judged, Behind, Ready}
+use Rattle.language.specs.Keywords as Keywords
+use Rattle.language.specs.Keywords.{leading}
+use Rattle.language.specs.Program.{Statement}
+use Rattle.language.specs.Reading.{Read, got, broken, Met}
+use Rattle.met.specs.Entries.{metIn}
+use Rattle.met.specs.Holding.{Arrays, Holds}
+use Rattle.met.specs.Known.{placesIn, itemsAt, elementsAt, literalsAt}
+use Rattle.met.specs.declared.Cursor.{Cursor}
+use Rattle.naming.specs.Arrays.{entriesFrom}
+use Rattle.naming.specs.HoldLaws.{entries-noted}
+use Rattle.words.specs.Kinds.{kindOf}
+use Rattle.words.specs.declared.keywords.Kind.{Kind}
+use Rattle.packer.specs.declared.Gathered.{Gathered}
+use Rattle.reader.specs.Judging.{Stays, startAt, Readied, Numbered}
+
+-- what the judgement reads, and what the code reads
+module _ (label raw : List ℕ) (a : Arrays) (taken : ℕ) (k : Known) (h : Holds a taken k) where
+  abbrev judged : Read (Option Statement)
+  judged = readStatement edition1 (isOneOf (numbers k)) unplaced label raw
+
+  abbrev read : Read (Option Statement)
+  read = readStatement edition1 (numberIn (a .known)) (placesIn (a .known)) label raw
+
+  -- the number is the same
+  number-read : (kind : Keywords.Kind) (sound : Bool) → statementNumber k kind sound judged ≡ statementNumber k kind sound read
+  number-read kind sound =
+      number-anywhere edition1 (isOneOf (numbers k)) (placesIn (a .known)) label raw k kind sound
+      ∙ ap (λ (ns : List (List ℕ)). statementNumber k kind sound (readStatement edition1 (isOneOf ns) (placesIn (a .known)) label raw))
+      (sym (h .numbers))
+
+  -- so is what was met
+  met-read : metBy judged ≡ metBy read
+  met-read =
+      met-anywhere edition1 (isOneOf (numbers k)) (placesIn (a .known)) label raw
+      ∙ ap (λ (ns : List (List ℕ)). metBy (readStatement edition1 (isOneOf ns) (placesIn (a .known)) label raw)) (sym (h .numbers))
+
+  module _ (kind : Keywords.Kind) where
+    pub misplaced-number : isMisplaced k kind ≡ true → 4 ≡ statementNumber k kind true judged
+    unfolding statementNumber
+    misplaced-number m = sym (ap (λ t. cond t 4 (formNumber k kind judged)) m)
+
+    module _ (m : isMisplaced k kind ≡ false) where
+      placed : (x : Read (Option Statement)) → statementNumber k kind true x ≡ formNumber k kind x
+      unfolding statementNumber
+      placed x = ap (λ t. cond t 4 (formNumber k kind x)) m
+
+      pub broken-number : read ≡ broken → 5 ≡ statementNumber k kind true judged
+      unfolding formNumber
+      broken-number e = sym (number-read kind true ∙ placed read ∙ ap (formNumber k kind) e)
+
+      pub got-number : {v : Option Statement} {n : Met} {rest : List ℕ} → read ≡ got v n rest → metNumber k kind n ≡ statementNumber k kind true judged
+      unfolding formNumber
+      got-number e = sym (number-read kind true ∙ placed read ∙ ap (formNumber k kind) e)
+
+  pub got-met : {v : Option Statement} {n : Met} {rest : List ℕ} → read ≡ got v n rest → metBy judged ≡ n
+  unfolding metBy
+  got-met e = met-read ∙ ap metBy e
+
+  -- the cursor behind a statement counts what the deck has behind it
+  pub behind : {v : Option Statement} {most : ℕ} {table keys tags table′ keys′ tags′ : List ℕ} {x : Read (Option Statement)} {d : Cursor}
+      → (f : Formed v most table keys tags (startAt (a .known)) x table′ keys′ tags′ d)
+      → Behind k d (length (itemsIn v)) (f .rows) (length (allLiterals (elementsIn v)))
+  behind {v} f =
+      record {
+        itemCount = f .items ∙ ap (λ (n : ℕ). n + length (itemsIn v)) (h .items);
+        elementCount = f .elements ∙ ap₂ (λ (n m : ℕ). n + m) (h .elements) (sym (f .counted));
+        literalCount = f .literals ∙ ap (λ (n : ℕ). n + length (allLiterals (elementsIn v))) (h .literals);
+        longestRow = f .longest;
+      }
+
+-- the form by its case
+module _ {most : ℕ} {table keys tags : List ℕ} {c : Cursor} {x : Read (Option Statement)} {r : Form} {table′ keys′ tags′ : List ℕ}
+    (f : FormRead most table keys tags c x r table′ keys′ tags′) where
+  by-case : {q : Form} → r ≡ q → FormAnswer most table keys tags c x q table′ keys′ tags′
+  by-case e = subst (λ (z : Form). FormAnswer most table keys tags c x z table′ keys′ tags′) e (f .answer)
+
+  pub broken-case : r ≡ FormCode.the-variants.Broken → x ≡ broken
+  broken-case e = by-case e
+
+  pub no-step-case : {d : Cursor} → r ≡ FormCode.the-variants.NoStep d → Formed none most table keys tags c x table′ keys′ tags′ d
+  no-step-case e = by-case e
+
+  pub step-case : {row : Row} {d : Cursor} → r ≡ FormCode.the-variants.Step row d → Stepped row most table keys tags c x table′ keys′ tags′ d
+  step-case e = by-case e
+
+-- a statement can be read
+pub starts : {a : Arrays} {taken : ℕ} {k : Known} {text keys tags : List ℕ} {c : Cursor} → Holds a taken k → length text ≤ 32_768
+    → length keys ≡ 32_800 → length tags ≡ 32_800 → c ≡ startAt (a .known) → Starts text keys tags c
+starts {a} {text = text} {keys} {tags} h small ks ts e =
+    subst (Starts text keys tags) (sym e)
+    (record {
+      textSize = small;
+      at = refl;
+      names = omega arith;
+      items = omega (arith, h .fewItems);
+      elements = omega (arith, h .fewElements);
+      literals = omega (arith, h .fewLiterals);
+      keysSize = ks;
+      tagsSize = ts;
+    })
+
+-- a statement that is read can be judged
+pub formed-ready : {text : List ℕ} {e : Gathered} {a : Arrays} {v : Option Statement} {table keys tags table′ keys′ tags′ : List ℕ} {c : Cursor}
+    {x : Read (Option Statement)} {d : Cursor} → Readied text e a → c .names ≡ 0
+    → Formed v (length text + 1) table keys tags c x table′ keys′ tags′ d → Ready a keys′ tags′ d
+formed-ready {a = a} {keys′ = keys′} {tags′ = tags′} {d = d} q z f =
+    ready a keys′ tags′ d (q .taken) (q .known) (f .keysSize) (f .tagsSize) (omega (arith, q .room, f .names, f .few)) (q .holds)
+
+-- a statement that is read and judged has its number
+module _ (a : Arrays) (kind : Kind) (label raw text : List ℕ) (leads : kindOf kind ≡ leading text .kind) (bytes : packed raw ≡ text) where
+  is-kind : kindOf kind ≡ leading (packed raw) .kind
+  is-kind = leads ∙ ap (λ (bs : List ℕ). leading bs .kind) (sym bytes)
+
+  pub misplaced-numbered : {a′ : Arrays} → ((taken : ℕ) (k : Known) → Holds a taken k → isMisplaced k (kindOf kind) ≡ true)
+      → Numbered label raw true a 4 a′
+  misplaced-numbered m =
+      record {
+        number =
+            λ taken k h.
+            misplaced-number label raw a taken k h (kindOf kind) (m taken k h)
+            ∙ ap (λ q. statementNumber k q true (judged label raw a taken k h)) is-kind;
+        learnt = λ z. absurd (omega arith);
+      }
+
+  module _ (placed : (taken : ℕ) (k : Known) → Holds a taken k → isMisplaced k (kindOf kind) ≡ false) where
+    pub broken-numbered : {a′ : Arrays} → readStatement edition1 (numberIn (a .known)) (placesIn (a .known)) label raw ≡ broken
+        → Numbered label raw true a 5 a′
+    broken-numbered e =
+        record {
+          number =
+              λ taken k h.
+              broken-number label raw a taken k h (kindOf kind) (placed taken k h) e
+              ∙ ap (λ q. statementNumber k q true (judged label raw a taken k h)) is-kind;
+          learnt = λ z. absurd (omega arith);
+        }
+
+    pub formed-numbered : {v : Option Statement} {table keys tags table′ keys′ tags′ : List ℕ} {c d : Cursor} {a′ : Arrays} {r : ℕ}
+        → c ≡ startAt (a .known)
+        → Formed v (length text + 1) table keys tags c (readStatement edition1 (numberIn (a .known)) (placesIn (a .known)) label raw) table′ keys′ tags′ d
+        → Judged a keys′ tags′ d kind a′ r
+        → Numbered label raw true a r a′
+    formed-numbered {v} {table} {keys} {tags} {table′} {keys′} {tags′} {c} {d} {a′} {r} start g j = from
+      where
+        f : Formed v (length text + 1) table keys tags (startAt (a .known))
+            (readStatement edition1 (numberIn (a .known)) (placesIn (a .known)) label raw) table′ keys′ tags′ d
+        f =
+            subst (λ (z : Cursor). Formed v (length text + 1) table keys tags z
+            (readStatement edition1 (numberIn (a .known)) (placesIn (a .known)) label raw) table′ keys′ tags′ d) start g
+
+        entries : entriesFrom keys′ tags′ 0 (d .names) ≡ f .entries
+        entries =
+            ap (entriesFrom keys′ tags′ 0) (f .names ∙ zero-add (length (f .entries)))
+            ∙ entries-noted keys tags keys′ tags′ (f .entries) (f .noting .keyed) (f .noting .tagged)
+
+        met : metIn (entriesFrom keys′ tags′ 0 (d .names)) (length (itemsIn v)) (f .rows) (length (allLiterals (elementsIn v)))
+            ≡ metIn (f .entries) (length (itemsIn v)) (f .rows) (length (allLiterals (elementsIn v)))
+        met = ap (λ es. metIn es (length (itemsIn v)) (f .rows) (length (allLiterals (elementsIn v)))) entries
+
+        from : Numbered label raw true a r a′
+        from =
+            record {
+              number =
+                  λ taken k h.
+                  j .number taken k h _ _ _ (behind label raw a taken k h f)
+                  ∙ ap (metNumber k (kindOf kind)) met
+                  ∙ got-number label raw a taken k h (kindOf kind) (placed taken k h) (f .is)
+                  ∙ ap (λ q. statementNumber k q true (judged label raw a taken k h)) is-kind;
+              learnt =
+                  λ z taken k h taken′ le.
+                  subst (Holds a′ taken′) (ap₂ (learn k) is-kind (met ∙ sym (got-met label raw a taken k h (f .is))))
+                  (j .learnt z taken k h _ _ _ (behind label raw a taken k h f) taken′
+                  (omega (arith, f .names, f .few, le, ap length bytes)));
+            }
+
+-- another number than 0 says nothing of the arrays of names
+pub stays-not : {r : ℕ} {keys tags : List ℕ} → (r ≡ 0 → ⊥) → Stays r keys tags
+stays-not z = record { keysSize = λ e. absurd (z e); tagsSize = λ e. absurd (z e) }

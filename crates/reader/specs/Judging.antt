@@ -1,0 +1,148 @@
+-- What the first pass does: each entry of the deck judged in its turn, and the whole deck. Assumes nothing.
+use mathlib.Core.Bool.{Bool, true, false, cond}
+use mathlib.Core.List.{List}
+use mathlib.Core.Path.{_≡_}
+use Prim.Native.Nat.{ℕ, _+_, _≤_, _<_}
+use lib.Dec.{eqb}
+use lib.ListN.{length, take, drop, getD}
+use Rattle.base.specs.Edition.{edition1}
+use Rattle.base.specs.Lists.{all}
+use Rattle.cards.specs.Cards as Cards
+use Rattle.cards.specs.Cards.{entriesFrom, entries}
+use Rattle.cards.specs.Packing.{packed, literalsWhole}
+use Rattle.judgement.specs.Deck as Deck
+use Rattle.judgement.specs.Deck.{Judgement, accepted, judge, is11, is12, judgeFrom, metBy, unplaced, programOf, passed}
+use Rattle.judgement.specs.Known.{Known, nothingKnown, numbers, isOneOf, learn}
+use Rattle.judgement.specs.Refusals.{readStatement, statementNumber}
+use Rattle.judgement.specs.Rules.{Judging}
+use Rattle.language.specs.Keywords.{leading}
+use Rattle.met.specs.Holding.{Arrays, Holds}
+use Rattle.met.specs.Known.{endedAt, itemsAt, elementsAt, literalsAt}
+use Rattle.met.specs.declared.Cursor.{Cursor}
+use Rattle.forms.specs.Contracts.{Wording}
+use Rattle.packer.specs.Keys.{keyOf, isKeyByte}
+use Rattle.packer.specs.declared.Gathered.{Gathered}
+use Rattle.reader.specs.declared.judge.Judged.{Judged}
+use Rattle.reader.specs.declared.judge.Verdict.{Verdict}
+
+-- the arrays hold what is known of a deck of which so many bytes are taken
+pub record Held (a : Arrays) (taken : ℕ) : Type 0 where
+  pub known : Known
+  pub holds : Holds a taken known
+
+-- the arrays that names are noted in, and the table, have their sizes
+pub record Lent (keys tags table : List ℕ) : Type 0 where
+  pub keysSize : length keys ≡ 32_800
+  pub tagsSize : length tags ≡ 32_800
+  pub tableSize : 28_672 ≤ length table
+
+-- a statement of the deck by its label and its bytes, as the code has it in the first bytes of a text
+pub record Worded (text : List ℕ) (e : Gathered) (label raw : List ℕ) : Type 0 where
+  pub key : e .label ≡ keyOf label
+  pub clean : e .sound ≡ true → all isKeyByte label ≡ true
+  pub short : length label ≤ 8
+  pub bytes : take (e .length) text ≡ packed raw
+  pub whole : e .whole ≡ literalsWhole raw
+  pub fits : e .length ≤ length text
+
+-- there is a statement to be judged, with room for its names
+pub record Readied (text : List ℕ) (e : Gathered) (a : Arrays) : Type 0 where
+  pub label : List ℕ
+  pub raw : List ℕ
+  pub wording : Wording label raw text (e .label) (e .whole)
+  pub taken : ℕ
+  pub known : Known
+  pub holds : Holds a taken known
+  pub small : length text ≤ 32_768
+  pub room : taken + length text < 32_800
+
+-- there is an entry to be judged
+pub record Entered (text : List ℕ) (e : Gathered) (a : Arrays) : Type 0 where
+  pub label : List ℕ
+  pub raw : List ℕ
+  pub worded : Worded text e label raw
+  pub taken : ℕ
+  pub known : Known
+  pub holds : Holds a taken known
+  pub small : e .length ≤ 32_768
+  pub room : taken + e .length < 32_800
+
+-- where the number is 0 the arrays of names have their sizes still
+pub record Stays (r : ℕ) (keys tags : List ℕ) : Type 0 where
+  pub keysSize : r ≡ 0 → length keys ≡ 32_800
+  pub tagsSize : r ≡ 0 → length tags ≡ 32_800
+
+-- the cursor before a statement: nothing of it is read, and the counts are those of the deck so far
+abbrev pub startAt : List ℕ → Cursor
+startAt known =
+    record {
+      at = 0;
+      names = 0;
+      items = getD known itemsAt 0;
+      elements = getD known elementsAt 0;
+      literals = getD known literalsAt 0;
+      longest = 0;
+    }
+
+-- the number of a statement, and what the arrays hold behind it where it is 0; its names take a byte each, its label one more
+pub record Numbered (label raw : List ℕ) (sound : Bool) (a : Arrays) (r : ℕ) (a′ : Arrays) : Type 0 where
+  pub number : (taken : ℕ) (k : Known) → Holds a taken k
+      → r ≡ statementNumber k (leading (packed raw) .kind) sound (readStatement edition1 (isOneOf (numbers k)) unplaced label raw)
+  pub learnt : r ≡ 0 → (taken : ℕ) (k : Known) → Holds a taken k → (taken′ : ℕ) → taken + length (packed raw) < taken′
+      → Holds a′ taken′ (learn k (leading (packed raw) .kind) (metBy (readStatement edition1 (isOneOf (numbers k)) unplaced label raw)))
+
+-- the number of an entry; a comment or blank line changes nothing
+pub record EntryNumbered (text : List ℕ) (e : Gathered) (a : Arrays) (r : ℕ) (a′ : Arrays) : Type 0 where
+  pub skips : e .skipped ≡ true → (r ≡ cond (e .sound) 0 3) × (a′ ≡ a)
+  pub judges : e .skipped ≡ false → (label raw : List ℕ) → Worded text e label raw → Numbered label raw (e .sound) a r a′
+
+-- an entry of the deck is judged: refused with its card, or the rest is judged from what is known behind it
+pub record Going (deck : List ℕ) (from card : ℕ) (k : Known) (lines next : ℕ) (a′ : Arrays) : Type 0 where
+  pub known : Known
+  pub holds : Holds a′ next known
+  pub rest : judgeFrom edition1 k (entriesFrom edition1 card (Cards.lines (drop from deck)))
+      ≡ judgeFrom edition1 known (entriesFrom edition1 (card + lines) (Cards.lines (drop next deck)))
+
+pub record EntryJudged (deck : List ℕ) (from : ℕ) (a : Arrays) (r : Judged) (a′ : Arrays) : Type 0 where
+  pub refuses : (r .number ≡ 0 → ⊥) → (card : ℕ) (k : Known) → Holds a from k
+      → judgeFrom edition1 k (entriesFrom edition1 card (Cards.lines (drop from deck))) ≡ Deck.Judged.refused (r .number) card
+  pub goes : r .number ≡ 0 → (card : ℕ) (k : Known) → Holds a from k → Going deck from card k (r .lines) (r .next) a′
+  pub onward : from < r .next
+  pub paced : from + r .lines ≤ r .next
+  pub inside : r .next ≤ length deck + 1
+
+-- 4 behind the last line where END is missing
+abbrev pub endedIn : List ℕ → Verdict
+endedIn known = cond (eqb (getD known endedAt 0) 1) (record { number = 0; card = 0 }) (record { number = 4; card = 0 })
+
+-- the statements of the deck are judged
+pub record Passed (deck : List ℕ) (a : Arrays) : Type 0 where
+  pub known : Known
+  pub taken : ℕ
+  pub holds : Holds a taken known
+  pub few : taken ≤ 32_800
+  pub is : judgeFrom edition1 nothingKnown (entries edition1 deck) ≡ passed known
+
+pub record StatementsJudged (deck : List ℕ) (r : Verdict) (a : Arrays) : Type 0 where
+  pub refuses : (r .number ≡ 0 → ⊥) → judgeFrom edition1 nothingKnown (entries edition1 deck) ≡ Deck.Judged.refused (r .number) (r .card)
+  pub passes : r .number ≡ 0 → Passed deck a
+  pub few : r .card ≤ length deck + 1
+
+-- 11 and 12
+abbrev pub closedBy : Known → Verdict
+closedBy k =
+    cond (is11 k) (record { number = 11; card = 0 }) (cond (is12 k) (record { number = 12; card = 0 }) (record { number = 0; card = 0 }))
+
+-- the deck is judged
+pub record Accepted (deck : List ℕ) (a : Arrays) : Type 0 where
+  pub known : Known
+  pub taken : ℕ
+  pub holds : Holds a taken known
+  pub judging : Judging edition1 nothingKnown (entries edition1 deck) (passed known)
+  pub is : judge edition1 deck ≡ accepted (programOf edition1 known (entries edition1 deck))
+
+pub record DeckJudged (deck : List ℕ) (r : Verdict) (a : Arrays) : Type 0 where
+  pub refuses : (r .number ≡ 0 → ⊥) → judge edition1 deck ≡ Judgement.refused (r .number) (r .card)
+  pub accepts : r .number ≡ 0 → Accepted deck a
+  pub few : r .card ≤ length deck + 1
+  pub without : r .number ≡ 0 → r .card ≡ 0

@@ -1,0 +1,149 @@
+-- What the deck call does: document 01's number, card and table. Assumes nothing.
+use mathlib.Core.Bool.{true, false, cond}
+use mathlib.Core.List.{List, _++_, map}
+use mathlib.Core.Path.{_≡_, refl, sym, ap, ap₂, subst, _∙_}
+use Prim.Native.Nat.{ℕ, _+_, _≤_, _<_}
+use native.Mathlib.Omega.{arith}
+use lib.ListN.{length, take, drop, getD, replicate, length-drop, length-map}
+use lib.Seq.{length-take-le}
+use borrow.Author.Tests.{lt-ltb, le-ltb}
+use Rattle.base.specs.Edition.{edition1}
+use Rattle.calls.specs.Accepted.{accepted-isProgram}
+use Rattle.calls.specs.Calls.{readCall, readJudged, longestDeck}
+use Rattle.calls.specs.Splices.{splice}
+use Rattle.calls.specs.Table.{header, image, allElements, allItems, allLiterals}
+use Rattle.calls.specs.TableLaws.{in-range}
+use Rattle.cards.specs.Cards.{entries}
+use Rattle.cells.specs.CellLaws.{zeros-front}
+use Rattle.judgement.specs.Deck.{Judgement, accepted, judge, programOf, stepsFrom}
+use Rattle.judgement.specs.Known as Known
+use Rattle.judgement.specs.Known.{Known}
+use Rattle.judgement.specs.Placed.Again.{passed-again}
+use Rattle.met.specs.Entries.{nameOf}
+use Rattle.met.specs.Holding.{Arrays, Holds}
+use Rattle.met.specs.Known.{stringKeys, numberKeys}
+use Rattle.reader.specs.Judging.{Accepted, DeckJudged}
+use Rattle.reader.specs.Steps.{Whole, withKnown, StepsWritten}
+use Rattle.reader.specs.StepsLaws.{DeckWritten}
+use Rattle.reader.specs.Writing.{withSteps, withHeader, image-written}
+use Rattle.reader.specs.declared.judge.Verdict.{Verdict}
+use Rattle.reader.specs.declared.steps.Progress.{Progress}
+
+-- the steps and the header of an accepted deck's program are written
+pub record TableWritten (deck known t t′ : List ℕ) : Type 0 where
+  pub written : (w : Whole deck known)
+      → t′ ≡ splice (withSteps t 0 0 0 0 (stepsFrom edition1 (w .whole) 0 (entries edition1 deck))) 0 (header (programOf edition1 (w .whole) (entries edition1 deck)))
+
+-- the deck is judged, and the table left accordingly
+pub record DeckRead (deck t : List ℕ) (r : Verdict) (t′ : List ℕ) : Type 0 where
+  pub number : r .number ≡ readJudged edition1 t (judge edition1 deck) .number
+  pub card : r .card ≡ readJudged edition1 t (judge edition1 deck) .card
+  pub table : t′ ≡ readJudged edition1 t (judge edition1 deck) .table
+  pub few : r .card ≤ length deck + 1
+
+-- the deck call's number, card and table
+pub record ReadWith (deck table : List ℕ) (number card : ℕ) (left : List ℕ) : Type 0 where
+  pub number-right : number ≡ readCall edition1 deck table .number
+  pub card-right : card ≡ readCall edition1 deck table .card
+  pub table-right : left ≡ readCall edition1 deck table .table
+
+-- the counts of strings and numbers
+module _ {a : Arrays} {taken : ℕ} {k : Known} (h : Holds a taken k) where
+  front-count : (n from : ℕ) → n ≤ 33 → from ≤ 35 → length (take n (drop from (a .known))) ≡ n
+  front-count n from p q = length-take-le n (drop from (a .known)) (omega (arith, length-drop from (a .known), h .counted .size))
+
+  pub strings-counted : getD (a .known) 0 0 ≡ length (Known.strings k)
+  unfolding stringKeys
+  strings-counted =
+      sym (front-count (getD (a .known) 0 0) 2 (h .counted .strings) (omega arith))
+      ∙ sym (length-map (stringKeys (a .known)) nameOf)
+      ∙ ap length (h .strings)
+
+  pub numbers-counted : getD (a .known) 1 0 ≡ length (Known.numbers k)
+  unfolding numberKeys
+  numbers-counted =
+      sym (front-count (getD (a .known) 1 0) 35 (h .counted .numbers) (omega arith))
+      ∙ sym (length-map (numberKeys (a .known)) nameOf)
+      ∙ ap length (h .numbers)
+
+-- the header is the program's
+pub table-written : {deck known t : List ℕ} {p : Progress} {known′ u t′ : List ℕ} → DeckWritten deck known t p known′ u
+    → t′ ≡ withHeader u (p .steps) (getD known′ 0 0) (getD known′ 1 0) (p .elements) (p .items) (p .literals) → TableWritten deck known t t′
+unfolding withHeader header programOf
+table-written d q =
+    record {
+      written =
+          λ w.
+          let s = d .written w in
+          let h = d .holds w in
+          q ∙ rw (s .table, s .count, strings-counted h, numbers-counted h, s .elements, s .items, s .literals);
+    }
+
+-- an accepted deck with all its names known
+pub accepted-whole : {deck : List ℕ} {a : Arrays} → length deck ≤ 32_768 → Accepted deck a → Whole deck (a .known)
+accepted-whole {deck} {a} small c =
+    record {
+      whole = c .known;
+      arrays = a;
+      same = refl;
+      taken = c .taken;
+      holds = c .holds;
+      again = passed-again (c .judging) .1;
+      fits = in-range edition1 (programOf edition1 (c .known) (entries edition1 deck)) (accepted-isProgram edition1 deck _ small (c .is));
+    }
+
+-- the whole reading
+module _ {deck t : List ℕ} {v : Verdict} {a : Arrays} (small : length deck ≤ 32_768) (j : DeckJudged deck v a) {u : List ℕ}
+    (zeroed : u ≡ splice t 0 (replicate 28672 0)) where
+  pub refused-read : (v .number ≡ 0 → ⊥) → DeckRead deck t v u
+  unfolding readJudged edition1
+  refused-read z =
+      let is = j .refuses z in
+      record {
+        number = sym (ap (λ x. readJudged edition1 t x .number) is);
+        card = sym (ap (λ x. readJudged edition1 t x .card) is);
+        table = zeroed ∙ zeros-front t 28672 ∙ sym (ap (λ x. readJudged edition1 t x .table) is);
+        few = j .few;
+      }
+
+  pub accepted-read : (z : v .number ≡ 0) → {t′ : List ℕ} → TableWritten deck (a .known) u t′ → DeckRead deck t v t′
+  unfolding readJudged edition1 programOf accepted-whole
+  accepted-read z w =
+      let c = j .accepts z in
+      let whole = accepted-whole small c in
+      let is = c .is in
+      let p = programOf edition1 (c .known) (entries edition1 deck) in
+      record {
+        number = z ∙ sym (ap (λ x. readJudged edition1 t x .number) is);
+        card = j .without z ∙ sym (ap (λ x. readJudged edition1 t x .card) is);
+        table =
+            w .written whole
+            ∙ ap (λ (x : List ℕ). splice (withSteps x 0 0 0 0 (stepsFrom edition1 (c .known) 0 (entries edition1 deck))) 0 (header p))
+            (zeroed ∙ zeros-front t 28672)
+            ∙ image-written p (drop 28672 t) (accepted-isProgram edition1 deck p small is)
+            ∙ sym (ap (λ x. readJudged edition1 t x .table) is);
+        few = j .few;
+      }
+
+-- the call by the sizes of deck and table
+module _ (deck table : List ℕ) where
+  pub long-deck : 32_768 < length deck → ReadWith deck table 1 0 table
+  unfolding readCall longestDeck
+  long-deck h =
+      let is = lt-ltb 32768 (length deck) h in
+      record { number-right = rw is; card-right = rw is; table-right = rw is }
+
+  pub small-table : length deck ≤ 32_768 → length table < 28_672 → ReadWith deck table 2 0 table
+  unfolding readCall longestDeck edition1
+  small-table h g =
+      let is = le-ltb 32768 (length deck) h in
+      let too = lt-ltb (length table) 28672 g in
+      record { number-right = rw (is, too); card-right = rw (is, too); table-right = rw (is, too) }
+
+  pub read-with : {v : Verdict} {t′ : List ℕ} {card : ℕ} → length deck ≤ 32_768 → 28_672 ≤ length table → DeckRead deck table v t′ → card ≡ v .card
+      → ReadWith deck table (v .number) card t′
+  unfolding readCall longestDeck edition1
+  read-with h g r c =
+      let is = le-ltb 32768 (length deck) h in
+      let too = le-ltb (length table) 28672 g in
+      record { number-right = r .number ∙ sym (rw (is, too)); card-right = c ∙ r .card ∙ sym (rw (is, too)); table-right = r .table ∙ sym (rw (is, too)) }

@@ -1,0 +1,157 @@
+-- What the second pass does: each statement of an accepted deck is read again and its step written. Assumes nothing.
+use mathlib.Core.Bool.{Bool, true, false}
+use mathlib.Core.List.{List, [], _∷_}
+use mathlib.Core.Option.{Option, none, some}
+use mathlib.Core.Path.{_≡_}
+use Prim.Native.Nat.{ℕ, _+_, _≤_, _<_}
+use lib.ListN.{length, take, drop, set}
+use Rattle.base.specs.Edition.{edition1}
+use Rattle.calls.specs.TableLaws.{InRange}
+use Rattle.calls.specs.Table.{allElements, allItems, allLiterals, elementsOf, itemsOf}
+use Rattle.cards.specs.Cards as Cards
+use Rattle.cards.specs.Cards.{Entry, entriesFrom, entries}
+use Rattle.forms.specs.Contracts.{Wording, numberIn, itemsIn, elementsIn}
+use Rattle.judgement.specs.Deck.{stepsFrom, programOf}
+use Rattle.judgement.specs.Known.{Known, nothingKnown}
+use Rattle.judgement.specs.Placed.Again.{Again}
+use Rattle.judgement.specs.Refusals.{readStatement}
+use Rattle.language.specs.Program.{Statement, Step}
+use Rattle.language.specs.Reading.{Met, got}
+use Rattle.met.specs.Holding.{Arrays, Holds}
+use Rattle.met.specs.Known.{placesIn, nextAt}
+use Rattle.met.specs.declared.Cursor.{Cursor}
+use Rattle.packer.specs.declared.Gathered.{Gathered}
+use Rattle.reader.specs.Writing.{withStep, withSteps}
+use Rattle.reader.specs.declared.steps.Progress.{Progress}
+
+-- the cursor before a statement in the second pass
+abbrev pub resumed : Progress → Cursor
+resumed p = record { at = 0; names = 0; items = p .items; elements = p .elements; literals = p .literals; longest = 0 }
+
+-- the counts are small: they are those of a program
+pub record Small (p : Progress) : Type 0 where
+  pub items : p .items ≤ 1024
+  pub elements : p .elements ≤ 1024
+  pub literals : p .literals ≤ 4096
+  pub steps : p .steps ≤ 256
+  pub card : p .card ≤ 40_000
+
+-- a statement is a step of the program, or none
+abbrev pub stepCount : Option Statement → ℕ
+stepCount none = 0
+stepCount (some s) = 1
+
+abbrev pub tableWith : List ℕ → Progress → Option Statement → List ℕ
+tableWith t p none = t
+tableWith t p (some s) = withStep t (p .steps) (p .elements) (p .items) (p .literals) (record { card = p .card; statement = s })
+
+-- a statement is written
+pub record Written (v : Option Statement) (e : Gathered) (p : Progress) (t : List ℕ) (r : Progress) (t′ : List ℕ) : Type 0 where
+  pub table : t′ ≡ tableWith t p v
+  pub steps : r .steps ≡ p .steps + stepCount v
+  pub elements : r .elements ≡ p .elements + length (elementsIn v)
+  pub items : r .items ≡ p .items + length (itemsIn v)
+  pub literals : r .literals ≡ p .literals + length (allLiterals (elementsIn v))
+  pub from : r .from ≡ e .next
+  pub card : r .card ≡ p .card + e .lines
+
+-- as its text says, whatever its label and bytes are; the arrays of names have their sizes still
+abbrev pub PackedWritten : (text known : List ℕ) (e : Gathered) (p : Progress) (t : List ℕ) (r : Progress) (t′ keys′ tags′ : List ℕ) → Type 0
+PackedWritten text known e p t r t′ keys′ tags′ =
+    (label raw : List ℕ) → Wording label raw text (e .label) (e .whole) → (v : Option Statement) (m : Met) (rest : List ℕ)
+    → readStatement edition1 (numberIn known) (placesIn known) label raw ≡ got v m rest
+    → Written v e p t r t′ × (length keys′ ≡ 32_800) × (length tags′ ≡ 32_800)
+
+-- behind an entry that makes no step
+abbrev pub passedBy : Progress → Gathered → Progress
+passedBy p e =
+    record {
+      from = e .next;
+      card = p .card + e .lines;
+      steps = p .steps;
+      elements = p .elements;
+      items = p .items;
+      literals = p .literals;
+    }
+
+-- the step of an entry is written, if it makes one
+pub record GatheredWritten (text known keys tags : List ℕ) (e : Gathered) (p : Progress) (t : List ℕ) (r : Progress)
+    (known′ keys′ tags′ t′ : List ℕ) : Type 0 where
+  pub skips : e .skipped ≡ true → (r ≡ passedBy p e) × (t′ ≡ t) × (known′ ≡ known) × (keys′ ≡ keys) × (tags′ ≡ tags)
+  pub writes : e .skipped ≡ false
+      → (known′ ≡ set known nextAt (p .steps + 1)) × PackedWritten (take (e .length) text) known′ e p t r t′ keys′ tags′
+
+-- the entries from here on, and the steps that they make
+abbrev pub entriesAt : List ℕ → Progress → List Entry
+entriesAt deck p = entriesFrom edition1 (p .card) (Cards.lines (drop (p .from) deck))
+
+abbrev pub stepsAt : List ℕ → Known → Progress → List Step
+stepsAt deck whole p = stepsFrom edition1 whole (p .steps) (entriesAt deck p)
+
+-- what is written from p on is the same as what is written from r on, and no more and no less is counted
+pub record Onward (deck : List ℕ) (whole : Known) (p : Progress) (t : List ℕ) (r : Progress) (t′ : List ℕ) : Type 0 where
+  pub table : withSteps t (p .steps) (p .elements) (p .items) (p .literals) (stepsAt deck whole p)
+      ≡ withSteps t′ (r .steps) (r .elements) (r .items) (r .literals) (stepsAt deck whole r)
+  pub steps : p .steps + length (stepsAt deck whole p) ≡ r .steps + length (stepsAt deck whole r)
+  pub elements : p .elements + length (allElements (stepsAt deck whole p)) ≡ r .elements + length (allElements (stepsAt deck whole r))
+  pub items : p .items + length (allItems (stepsAt deck whole p)) ≡ r .items + length (allItems (stepsAt deck whole r))
+  pub literals : p .literals + length (allLiterals (allElements (stepsAt deck whole p)))
+      ≡ r .literals + length (allLiterals (allElements (stepsAt deck whole r)))
+
+-- the entries from here on are those of a deck that passed, read with the places of the whole deck
+pub record Resumes (deck : List ℕ) (whole : Known) (p : Progress) : Type 0 where
+  pub run : Known
+  pub reads : Again edition1 whole run (entriesAt deck p)
+  pub steps : run .steps ≡ p .steps
+
+-- an entry is written
+pub record EntryWritten (deck : List ℕ) (whole : Known) (p : Progress) (t : List ℕ) (r : Progress) (t′ : List ℕ) : Type 0 where
+  pub onward : Onward deck whole p t r t′
+  pub again : Resumes deck whole r
+  pub further : p .from < r .from
+  pub inside : r .from ≤ length deck + 1
+  pub paced : p .from + r .card ≤ r .from + p .card
+
+-- the arrays with another known
+abbrev pub withKnown : Arrays → List ℕ → Arrays
+withKnown a known =
+    record {
+      known = known;
+      nameKeys = a .nameKeys;
+      namePurposes = a .namePurposes;
+      useKeys = a .useKeys;
+      useScopes = a .useScopes;
+      usePurposes = a .usePurposes;
+    }
+
+-- behind an entry: the arrays hold the same still
+pub record Behind (deck : List ℕ) (whole : Known) (a : Arrays) (taken : ℕ) (p : Progress) (t : List ℕ) (r : Progress)
+    (known′ keys′ tags′ t′ : List ℕ) : Type 0 where
+  pub entry : EntryWritten deck whole p t r t′
+  pub holds : Holds (withKnown a known′) taken whole
+  pub keysSize : length keys′ ≡ 32_800
+  pub tagsSize : length tags′ ≡ 32_800
+
+-- an entry of an accepted deck is written
+pub record StepWritten (deck known : List ℕ) (p : Progress) (t : List ℕ) (r : Progress) (known′ text′ keys′ tags′ t′ : List ℕ) : Type 0 where
+  pub textSize : length text′ ≡ 32_768
+  pub written : (a : Arrays) → a .known ≡ known → (taken : ℕ) (whole : Known) → Holds a taken whole → Resumes deck whole p
+      → Behind deck whole a taken p t r known′ keys′ tags′ t′
+
+-- a deck that was accepted, with all its names known
+pub record Whole (deck known : List ℕ) : Type 0 where
+  pub whole : Known
+  pub arrays : Arrays
+  pub same : arrays .known ≡ known
+  pub taken : ℕ
+  pub holds : Holds arrays taken whole
+  pub again : Again edition1 whole nothingKnown (entries edition1 deck)
+  pub fits : InRange edition1 (programOf edition1 whole (entries edition1 deck))
+
+-- all its steps are written, and counted
+pub record StepsWritten (steps : List Step) (t : List ℕ) (r : Progress) (t′ : List ℕ) : Type 0 where
+  pub table : t′ ≡ withSteps t 0 0 0 0 steps
+  pub count : r .steps ≡ length steps
+  pub elements : r .elements ≡ length (allElements steps)
+  pub items : r .items ≡ length (allItems steps)
+  pub literals : r .literals ≡ length (allLiterals (allElements steps))

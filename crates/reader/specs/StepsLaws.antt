@@ -1,0 +1,476 @@
+-- How the steps of a deck come to be written one after the other. Assumes nothing.
+use mathlib.Core.Bool.{Bool, true, false, cond, true≢false}
+use mathlib.Core.List.{List, [], _∷_, _++_, map}
+use mathlib.Core.Option.{Option, none, some}
+use mathlib.Core.Path.{_≡_, refl, sym, ap, subst, _∙_}
+use Prim.Native.Nat.{ℕ, zero, suc, _+_, _-_, _≤_, _<_}
+use native.Mathlib.Nat.{add-zero, zero-add}
+use native.Mathlib.Omega.{arith}
+use lib.Dec.{eqb}
+use lib.ListN.{length, take, drop, getD, set, length-append, length-set, drop-of-length-le}
+use lib.Seq.{getD-set-other, getD-set-same, take-set-le, drop-set-add}
+use Rattle.base.specs.Choice.{test-cases}
+use Rattle.base.specs.Edition.{edition1}
+use Rattle.calls.specs.Table.{allElements, allItems, allLiterals, elementsOf, itemsOf}
+use Rattle.cards.specs.Cards as Cards
+use Rattle.calls.specs.TableLaws.{InRange}
+use Rattle.calls.specs.YieldingForms.{literals-append}
+use Rattle.cards.specs.Cards.{Entry, skipped, statement, entriesFrom, entries}
+use Rattle.cards.specs.Packing.{packed}
+use Rattle.closing.specs.HeldLaws.{held-places}
+use Rattle.forms.specs.Contracts.{Wording, numberIn, itemsIn, elementsIn}
+use Rattle.judgement.specs.Deck.{stepsFrom, stepRead, placesOf, programOf}
+use Rattle.judgement.specs.Known.{Known, nothingKnown, numbers, isOneOf, isStep, learn}
+use Rattle.judgement.specs.Placed.Again.{Again, past, reads, IsStep}
+use Rattle.judgement.specs.Refusals.{readStatement}
+use Rattle.language.specs.Keywords.{leading}
+use Rattle.language.specs.Program.{Statement, Step}
+use Rattle.language.specs.Reading.{Met, got, Read}
+use Rattle.met.specs.Entries.{nameOf}
+use Rattle.met.specs.Holding.{Arrays, Holds, namesIn, namesFrom, usesIn, usesFrom}
+use Rattle.met.specs.Known.{Counted, placesIn, nextAt, stringKeys, numberKeys, labelIn, labelsFrom, labelsIn, routineIn, routinesDown, routinesIn}
+use Rattle.packer.specs.Gathering.{Gathers, entryOf}
+use Rattle.packer.specs.declared.Gathered.{Gathered}
+use Rattle.reader.specs.EntryLaws.{gathered-worded, wording}
+use Rattle.reader.specs.Steps.{Written, Onward, Resumes, EntryWritten, entriesAt, stepsAt, stepCount, PackedWritten, passedBy, GatheredWritten}
+use Rattle.reader.specs.Steps.{withKnown, Behind, StepWritten, Whole, StepsWritten, Small}
+use Rattle.reader.specs.Writing.{withStep, withSteps}
+use Rattle.reader.specs.declared.steps.Progress.{Progress}
+
+-- a statement read again
+pub record Reread (whole k : Known) (sound : Bool) (label raw : List ℕ) (es : List Entry) : Type 0 where
+  pub value : Option Statement
+  pub met : Met
+  pub rest : List ℕ
+  pub is : readStatement edition1 (isOneOf (numbers whole)) (placesOf whole (suc (k .steps))) label raw ≡ got value met rest
+  pub step : IsStep (isStep (leading (packed raw) .kind)) value
+  pub again : Again edition1 whole (learn k (leading (packed raw) .kind) met) es
+  pub whether : sound ≡ true
+
+again-statement : {whole k : Known} {card : ℕ} {sound : Bool} {label raw : List ℕ} {es : List Entry}
+    → Again edition1 whole k (statement card sound label raw ∷ es) → Reread whole k sound label raw es
+again-statement (reads s m rest q step p used next j) =
+    record { value = s; met = m; rest = rest; is = q; step = step; again = j; whether = refl }
+
+again-skipped : {whole k : Known} {card : ℕ} {sound : Bool} {es : List Entry}
+    → Again edition1 whole k (skipped card sound ∷ es) → Again edition1 whole k es
+again-skipped (past j) = j
+
+-- the steps known behind a statement
+learnt-steps : (k : Known) (raw : List ℕ) (m : Met) (v : Option Statement) → IsStep (isStep (leading (packed raw) .kind)) v
+    → learn k (leading (packed raw) .kind) m .steps ≡ k .steps + stepCount v
+unfolding learn
+learnt-steps k raw m v i = counted (isStep (leading (packed raw) .kind)) v i
+  where
+    counted : (t : Bool) (v : Option Statement) → IsStep t v → cond t (suc (k .steps)) (k .steps) ≡ k .steps + stepCount v
+    counted true none i = absurd i
+    counted true (some s) i = omega arith
+    counted false none i = omega arith
+    counted false (some s) i = absurd i
+
+module _ {deck : List ℕ} {whole : Known} {e : Gathered} {p : Progress} {t : List ℕ} {r : Progress} {t′ : List ℕ} where
+  -- a statement that is no step
+  onward-none : Written none e p t r t′ → stepsAt deck whole p ≡ stepsAt deck whole r → Onward deck whole p t r t′
+  unfolding elementsIn itemsIn allLiterals
+  onward-none w q =
+      let a : r .steps ≡ p .steps = omega (arith, w .steps) in
+      let b : r .elements ≡ p .elements = w .elements ∙ add-zero (p .elements) in
+      let c : r .items ≡ p .items = w .items ∙ add-zero (p .items) in
+      let d : r .literals ≡ p .literals = w .literals ∙ add-zero (p .literals) in
+      record {
+        table = rw (q, w .table, a, b, c, d);
+        steps = rw (q, a);
+        elements = rw (q, b);
+        items = rw (q, c);
+        literals = rw (q, d);
+      }
+
+  -- a step
+  onward-some : (s : Statement) → Written (some s) e p t r t′
+      → stepsAt deck whole p ≡ record { card = p .card; statement = s } ∷ stepsAt deck whole r → Onward deck whole p t r t′
+  unfolding elementsIn itemsIn allElements allItems withSteps
+  onward-some s w q =
+      let a : r .steps ≡ suc (p .steps) = omega (arith, w .steps) in
+      let es = length-append (elementsOf s) (allElements (stepsAt deck whole r)) in
+      let is = length-append (itemsOf s) (allItems (stepsAt deck whole r)) in
+      record {
+        table = rw (q, w .table, a, w .elements, w .items, w .literals);
+        steps = rw (q, a) (omega arith);
+        elements = rw (q, w .elements) (omega (arith, es));
+        items = rw (q, w .items) (omega (arith, is));
+        literals =
+            rw (q, w .literals)
+            (omega (
+              arith,
+              ap length (literals-append (elementsOf s) (allElements (stepsAt deck whole r))),
+              length-append (allLiterals (elementsOf s)) (allLiterals (allElements (stepsAt deck whole r))),
+            ));
+      }
+
+-- a comment or blank line
+onward-skip : {deck : List ℕ} {whole : Known} {p : Progress} {t : List ℕ} {r : Progress} {t′ : List ℕ} → t′ ≡ t → r .steps ≡ p .steps
+    → r .elements ≡ p .elements → r .items ≡ p .items → r .literals ≡ p .literals → stepsAt deck whole p ≡ stepsAt deck whole r
+    → Onward deck whole p t r t′
+onward-skip z a b c d q =
+    record { table = rw (q, z, a, b, c, d); steps = rw (q, a); elements = rw (q, b); items = rw (q, c); literals = rw (q, d) }
+
+-- the step that a statement makes, and those behind it
+steps-none : (whole : Known) (n card : ℕ) (sound : Bool) (label raw : List ℕ) (es : List Entry) {m : Met} {rest : List ℕ}
+    → readStatement edition1 (isOneOf (numbers whole)) (placesOf whole (suc n)) label raw ≡ got none m rest
+    → stepsFrom edition1 whole n (statement card sound label raw ∷ es) ≡ stepsFrom edition1 whole n es
+unfolding stepsFrom stepRead
+steps-none whole n card sound label raw es q =
+    ap {B = List Step} (λ x. let read = stepRead card x in read ++ stepsFrom edition1 whole (elim read [ [] ↦ n | s ∷ ss ↦ suc n ]) es) q
+
+steps-some : (whole : Known) (n card : ℕ) (sound : Bool) (label raw : List ℕ) (es : List Entry) {s : Statement} {m : Met} {rest : List ℕ}
+    → readStatement edition1 (isOneOf (numbers whole)) (placesOf whole (suc n)) label raw ≡ got (some s) m rest
+    → stepsFrom edition1 whole n (statement card sound label raw ∷ es)
+    ≡ record { card = card; statement = s } ∷ stepsFrom edition1 whole (suc n) es
+unfolding stepsFrom stepRead
+steps-some whole n card sound label raw es q =
+    ap {B = List Step} (λ x. let read = stepRead card x in read ++ stepsFrom edition1 whole (elim read [ [] ↦ n | s ∷ ss ↦ suc n ]) es) q
+
+-- what the code reads with is what the deck's program is read with
+read-again : (a : Arrays) (taken : ℕ) (whole : Known) → Holds a taken whole → (n : ℕ) → getD (a .known) nextAt 0 ≡ n → (label raw : List ℕ)
+    → readStatement edition1 (numberIn (a .known)) (placesIn (a .known)) label raw
+    ≡ readStatement edition1 (isOneOf (numbers whole)) (placesOf whole n) label raw
+read-again a taken whole h n e label raw =
+    ap (λ (ns : List (List ℕ)). readStatement edition1 (isOneOf ns) (placesIn (a .known)) label raw) (h .numbers)
+    ∙ ap (λ at. readStatement edition1 (isOneOf (numbers whole)) at label raw) (held-places a taken whole h n e)
+
+-- the entry that the code has gathered
+module _ {deck text : List ℕ} {e : Gathered} {p : Progress} (g : Gathers deck (p .from) text e) (whole : Known) (again : Resumes deck whole p) where
+  abbrev rest : List Entry
+  rest = entriesFrom edition1 (p .card + e .lines) (Cards.lines (drop (e .next) deck))
+
+  abbrev behind : Progress
+  behind =
+      record {
+        from = e .next;
+        card = p .card + e .lines;
+        steps = p .steps;
+        elements = p .elements;
+        items = p .items;
+        literals = p .literals;
+      }
+
+  pub skipped-written : (t : List ℕ) → e .skipped ≡ true → EntryWritten deck whole p t behind t
+  unfolding entryOf stepsFrom
+  skipped-written t s =
+      let here : entriesAt deck p ≡ skipped (p .card) (e .sound) ∷ rest =
+      g .entry (p .card) ∙ ap (λ u. cond u (skipped (p .card) (e .sound)) (statement (p .card) (e .sound) (g .label) (g .raw)) ∷ rest) s in
+      record {
+        onward = onward-skip refl refl refl refl refl (ap (stepsFrom edition1 whole (p .steps)) here);
+        again =
+            record {
+              run = again .run;
+              reads = again-skipped (subst (Again edition1 whole (again .run)) here (again .reads));
+              steps = again .steps;
+            };
+        further = g .onward;
+        inside = g .inside;
+        paced = omega (arith, g .paced);
+      }
+
+  module _ (f : e .skipped ≡ false) where
+    here : entriesAt deck p ≡ statement (p .card) (e .sound) (g .label) (g .raw) ∷ rest
+    unfolding entryOf
+    here = g .entry (p .card) ∙ ap (λ u. cond u (skipped (p .card) (e .sound)) (statement (p .card) (e .sound) (g .label) (g .raw)) ∷ rest) f
+
+    reread : Reread whole (again .run) (e .sound) (g .label) (g .raw) rest
+    reread = again-statement (subst (Again edition1 whole (again .run)) here (again .reads))
+
+    pub is-sound : e .sound ≡ true
+    is-sound = reread .whether
+
+    pub again-worded : Wording (g .label) (g .raw) (take (e .length) text) (e .label) (e .whole)
+    again-worded = wording (gathered-worded g) is-sound
+
+    read : readStatement edition1 (isOneOf (numbers whole)) (placesOf whole (suc (p .steps))) (g .label) (g .raw)
+        ≡ got (reread .value) (reread .met) (reread .rest)
+    read = ap (λ n. readStatement edition1 (isOneOf (numbers whole)) (placesOf whole (suc n)) (g .label) (g .raw)) (sym (again .steps)) ∙ reread .is
+
+    module _ {t t′ : List ℕ} {r : Progress} where
+      to-written : (v : Option Statement) → v ≡ reread .value → Written v e p t r t′ → EntryWritten deck whole p t r t′
+      to-written v q w =
+          record {
+            onward = onward v q w;
+            again =
+                record {
+                  run = learn (again .run) (leading (packed (g .raw)) .kind) (reread .met);
+                  reads = subst (Again edition1 whole (learn (again .run) (leading (packed (g .raw)) .kind) (reread .met))) (sym entries) (reread .again);
+                  steps =
+                      learnt-steps (again .run) (g .raw) (reread .met) (reread .value) (reread .step)
+                      ∙ ap (λ u. again .run .steps + stepCount u) (sym q)
+                      ∙ ap (λ n. n + stepCount v) (again .steps)
+                      ∙ sym (w .steps);
+                };
+            further = omega (arith, g .onward, w .from);
+            inside = omega (arith, g .inside, w .from);
+            paced = omega (arith, g .paced, w .from, w .card);
+          }
+        where
+          entries : entriesAt deck r ≡ rest
+          entries = rw (w .from, w .card)
+
+          onward : (v : Option Statement) → v ≡ reread .value → Written v e p t r t′ → Onward deck whole p t r t′
+          onward none q w =
+              onward-none w
+              (ap (stepsFrom edition1 whole (p .steps)) here
+              ∙ steps-none whole (p .steps) (p .card) (e .sound) (g .label) (g .raw) rest
+              (read ∙ ap (λ v. got v (reread .met) (reread .rest)) (sym q))
+              ∙ sym (rw (w .from, w .card, w .steps ∙ add-zero (p .steps))))
+          onward (some s) q w =
+              let next : r .steps ≡ suc (p .steps) = omega (arith, w .steps) in
+              onward-some s w
+              (ap (stepsFrom edition1 whole (p .steps)) here
+              ∙ steps-some whole (p .steps) (p .card) (e .sound) (g .label) (g .raw) rest
+              (read ∙ ap (λ v. got v (reread .met) (reread .rest)) (sym q))
+              ∙ ap (λ ss. record { card = p .card; statement = s } ∷ ss) (sym (rw (w .from, w .card, next))))
+
+      pub statement-written : (a : Arrays) (taken : ℕ) → Holds a taken whole → getD (a .known) nextAt 0 ≡ p .steps + 1
+          → (keys tags : List ℕ) → PackedWritten (take (e .length) text) (a .known) e p t r t′ keys tags
+          → EntryWritten deck whole p t r t′ × (length keys ≡ 32_800) × (length tags ≡ 32_800)
+      statement-written a taken h next keys tags w =
+          let n : p .steps + 1 ≡ suc (p .steps) = omega arith in
+          let all =
+          w (g .label) (g .raw) again-worded (reread .value) (reread .met) (reread .rest)
+          (read-again a taken whole h (suc (p .steps)) (next ∙ n) (g .label) (g .raw) ∙ read) in
+          (to-written (reread .value) refl (all .0), all .1, all .2)
+
+-- another next step changes no count
+pub counted-next : {known : List ℕ} → Counted known → (v : ℕ) → Counted (set known 70 v)
+counted-next {known} c v =
+    let same : (i : ℕ) → (i ≡ 70 → ⊥) → getD (set known 70 v) i 0 ≡ getD known i 0 = λ i z. getD-set-other known 70 i v 0 z in
+    record {
+      size = length-set known 70 v ∙ c .size;
+      strings = omega (arith, same 0 (λ z. omega arith), c .strings);
+      numbers = omega (arith, same 1 (λ z. omega arith), c .numbers);
+      labels = omega (arith, same 68 (λ z. omega arith), c .labels);
+      routines = omega (arith, same 69 (λ z. omega arith), c .routines);
+    }
+
+-- another next step changes nothing that is held
+module _ {a : Arrays} {taken : ℕ} {whole : Known} (h : Holds a taken whole) (v : ℕ) where
+  abbrev changed : List ℕ
+  changed = set (a .known) 70 v
+
+  same-at : (i : ℕ) → (i ≡ 70 → ⊥) → getD changed i 0 ≡ getD (a .known) i 0
+  same-at i z = getD-set-other (a .known) 70 i v 0 z
+
+  front-same : (n from : ℕ) → from + n ≤ 70 → take n (drop from changed) ≡ take n (drop from (a .known))
+  front-same n from le =
+      let place : 70 ≡ from + (70 - from) = omega arith in
+      ap (λ (i : ℕ). take n (drop from (set (a .known) i v))) place
+      ∙ ap (take n) (drop-set-add from (a .known) (70 - from) v)
+      ∙ take-set-le n (drop from (a .known)) (70 - from) v (omega arith)
+
+  strings-same : stringKeys changed ≡ stringKeys (a .known)
+  unfolding stringKeys
+  strings-same =
+      ap (λ (n : ℕ). take n (drop 2 changed)) (same-at 0 (λ z. omega arith))
+      ∙ front-same (getD (a .known) 0 0) 2 (omega (arith, h .counted .strings))
+
+  numbers-same : numberKeys changed ≡ numberKeys (a .known)
+  unfolding numberKeys
+  numbers-same =
+      ap (λ (n : ℕ). take n (drop 35 changed)) (same-at 1 (λ z. omega arith))
+      ∙ front-same (getD (a .known) 1 0) 35 (omega (arith, h .counted .numbers))
+
+  labels-from : (i n : ℕ) → labelsFrom changed i n ≡ labelsFrom (a .known) i n
+  unfolding labelsFrom labelIn
+  labels-from i zero = refl
+  labels-from i (suc n) =
+      let key = same-at (80 + i) (λ z. omega arith) in
+      let step = same-at (145 + i) (λ z. omega arith) in
+      let scope = same-at (210 + i) (λ z. omega arith) in
+      λ t.
+      record { name = nameOf (key t); step = step t; scope = nameOf (scope t) } ∷ labels-from (suc i) n t
+
+  routines-down : (n : ℕ) → routinesDown changed n ≡ routinesDown (a .known) n
+  unfolding routinesDown routineIn
+  routines-down zero = refl
+  routines-down (suc n) =
+      let key = same-at (275 + n) (λ z. omega arith) in
+      let entry = same-at (292 + n) (λ z. omega arith) in
+      let exit = same-at (309 + n) (λ z. omega arith) in
+      λ t.
+      record { name = nameOf (key t); entry = entry t; exit = exit t } ∷ routines-down n t
+
+  labels-same : labelsIn changed ≡ labelsIn (a .known)
+  unfolding labelsIn
+  labels-same = ap (labelsFrom changed 0) (same-at 68 (λ z. omega arith)) ∙ labels-from 0 (getD (a .known) 68 0)
+
+  routines-same : routinesIn changed ≡ routinesIn (a .known)
+  unfolding routinesIn
+  routines-same = ap (routinesDown changed) (same-at 69 (λ z. omega arith)) ∙ routines-down (getD (a .known) 69 0)
+
+  names-same : namesIn (withKnown a changed) ≡ namesIn a
+  unfolding namesIn
+  names-same = ap (namesFrom (a .nameKeys) (a .namePurposes) 0) (same-at 78 (λ z. omega arith))
+
+  uses-same : (p : ℕ) → usesIn p (withKnown a changed) ≡ usesIn p a
+  unfolding usesIn
+  uses-same p = ap (usesFrom p (a .useKeys) (a .useScopes) (a .usePurposes) 0) (same-at 79 (λ z. omega arith))
+
+  less : (i n : ℕ) → (i ≡ 70 → ⊥) → getD (a .known) i 0 ≤ n → getD changed i 0 ≤ n
+  less i n z le = subst (λ m. m ≤ n) (sym (same-at i z)) le
+
+  pub holds-next : Holds (withKnown a changed) taken whole
+  holds-next =
+      record {
+        counted = counted-next (h .counted) v;
+        nameKeysSize = h .nameKeysSize;
+        namePurposesSize = h .namePurposesSize;
+        useKeysSize = h .useKeysSize;
+        useScopesSize = h .useScopesSize;
+        usePurposesSize = h .usePurposesSize;
+        fewNames = less 78 taken (λ z. omega arith) (h .fewNames);
+        fewUses = less 79 taken (λ z. omega arith) (h .fewUses);
+        fewStatements = less 71 256 (λ z. omega arith) (h .fewStatements);
+        fewSteps = omega (arith, same-at 72 (λ z. omega arith), same-at 71 (λ z. omega arith), h .fewSteps);
+        fewStrings = less 0 32 (λ z. omega arith) (h .fewStrings);
+        fewNumbers = less 1 32 (λ z. omega arith) (h .fewNumbers);
+        fewLabels = less 68 64 (λ z. omega arith) (h .fewLabels);
+        fewRoutines = less 69 16 (λ z. omega arith) (h .fewRoutines);
+        fewElements = less 75 1024 (λ z. omega arith) (h .fewElements);
+        fewItems = less 76 1024 (λ z. omega arith) (h .fewItems);
+        fewLiterals = less 77 4096 (λ z. omega arith) (h .fewLiterals);
+        statements = same-at 71 (λ z. omega arith) ∙ h .statements;
+        steps = same-at 72 (λ z. omega arith) ∙ h .steps;
+        ended = ap (λ n. eqb n 1) (same-at 73 (λ z. omega arith)) ∙ h .ended;
+        scope = ap nameOf (same-at 74 (λ z. omega arith)) ∙ h .scope;
+        strings = ap (map nameOf) strings-same ∙ h .strings;
+        numbers = ap (map nameOf) numbers-same ∙ h .numbers;
+        names = names-same ∙ h .names;
+        labels = labels-same ∙ h .labels;
+        routines = routines-same ∙ h .routines;
+        branches = uses-same 1 ∙ h .branches;
+        executes = uses-same 2 ∙ h .executes;
+        elements = same-at 75 (λ z. omega arith) ∙ h .elements;
+        items = same-at 76 (λ z. omega arith) ∙ h .items;
+        literals = same-at 77 (λ z. omega arith) ∙ h .literals;
+        single = h .single;
+      }
+
+-- an entry of an accepted deck is written as it was gathered
+pub gathered-steps : {deck text known keys tags : List ℕ} {e : Gathered} {p : Progress} {t : List ℕ} {r : Progress} {known′ keys′ tags′ t′ : List ℕ}
+    → Gathers deck (p .from) text e → length keys ≡ 32_800 → length tags ≡ 32_800 → GatheredWritten text known keys tags e p t r known′ keys′ tags′ t′
+    → StepWritten deck known p t r known′ text keys′ tags′ t′
+gathered-steps {deck} {text} {known} {keys} {tags} {e} {p} {t} {r} {known′} {keys′} {tags′} {t′} g ks ts w =
+    record { textSize = g .size; written = λ a q taken whole h again. each a q taken whole h again }
+  where
+    each : (a : Arrays) → a .known ≡ known → (taken : ℕ) (whole : Known) → Holds a taken whole → Resumes deck whole p
+        → Behind deck whole a taken p t r known′ keys′ tags′ t′
+    each a q taken whole h again =
+        test-cases (λ s. e .skipped ≡ s → Behind deck whole a taken p t r known′ keys′ tags′ t′) (e .skipped)
+        (λ _ s.
+        let x = w .skips s in
+        record {
+          entry =
+              subst (λ (z : Progress). EntryWritten deck whole p t z t′) (sym (x .0))
+              (subst (λ (z : List ℕ). EntryWritten deck whole p t (passedBy p e) z) (sym (x .1)) (skipped-written g whole again t s));
+          holds = subst (λ (z : List ℕ). Holds (withKnown a z) taken whole) (q ∙ sym (x .2)) h;
+          keysSize = ap length (x .3) ∙ ks;
+          tagsSize = ap length (x .4) ∙ ts;
+        })
+        (λ _ f.
+        let x = w .writes f in
+        let is : known′ ≡ set (a .known) 70 (p .steps + 1) = x .0 ∙ ap (λ (z : List ℕ). set z 70 (p .steps + 1)) (sym q) in
+        let holds : Holds (withKnown a known′) taken whole = subst (λ (z : List ℕ). Holds (withKnown a z) taken whole) (sym is) (holds-next h (p .steps + 1)) in
+        let next : getD known′ 70 0 ≡ p .steps + 1 =
+        ap (λ (z : List ℕ). getD z 70 0) is ∙ getD-set-same (a .known) 70 (p .steps + 1) 0 (omega (arith, h .counted .size)) in
+        let all = statement-written g whole again f (withKnown a known′) taken holds next keys′ tags′ (x .1) in
+        record { entry = all .0; holds = holds; keysSize = all .1; tagsSize = all .2 }) refl
+
+-- the steps of the deck are written as those from here on are
+pub record Ongoing (deck known₀ t₀ : List ℕ) (whole : Known) (a : Arrays) (taken : ℕ) (known : List ℕ) (p : Progress) (t : List ℕ) : Type 0 where
+  pub holds : Holds (withKnown a known) taken whole
+  pub again : Resumes deck whole p
+  pub table : withSteps t₀ 0 0 0 0 (stepsFrom edition1 whole 0 (entries edition1 deck))
+      ≡ withSteps t (p .steps) (p .elements) (p .items) (p .literals) (stepsAt deck whole p)
+  pub steps : length (stepsFrom edition1 whole 0 (entries edition1 deck)) ≡ p .steps + length (stepsAt deck whole p)
+  pub elements : length (allElements (stepsFrom edition1 whole 0 (entries edition1 deck)))
+      ≡ p .elements + length (allElements (stepsAt deck whole p))
+  pub items : length (allItems (stepsFrom edition1 whole 0 (entries edition1 deck))) ≡ p .items + length (allItems (stepsAt deck whole p))
+  pub literals : length (allLiterals (allElements (stepsFrom edition1 whole 0 (entries edition1 deck))))
+      ≡ p .literals + length (allLiterals (allElements (stepsAt deck whole p)))
+  pub inside : p .from ≤ length deck + 1
+  pub few : p .card ≤ p .from + 1
+
+-- all steps of the deck are written
+pub record DeckWritten (deck known t : List ℕ) (r : Progress) (known′ t′ : List ℕ) : Type 0 where
+  pub written : (w : Whole deck known) → StepsWritten (stepsFrom edition1 (w .whole) 0 (entries edition1 deck)) t r t′
+  pub holds : (w : Whole deck known) → Holds (withKnown (w .arrays) known′) (w .taken) (w .whole)
+
+-- before the first line
+abbrev first : Progress
+first = record { from = 0; card = 1; steps = 0; elements = 0; items = 0; literals = 0 }
+
+pub ongoing-none : {deck known₀ : List ℕ} (t₀ : List ℕ) (w : Whole deck known₀)
+    → Ongoing deck known₀ t₀ (w .whole) (w .arrays) (w .taken) known₀ first t₀
+unfolding entries nothingKnown
+ongoing-none t₀ w =
+    record {
+      holds = subst (λ (z : List ℕ). Holds (withKnown (w .arrays) z) (w .taken) (w .whole)) (w .same) (w .holds);
+      again = record { run = nothingKnown; reads = w .again; steps = refl };
+      table = refl;
+      steps = sym (zero-add (length (stepsAt _ (w .whole) first)));
+      elements = sym (zero-add (length (allElements (stepsAt _ (w .whole) first))));
+      items = sym (zero-add (length (allItems (stepsAt _ (w .whole) first))));
+      literals = sym (zero-add (length (allLiterals (allElements (stepsAt _ (w .whole) first)))));
+      inside = omega arith;
+      few = omega arith;
+    }
+
+module _ {deck known₀ t₀ : List ℕ} {whole : Known} {a : Arrays} {taken : ℕ} {known : List ℕ} {p : Progress} {t : List ℕ}
+    (o : Ongoing deck known₀ t₀ whole a taken known p t) where
+  pub ongoing-small : InRange edition1 (programOf edition1 whole (entries edition1 deck)) → p .from < length deck → length deck ≤ 32_768 → Small p
+  unfolding programOf
+  ongoing-small f h small =
+      record {
+        items = omega (arith, f .items, o .items);
+        elements = omega (arith, f .elements, o .elements);
+        literals = omega (arith, f .literals, o .literals);
+        steps = omega (arith, f .steps, o .steps);
+        card = omega (arith, o .few);
+      }
+
+  pub ongoing-more : {r : Progress} {known′ text′ keys′ tags′ t′ : List ℕ} → StepWritten deck known p t r known′ text′ keys′ tags′ t′
+      → Ongoing deck known₀ t₀ whole a taken known′ r t′ × (length keys′ ≡ 32_800) × (length tags′ ≡ 32_800) × (p .from < r .from)
+  ongoing-more w =
+      let b = w .written (withKnown a known) refl taken whole (o .holds) (o .again) in
+      let e = b .entry in
+      let n = e .onward in (
+        record {
+          holds = b .holds;
+          again = e .again;
+          table = o .table ∙ n .table;
+          steps = o .steps ∙ n .steps;
+          elements = o .elements ∙ n .elements;
+          items = o .items ∙ n .items;
+          literals = o .literals ∙ n .literals;
+          inside = e .inside;
+          few = omega (arith, e .paced, o .few);
+        },
+        b .keysSize,
+        b .tagsSize,
+        e .further,
+      )
+
+  -- behind the last line there are no steps
+  no-more : length deck ≤ p .from → stepsAt deck whole p ≡ []
+  unfolding entriesFrom Cards.lines stepsFrom
+  no-more h = ap (λ (bs : List ℕ). stepsFrom edition1 whole (p .steps) (entriesFrom edition1 (p .card) (Cards.lines bs))) (drop-of-length-le deck h)
+
+  pub ongoing-ends : length deck ≤ p .from → StepsWritten (stepsFrom edition1 whole 0 (entries edition1 deck)) t₀ p t
+  unfolding withSteps allElements allItems allLiterals
+  ongoing-ends h =
+      let none = no-more h in
+      record {
+        table = sym (o .table ∙ ap (withSteps t (p .steps) (p .elements) (p .items) (p .literals)) none);
+        count = sym (o .steps ∙ ap (λ ss. p .steps + length ss) none ∙ add-zero (p .steps));
+        elements = sym (o .elements ∙ ap (λ ss. p .elements + length (allElements ss)) none ∙ add-zero (p .elements));
+        items = sym (o .items ∙ ap (λ ss. p .items + length (allItems ss)) none ∙ add-zero (p .items));
+        literals = sym (o .literals ∙ ap (λ ss. p .literals + length (allLiterals (allElements ss))) none ∙ add-zero (p .literals));
+      }

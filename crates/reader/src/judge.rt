@@ -1,0 +1,322 @@
+// The first pass over a deck: its entries judged one after the other by 3 to 10, then the deck by 11 and 12.
+// Assumes nothing.
+use closing::executes_itself;
+use closing::undefined_or_crossing;
+use forms::Form;
+use forms::read_statement;
+use judging::is_misplaced;
+use judging::judge_statement;
+use met::Cursor;
+use met::KNOWN;
+use met::NAMES;
+use packer::Gathered;
+use packer::gather;
+use words::keywords::leading;
+ghost use mathlib.Core.Bool.{true};
+ghost use mathlib.Core.List.{List};
+ghost use mathlib.Core.Path.{_≡_};
+ghost use Prim.Native.Nat.{ℕ, _≤_, _<_, _+_};
+ghost use lib.ListN.{length, take};
+ghost use Rattle.closing.specs.Held.{Closable, heldIn};
+ghost use Rattle.forms.specs.Contracts.{Wording};
+ghost use Rattle.judgement.specs.Known.{nothingKnown};
+ghost use Rattle.met.specs.Holding.{Holds};
+ghost use Rattle.met.specs.Known.{Counted};
+ghost use Rattle.naming.specs.Arrays.{arrays};
+ghost use Rattle.reader.specs.Judging.{Held, Lent, Stays, startAt, Worded, Readied, Entered, Numbered, EntryNumbered, EntryJudged, endedIn, closedBy, StatementsJudged, DeckJudged};
+
+// what judging an entry of the deck comes to: its number, 0 if it passes, how many lines it has and where the next entry starts
+pub struct Judged {
+    pub number: u32,
+    pub lines: usize,
+    pub next: usize,
+}
+
+// a number with its card, 0 if the deck passes
+pub struct Verdict {
+    pub number: u32,
+    pub card: usize,
+}
+
+// where the counts of the deck so far stand
+const ELEMENTS: usize = 75;
+
+const ITEMS: usize = 76;
+
+const LITERALS: usize = 77;
+
+const ENDED: usize = 73;
+
+// the cursor before a statement
+pub fn start(known: &[u64; KNOWN]) -> Cursor
+    requires { ⌜ Counted (now known) ⌝ }
+    ensures { λ r. ⌜ r ≡ startAt (now (known .entry)) ⌝ }
+{
+    Cursor {
+        at: 0,
+        names: 0,
+        items: known[ITEMS] as usize,
+        elements: known[ELEMENTS] as usize,
+        literals: known[LITERALS] as usize,
+        longest: 0,
+    }
+}
+
+// the number of a sound statement by its packed text, 0 if it passes: then the arrays hold what is known behind it
+fn judge_packed(
+    text: &[u8],
+    e: Gathered,
+    known: &mut [u64; KNOWN],
+    name_keys: &mut [u64; NAMES],
+    name_purposes: &mut [u8; NAMES],
+    use_keys: &mut [u64; NAMES],
+    use_scopes: &mut [u64; NAMES],
+    use_purposes: &mut [u8; NAMES],
+    keys: &mut [u64; NAMES],
+    tags: &mut [u8; NAMES],
+    table: &mut [u8],
+) -> u32
+    requires { ⌜ Readied (now text) e (arrays (now known) (now «name_keys») (now «name_purposes») (now «use_keys») (now «use_scopes») (now «use_purposes»)) ⌝ }
+    requires { ⌜ Lent (now keys) (now tags) (now table) ⌝ }
+    ensures { λ r. ⌜ ((label raw : List ℕ) → Wording label raw (now (text .entry)) (e .label) (e .whole) → Numbered label raw true (arrays (now (known .entry)) (now («name_keys» .entry)) (now («name_purposes» .entry)) (now («use_keys» .entry)) (now («use_scopes» .entry)) (now («use_purposes» .entry))) r (arrays (now (known .exit)) (now («name_keys» .exit)) (now («name_purposes» .exit)) (now («use_keys» .exit)) (now («use_scopes» .exit)) (now («use_purposes» .exit)))) ⌝ }
+    ensures { λ r. ⌜ Stays r (now (keys .exit)) (now (tags .exit)) ⌝ }
+{
+    let kind = leading(text).kind;
+    if is_misplaced(known, kind) {
+        return 4;
+    }
+    let c = start(known);
+    match read_statement(text, e.label, e.whole, known, table, keys, tags, c) {
+        Form::Broken => 5,
+        Form::NoStep(d) => judge_statement(
+            known,
+            name_keys,
+            name_purposes,
+            use_keys,
+            use_scopes,
+            use_purposes,
+            keys,
+            tags,
+            d,
+            kind,
+        ),
+        Form::Step(_, d) => judge_statement(
+            known,
+            name_keys,
+            name_purposes,
+            use_keys,
+            use_scopes,
+            use_purposes,
+            keys,
+            tags,
+            d,
+            kind,
+        ),
+    }
+}
+
+// the number of an entry, 0 if it passes; its packed text stands at the beginning of text
+fn judge_gathered(
+    text: &[u8],
+    e: Gathered,
+    known: &mut [u64; KNOWN],
+    name_keys: &mut [u64; NAMES],
+    name_purposes: &mut [u8; NAMES],
+    use_keys: &mut [u64; NAMES],
+    use_scopes: &mut [u64; NAMES],
+    use_purposes: &mut [u8; NAMES],
+    keys: &mut [u64; NAMES],
+    tags: &mut [u8; NAMES],
+    table: &mut [u8],
+) -> u32
+    requires { ⌜ Entered (now text) e (arrays (now known) (now «name_keys») (now «name_purposes») (now «use_keys») (now «use_scopes») (now «use_purposes»)) ⌝ }
+    requires { ⌜ Lent (now keys) (now tags) (now table) ⌝ }
+    ensures { λ r. ⌜ EntryNumbered (now (text .entry)) e (arrays (now (known .entry)) (now («name_keys» .entry)) (now («name_purposes» .entry)) (now («use_keys» .entry)) (now («use_scopes» .entry)) (now («use_purposes» .entry))) r (arrays (now (known .exit)) (now («name_keys» .exit)) (now («name_purposes» .exit)) (now («use_keys» .exit)) (now («use_scopes» .exit)) (now («use_purposes» .exit))) ⌝ }
+    ensures { λ r. ⌜ Stays r (now (keys .exit)) (now (tags .exit)) ⌝ }
+{
+    if !e.sound {
+        return 3;
+    }
+    if e.skipped {
+        return 0;
+    }
+    judge_packed(
+        &text[..e.length],
+        e,
+        known,
+        name_keys,
+        name_purposes,
+        use_keys,
+        use_scopes,
+        use_purposes,
+        keys,
+        tags,
+        table,
+    )
+}
+
+// judges the entry that starts with the line at from
+fn judge_entry(
+    deck: &[u8],
+    from: usize,
+    known: &mut [u64; KNOWN],
+    name_keys: &mut [u64; NAMES],
+    name_purposes: &mut [u8; NAMES],
+    use_keys: &mut [u64; NAMES],
+    use_scopes: &mut [u64; NAMES],
+    use_purposes: &mut [u8; NAMES],
+    text: &mut [u8; 32768],
+    keys: &mut [u64; NAMES],
+    tags: &mut [u8; NAMES],
+    table: &mut [u8],
+) -> Judged
+    requires { ⌜ Held (arrays (now known) (now «name_keys») (now «name_purposes») (now «use_keys») (now «use_scopes») (now «use_purposes»)) from ⌝ }
+    requires { ⌜ (from < length (now deck)) × (length (now deck) ≤ 32768) × (length (now text) ≡ 32768) ⌝ }
+    requires { ⌜ Lent (now keys) (now tags) (now table) ⌝ }
+    ensures { λ r. ⌜ EntryJudged (now (deck .entry)) from (arrays (now (known .entry)) (now («name_keys» .entry)) (now («name_purposes» .entry)) (now («use_keys» .entry)) (now («use_scopes» .entry)) (now («use_purposes» .entry))) r (arrays (now (known .exit)) (now («name_keys» .exit)) (now («name_purposes» .exit)) (now («use_keys» .exit)) (now («use_scopes» .exit)) (now («use_purposes» .exit))) ⌝ }
+    ensures { λ r. ⌜ Stays (r .number) (now (keys .exit)) (now (tags .exit)) × (length (now (text .exit)) ≡ 32768) ⌝ }
+{
+    let e = gather(deck, from, text);
+    let number = judge_gathered(
+        text,
+        e,
+        known,
+        name_keys,
+        name_purposes,
+        use_keys,
+        use_scopes,
+        use_purposes,
+        keys,
+        tags,
+        table,
+    );
+    Judged {
+        number,
+        lines: e.lines,
+        next: e.next,
+    }
+}
+
+// 4 where END is missing, behind the last line
+fn ended(known: &[u64; KNOWN]) -> Verdict
+    requires { ⌜ length (now known) ≡ 326 ⌝ }
+    ensures { λ r. ⌜ r ≡ endedIn (now (known .entry)) ⌝ }
+{
+    if known[ENDED] == 1 {
+        return Verdict { number: 0, card: 0 };
+    }
+    Verdict { number: 4, card: 0 }
+}
+
+// judges the deck's entries one after the other, and whether END is there
+fn judge_statements(
+    deck: &[u8],
+    known: &mut [u64; KNOWN],
+    name_keys: &mut [u64; NAMES],
+    name_purposes: &mut [u8; NAMES],
+    use_keys: &mut [u64; NAMES],
+    use_scopes: &mut [u64; NAMES],
+    use_purposes: &mut [u8; NAMES],
+    text: &mut [u8; 32768],
+    keys: &mut [u64; NAMES],
+    tags: &mut [u8; NAMES],
+    table: &mut [u8],
+) -> Verdict
+    requires { ⌜ Holds (arrays (now known) (now «name_keys») (now «name_purposes») (now «use_keys») (now «use_scopes») (now «use_purposes»)) 0 nothingKnown ⌝ }
+    requires { ⌜ (length (now deck) ≤ 32768) × (length (now text) ≡ 32768) ⌝ }
+    requires { ⌜ Lent (now keys) (now tags) (now table) ⌝ }
+    ensures { λ r. ⌜ StatementsJudged (now (deck .entry)) r (arrays (now (known .exit)) (now («name_keys» .exit)) (now («name_purposes» .exit)) (now («use_keys» .exit)) (now («use_scopes» .exit)) (now («use_purposes» .exit))) ⌝ }
+    ensures { λ r. ⌜ (r .number ≡ 0 → Lent (now (keys .exit)) (now (tags .exit)) (now (table .exit)) × (length (now (text .exit)) ≡ 32768)) ⌝ }
+{
+    let mut from: usize = 0;
+    let mut card: usize = 1;
+    while from < deck.len() {
+        let j = judge_entry(
+            deck,
+            from,
+            known,
+            name_keys,
+            name_purposes,
+            use_keys,
+            use_scopes,
+            use_purposes,
+            text,
+            keys,
+            tags,
+            table,
+        );
+        if j.number != 0 {
+            return Verdict {
+                number: j.number,
+                card,
+            };
+        }
+        card += j.lines;
+        from = j.next;
+    }
+    ended(known)
+}
+
+// 11 and 12 of a deck whose statements passed
+fn closed(
+    known: &[u64; KNOWN],
+    use_keys: &[u64; NAMES],
+    use_scopes: &[u64; NAMES],
+    use_purposes: &[u8; NAMES],
+) -> Verdict
+    requires { ⌜ Closable (now known) (now «use_keys») (now «use_scopes») (now «use_purposes») ⌝ }
+    ensures { λ r. ⌜ r ≡ closedBy (heldIn (now (known .entry)) (now («use_keys» .entry)) (now («use_scopes» .entry)) (now («use_purposes» .entry))) ⌝ }
+{
+    if undefined_or_crossing(known, use_keys, use_scopes, use_purposes) {
+        return Verdict {
+            number: 11,
+            card: 0,
+        };
+    }
+    if executes_itself(known, use_keys, use_scopes, use_purposes) {
+        return Verdict {
+            number: 12,
+            card: 0,
+        };
+    }
+    Verdict { number: 0, card: 0 }
+}
+
+// judges the whole deck
+pub fn judge_deck(
+    deck: &[u8],
+    known: &mut [u64; KNOWN],
+    name_keys: &mut [u64; NAMES],
+    name_purposes: &mut [u8; NAMES],
+    use_keys: &mut [u64; NAMES],
+    use_scopes: &mut [u64; NAMES],
+    use_purposes: &mut [u8; NAMES],
+    text: &mut [u8; 32768],
+    keys: &mut [u64; NAMES],
+    tags: &mut [u8; NAMES],
+    table: &mut [u8],
+) -> Verdict
+    requires { ⌜ Holds (arrays (now known) (now «name_keys») (now «name_purposes») (now «use_keys») (now «use_scopes») (now «use_purposes»)) 0 nothingKnown ⌝ }
+    requires { ⌜ (length (now deck) ≤ 32768) × (length (now text) ≡ 32768) ⌝ }
+    requires { ⌜ Lent (now keys) (now tags) (now table) ⌝ }
+    ensures { λ r. ⌜ DeckJudged (now (deck .entry)) r (arrays (now (known .exit)) (now («name_keys» .exit)) (now («name_purposes» .exit)) (now («use_keys» .exit)) (now («use_scopes» .exit)) (now («use_purposes» .exit))) ⌝ }
+    ensures { λ r. ⌜ (r .number ≡ 0 → Lent (now (keys .exit)) (now (tags .exit)) (now (table .exit)) × (length (now (text .exit)) ≡ 32768)) ⌝ }
+{
+    let v = judge_statements(
+        deck,
+        known,
+        name_keys,
+        name_purposes,
+        use_keys,
+        use_scopes,
+        use_purposes,
+        text,
+        keys,
+        tags,
+        table,
+    );
+    if v.number != 0 {
+        return v;
+    }
+    closed(known, use_keys, use_scopes, use_purposes)
+}

@@ -1,0 +1,102 @@
+// The deck call: any bytes in, a table or a number and a card out.
+// Assumes nothing.
+pub mod judge;
+pub mod steps;
+pub mod table;
+
+use cells::spans::blank;
+use judge::Verdict;
+use judge::judge_deck;
+use met::KNOWN;
+use met::NAMES;
+use steps::write_steps;
+use table::put_header;
+ghost use mathlib.Core.Path.{_≡_};
+ghost use Prim.Native.Nat.{_≤_};
+ghost use lib.ListN.{length};
+ghost use Rattle.reader.specs.Judging.{Lent};
+ghost use Rattle.reader.specs.Steps.{Whole};
+ghost use Rattle.reader.specs.Reading.{TableWritten, DeckRead, ReadWith};
+
+// the longest deck, and the bytes of a table
+const LONGEST: usize = 32768;
+
+const TABLE: usize = 28672;
+
+// writes the steps of an accepted deck and its header
+fn write_table(
+    deck: &[u8],
+    known: &mut [u64; KNOWN],
+    text: &mut [u8; LONGEST],
+    keys: &mut [u64; NAMES],
+    tags: &mut [u8; NAMES],
+    table: &mut [u8],
+)
+    requires { ⌜ Whole (now deck) (now known) ⌝ }
+    requires { ⌜ (length (now deck) ≤ 32768) × (length (now text) ≡ 32768) ⌝ }
+    requires { ⌜ Lent (now keys) (now tags) (now table) ⌝ }
+    ensures { λ _. ⌜ TableWritten (now (deck .entry)) (now (known .entry)) (now (table .entry)) (now (table .exit)) ⌝ }
+{
+    let p = write_steps(deck, known, text, keys, tags, table);
+    put_header(
+        table,
+        p.steps,
+        known[0] as usize,
+        known[1] as usize,
+        p.elements,
+        p.items,
+        p.literals,
+    );
+}
+
+// reads a deck of a sound size into a table of a sound size
+fn read_deck(deck: &[u8], table: &mut [u8]) -> Verdict
+    requires { ⌜ (length (now deck) ≤ 32768) × (28672 ≤ length (now table)) ⌝ }
+    ensures { λ r. ⌜ DeckRead (now (deck .entry)) (now (table .entry)) r (now (table .exit)) ⌝ }
+{
+    let mut known = [0u64; KNOWN];
+    let mut name_keys = [0u64; NAMES];
+    let mut name_purposes = [0u8; NAMES];
+    let mut use_keys = [0u64; NAMES];
+    let mut use_scopes = [0u64; NAMES];
+    let mut use_purposes = [0u8; NAMES];
+    let mut text = [0u8; LONGEST];
+    let mut keys = [0u64; NAMES];
+    let mut tags = [0u8; NAMES];
+    let mut draft = [0u8; TABLE];
+    let v = judge_deck(
+        deck,
+        &mut known,
+        &mut name_keys,
+        &mut name_purposes,
+        &mut use_keys,
+        &mut use_scopes,
+        &mut use_purposes,
+        &mut text,
+        &mut keys,
+        &mut tags,
+        &mut draft,
+    );
+    blank(table, 0, TABLE);
+    if v.number == 0 {
+        write_table(deck, &mut known, &mut text, &mut keys, &mut tags, table);
+    }
+    v
+}
+
+// The deck call: 0 with the deck's program in the table; or a number and its card, the table zeroed, by 1 and 2 left as it was.
+#[no_mangle]
+pub extern "C" fn strigol_read(deck: &[u8], table: &mut [u8], card: &mut u32) -> u32
+    ensures { λ r. ⌜ ReadWith (now (deck .entry)) (now (table .entry)) r (now (card .exit)) (now (table .exit)) ⌝ }
+{
+    *card = 0;
+    if LONGEST < deck.len() {
+        return 1;
+    }
+    if table.len() < TABLE {
+        return 2;
+    }
+    let v = read_deck(deck, table);
+    *card = v.card as u32;
+    v.number
+}

@@ -1,0 +1,76 @@
+// Rows of steps and the header of a table, written in their bytes.
+// Assumes nothing.
+use branches::Row;
+use met::put_cell;
+use numeric::operands::Cell;
+ghost use mathlib.Core.Path.{_≡_};
+ghost use Prim.Native.Nat.{_+_, _≤_};
+ghost use lib.ListN.{length};
+ghost use Rattle.branches.specs.Rows.{rowMeaning};
+ghost use Rattle.calls.specs.Numerals.{inBytes};
+ghost use Rattle.calls.specs.Splices.{splice};
+ghost use Rattle.calls.specs.Table.{cellBytes};
+ghost use Rattle.numeric.specs.Operands.{meaning};
+ghost use Rattle.reader.specs.Writing.{withRow, withHeader};
+
+// how many steps a table has room for, and where their rows start
+const STEPS: usize = 256;
+
+const STEPS_AT: usize = 64;
+
+// writes a number into its two bytes at a place, low byte first
+fn put_number(table: &mut [u8], at: usize, number: usize)
+    requires { ⌜ at + 2 ≤ length (now table) ⌝ }
+    ensures { λ _. ⌜ now (table .exit) ≡ splice (now (table .entry)) at (inBytes 2 number) ⌝ }
+{
+    table[at] = (number % 256) as u8;
+    table[at + 1] = (number / 256 % 256) as u8;
+}
+
+// writes the cells of a row at a place
+fn put_cells(table: &mut [u8], at: usize, left: Cell, right: Cell)
+    requires { ⌜ at + 16 ≤ length (now table) ⌝ }
+    ensures { λ _. ⌜ now (table .exit) ≡ splice (splice (now (table .entry)) at (cellBytes (meaning left))) (at + 8) (cellBytes (meaning right)) ⌝ }
+{
+    put_cell(table, at, left.kind, left.place, left.value);
+    put_cell(table, at + 8, right.kind, right.place, right.value);
+}
+
+// writes row k of all steps; of those behind the last row nothing
+pub fn put_row(table: &mut [u8], k: usize, card: usize, row: Row)
+    requires { ⌜ 28672 ≤ length (now table) ⌝ }
+    ensures { λ _. ⌜ now (table .exit) ≡ withRow (now (table .entry)) k card (rowMeaning row) ⌝ }
+{
+    if k < STEPS {
+        let at = STEPS_AT + 24 * k;
+        table[at] = row.kind;
+        table[at + 1] = row.flag;
+        put_number(table, at + 2, card);
+        put_number(table, at + 4, row.success);
+        put_number(table, at + 6, row.failure);
+        put_cells(table, at + 8, row.left, row.right);
+    }
+}
+
+// writes the header: the format and the six counts
+pub fn put_header(
+    table: &mut [u8],
+    steps: usize,
+    strings: usize,
+    numbers: usize,
+    elements: usize,
+    items: usize,
+    literals: usize,
+)
+    requires { ⌜ 28672 ≤ length (now table) ⌝ }
+    ensures { λ _. ⌜ now (table .exit) ≡ withHeader (now (table .entry)) steps strings numbers elements items literals ⌝ }
+{
+    table[0] = 1;
+    table[1] = 0;
+    put_number(table, 2, steps);
+    put_number(table, 4, strings);
+    put_number(table, 6, numbers);
+    put_number(table, 8, elements);
+    put_number(table, 10, items);
+    put_number(table, 12, literals);
+}

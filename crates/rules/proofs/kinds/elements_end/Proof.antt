@@ -1,0 +1,84 @@
+-- `rules::kinds::elements_end` meets its contract.
+-- Assumes nothing.
+use mathlib.Core.Path.{_≡_, sym, ap, _∙_}
+use Prim.Native.Nat.{ℕ, _+_, _-_, _≤_}
+use native.Mathlib.Omega.{arith}
+use Rattle.calls.specs.Table.{elementsAt}
+use Rattle.rules.specs.Tests.{elementEnd, elementsEnd}
+use Rattle.rules.specs.Turns.{elements-start, elements-turn, elements-done}
+use Rattle.rules.proofs.kinds.elements_end.Statement.{statement}
+use Rattle.rules.proofs.kinds.elements_end.Tie as tie
+
+abbrev Inv-loop : tie.InvT-loop
+Inv-loop t k count high reference at n end₀ i₀ end i =
+    (end ≤ 65_536) × (i ≤ count) × (elementsEnd n high reference t k at count ≡ elementsEnd n high reference t (k + i) end (count - i))
+
+abbrev μ-loop : tie.MeasureT-loop
+μ-loop t k count high reference at n end₀ i₀ end i = count - i
+
+loop-holds : tie.Need-loop-holds Inv-loop μ-loop
+loop-holds c =
+    let a = c .before .args in
+    (omega arith, omega arith, elements-start (a .n) (a .high) (a .reference) (a .t .now) (a .k) (a .at) (a .count))
+
+add-cell-at : tie.Need-add-cell-at Inv-loop μ-loop
+add-cell-at c = omega arith
+
+mul-cell-at : tie.Need-mul-cell-at Inv-loop μ-loop
+mul-cell-at c = omega arith
+
+add-cell-at-2 : tie.Need-add-cell-at-2 Inv-loop μ-loop
+add-cell-at-2 c = omega arith
+
+cell-at-requires : tie.Need-cell-at-requires Inv-loop μ-loop
+cell-at-requires c κs = omega arith
+
+element-end-requires : tie.Need-element-end-requires Inv-loop μ-loop
+element-end-requires c κs = omega arith
+
+add-i : tie.Need-add-i Inv-loop μ-loop
+add-i c = omega arith
+
+loop-less : tie.Need-loop-less Inv-loop μ-loop
+loop-less c = omega arith
+
+loop-again : tie.Need-loop-again Inv-loop μ-loop
+unfolding elementsAt
+loop-again c =
+    let l = c .before .before .before .loop in
+    let a = c .before .before .before .before .before .args in
+    let t = a .t .now in
+    let cell = c .before .cell-at .ensures .same in
+    let end = c .element-end .ensures .0 ∙ ap (elementEnd (a .n) (a .high) (a .reference) (l .end)) cell in
+    let rest = elements-turn (a .n) (a .high) (a .reference) t (a .k) (l .end) (a .count) (l .i) (c .before .before .loop-test .taken) in (
+      c .element-end .ensures .1,
+      omega arith,
+      l .inv .2
+          ∙ rest
+          ∙ ap (λ (m : ℕ). elementsEnd (a .n) (a .high) (a .reference) t (a .k + (l .i + 1)) m (a .count - (l .i + 1))) (sym end),
+    )
+
+returns : tie.Need-returns Inv-loop μ-loop
+returns c =
+    let l = c .before .loop in
+    let a = c .before .before .before .args in (
+      sym (l .inv .2 ∙ elements-done (a .n) (a .high) (a .reference) (a .t .now) (a .k + l .i) (l .end) (a .count) (l .i) (c .loop-test .left)),
+      l .inv .0,
+    )
+
+pub elements-end-spec : {M : Type 1} → statement M
+elements-end-spec =
+    tie.close
+    (tie.spec
+    Inv-loop
+    μ-loop
+    loop-holds
+    add-cell-at
+    mul-cell-at
+    add-cell-at-2
+    cell-at-requires
+    element-end-requires
+    add-i
+    loop-less
+    loop-again
+    returns)

@@ -1,0 +1,53 @@
+-- `rules::steps::steps_end` meets its contract.
+-- Assumes nothing.
+use mathlib.Core.Path.{_≡_, sym, ap, _∙_}
+use Prim.Native.Nat.{_+_, _-_, _≤_}
+use borrow.Author.Needs.{needs}
+use native.Mathlib.Omega.{arith}
+use Rattle.rules.specs.Tests.{Room, first, stepsEnd}
+use Rattle.rules.specs.Turns.{steps-start, steps-turn, steps-done}
+use Rattle.rules.specs.declared.steps.Places.{Places}
+use Rattle.rules.proofs.steps.steps_end.Statement.{statement}
+use Rattle.rules.proofs.steps.steps_end.Tie as tie
+
+abbrev Inv-loop : tie.InvT-loop
+Inv-loop t n p₀ k₀ p k =
+    Room p × (k ≤ n .steps) × (stepsEnd n t 0 first (n .steps) ≡ stepsEnd n t k p (n .steps - k))
+
+abbrev μ-loop : tie.MeasureT-loop
+μ-loop t n p₀ k₀ p k = n .steps - k
+
+loop-holds : tie.Need-loop-holds Inv-loop μ-loop
+loop-holds c = (search needs, omega arith, steps-start (c .before .args .n) (c .before .args .t .now) first (c .before .args .n .steps))
+
+step-end-requires : tie.Need-step-end-requires Inv-loop μ-loop
+step-end-requires c κs =
+    let a = c .before .before .before .before in
+    (a .pre .0, (omega (arith, a .pre .1 .steps, c .if1 .taken), (c .before .before .loop .inv .0, a .pre .1)))
+
+add-k : tie.Need-add-k Inv-loop μ-loop
+add-k c = omega arith
+
+loop-less : tie.Need-loop-less Inv-loop μ-loop
+loop-less c = omega arith
+
+loop-again : tie.Need-loop-again Inv-loop μ-loop
+loop-again c =
+    let l = c .before .before .before .loop in
+    let a = c .before .before .before .before .before .args in
+    let rest = steps-turn (a .n) (a .t .now) (l .k) (a .n .steps) (l .p) (c .before .if1 .taken) in (
+      c .step-end .ensures .1,
+      omega (arith, c .before .if1 .taken),
+      l .inv .2 ∙ rest ∙ ap (λ (q : Places). stepsEnd (a .n) (a .t .now) (l .k + 1) q (a .n .steps - (l .k + 1))) (sym (c .step-end .ensures .0)),
+    )
+
+returns : tie.Need-returns Inv-loop μ-loop
+returns c =
+    let l = c .before .before .loop in
+    let a = c .before .before .before .before .args in
+    sym (l .inv .2 ∙ steps-done (a .n) (a .t .now) (l .k) (a .n .steps) (l .p) (c .if1 .left))
+
+pub steps-end-spec : {M : Type 1} → statement M
+steps-end-spec =
+    tie.close
+    (tie.spec Inv-loop μ-loop loop-holds step-end-requires add-k loop-less loop-again returns)

@@ -1,0 +1,74 @@
+-- `finding::find_split` meets its contract: the answer has no split, or the pieces of its split are named. Assumes nothing.
+use mathlib.Core.Path.{ap}
+use Prim.Native.Nat.{ℕ}
+use mathlib.Core.List.{List}
+use lib.ListN.{set}
+use borrow.Author.Needs.{needs}
+use Rattle.scanstep.specs.SearchLaws.{missed, nameable, named}
+use Rattle.scanstep.proofs.finding.find_split.Statement.{statement}
+use Rattle.scanstep.proofs.finding.find_split.Tie as tie
+
+null-fillers-requires : tie.Need-null-fillers-requires
+null-fillers-requires c κs = search needs
+
+scan-into-requires : tie.Need-scan-into-requires
+scan-into-requires c κs = search needs
+
+element-write-answer : tie.Need-element-write-answer
+element-write-answer c = search needs
+
+element-copy-out-if1 : tie.Need-element-copy-out-if1
+element-copy-out-if1 c = search needs
+
+same-length : tie.Need-same-length
+same-length c = search needs
+
+returns : tie.Need-returns
+returns c =
+    let scanned = c .before .before in
+    let nulled = scanned .before .before .before .before in
+    let s = nulled .before .before .before .before .before .before .before .before in
+    let a = s .args in
+    missed (a .table .now) (a .store .now) (a .pattern) (a .reference .now) (a .values .now) (a .rows .now) (a .names .now) (s .pre) (a .notes)
+    (set (scanned .scan-into .last .1 .1 .1 .1 .0) 3 (a .notes)) (ap (λ (l : List ℕ). set l 3 (a .notes)) (scanned .scan-into .ensures))
+    (c .if1 .taken) (nulled .null-fillers .last .1 .0) (nulled .null-fillers .ensures)
+
+name-fillers-requires : tie.Need-name-fillers-requires
+name-fillers-requires c κs =
+    let tested = c .before .before .before in
+    let scanned = tested .before .before in
+    let nulled = scanned .before .before .before .before in
+    let s = nulled .before .before .before .before .before .before .before .before in
+    let a = s .args in
+    nameable (a .table .now) (a .store .now) (a .pattern) (a .reference .now) (a .values .now) (a .rows .now) (a .names .now) (s .pre) (a .notes)
+    (set (scanned .scan-into .last .1 .1 .1 .1 .0) 3 (a .notes)) (ap (λ (l : List ℕ). set l 3 (a .notes)) (scanned .scan-into .ensures))
+    (tested .if1 .left) (nulled .null-fillers .last .1 .0) (nulled .null-fillers .ensures)
+
+same-length-2 : tie.Need-same-length-2
+same-length-2 c = search needs
+
+returns-2 : tie.Need-returns-2
+returns-2 c =
+    let after = c .before .before in
+    let tested = after .before .before .before .before in
+    let scanned = tested .before .before in
+    let nulled = scanned .before .before .before .before in
+    let s = nulled .before .before .before .before .before .before .before .before in
+    let a = s .args in
+    named (a .table .now) (a .store .now) (a .pattern) (a .reference .now) (a .values .now) (a .rows .now) (a .names .now) (s .pre) (a .notes)
+    (set (scanned .scan-into .last .1 .1 .1 .1 .0) 3 (a .notes)) (ap (λ (l : List ℕ). set l 3 (a .notes)) (scanned .scan-into .ensures))
+    (tested .if1 .left) (nulled .null-fillers .last .1 .0) (after .name-fillers .last .0) (nulled .null-fillers .ensures) (after .name-fillers .ensures)
+
+pub find-split-spec : {M : Type 1} → statement M
+find-split-spec =
+    tie.close
+    (tie.spec
+    null-fillers-requires
+    scan-into-requires
+    element-write-answer
+    element-copy-out-if1
+    same-length
+    returns
+    name-fillers-requires
+    same-length-2
+    returns-2)

@@ -1,0 +1,97 @@
+-- `valuing::put_value` meets its contract: the value that was appended to an empty buffer is put into the row. Assumes nothing.
+use mathlib.Core.Path.{subst}
+use borrow.Author.Needs.{needs}
+use Rattle.base.specs.Edition.{edition1}
+use Rattle.convert.specs.declared.Text.{Text}
+use Rattle.expressions.specs.Appending.{Added}
+use Rattle.expressions.specs.Memory.{memoryIn}
+use Rattle.machine.specs.Expressions.{elementIn}
+use Rattle.rows.specs.Meaning.{elementMeaning}
+use Rattle.scanstep.specs.ElementLaws.{added-spells}
+use Rattle.scanstep.proofs.valuing.put_value.Statement.{statement}
+use Rattle.scanstep.proofs.valuing.put_value.Tie as tie
+
+append-element-requires : tie.Need-append-element-requires
+append-element-requires c κs = search needs
+
+enum-known-length : tie.Need-enum-known-length
+enum-known-length c = search needs
+
+put-string-requires : tie.Need-put-string-requires
+put-string-requires c κs =
+    let told = c .before .before .before .before .before in
+    let added = told .before .before in
+    let s = added .before .before .before .before .before .before .before in
+    let a = s .args in
+    let adds =
+    subst (λ (r : Text). Added r (a .out .now) (added .append-element .last .1 .1 .1 .1 .1 .0) 0
+    (elementIn edition1 (memoryIn (a .store .now) (a .state .now)) (elementMeaning (a .table .now) (a .x))))
+    (told .length .given .1) (added .append-element .ensures .0 .added) in
+    record {
+      strings = s .pre .strings;
+      lines = s .pre .lines;
+      few = s .pre .few;
+      room = added .append-element .ensures .0 .room;
+      short = adds .short;
+    }
+
+enum-known-k : tie.Need-enum-known-k
+enum-known-k c = search needs
+
+same-length : tie.Need-same-length
+same-length c = search needs
+
+same-length-2 : tie.Need-same-length-2
+same-length-2 c = search needs
+
+returns : tie.Need-returns
+returns c =
+    let put = c .before .before .before .before in
+    let told = put .before .before .before .before .before .before in
+    let added = told .before .before in
+    let s = added .before .before .before .before .before .before .before in
+    let a = s .args in
+    let work = elementIn edition1 (memoryIn (a .store .now) (a .state .now)) (elementMeaning (a .table .now) (a .x)) in
+    let after = added .append-element .last .1 .1 .1 .1 .1 .0 in
+    let adds = subst (λ (r : Text). Added r (a .out .now) after 0 work) (told .length .given .1) (added .append-element .ensures .0 .added) in
+    record {
+      put =
+          record {
+            value = adds .value;
+            work = adds .work;
+            row = put .put-string .ensures .row (adds .value) (added-spells (a .out .now) after _ _ work adds);
+          };
+      strings = put .put-string .ensures .strings;
+      lines = put .put-string .ensures .lines;
+      spare = added .append-element .ensures .1;
+      room = added .append-element .ensures .0 .room;
+    }
+
+returns-2 : tie.Need-returns-2
+returns-2 c =
+    let told = c .before in
+    let added = told .before .before in
+    let s = added .before .before .before .before .before .before .before in
+    let a = s .args in
+    let work = elementIn edition1 (memoryIn (a .store .now) (a .state .now)) (elementMeaning (a .table .now) (a .x)) in
+    let after = added .append-element .last .1 .1 .1 .1 .1 .0 in
+    record {
+      put = subst (λ (r : Text). Added r (a .out .now) after 0 work) (told .k .given .1) (added .append-element .ensures .0 .added);
+      strings = s .pre .strings;
+      lines = s .pre .lines;
+      spare = added .append-element .ensures .1;
+      room = added .append-element .ensures .0 .room;
+    }
+
+pub put-value-spec : {M : Type 1} → statement M
+put-value-spec =
+    tie.close
+    (tie.spec
+    append-element-requires
+    enum-known-length
+    put-string-requires
+    enum-known-k
+    same-length
+    same-length-2
+    returns
+    returns-2)

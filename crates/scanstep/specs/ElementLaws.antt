@@ -1,0 +1,91 @@
+-- Laws of the row of each kind of element, with the place that its piece is to name. Assumes nothing.
+use mathlib.Core.Bool.{true, false}
+use mathlib.Core.List.{List, []}
+use mathlib.Core.Option.{none, some}
+use mathlib.Core.Path.{_≡_, refl, sym, ap, _∙_}
+use Prim.Native.Nat.{ℕ, _<_, _^_}
+use native.Mathlib.Nat.{add-zero}
+use lib.IntN.{ℤ, natAbs}
+use lib.ListN.{length, take, set}
+use borrow.Author.Tests.{lt-ltb}
+use Rattle.base.specs.Edition.{edition1}
+use Rattle.expressions.specs.Appending.{Adds}
+use Rattle.language.specs.Program as Program
+use Rattle.machine.specs.Expressions.{elementIn}
+use Rattle.machine.specs.Scanning.{Valued, fixedAt, valuedIn}
+use Rattle.machine.specs.State.{Memory}
+use Rattle.pattern.specs.Putting.{PutRow}
+use Rattle.scanning.specs.Splits.{string, fixed, free}
+use Rattle.statements.specs.Fillers.{nameOf}
+use Rattle.statements.specs.Leaving.{Spells}
+use Rattle.statements.specs.ValuedLaws.{stopped}
+use Rattle.statements.specs.declared.Did.{Did}
+use Rattle.statements.specs.declared.Did.the-variants as did
+use Rattle.values.specs.Numbers.{isNegative}
+use Rattle.values.specs.Work.{Work, done, noting, quietly, _>>=_}
+use Rattle.scanstep.specs.PatternLaws.{row-fixed, row-free, row-null}
+use Rattle.scanstep.specs.Patterns.{Put, PutBy, ValueBy}
+
+-- a string appended to an empty buffer is what the buffer spells
+pub added-spells : (before after : List ℕ) (n notes : ℕ) (w : Work (List ℕ)) (a : Adds before after 0 n notes w) → Spells after n (a .value)
+added-spells before after n notes w a =
+    record { size = sym (a .size); bytes = ap (λ (j : ℕ). take j after) (a .size) ∙ a .follows [] refl refl }
+
+module _ (values rows rowsLeft names : List ℕ) (i : ℕ) where
+  -- a fixed filler whose length is negative
+  pub fixed-negative : (s : ℕ) (z : ℤ) → isNegative z ≡ true → PutRow rows rowsLeft i 1 0 0
+      → Put values values rows rowsLeft names (set names i 32) i 1 (fixedAt s z)
+  unfolding fixedAt nameOf
+  fixed-negative s z e p =
+      record {
+        valued = record { names = none; element = string [] };
+        work = rw e refl;
+        row = row-null values rows rowsLeft i p;
+        place = 32;
+        places = refl;
+        name = refl;
+      }
+
+  -- one whose length is not
+  pub fixed-natural : (s : ℕ) (z : ℤ) (n : ℕ) → isNegative z ≡ false → n ≡ natAbs z → n < 2 ^ 32 → s < 32 → PutRow rows rowsLeft i 2 n 0
+      → Put values values rows rowsLeft names (set names i s) i 0 (fixedAt s z)
+  unfolding fixedAt nameOf quietly
+  fixed-natural s z n e is small known p =
+      record {
+        valued = record { names = some s; element = fixed n };
+        work = rw (e, is) refl;
+        row = row-fixed values rows rowsLeft i n small p;
+        place = s;
+        places = refl;
+        name = rw (lt-ltb s 32 known) refl;
+      }
+
+  module _ (m : Memory) where
+    pub free-put : (s : ℕ) → s < 32 → PutRow rows rowsLeft i 3 0 0
+        → Put values values rows rowsLeft names (set names i s) i 0 (valuedIn edition1 m (Program.freeFiller s))
+    unfolding valuedIn nameOf quietly
+    free-put s known p =
+        record {
+          valued = record { names = some s; element = free };
+          work = refl;
+          row = row-free values rows rowsLeft i p;
+          place = s;
+          places = refl;
+          name = rw (lt-ltb s 32 known) refl;
+        }
+
+    -- a value
+    pub value-put : (r : Did) (left : List ℕ) (x : Program.Element) → ValueBy r values left rows rowsLeft i (elementIn edition1 m x)
+        → PutBy r values left rows rowsLeft names (set names i 32) i (valuedIn edition1 m (Program.value x))
+    unfolding valuedIn nameOf quietly _>>=_ noting
+    value-put (did.Done notes) left x p =
+        let v : List ℕ → Valued = λ w. record { names = none; element = string w } in
+        record {
+          valued = v (p .value);
+          work = ap (λ w. w >>= λ u. quietly (v u)) (p .work) ∙ ap (done (v (p .value))) (add-zero notes);
+          row = p .row;
+          place = 32;
+          places = refl;
+          name = refl;
+        }
+    value-put (did.Stops k) left x p = stopped (elementIn edition1 m x) (λ w. quietly (record { names = none; element = string w })) k p

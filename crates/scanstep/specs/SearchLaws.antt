@@ -1,0 +1,208 @@
+-- Laws of a scan's answer: whether it has a split, where the pieces lie, and what naming them leaves. Assumes nothing.
+use mathlib.Core.Bool.{true, false}
+use mathlib.Core.List.{List, [], _∷_, _++_, map, map-map}
+use mathlib.Core.Option.{Option, none, some}
+use mathlib.Core.Path.{_≡_, refl, sym, ap, ap₂, subst, _∙_}
+use Prim.Native.Nat.{ℕ, zero, suc, _+_, _-_, _≤_, _<_}
+use native.Mathlib.Numerals.{add-one}
+use native.Mathlib.Omega.{arith}
+use lib.ListN.{length, drop, getD, set, replicate, length-append, length-drop, length-replicate, drop-of-length-le}
+use lib.Seq.{drop-cons, getD-drop, getD-take, length-take-le, take-at}
+use Rattle.base.specs.Lists.{total}
+use Rattle.machine.specs.Scanning.{Valued, naming}
+use Rattle.rows.specs.declared.Stretch.{Stretch}
+use Rattle.scan.specs.Rows.{elementsAt, patternOf}
+use Rattle.scanning.specs.Call.{answerNumbers, mostElements, splitNumbers}
+use Rattle.scanning.specs.FirstFit.{scan-first-fit}
+use Rattle.scanning.specs.Laws.{fits-count}
+use Rattle.scanning.specs.Splits.{Element, FirstFit, Fits, PiecesFit, Split}
+use Rattle.scanning.specs.Trials.{Scanned, scan}
+use Rattle.statements.specs.FillerLaws.{stays-on}
+use Rattle.statements.specs.Fillers.{Nameable, Naming, Nulled, lengthsIn}
+use Rattle.statements.specs.Leaving.{memoryOf}
+use Rattle.statements.specs.OtherLaws.{others-stay}
+use Rattle.scanstep.specs.LongLaws.{scan-rowed}
+use Rattle.scanstep.specs.Patterns.{Rowed, rowed}
+use Rattle.scanstep.specs.Searches.{Searchable, Searched, scanOf}
+
+-- the next of a split's lengths
+next-length : (answer : List ℕ) (count i : ℕ) → length answer ≡ 24 → count ≤ 20 → i < count
+    → drop i (lengthsIn answer count) ≡ getD answer (4 + i) 0 ∷ drop (i + 1) (lengthsIn answer count)
+next-length answer count i size few h =
+    let ls = lengthsIn answer count in
+    let long : length ls ≡ count = length-take-le count (drop 4 answer) (omega (arith, length-drop 4 answer)) in
+    drop-cons ls i 0 (omega arith)
+    ∙ ap₂ (λ (l j : ℕ). l ∷ drop j ls) (getD-take count (drop 4 answer) i 0 h ∙ getD-drop 4 answer i 0) (sym (add-one i))
+
+-- the sum of the lengths from it on
+pub total-next : (answer : List ℕ) (count i : ℕ) → length answer ≡ 24 → count ≤ 20 → i < count
+    → total (λ l. l) (drop i (lengthsIn answer count)) ≡ getD answer (4 + i) 0 + total (λ l. l) (drop (i + 1) (lengthsIn answer count))
+unfolding total
+total-next answer count i size few h = ap (total (λ l. l)) (next-length answer count i size few h)
+
+pub total-end : (answer : List ℕ) (count i : ℕ) → length answer ≡ 24 → count ≤ 20 → count ≤ i
+    → total (λ l. l) (drop i (lengthsIn answer count)) ≡ 0
+unfolding total
+total-end answer count i size few h =
+    let long : length (lengthsIn answer count) ≡ count = length-take-le count (drop 4 answer) (omega (arith, length-drop 4 answer)) in
+    ap (total (λ l. l)) (drop-of-length-le (lengthsIn answer count) {i = i} (omega arith))
+
+-- an answer with other notes
+split-noted : (o : Option Split) (trials n k : ℕ) → set (splitNumbers o trials n) 3 k ≡ splitNumbers o trials k
+unfolding splitNumbers
+split-noted none trials n k = refl
+split-noted (some s) trials n k = refl
+
+pub answer-noted : (a : Scanned) (n k : ℕ) → set (answerNumbers n a) 3 k ≡ answerNumbers k a
+unfolding answerNumbers
+answer-noted a n k = split-noted (a .split) (a .trials) n k
+
+-- an answer without a split
+split-none : (o : Option Split) (trials n : ℕ) → getD (splitNumbers o trials n) 0 0 ≡ 0 → o ≡ none
+unfolding splitNumbers
+split-none none trials n e = refl
+split-none (some s) trials n e = absurd (omega arith)
+
+-- one with a split: its start and its lengths
+record Has (o : Option Split) (answer : List ℕ) : Type 0 where
+  split : Split
+  is : o ≡ some split
+  start : getD answer 1 0 ≡ split .start
+  size : length (split .lengths) ≤ 20 → length answer ≡ 24
+  lengths : (count : ℕ) → length (split .lengths) ≡ count → lengthsIn answer count ≡ split .lengths
+
+split-some : (o : Option Split) (trials n : ℕ) → (getD (splitNumbers o trials n) 0 0 ≡ 0 → ⊥) → Has o (splitNumbers o trials n)
+unfolding splitNumbers mostElements
+split-some none trials n h = absurd (h refl)
+split-some (some s) trials n h =
+    record {
+      split = s;
+      is = refl;
+      start = refl;
+      size =
+          λ few.
+          let zeros : List ℕ = replicate (20 - length (s .lengths)) 0 in
+          let all : length (s .lengths ++ zeros) ≡ 20 =
+          length-append (s .lengths) zeros ∙ omega (arith, length-replicate {A = ℕ} (20 - length (s .lengths)) 0) in
+          omega arith;
+      lengths = λ count e. take-at (s .lengths) (replicate (20 - length (s .lengths)) 0) count e;
+    }
+
+-- pieces that fit lie in the bytes that there are
+pieces-within : (p : List Element) (rest ls : List ℕ) → PiecesFit p rest ls → total (λ l. l) ls ≤ length rest
+unfolding PiecesFit total
+pieces-within [] rest [] h = omega arith
+pieces-within [] rest (l ∷ ls) h = absurd h
+pieces-within (e ∷ p) rest [] h = absurd h
+pieces-within (e ∷ p) rest (l ∷ ls) h = omega (arith, h .0, pieces-within p (drop l rest) ls (h .2), length-drop l rest)
+
+count-elements : (values rows : List ℕ) (n i : ℕ) → length (elementsAt values rows n i) ≡ n
+unfolding elementsAt
+count-elements values rows zero i = refl
+count-elements values rows (suc n) i = ap suc (count-elements values rows n (i + 1))
+
+-- the pieces of a split that a scan answers
+split-fits : (p : List Element) (r : List ℕ) (s : Split) → scan p r .split ≡ some s → Fits p r s
+unfolding FirstFit
+split-fits p r s e = scan-first-fit p r .first s e s .0 refl .0
+
+split-within : (p : List Element) (r : List ℕ) (s : Split) → Fits p r s → s .start + total (λ l. l) (s .lengths) ≤ length r
+unfolding Fits
+split-within p r s f =
+    omega (arith, f .0, pieces-within p (drop (s .start) r) (s .lengths) (f .1), length-drop (s .start) r)
+
+module _ (table store : List ℕ) (s : Stretch) (reference values rows names : List ℕ) (q : Searchable table store s reference values rows names)
+    (notes : ℕ) (answer : List ℕ)
+    (is : answer ≡ set (answerNumbers 0 (scan (patternOf values rows (s .count)) reference)) 3 notes) where
+  abbrev pattern : List Element
+  pattern = patternOf values rows (s .count)
+
+  answer-is : answer ≡ answerNumbers notes (scan pattern reference)
+  answer-is = is ∙ answer-noted (scan pattern reference) 0 notes
+
+  -- the scan of the pattern with its values
+  scan-is : (vs : List Valued) → Rowed values rows names (s .count) vs → scan pattern reference ≡ scanOf vs reference
+  scan-is vs r =
+      ap (λ (p : List Element). scan p reference) (r .pattern ∙ sym (map-map rowed (λ v. v .element) vs))
+      ∙ sym (scan-rowed (map (λ v. v .element) vs) reference (q .short))
+
+  failed : getD answer 0 0 ≡ 0 → scan pattern reference .split ≡ none
+  unfolding answerNumbers
+  failed e =
+      let a = scan pattern reference in
+      split-none (a .split) (a .trials) notes (ap (λ (l : List ℕ). getD l 0 0) (sym answer-is) ∙ e)
+
+  has : (getD answer 0 0 ≡ 0 → ⊥) → Has (scan pattern reference .split) answer
+  unfolding answerNumbers
+  has h =
+      let a = scan pattern reference in
+      subst (Has (a .split)) (sym answer-is)
+      (split-some (a .split) (a .trials) notes (λ e. h (ap (λ (l : List ℕ). getD l 0 0) answer-is ∙ e)))
+
+  pub missed : getD answer 0 0 ≡ 0 → (nulled : List ℕ) → Nulled table s store nulled
+      → Searched false table store nulled s reference values rows names answer notes
+  missed e nulled n =
+      record {
+        stays = n .stays;
+        finds =
+            λ vs r.
+            record {
+              numbers = answer-is ∙ ap (answerNumbers notes) (scan-is vs r);
+              by = record { failed = ap (λ a. a .split) (sym (scan-is vs r)) ∙ failed e; work = n .work };
+            };
+      }
+
+  module _ (some-found : getD answer 0 0 ≡ 0 → ⊥) where
+    abbrev found : Has (scan pattern reference .split) answer
+    found = has some-found
+
+    fits : Fits pattern reference (found .split)
+    fits = split-fits pattern reference (found .split) (found .is)
+
+    counted : length (found .split .lengths) ≡ s .count
+    unfolding patternOf
+    counted = fits-count pattern reference (found .split) fits ∙ count-elements values rows (s .count) 0
+
+    within : found .split .start + total (λ l. l) (found .split .lengths) ≤ length reference
+    within = split-within pattern reference (found .split) fits
+
+    pub nameable : (nulled : List ℕ) → Nulled table s store nulled → Nameable nulled reference names answer (s .count)
+    nameable nulled n =
+        record {
+          good = n .stays .good;
+          few = q .lines .few;
+          places = omega (arith, q .places, q .lines .few);
+          short = q .short;
+          size = found .size (omega (arith, counted, q .lines .few));
+          pieces =
+              subst (λ (k : ℕ). k + total (λ l. l) (lengthsIn answer (s .count)) ≤ length reference) (sym (found .start))
+              (subst (λ (ls : List ℕ). found .split .start + total (λ l. l) ls ≤ length reference) (sym (found .lengths (s .count) counted)) within);
+        }
+
+    pub named : (nulled left : List ℕ) → Nulled table s store nulled → Naming nulled left reference names answer (s .count)
+        → Searched true table store left s reference values rows names answer notes
+    named nulled left n m =
+        record {
+          stays = stays-on (n .stays) (m .stays);
+          finds =
+              λ vs r.
+              record {
+                numbers = answer-is ∙ ap (answerNumbers notes) (scan-is vs r);
+                by =
+                    record {
+                      split = found .split;
+                      found = ap (λ a. a .split) (sym (scan-is vs r)) ∙ found .is;
+                      size = found .size (omega (arith, counted, q .lines .few));
+                      start = found .start;
+                      lengths = found .lengths (s .count) counted;
+                      pieces = within;
+                      work =
+                          λ zs.
+                          ap (λ x. naming vs (drop (found .split .start) reference) (found .split .lengths) x) (n .work zs)
+                          ∙ ap₂ (λ (k : ℕ) (ls : List ℕ). naming vs (drop k reference) ls (memoryOf nulled zs)) (sym (found .start))
+                          (sym (found .lengths (s .count) counted))
+                          ∙ m .work vs zs (r .size) (r .places);
+                      others = others-stay table s store nulled left reference names answer (s .count) n m vs (r .size) (r .places);
+                    };
+              };
+        }

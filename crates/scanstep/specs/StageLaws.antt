@@ -1,0 +1,279 @@
+-- Laws of a scan whose pattern's values are known: no split, a split without a replacement, and with one. Assumes nothing.
+use mathlib.Core.Bool.{true, false}
+use mathlib.Core.List.{List, _++_}
+use mathlib.Core.Option.{Option, none, some}
+use mathlib.Core.Path.{_≡_, refl, sym, ap, ap₂, subst, _∙_}
+use Prim.Native.Nat.{ℕ, _+_, _-_, _≤_}
+use native.Mathlib.Nat.{add-zero}
+use native.Mathlib.Omega.{arith}
+use lib.Dec.{leb}
+use lib.ListN.{length, take, drop, getD, set, length-drop, length-reverse, take-append-drop}
+use lib.Seq.{drop-drop, length-take-le}
+use Rattle.base.specs.Choice.{cond-cases}
+use Rattle.base.specs.Edition.{edition1}
+use Rattle.base.specs.Lists.{total}
+use Rattle.calls.specs.BufferLaws.{good-short}
+use Rattle.calls.specs.Buffers.{numbersIn}
+use Rattle.cells.specs.Contracts.{stringOf, replaced}
+use Rattle.expressions.specs.Memory.{memoryIn}
+use Rattle.expressions.specs.Notes.{Few, few-bind, few-done, few-elements-spelt}
+use Rattle.language.specs.Program as Program
+use Rattle.language.specs.Program.{forward, backward}
+use Rattle.machine.specs.Expressions.{stringIn}
+use Rattle.machine.specs.Scanning.{Left, Searched, Valued, leaving, naming, replacing, storing, turned, withoutFillers}
+use Rattle.machine.specs.State.{Memory}
+use Rattle.rows.specs.Meaning.{directionMeaning, elementsMeaning, patternsMeaning}
+use Rattle.rows.specs.declared.Direction.{Direction}
+use Rattle.rows.specs.declared.Stretch.{Stretch}
+use Rattle.scanning.specs.Trials as Trials
+use Rattle.statements.specs.FillerLaws.{put-back, stays-on}
+use Rattle.statements.specs.Fillers.{Copied, isFiller, lengthsIn}
+use Rattle.statements.specs.Leaving.{Leaves, Stays}
+use Rattle.statements.specs.OtherLaws.{pattern-names}
+use Rattle.statements.specs.References.{referenceOf, searchedAt, stretchOf}
+use Rattle.statements.specs.Replacing.{storedTurned}
+use Rattle.statements.specs.ReplacingLaws.{foundFrom, foundTo, replacing-found}
+use Rattle.statements.specs.Valued.{Between}
+use Rattle.statements.specs.declared.Did.the-variants as did
+use Rattle.values.specs.Conversion.{longestString}
+use Rattle.values.specs.Work.{Work, done, noting, quietly, _>>=_}
+use Rattle.scanstep.specs.Scans.{Scans}
+use Rattle.scanstep.specs.SearchLaws.{answer-noted}
+use Rattle.scanstep.specs.Searches.{Finds, Named, Searchable, scanOf}
+use Rattle.scanstep.specs.Stages.{Counting, Findable, searchedRest, valuedRest}
+use Rattle.scanstep.specs.declared.Scanned.the-variants as scans
+use Rattle.scanstep.specs.declared.Span.{Span}
+
+-- a list turned round is as long
+pub turned-length : (d : Program.Direction) (l : List ℕ) → length (turned d l) ≡ length l
+unfolding turned
+turned-length forward l = refl
+turned-length backward l = length-reverse l
+
+-- a stretch is as long as its ends say
+pub reference-length : (store : List ℕ) (at : Span) → Between store (at .place) (at .from) (at .to)
+    → length (referenceOf store (at .place) (at .from) (at .to)) ≡ at .to - at .from
+reference-length store at b =
+    let v = stringOf store (at .place) in
+    length-take-le (at .to - at .from) (drop (at .from) v) (omega (arith, length-drop (at .from) v, b .order, b .within))
+
+-- storing makes no notes
+few-storing : (s : ℕ) (v : List ℕ) (m : Memory) → Few 0 (storing s v m)
+unfolding storing quietly
+few-storing s v m = cond-cases (Few 0) (leb (length v) longestString) (λ _. omega arith) (λ _. tt)
+
+-- a string is its three stretches
+stretches : (v : List ℕ) (from to : ℕ) → from ≤ to → take from v ++ (stretchOf v from to ++ drop to v) ≡ v
+stretches v from to h =
+    let on : from + (to - from) ≡ to = omega arith in
+    let behind : drop to v ≡ drop (to - from) (drop from v) = sym (drop-drop (to - from) from v ∙ ap (λ (k : ℕ). drop k v) on) in
+    ap (λ (l : List ℕ). take from v ++ (stretchOf v from to ++ l)) behind
+    ∙ ap (λ (l : List ℕ). take from v ++ l) (take-append-drop (to - from) (drop from v))
+    ∙ take-append-drop from v
+
+module _ (table store state : List ℕ) (d : Direction) (at : Span) (pattern : Stretch) (reference values rows names : List ℕ) (notes : ℕ)
+    (kept scratch out : List ℕ) (q : Findable table store state d at pattern reference values rows names notes kept scratch out) where
+  abbrev vs : List Valued
+  vs = q .put .valued
+
+  abbrev way : Program.Direction
+  way = directionMeaning d
+
+  abbrev searched : Searched
+  searched = searchedAt (at .place) (at .from) (at .to) (stringOf store (at .place))
+
+  abbrev nulled : Memory
+  nulled = withoutFillers (patternsMeaning table pattern) (memoryIn store state)
+
+  abbrev answered : Trials.Scanned
+  answered = scanOf vs reference
+
+  -- the stretch that is searched
+  searched-length : length reference ≡ at .to - at .from
+  searched-length =
+      ap length (q .turned-is) ∙ turned-length way (referenceOf store (at .place) (at .from) (at .to)) ∙ reference-length store at (q .between)
+
+  searched-short : length reference ≤ 1024
+  searched-short = omega (arith, searched-length, q .between .within, good-short store (q .ready .strings) (at .place))
+
+  -- so the rows can be searched for
+  pub findable-searchable : Searchable table store pattern reference values rows names
+  findable-searchable =
+      record {
+        bytes = q .bytes;
+        inside = q .fillers .inside;
+        good = q .ready .strings;
+        short = searched-short;
+        lines = q .put .rows-are .good;
+        places = q .places;
+      }
+
+  -- and the lengths of the pieces found be added up
+  pub found-counting : (left answer : List ℕ) → Finds true table store left pattern reference answer notes vs → Counting answer (pattern .count)
+  found-counting left answer f =
+      let n = f .by in
+      let sum : total (λ l. l) (lengthsIn answer (pattern .count)) ≡ total (λ l. l) (n .split .lengths) = ap (total (λ l. l)) (n .lengths) in
+      record { size = n .size; few = q .fillers .few; short = omega (arith, sum, n .pieces, searched-short) }
+
+  module _ (r : Option (List Program.Element)) where
+    -- the work that is left, for the values and the reference that there are
+    rest-is : searchedRest table store state d at pattern r ≡ noting notes (leaving edition1 way searched vs r nulled answered (answered .split))
+    unfolding _>>=_
+    rest-is =
+        ap (λ w. w >>= valuedRest table store state d at pattern r) (q .put .work)
+        ∙ ap (λ (l : List ℕ). noting notes (leaving edition1 way searched vs r nulled (scanOf vs l) (scanOf vs l .split))) (sym (q .turned-is))
+
+    -- no split
+    pub missed-scans : (left answer : List ℕ) → Stays store left → Finds false table store left pattern reference answer notes vs
+        → Scans (scans.Fails notes) store left state answer (searchedRest table store state d at pattern r)
+    unfolding leaving quietly noting
+    missed-scans left answer stays f =
+        let end : Memory → Left = λ m. record { memory = m; scanned = answered } in
+        record {
+          ended =
+              record {
+                stays = stays;
+                scanned = answered;
+                work =
+                    rest-is
+                    ∙ ap (λ o. noting notes (leaving edition1 way searched vs r nulled answered o)) (f .by .failed)
+                    ∙ ap (λ m. done (end m) (notes + 0)) (f .by .work (numbersIn state))
+                    ∙ ap (done (end (memoryIn left state))) (add-zero notes);
+                answer-is = f .numbers;
+              };
+          failed = f .by .failed;
+        }
+
+    -- a split: its pieces are named, and the replacement is left
+    module _ (left answer : List ℕ) (n : Named table store left pattern reference answer vs) where
+      split-rest : searchedRest table store state d at pattern r
+          ≡ noting notes (replacing edition1 way searched (n .split) r (memoryIn left state)
+          >>= λ m. quietly (record { memory = m; scanned = answered }))
+      unfolding leaving
+      split-rest =
+          rest-is
+          ∙ ap (λ o. noting notes (leaving edition1 way searched vs r nulled answered o)) (n .found)
+          ∙ ap (λ m. noting notes (replacing edition1 way searched (n .split) r m >>= λ u. quietly (record { memory = u; scanned = answered })))
+          (ap (λ (l : List ℕ). naming vs (drop (n .split .start) l) (n .split .lengths) nulled) (sym (q .turned-is)) ∙ n .work (numbersIn state))
+
+  -- a split, without a replacement
+  pub plain-scans : (left answer : List ℕ) → Stays store left → Finds true table store left pattern reference answer notes vs
+      → Scans (scans.Splits notes) store left state answer (searchedRest table store state d at pattern none)
+  unfolding replacing quietly noting _>>=_
+  plain-scans left answer stays f =
+      record {
+        ended =
+            record {
+              stays = stays;
+              scanned = answered;
+              work =
+                  split-rest none left answer (f .by)
+                  ∙ ap (done (record { memory = memoryIn left state; scanned = answered })) (add-zero notes);
+              answer-is = f .numbers;
+            };
+        split = f .by .split;
+        found = f .by .found;
+      }
+
+  -- the string searched is no filler, so it is as it was
+  no-filler : isFiller (at .place) (patternsMeaning table pattern) ≡ false
+  no-filler = q .put .clear (at .place) (q .between .known) (q .fillers)
+
+  module _ (by : Stretch) (named answer : List ℕ) (stays : Stays store named) (f : Finds true table store named pattern reference answer notes vs) where
+    abbrev n : Named table store named pattern reference answer vs
+    n = f .by
+
+    pub string-same : stringOf named (at .place) ≡ stringOf store (at .place)
+    string-same =
+        n .others (at .place) no-filler
+        (pattern-names edition1 (memoryIn store state) (at .place) (patternsMeaning table pattern) vs notes (q .put .work) no-filler)
+
+    pub between-still : Between named (at .place) (at .from) (at .to)
+    between-still =
+        record {
+          known = q .between .known;
+          order = q .between .order;
+          within = subst (λ (v : List ℕ). at .to ≤ length v) (sym string-same) (q .between .within);
+        }
+
+    -- the pieces that the answer tells of
+    module _ (start sum : ℕ) (starts : start ≡ getD answer 1 0) (sums : sum ≡ total (λ l. l) (lengthsIn answer (pattern .count))) where
+      start-is : n .split .start ≡ start
+      start-is = sym (starts ∙ n .start)
+
+      sum-is : total (λ l. l) (n .split .lengths) ≡ sum
+      sum-is = sym (sums ∙ ap (total (λ l. l)) (n .lengths))
+
+      pub pieces-inside : start + sum ≤ at .to - at .from
+      pieces-inside = omega (arith, n .pieces, start-is, sum-is, searched-length)
+
+      abbrev stored : Work Memory
+      stored =
+          storedTurned table named state way (at .place) (foundFrom way (at .from) (at .to - at .from) start sum)
+          (foundTo way (at .from) (at .to - at .from) start sum) by
+
+      -- the replacement is the value stored in their place
+      replacing-stored : replacing edition1 way searched (n .split) (some (elementsMeaning table by)) (memoryIn named state) ≡ stored
+      replacing-stored =
+          let m = memoryIn named state in
+          let v = stringOf store (at .place) in
+          let put : (whole : List ℕ) (b r x y : ℕ) → Work Memory =
+          λ whole b r x y.
+          stringIn edition1 m (elementsMeaning table by)
+          >>= λ u. storing (at .place) (replaced whole (foundFrom way b r x y) (foundTo way b r x y) (turned way u)) m in
+          let b = length (take (at .from) v) in
+          let r = length (stretchOf v (at .from) (at .to)) in
+          let x = n .split .start in
+          let y = total (λ l. l) (n .split .lengths) in
+          let front : b ≡ at .from = length-take-le (at .from) v (omega (arith, q .between .order, q .between .within)) in
+          let inside : x + y ≤ r = omega (arith, pieces-inside, start-is, sum-is, reference-length store at (q .between)) in
+          replacing-found edition1 way searched (n .split) (elementsMeaning table by) m inside
+          ∙ ap (λ (l : List ℕ). put l b r x y) (stretches v (at .from) (at .to) (q .between .order) ∙ sym string-same)
+          ∙ ap₂ (λ (j k : ℕ). put (stringOf named (at .place)) j k x y) front (reference-length store at (q .between))
+          ∙ ap₂ (λ (j k : ℕ). put (stringOf named (at .place)) (at .from) (at .to - at .from) j k) start-is sum-is
+
+      -- with few notes
+      pub few-stored : (more : ℕ) (left : List ℕ) → Leaves (did.Done more) named left (numbersIn state) stored → more ≤ by .count
+      few-stored more left l =
+          let m = memoryIn named state in
+          let few =
+          few-bind (by .count) 0 (stringIn edition1 m (elementsMeaning table by)) _ (few-elements-spelt edition1 m table (by .from) (by .count))
+          (λ v. few-storing (at .place) _ m) in
+          omega (arith, few-done few (l .1))
+
+      pub replaced-scans : (more : ℕ) (left : List ℕ) → Leaves (did.Done more) named left (numbersIn state) stored
+          → Scans (scans.Splits (notes + more)) store left state (set answer 3 (notes + more))
+          (searchedRest table store state d at pattern (some (elementsMeaning table by)))
+      unfolding _>>=_ noting quietly
+      replaced-scans more left l =
+          let rest : (w : Work Memory) → Work Left = λ w. noting notes (w >>= λ m. quietly (record { memory = m; scanned = answered })) in
+          let all : notes + (more + 0) ≡ notes + more = omega arith in
+          record {
+            ended =
+                record {
+                  stays = stays-on stays (l .0);
+                  scanned = answered;
+                  work =
+                      split-rest (some (elementsMeaning table by)) named answer n
+                      ∙ ap rest (replacing-stored ∙ l .1)
+                      ∙ ap (done (record { memory = memoryIn left state; scanned = answered })) all;
+                  answer-is = ap (λ (b : List ℕ). set b 3 (notes + more)) (f .numbers) ∙ answer-noted answered notes (notes + more);
+                };
+            split = n .split;
+            found = n .found;
+          }
+
+      -- what stops it puts the fillers back
+      pub stopped-scans : (k : ℕ) (left back saved keeping answer′ : List ℕ) → Leaves (did.Stops k) named left (numbersIn state) stored
+          → Copied table pattern store saved keeping → Copied table pattern keeping left back
+          → Scans (scans.Stops k) store back state answer′ (searchedRest table store state d at pattern (some (elementsMeaning table by)))
+      unfolding _>>=_ noting
+      stopped-scans k left back saved keeping answer′ l save restore =
+          let rest : (w : Work Memory) → Work Left = λ w. noting notes (w >>= λ m. quietly (record { memory = m; scanned = answered })) in (
+            put-back table pattern store saved keeping named back (q .ready .strings) save stays
+                (λ i h e.
+                n .others i e
+                (pattern-names edition1 (memoryIn store state) i (patternsMeaning table pattern) vs notes (q .put .work) e))
+                (subst (λ (s : List ℕ). Copied table pattern keeping s back) (l .0) restore),
+            split-rest (some (elementsMeaning table by)) named answer n ∙ ap rest (replacing-stored ∙ l .1),
+          )

@@ -1,0 +1,220 @@
+-- A pattern's values, element by element: the whole comes to the values so far and what the elements left come to. Assumes nothing.
+use mathlib.Core.Bool.{false, _||_}
+use mathlib.Core.List.{List, [], _∷_, _++_, append-assoc, append-nil}
+use mathlib.Core.Path.{_≡_, refl, sym, ap, ap₂, subst, _∙_}
+use Prim.Native.Nat.{ℕ, zero, suc, _+_, _*_, _-_, _≤_, _<_}
+use native.Mathlib.Nat.{add-assoc, add-zero, not-suc-le-zero, zero-add}
+use native.Mathlib.Omega.{arith}
+use lib.Dec.{eqb}
+use borrow.Author.Tests.{ne-eqb}
+use Rattle.base.specs.Choice.{cond-cases}
+use Rattle.base.specs.Edition.{edition1}
+use Rattle.calls.specs.Table.{elementsAt}
+use Rattle.calls.specs.TableReading.{cellAt, patternFrom, patternOfCell}
+use Rattle.expressions.specs.Notes.{Few, few-bind, few-done, few-element}
+use Rattle.language.specs.Program as Program
+use Rattle.language.specs.Program.{value, freeFiller, fixedFiller}
+use Rattle.machine.specs.Expressions.{elementIn, lengthIn}
+use Rattle.machine.specs.Scanning.{Valued, fixedAt, patternIn, valuedIn}
+use Rattle.machine.specs.State.{Memory}
+use Rattle.rows.specs.Holds.{PatternHolds}
+use Rattle.rows.specs.Meaning.{patternMeaning}
+use Rattle.rows.specs.Reading.{PatternRead}
+use Rattle.rows.specs.declared.PatternElement.{PatternElement}
+use Rattle.rows.specs.declared.PatternElement.the-variants.{Value, Free, Fixed}
+use Rattle.statements.specs.Fillers.{fillerOf, isFiller}
+use Rattle.scanning.specs.Splits.{string}
+use Rattle.statements.specs.declared.Did.{Did}
+use Rattle.statements.specs.declared.Did.the-variants as did
+use Rattle.values.specs.Numbers.{isNegative}
+use Rattle.values.specs.Work.{Work, done, stop, noting, quietly, _>>=_}
+use Rattle.scanstep.specs.PatternLaws.{rowed-all, rowed-more, rowed-none}
+use Rattle.scanstep.specs.Patterns.{AllPut, Buffers, ElementPut, PutBy, Rowed, valuesOf}
+
+-- notes on top of others
+module _ {A : Type 0} where
+  pub noting-none : (w : Work A) → noting 0 w ≡ w
+  unfolding noting
+  noting-none (done a n) = ap (done a) (zero-add n)
+  noting-none (stop k) = refl
+
+  noting-more : (n more : ℕ) (w : Work A) → noting n (noting more w) ≡ noting (n + more) w
+  unfolding noting
+  noting-more n more (done a k) = ap (done a) (sym (add-assoc n more k))
+  noting-more n more (stop k) = refl
+
+bind-noting : {A B : Type 0} (n : ℕ) (w : Work A) (f : A → Work B) → (noting n w >>= f) ≡ noting n (w >>= f)
+unfolding noting _>>=_
+bind-noting n (done a k) f = sym (noting-more n k (f a))
+bind-noting n (stop k) f = refl
+
+-- a value passed on
+quiet : {A : Type 0} (w : Work A) → (w >>= λ a. quietly a) ≡ w
+unfolding _>>=_ noting quietly
+quiet (done a n) = ap (done a) (add-zero n)
+quiet (stop k) = refl
+
+-- a value in front of others, and then those so far in front of all
+quiet-front : (us : List Valued) (v : Valued) (w : Work (List Valued))
+    → ((w >>= λ vs. quietly (v ∷ vs)) >>= λ vs. quietly (us ++ vs)) ≡ (w >>= λ vs. quietly ((us ++ (v ∷ [])) ++ vs))
+unfolding _>>=_ noting quietly
+quiet-front us v (done vs n) =
+    ap (λ (l : List Valued). done l (n + 0 + 0)) (sym (append-assoc us (v ∷ []) vs)) ∙ ap (done ((us ++ (v ∷ [])) ++ vs)) (add-zero (n + 0))
+quiet-front us v (stop k) = refl
+
+-- the elements of a pattern
+pattern-more : (t : List ℕ) (at n : ℕ) → 0 < n
+    → patternFrom t at n ≡ patternOfCell t (cellAt t (elementsAt + 8 * at)) ∷ patternFrom t (at + 1) (n - 1)
+unfolding patternFrom
+pattern-more t at zero h = absurd (not-suc-le-zero h)
+pattern-more t at (suc n) h =
+    let back : n ≡ suc n - 1 = omega arith in
+    ap (λ (j : ℕ). patternOfCell t (cellAt t (elementsAt + 8 * at)) ∷ patternFrom t (at + 1) j) back
+
+pattern-none : (t : List ℕ) (at n : ℕ) → n ≤ 0 → patternFrom t at n ≡ []
+unfolding patternFrom
+pattern-none t at zero h = refl
+pattern-none t at (suc n) h = absurd (not-suc-le-zero h)
+
+module _ (m : Memory) where
+  -- what a pattern comes to from the values so far and the elements that are left, with the notes so far
+  unfoldable pub valuesFrom : ℕ → List Valued → List Program.PatternElement → Work (List Valued)
+  valuesFrom notes us xs = noting notes (patternIn edition1 m xs >>= λ vs. quietly (us ++ vs))
+
+  values-begin : (xs : List Program.PatternElement) → patternIn edition1 m xs ≡ valuesFrom 0 [] xs
+  unfolding valuesFrom
+  values-begin xs = sym (noting-none (patternIn edition1 m xs >>= λ vs. quietly vs) ∙ quiet (patternIn edition1 m xs))
+
+  values-more : (notes more : ℕ) (us : List Valued) (v : Valued) (x : Program.PatternElement) (xs : List Program.PatternElement)
+      → valuedIn edition1 m x ≡ done v more → valuesFrom notes us (x ∷ xs) ≡ valuesFrom (notes + more) (us ++ (v ∷ [])) xs
+  unfolding valuesFrom patternIn _>>=_
+  values-more notes more us v x xs e =
+      let rest = patternIn edition1 m xs in
+      let front : (vs : List Valued) → Work (List Valued) = λ vs. quietly (us ++ vs) in
+      ap (λ w. noting notes ((w >>= λ u. rest >>= λ vs. quietly (u ∷ vs)) >>= front)) e
+      ∙ ap (noting notes) (bind-noting more (rest >>= λ vs. quietly (v ∷ vs)) front ∙ ap (noting more) (quiet-front us v rest))
+      ∙ noting-more notes more (rest >>= λ vs. quietly ((us ++ (v ∷ [])) ++ vs))
+
+  values-stop : (notes k : ℕ) (us : List Valued) (x : Program.PatternElement) (xs : List Program.PatternElement)
+      → valuedIn edition1 m x ≡ stop k → valuesFrom notes us (x ∷ xs) ≡ stop k
+  unfolding valuesFrom patternIn _>>=_ noting
+  values-stop notes k us x xs e =
+      ap (λ w. noting notes ((w >>= λ u. patternIn edition1 m xs >>= λ vs. quietly (u ∷ vs)) >>= λ vs. quietly (us ++ vs))) e
+
+  values-end : (notes : ℕ) (us : List Valued) → valuesFrom notes us [] ≡ done us notes
+  unfolding valuesFrom patternIn _>>=_ noting quietly
+  values-end notes us = ap (λ v. done v (notes + 0)) (append-nil us) ∙ ap (done us) (add-zero notes)
+
+  -- an element gives one note at most
+  pub few-valued : (x : Program.PatternElement) → Few 1 (valuedIn edition1 m x)
+  unfolding valuedIn fixedAt quietly
+  few-valued (value x) = few-bind 1 0 (elementIn edition1 m x) _ (few-element edition1 m x) (λ v. omega arith)
+  few-valued (freeFiller s) = omega arith
+  few-valued (fixedFiller s n) = cond-cases (Few 1) (isNegative (lengthIn m n)) (λ _. omega arith) (λ _. omega arith)
+
+-- the elements of a stretch hold, in a pattern of which this string is searched
+abbrev pub AllHold : (t : List ℕ) → (from count searched : ℕ) → Type 0
+AllHold t from count searched =
+    (k : ℕ) (x : PatternElement) → from ≤ k → k < from + count → PatternRead t (cellAt t (elementsAt + 8 * k)) x → PatternHolds searched x
+
+-- an element that holds is no filler with the name of the string searched
+holds-clear : (t : List ℕ) (searched : ℕ) → searched < 32 → (x : PatternElement) → PatternHolds searched x
+    → eqb searched (fillerOf (patternMeaning t x)) ≡ false
+holds-clear t searched known (Value x) h = ne-eqb searched 32 (λ e. omega arith)
+holds-clear t searched known (Free s) h = ne-eqb searched s (λ e. h .other (sym e))
+holds-clear t searched known (Fixed s n) h = ne-eqb searched s (λ e. h .0 .other (sym e))
+
+-- the values of the first i elements are known
+pub record Valuing (m : Memory) (t : List ℕ) (from count : ℕ) (values rows names scratch out : List ℕ) (notes i : ℕ) : Type 0 where
+  pub valued : List Valued
+  pub rows-are : Rowed (valuesOf values i) rows names i valued
+  pub buffers : Buffers values rows names scratch out
+  pub most : i ≤ count
+  pub few : notes ≤ i
+  pub same : patternIn edition1 m (patternFrom t from count) ≡ valuesFrom m notes valued (patternFrom t (from + i) (count - i))
+  pub clear : (searched : ℕ) → searched < 32 → AllHold t from count searched
+      → isFiller searched (patternFrom t from count) ≡ isFiller searched (patternFrom t (from + i) (count - i))
+
+pub valuing-begins : (m : Memory) (t : List ℕ) (from count : ℕ) (values rows names scratch out : List ℕ) → Buffers values rows names scratch out
+    → Valuing m t from count values rows names scratch out 0 0
+valuing-begins m t from count values rows names scratch out b =
+    let whole : count ≡ count - 0 = omega arith in
+    record {
+      valued = [];
+      rows-are = rowed-none values rows names;
+      buffers = b;
+      most = omega arith;
+      few = omega arith;
+      same =
+          values-begin m (patternFrom t from count)
+          ∙ ap₂ (λ (j k : ℕ). valuesFrom m 0 [] (patternFrom t j k)) (sym (add-zero from)) whole;
+      clear = λ searched _ _. ap₂ (λ (j k : ℕ). isFiller searched (patternFrom t j k)) (sym (add-zero from)) whole;
+    }
+
+module _ {m : Memory} {t : List ℕ} {from count : ℕ} {values rows names scratch out : List ℕ} {notes i : ℕ}
+    (v : Valuing m t from count values rows names scratch out notes i) where
+  pub valuing-ends : count ≤ i → AllPut t values rows names (record { from = from; count = count }) notes (patternIn edition1 m (patternFrom t from count))
+  unfolding isFiller
+  valuing-ends h =
+      let all : i ≡ count = omega (arith, v .most) in
+      record {
+        valued = v .valued;
+        work = v .same ∙ ap (valuesFrom m notes (v .valued)) (pattern-none t (from + i) (count - i) (omega arith)) ∙ values-end m notes (v .valued);
+        few = omega (arith, v .few);
+        rows-are = subst (λ (k : ℕ). Rowed values rows names k (v .valued)) all (rowed-all values rows names i (v .valued) (v .rows-are));
+        clear =
+            λ searched known p.
+            v .clear searched known (λ k x low high read. p .each k x (record { low = low; high = high }) read)
+            ∙ ap (isFiller searched) (pattern-none t (from + i) (count - i) (omega arith));
+      }
+
+  -- the element that is next
+  module _ (some : i < count) (few : count ≤ 20) (x : PatternElement) (read : PatternRead t (cellAt t (elementsAt + 8 * (from + i))) x) where
+    abbrev rest : List Program.PatternElement
+    rest = patternFrom t (from + (i + 1)) (count - (i + 1))
+
+    first : patternFrom t (from + i) (count - i) ≡ patternMeaning t x ∷ rest
+    first =
+        let next : from + i + 1 ≡ from + (i + 1) = omega arith in
+        let fewer : count - i - 1 ≡ count - (i + 1) = omega arith in
+        pattern-more t (from + i) (count - i) (omega arith)
+        ∙ ap₂ (λ (j k : ℕ). patternOfCell t (cellAt t (elementsAt + 8 * (from + i))) ∷ patternFrom t j k) next fewer
+        ∙ ap (λ (y : Program.PatternElement). y ∷ rest) (sym (read .means))
+
+    here : patternIn edition1 m (patternFrom t from count) ≡ valuesFrom m notes (v .valued) (patternMeaning t x ∷ rest)
+    here = v .same ∙ ap (valuesFrom m notes (v .valued)) first
+
+    cleared : (searched : ℕ) → searched < 32 → AllHold t from count searched
+        → isFiller searched (patternFrom t from count) ≡ isFiller searched rest
+    unfolding isFiller
+    cleared searched known h =
+        v .clear searched known h
+        ∙ ap (isFiller searched) first
+        ∙ ap (λ b. b || isFiller searched rest) (holds-clear t searched known x (h (from + i) x (omega arith) (omega arith) read))
+
+    module _ {r : Did} {left rowsLeft namesLeft scratchLeft outLeft : List ℕ}
+        (p : ElementPut r values left rows rowsLeft names namesLeft i scratchLeft outLeft (valuedIn edition1 m (patternMeaning t x))) where
+      abbrev PutAs : Did → Type 0
+      PutAs d = PutBy d values left rows rowsLeft names namesLeft i (valuedIn edition1 m (patternMeaning t x))
+
+      pub valuing-noted : {more : ℕ} → r ≡ did.Done more → more ≤ 1
+      valuing-noted e = few-done (few-valued m (patternMeaning t x)) (subst PutAs e (p .put) .work)
+
+      pub valuing-stops : {k : ℕ} → r ≡ did.Stops k → patternIn edition1 m (patternFrom t from count) ≡ stop k
+      valuing-stops {k} e = here ∙ values-stop m notes k (v .valued) (patternMeaning t x) rest (subst PutAs e (p .put))
+
+      pub valuing-more : {more : ℕ} → r ≡ did.Done more
+          → Valuing m t from count left rowsLeft namesLeft scratchLeft outLeft (notes + more) (i + 1)
+      valuing-more {more} e =
+          let q = subst PutAs e (p .put) in
+          record {
+            valued = v .valued ++ (q .valued ∷ []);
+            rows-are =
+                rowed-more values rows names i (v .valued) (v .rows-are) left rowsLeft namesLeft (q .valued) (q .row) (omega arith)
+                (p .buffers .strings) (v .buffers .lines) (q .place) (q .places) (v .buffers .places) (q .name);
+            buffers = p .buffers;
+            most = omega arith;
+            few = omega (arith, v .few, valuing-noted e);
+            same = here ∙ values-more m notes more (v .valued) (q .valued) (patternMeaning t x) rest (q .work);
+            clear = cleared;
+          }

@@ -1,0 +1,36 @@
+// The scan between a pattern's values and its replacement: the fillers made null, the scan, the pieces named.
+// Each contract is an equation with the definitions of the crate machine.
+ghost use Rattle.scanstep.specs.Searches.{Searchable, Searched};
+use rows::Stretch;
+use statements::fillers::name_fillers;
+use statements::fillers::null_fillers;
+
+// where an answer has the notes
+const NOTES_AT: usize = 3;
+
+// Whether the pattern of these rows fits the reference. The fillers are null, but for those that name a piece.
+pub fn find_split(
+    table: &[u8],
+    store: &mut [u8],
+    pattern: Stretch,
+    reference: &[u8],
+    values: &[u8],
+    rows: &[u8],
+    names: &[u8],
+    notes: u32,
+    answer: &mut [u32; 24],
+) -> bool
+    requires { ⌜ Searchable (now table) (now store) pattern (now reference) (now values) (now rows) (now names) ⌝ }
+    ensures { λ r. ⌜ Searched r (now (table .entry)) (now (store .entry)) (now (store .exit)) pattern (now (reference .entry)) (now (values .entry))
+        (now (rows .entry)) (now (names .entry)) (now (answer .exit)) notes ⌝ }
+{
+    let count = pattern.count;
+    null_fillers(table, store, pattern);
+    scan::scan_into(reference, values, rows, count, answer);
+    answer[NOTES_AT] = notes;
+    if answer[0] == 0 {
+        return false;
+    }
+    name_fillers(store, reference, names, answer, count);
+    true
+}

@@ -1,0 +1,149 @@
+// A pattern's values, left to right, as rows for the scan, with the places that the pieces are to name.
+// Each contract is an equation with the definitions of the crate machine.
+ghost use Rattle.base.specs.Edition.{edition1};
+ghost use Rattle.expressions.specs.Memory.{memoryIn};
+ghost use Rattle.machine.specs.Expressions.{elementIn};
+ghost use Rattle.machine.specs.Scanning.{patternIn, valuedIn};
+ghost use Rattle.rows.specs.Meaning.{elementMeaning, patternMeaning, patternsMeaning};
+ghost use Rattle.scanstep.specs.Patterns.{StringPutting, StringPut, ValuePutting, ValuePut, FixedPutting, FixedPut};
+ghost use Rattle.scanstep.specs.Patterns.{ElementPutting, ElementPut, PatternPutting, PatternPut};
+use convert::Int;
+use convert::Text;
+use rows::Element;
+use rows::PatternElement;
+use rows::Stretch;
+use statements::Did;
+
+// the longest string, and how many bytes of the values each row has
+const LONGEST: usize = 1024;
+
+// as the place that a piece is to name: none
+const NONE: u8 = 32;
+
+// the kinds of rows
+const STRING: u8 = 1;
+
+const FIXED: u8 = 2;
+
+const FREE: u8 = 3;
+
+// Row i is a string of n bytes, of which v has the first 1,024. One that is longer fits no reference, just as a fixed filler of its
+// length fits none.
+fn put_string(values: &mut [u8], rows: &mut [u8], i: usize, v: &[u8], n: usize)
+    requires { ⌜ StringPutting (now values) (now rows) i (now v) n ⌝ }
+    ensures { λ _. ⌜ StringPut (now (values .entry)) (now (values .exit)) (now (rows .entry)) (now (rows .exit)) i (now (v .entry)) n ⌝ }
+{
+    if LONGEST < n {
+        pattern::put_row(rows, i, FIXED, n, 0);
+        return;
+    }
+    let at = LONGEST * i;
+    cells::spans::write(values, at, &v[..n]);
+    pattern::put_row(rows, i, STRING, at, at + n);
+}
+
+// Row i is the value of an element of a string expression.
+fn put_value(
+    table: &[u8],
+    store: &[u8],
+    state: &[u64; 64],
+    x: Element,
+    i: usize,
+    values: &mut [u8],
+    rows: &mut [u8],
+    scratch: &mut [u8; LONGEST],
+    out: &mut [u8; LONGEST],
+) -> Did
+    requires { ⌜ ValuePutting (now table) (now store) (now state) x i (now values) (now rows) (now scratch) (now out) ⌝ }
+    ensures { λ r. ⌜ ValuePut r (now (values .entry)) (now (values .exit)) (now (rows .entry)) (now (rows .exit)) i (now (scratch .exit)) (now (out .exit))
+        (elementIn edition1 (memoryIn (now (store .entry)) (now (state .entry))) (elementMeaning (now (table .entry)) x)) ⌝ }
+{
+    match expressions::append_element(table, store, state, x, scratch, out, 0) {
+        Text::Is { length, notes } => {
+            put_string(values, rows, i, out, length);
+            Did::Done(notes)
+        }
+        Text::Stops(k) => Did::Stops(k),
+    }
+}
+
+// Row i is a fixed filler of length z, or a null string that names nothing if z is negative. Gives the notes.
+fn put_fixed(z: Int, s: usize, i: usize, rows: &mut [u8], names: &mut [u8]) -> u32
+    requires { ⌜ FixedPutting z s i (now rows) (now names) ⌝ }
+    ensures { λ r. ⌜ FixedPut z s i (now (rows .entry)) (now (rows .exit)) (now (names .entry)) (now (names .exit)) r ⌝ }
+{
+    if convert::is_negative(z) {
+        names[i] = NONE;
+        pattern::put_row(rows, i, STRING, 0, 0);
+        return 1;
+    }
+    names[i] = s as u8;
+    pattern::put_row(rows, i, FIXED, convert::size(z) as usize, 0);
+    0
+}
+
+// Row i is an element of a pattern of which this string is searched.
+fn put_element(
+    table: &[u8],
+    store: &[u8],
+    state: &[u64; 64],
+    x: PatternElement,
+    i: usize,
+    values: &mut [u8],
+    rows: &mut [u8],
+    names: &mut [u8],
+    scratch: &mut [u8; LONGEST],
+    out: &mut [u8; LONGEST],
+) -> Did
+    requires { ⌜ ElementPutting (now table) (now store) (now state) x i (now values) (now rows) (now names) (now scratch) (now out) ⌝ }
+    ensures { λ r. ⌜ ElementPut r (now (values .entry)) (now (values .exit)) (now (rows .entry)) (now (rows .exit)) (now (names .entry)) (now (names .exit)) i
+        (now (scratch .exit)) (now (out .exit))
+        (valuedIn edition1 (memoryIn (now (store .entry)) (now (state .entry))) (patternMeaning (now (table .entry)) x)) ⌝ }
+{
+    match x {
+        PatternElement::Value(e) => {
+            names[i] = NONE;
+            put_value(table, store, state, e, i, values, rows, scratch, out)
+        }
+        PatternElement::Free(s) => {
+            names[i] = s as u8;
+            pattern::put_row(rows, i, FREE, 0, 0);
+            Did::Done(0)
+        }
+        PatternElement::Fixed(s, n) => {
+            let z = expressions::length_value(state, n);
+            Did::Done(put_fixed(z, s, i, rows, names))
+        }
+    }
+}
+
+// The rows of a pattern, and the places that its pieces are to name.
+pub fn pattern_rows(
+    table: &[u8],
+    store: &[u8],
+    state: &[u64; 64],
+    pattern: Stretch,
+    values: &mut [u8],
+    rows: &mut [u8],
+    names: &mut [u8],
+    scratch: &mut [u8; LONGEST],
+    out: &mut [u8; LONGEST],
+) -> Did
+    requires { ⌜ PatternPutting (now table) (now store) (now state) pattern (now values) (now rows) (now names) (now scratch) (now out) ⌝ }
+    ensures { λ r. ⌜ PatternPut r (now (table .entry)) (now (values .exit)) (now (rows .exit)) (now (names .exit)) (now (scratch .exit)) (now (out .exit)) pattern
+        (patternIn edition1 (memoryIn (now (store .entry)) (now (state .entry))) (patternsMeaning (now (table .entry)) pattern)) ⌝ }
+{
+    let from = pattern.from;
+    let count = pattern.count;
+    let mut notes: u32 = 0;
+    let mut i: usize = 0;
+    while i < count {
+        let x = rows::pattern_at(table, from + i);
+        match put_element(table, store, state, x, i, values, rows, names, scratch, out) {
+            Did::Done(more) => notes += more,
+            Did::Stops(k) => return Did::Stops(k),
+        }
+        i += 1;
+    }
+    Did::Done(notes)
+}

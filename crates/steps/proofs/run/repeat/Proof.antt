@@ -1,0 +1,196 @@
+-- `run::repeat` meets its contract. The loop's invariant: the run is the steps made with their notes, and the run of those that are left on
+-- the buffers as they are, which may be given to a step; the buffers for its work can be lent. The measure is how many are left.
+-- Assumes nothing.
+use mathlib.Core.List.{[], _∷_}
+use mathlib.Core.Path.{_≡_, refl, sym, _∙_, ap, subst}
+use Prim.Native.Nat.{ℕ, _+_, _-_}
+use native.Mathlib.Omega.{arith}
+use lib.ListN as lists
+use borrow.Author.Needs.{needs}
+use Rattle.carry.specs.Carrying.{lent}
+use Rattle.scanstep.specs.Scans.{Lent}
+use Rattle.steps.specs.Laws.{zeros-lent}
+use Rattle.steps.specs.RunLaws.{Repeats, ended-as, repeats-none, repeats-stopped, repeats-refused, repeats-finished, repeats-more, repeats-spent}
+use Rattle.steps.proofs.run.repeat.Statement.{statement}
+use Rattle.steps.proofs.run.repeat.Tie as tie
+
+abbrev Inv-loop : tie.InvT-loop
+Inv-loop table store₀ state₀ input output₀ count result₀ kept₀ values₀ rows₀ names₀ reference₀ scratch₀ out₀ answer₀ done₀ notes₀ store state output result kept values rows names reference scratch out answer done notes =
+    Repeats table input (lent store₀ state₀ output₀) count done notes (lent store state output)
+    × (lists.length store ≡ lists.length store₀)
+    × (lists.length output ≡ lists.length output₀)
+    × Lent kept values rows names reference scratch out
+    × (lists.length kept ≡ 32832)
+
+abbrev μ-loop : tie.MeasureT-loop
+μ-loop table store₀ state₀ input output₀ count result₀ kept₀ values₀ rows₀ names₀ reference₀ scratch₀ out₀ answer₀ done₀ notes₀ store state output result kept values rows names reference scratch out answer done notes =
+    count - done
+
+loop-holds : tie.Need-loop-holds Inv-loop μ-loop
+loop-holds c =
+    let a = c .before .before .before .before .args in
+    let g = c .before .before .before .before .pre in
+    (repeats-none (a .table .now) (a .input .now) (lent (a .store .now) (a .state .now) (a .output .now)) (a .count) g, refl, refl, zeros-lent, lists.length-replicate {A = ℕ} 32832 0)
+
+slice-aggregate-step-on : tie.Need-slice-aggregate-step-on Inv-loop μ-loop
+slice-aggregate-step-on c = sym (c .before .before .before .before .before .loop .inv .4)
+
+slice-aggregate-step-on-2 : tie.Need-slice-aggregate-step-on-2 Inv-loop μ-loop
+slice-aggregate-step-on-2 c = sym (c .before .before .before .before .before .before .loop .inv .3 .twenty-strings)
+
+slice-aggregate-step-on-3 : tie.Need-slice-aggregate-step-on-3 Inv-loop μ-loop
+slice-aggregate-step-on-3 c = sym (c .before .before .before .before .before .before .before .loop .inv .3 .twenty-rows)
+
+slice-aggregate-step-on-4 : tie.Need-slice-aggregate-step-on-4 Inv-loop μ-loop
+slice-aggregate-step-on-4 c = sym (c .before .before .before .before .before .before .before .before .loop .inv .3 .twenty-places)
+
+step-on-requires : tie.Need-step-on-requires Inv-loop μ-loop
+step-on-requires c κs = (c .before .before .before .before .before .before .before .before .before .before .before .before .loop .inv .0 .given, c .before .before .before .before .before .before .before .before .before .before .before .before .loop .inv .3)
+
+notes-of-requires : tie.Need-notes-of-requires Inv-loop μ-loop
+notes-of-requires c κs = search needs
+
+cast-more : tie.Need-cast-more Inv-loop μ-loop
+cast-more c = omega (arith, c .notes-of .ok)
+
+add-more : tie.Need-add-more Inv-loop μ-loop
+add-more c = omega (arith, c .before .before .before .before .before .before .before .before .before .before .before .before .before .before .before .before .before .before .before .before .before .before .before .loop .inv .0 .few, c .before .before .before .before .before .before .before .before .before .before .before .before .before .before .before .before .before .before .before .before .before .before .before .loop .inv .0 .most, c .before .before .before .before .before .before .before .before .before .before .before .before .before .before .before .before .before .before .before .before .before .before .loop-test .taken, c .notes-of .ok, c .before .before .before .before .before .before .before .before .before .before .before .before .before .before .before .before .before .before .before .before .before .before .before .before .before .before .before .before .fits .count)
+
+add-end : tie.Need-add-end Inv-loop μ-loop
+add-end c = omega (arith, c .before .before .before .before .before .before .before .before .before .before .before .before .before .before .before .before .before .before .before .before .before .before .before .before .loop-test .taken, c .before .before .before .before .before .before .before .before .before .before .before .before .before .before .before .before .before .before .before .before .before .before .before .before .before .before .before .before .before .before .fits .count)
+
+end-requires : tie.Need-end-requires Inv-loop μ-loop
+end-requires c κs = search needs
+
+same-length : tie.Need-same-length Inv-loop μ-loop
+same-length c = c .before .before .before .before .before .before .before .before .before .before .before .before .before .step-on .kept .1 .0 ∙ c .before .before .before .before .before .before .before .before .before .before .before .before .before .before .before .before .before .before .before .before .before .before .before .before .before .before .loop .inv .1
+
+same-length-2 : tie.Need-same-length-2 Inv-loop μ-loop
+same-length-2 c = c .before .before .before .before .before .before .before .before .before .before .before .before .before .step-on .kept .1 .1 .1 .1 .0 ∙ c .before .before .before .before .before .before .before .before .before .before .before .before .before .before .before .before .before .before .before .before .before .before .before .before .before .before .loop .inv .2
+
+returns : tie.Need-returns Inv-loop μ-loop
+returns c =
+    let a = c .before .before .before .before .before .before .before .before .before .before .before .before .before .before .before .before .before .before .before .before .before .before .before .before .before .before .before .before .before .before .before .args in
+    let s = c .before .before .before .before .before .before .before .before .before .before .before .before .before .step-on in
+    let at = c .before .before .before .before .before .before .before .before .before .before .before .before .before .before .before .before .before .before .before .before .before .before .before .before .before .before .loop in
+    ended-as (ap (λ (n : ℕ). 1 ∷ (s .result ∷ ((at .done + 1) ∷ ((at .notes + n) ∷ [])))) (c .before .before .before .notes-of .ensures)) (c .end .ensures)
+    (repeats-stopped (a .table .now) (a .input .now) (lent (a .store .now) (a .state .now) (a .output .now)) (a .count) (at .done) (at .notes)
+    (lent (at .store) (at .state) (at .output)) (at .inv .0) (s .result) _ _ (s .ensures .0) (c .before .before .before .before .before .before .before .before .before .before .before .before .before .before .before .before .before .before .before .before .before .before .before .before .before .loop-test .taken) (c .before .before .if1 .taken))
+
+end-requires-2 : tie.Need-end-requires-2 Inv-loop μ-loop
+end-requires-2 c κs = search needs
+
+same-length-3 : tie.Need-same-length-3 Inv-loop μ-loop
+same-length-3 c = c .before .before .before .before .before .before .before .before .before .before .before .before .before .before .step-on .kept .1 .0 ∙ c .before .before .before .before .before .before .before .before .before .before .before .before .before .before .before .before .before .before .before .before .before .before .before .before .before .before .before .loop .inv .1
+
+same-length-4 : tie.Need-same-length-4 Inv-loop μ-loop
+same-length-4 c = c .before .before .before .before .before .before .before .before .before .before .before .before .before .before .step-on .kept .1 .1 .1 .1 .0 ∙ c .before .before .before .before .before .before .before .before .before .before .before .before .before .before .before .before .before .before .before .before .before .before .before .before .before .before .before .loop .inv .2
+
+returns-2 : tie.Need-returns-2 Inv-loop μ-loop
+returns-2 c =
+    let a = c .before .before .before .before .before .before .before .before .before .before .before .before .before .before .before .before .before .before .before .before .before .before .before .before .before .before .before .before .before .before .before .before .args in
+    let s = c .before .before .before .before .before .before .before .before .before .before .before .before .before .before .step-on in
+    let at = c .before .before .before .before .before .before .before .before .before .before .before .before .before .before .before .before .before .before .before .before .before .before .before .before .before .before .before .loop in
+    ended-as refl (c .end2 .ensures)
+    (repeats-refused (a .table .now) (a .input .now) (lent (a .store .now) (a .state .now) (a .output .now)) (a .count) (at .done) (at .notes)
+    (lent (at .store) (at .state) (at .output)) (at .inv .0) (s .result) _ _ (s .ensures .0) (c .before .before .before .before .before .before .before .before .before .before .before .before .before .before .before .before .before .before .before .before .before .before .before .before .before .before .loop-test .taken) (c .before .before .before .if1 .left) (c .before .before .if2 .taken))
+
+add-done : tie.Need-add-done Inv-loop μ-loop
+add-done c = omega (arith, c .before .before .before .before .before .before .before .before .before .before .before .before .before .before .before .before .before .before .before .before .before .before .before .before .loop-test .taken, c .before .before .before .before .before .before .before .before .before .before .before .before .before .before .before .before .before .before .before .before .before .before .before .before .before .before .before .before .before .before .fits .count)
+
+is-finished-requires : tie.Need-is-finished-requires Inv-loop μ-loop
+is-finished-requires c κs = search needs
+
+end-requires-3 : tie.Need-end-requires-3 Inv-loop μ-loop
+end-requires-3 c κs = search needs
+
+same-length-5 : tie.Need-same-length-5 Inv-loop μ-loop
+same-length-5 c = c .before .before .before .before .before .before .before .before .before .before .before .before .before .before .before .before .before .step-on .kept .1 .0 ∙ c .before .before .before .before .before .before .before .before .before .before .before .before .before .before .before .before .before .before .before .before .before .before .before .before .before .before .before .before .before .before .loop .inv .1
+
+same-length-6 : tie.Need-same-length-6 Inv-loop μ-loop
+same-length-6 c = c .before .before .before .before .before .before .before .before .before .before .before .before .before .before .before .before .before .step-on .kept .1 .1 .1 .1 .0 ∙ c .before .before .before .before .before .before .before .before .before .before .before .before .before .before .before .before .before .before .before .before .before .before .before .before .before .before .before .before .before .before .loop .inv .2
+
+returns-3 : tie.Need-returns-3 Inv-loop μ-loop
+returns-3 c =
+    let a = c .before .before .before .before .before .before .before .before .before .before .before .before .before .before .before .before .before .before .before .before .before .before .before .before .before .before .before .before .before .before .before .before .before .before .before .args in
+    let s = c .before .before .before .before .before .before .before .before .before .before .before .before .before .before .before .before .before .step-on in
+    let at = c .before .before .before .before .before .before .before .before .before .before .before .before .before .before .before .before .before .before .before .before .before .before .before .before .before .before .before .before .before .before .loop in
+    ended-as (ap (λ (n : ℕ). 0 ∷ (0 ∷ ((at .done + 1) ∷ ((at .notes + n) ∷ [])))) (c .before .before .before .before .before .before .before .notes-of .ensures)) (c .end3 .ensures)
+    (repeats-finished (a .table .now) (a .input .now) (lent (a .store .now) (a .state .now) (a .output .now)) (a .count) (at .done) (at .notes)
+    (lent (at .store) (at .state) (at .output)) (at .inv .0) (s .result) _ _ (s .ensures .0) (c .before .before .before .before .before .before .before .before .before .before .before .before .before .before .before .before .before .before .before .before .before .before .before .before .before .before .before .before .before .loop-test .taken) (c .before .before .before .before .before .if2 .left)
+    (sym (c .before .before .before .is-finished .ensures) ∙ c .before .before .if3 .taken))
+
+loop-less : tie.Need-loop-less Inv-loop μ-loop
+loop-less c = omega (arith, c .before .before .before .before .before .before .before .before .before .before .before .before .before .before .before .before .before .before .before .before .before .before .before .before .before .before .before .loop-test .taken)
+
+loop-again : tie.Need-loop-again Inv-loop μ-loop
+loop-again c =
+    let a = c .before .before .before .before .before .before .before .before .before .before .before .before .before .before .before .before .before .before .before .before .before .before .before .before .before .before .before .before .before .before .before .before .before .args in
+    let s = c .before .before .before .before .before .before .before .before .before .before .before .before .before .before .before .step-on in
+    let at = c .before .before .before .before .before .before .before .before .before .before .before .before .before .before .before .before .before .before .before .before .before .before .before .before .before .before .before .before .loop in
+    let b = lent (a .store .now) (a .state .now) (a .output .now) in
+    let left = lent (s .last .1 .0) (s .last .1 .1 .0) (s .last .1 .1 .1 .1 .0) in
+    let notes = c .before .before .before .before .before .notes-of in (
+      subst (λ (n : ℕ). Repeats (a .table .now) (a .input .now) b (a .count) (at .done + 1) (at .notes + n) left) (sym (notes .ensures))
+          (repeats-more (a .table .now) (a .input .now) b (a .count) (at .done) (at .notes) (lent (at .store) (at .state) (at .output)) (at .inv .0)
+          (s .result) _ left (s .ensures .0) (c .before .before .before .before .before .before .before .before .before .before .before .before .before .before .before .before .before .before .before .before .before .before .before .before .before .before .before .loop-test .taken) (c .before .before .before .if2 .left) (sym (c .before .is-finished .ensures) ∙ c .if3 .left)
+          (omega (arith, notes .ok, notes .ensures))),
+      s .kept .1 .0 ∙ at .inv .1,
+      s .kept .1 .1 .1 .1 .0 ∙ at .inv .2,
+      s .ensures .1,
+      s .kept .1 .1 .1 .1 .1 .0 ∙ at .inv .4,
+    )
+
+end-requires-4 : tie.Need-end-requires-4 Inv-loop μ-loop
+end-requires-4 c κs = search needs
+
+same-length-7 : tie.Need-same-length-7 Inv-loop μ-loop
+same-length-7 c = c .before .before .before .loop .inv .1
+
+same-length-8 : tie.Need-same-length-8 Inv-loop μ-loop
+same-length-8 c = c .before .before .before .loop .inv .2
+
+returns-4 : tie.Need-returns-4 Inv-loop μ-loop
+returns-4 c =
+    let a = c .before .before .before .before .before .before .before .before .args in
+    let at = c .before .before .before .loop in
+    ended-as refl (c .end4 .ensures)
+    (repeats-spent (a .table .now) (a .input .now) (lent (a .store .now) (a .state .now) (a .output .now)) (a .count) (at .done) (at .notes)
+    (lent (at .store) (at .state) (at .output)) (at .inv .0) (c .before .before .loop-test .left))
+
+pub repeat-spec : {M : Type 1} → statement M
+repeat-spec =
+    tie.close
+    (tie.spec
+    Inv-loop
+    μ-loop
+    loop-holds
+    slice-aggregate-step-on
+    slice-aggregate-step-on-2
+    slice-aggregate-step-on-3
+    slice-aggregate-step-on-4
+    step-on-requires
+    notes-of-requires
+    cast-more
+    add-more
+    add-end
+    end-requires
+    same-length
+    same-length-2
+    returns
+    end-requires-2
+    same-length-3
+    same-length-4
+    returns-2
+    add-done
+    is-finished-requires
+    end-requires-3
+    same-length-5
+    same-length-6
+    returns-3
+    loop-less
+    loop-again
+    end-requires-4
+    same-length-7
+    same-length-8
+    returns-4)

@@ -1,0 +1,70 @@
+-- `run::strigol_run` meets its contract: no step asked for, buffers that are unfit, or a run on buffers that aren't. Assumes nothing.
+use mathlib.Core.Path.{_≡_, refl, _∙_}
+use Prim.Native.Nat.{_<_}
+use native.Mathlib.Omega.{arith}
+use lib.ListN.{replicate}
+use borrow.Author.Needs.{needs}
+use Rattle.carry.specs.Carrying.{lent}
+use Rattle.steps.specs.Laws.{unfit-answers, fit-given}
+use Rattle.steps.specs.RunLaws.{ended-as, run-none, unfit-run}
+use Rattle.steps.proofs.run.strigol_run.Statement.{statement}
+use Rattle.steps.proofs.run.strigol_run.Tie as tie
+
+end-requires : tie.Need-end-requires
+end-requires c κs = search needs
+
+returns : tie.Need-returns
+returns c =
+    let a = c .before .before .before .before .before .before .before .args in
+    let none : a .count ≡ 0 = omega (arith, c .before .before .if1 .taken) in
+    ended-as refl (c .end .ensures)
+    (run-none (a .table .now) (a .input .now) (lent (a .store .now) (a .state .now) (a .output .now)) (a .count) none)
+
+unfit-requires : tie.Need-unfit-requires
+unfit-requires c κs = search needs
+
+end-requires-2 : tie.Need-end-requires-2
+end-requires-2 c κs = search needs
+
+same-length : tie.Need-same-length
+same-length c = search needs
+
+returns-2 : tie.Need-returns-2
+returns-2 c =
+    let a = c .before .before .before .before .before .before .before .before .before .before .before .args in
+    let b = lent (a .store .now) (a .state .now) (a .output .now) in
+    let n = c .before .before .before .unfit .result in
+    let some : 0 < a .count = omega (arith, c .before .before .before .before .before .before .if1 .left) in
+    ended-as refl (c .end2 .ensures)
+    (unfit-run (a .table .now) (a .input .now) b n (c .before .before .before .unfit .ensures .0) (c .before .before .if2 .taken)
+    (unfit-answers (a .table .now) (a .input .now) b n (c .before .before .before .unfit .ensures .0) (c .before .before .if2 .taken) n (replicate 24 0) refl refl) (a .count) some)
+
+repeat-requires : tie.Need-repeat-requires
+repeat-requires c κs =
+    let a = c .before .before .before .before .before .before .before .before .before .before .before .before .before .args in
+    let none : 0 ≡ c .before .before .before .before .before .unfit .result = omega (arith, c .before .before .before .before .if2 .left) in
+    fit-given (a .table .now) (a .input .now) (lent (a .store .now) (a .state .now) (a .output .now)) (none ∙ c .before .before .before .before .before .unfit .ensures .0) (c .before .before .before .before .before .unfit .ensures .1)
+
+same-length-2 : tie.Need-same-length-2
+same-length-2 c = search needs
+
+same-length-3 : tie.Need-same-length-3
+same-length-3 c = search needs
+
+returns-3 : tie.Need-returns-3
+returns-3 c = c .before .before .before .before .repeat .ensures
+
+pub strigol-run-spec : {M : Type 1} → statement M
+strigol-run-spec =
+    tie.close
+    (tie.spec
+    end-requires
+    returns
+    unfit-requires
+    end-requires-2
+    same-length
+    returns-2
+    repeat-requires
+    same-length-2
+    same-length-3
+    returns-3)

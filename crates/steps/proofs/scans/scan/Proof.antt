@@ -1,0 +1,158 @@
+-- `scans::scan` meets its contract: a split goes to success, none to failure. Assumes nothing.
+use mathlib.Core.Path.{sym, ap, subst}
+use borrow.Author.Needs.{needs}
+use Rattle.carry.specs.Carrying.{lent}
+use Rattle.machine.specs.Step.{scannedTo}
+use Rattle.rows.specs.Meaning.{branchMeaning}
+use Rattle.scanstep.specs.Scans.{Scans, scanningOf}
+use Rattle.steps.specs.Laws.{scan-works, scan-stops}
+use Rattle.steps.proofs.scans.scan.Statement.{statement}
+use Rattle.steps.proofs.scans.scan.Tie as tie
+
+scan-step-requires : tie.Need-scan-step-requires
+scan-step-requires c κs = c .before .before .before .before .before .before .before .before .before .before .before .before .before .before .before .before .before .pre
+
+enum-known-notes : tie.Need-enum-known-notes
+enum-known-notes c = search needs
+
+go-to-requires : tie.Need-go-to-requires
+go-to-requires c κs = search needs
+
+enum-known-notes-2 : tie.Need-enum-known-notes-2
+enum-known-notes-2 c = search needs
+
+go-to-requires-2 : tie.Need-go-to-requires-2
+go-to-requires-2 c κs = search needs
+
+enum-known-k : tie.Need-enum-known-k
+enum-known-k c = search needs
+
+same-length : tie.Need-same-length
+same-length c = search needs
+
+same-length-2 : tie.Need-same-length-2
+same-length-2 c = search needs
+
+same-length-3 : tie.Need-same-length-3
+same-length-3 c = search needs
+
+same-length-4 : tie.Need-same-length-4
+same-length-4 c = search needs
+
+same-length-5 : tie.Need-same-length-5
+same-length-5 c = search needs
+
+returns : tie.Need-returns
+unfolding scannedTo
+returns c =
+    let a = c .before .before .before .before .before .before .before .before .before .before .before .before .before .before .before .before .before .before .before .before .before .before .before .before .before .before .before .before .before .before .before .before .before .args in
+    let called = c .before .before .before .before .before .before .before .before .before .before .before .before .before .before .before .scan-step in
+    let store = called .last .1 .0 in
+    let answer = called .last .1 .1 .1 .1 .1 .1 .1 .1 .1 .1 .1 .0 in
+    let found = subst (λ r. Scans r (a .store .now) store (a .state .now) answer (scanningOf (a .table .now) (a .store .now) (a .state .now) (a .s)))
+    (c .before .before .before .notes .given .1) (called .ensures .0 .scans) in
+    let to = sym (ap (λ x. scannedTo x (branchMeaning (a .s .branch))) (found .found)) in (
+      λ input output p stands.
+          rw (c .go-to .ensures)
+          (record {
+            works =
+                scan-works p input (lent (a .store .now) (a .state .now) output) stands (a .table .now) (a .s) store answer (c .before .before .before .notes .given .0 .0)
+                (a .s .branch .success) (found .ended) to;
+          }),
+      called .ensures .1,
+    )
+
+same-length-6 : tie.Need-same-length-6
+same-length-6 c = search needs
+
+same-length-7 : tie.Need-same-length-7
+same-length-7 c = search needs
+
+same-length-8 : tie.Need-same-length-8
+same-length-8 c = search needs
+
+same-length-9 : tie.Need-same-length-9
+same-length-9 c = search needs
+
+same-length-10 : tie.Need-same-length-10
+same-length-10 c = search needs
+
+returns-2 : tie.Need-returns-2
+unfolding scannedTo
+returns-2 c =
+    let a = c .before .before .before .before .before .before .before .before .before .before .before .before .before .before .before .before .before .before .before .before .before .before .before .before .before .before .before .before .before .before .before .before .before .args in
+    let called = c .before .before .before .before .before .before .before .before .before .before .before .before .before .before .before .scan-step in
+    let store = called .last .1 .0 in
+    let answer = called .last .1 .1 .1 .1 .1 .1 .1 .1 .1 .1 .1 .0 in
+    let missed = subst (λ r. Scans r (a .store .now) store (a .state .now) answer (scanningOf (a .table .now) (a .store .now) (a .state .now) (a .s)))
+    (c .before .before .before .notes2 .given .1) (called .ensures .0 .scans) in
+    let to = sym (ap (λ x. scannedTo x (branchMeaning (a .s .branch))) (missed .failed)) in (
+      λ input output p stands.
+          rw (c .go-to2 .ensures)
+          (record {
+            works =
+                scan-works p input (lent (a .store .now) (a .state .now) output) stands (a .table .now) (a .s) store answer (c .before .before .before .notes2 .given .0 .0)
+                (a .s .branch .failure) (missed .ended) to;
+          }),
+      called .ensures .1,
+    )
+
+same-length-11 : tie.Need-same-length-11
+same-length-11 c = search needs
+
+same-length-12 : tie.Need-same-length-12
+same-length-12 c = search needs
+
+same-length-13 : tie.Need-same-length-13
+same-length-13 c = search needs
+
+same-length-14 : tie.Need-same-length-14
+same-length-14 c = search needs
+
+same-length-15 : tie.Need-same-length-15
+same-length-15 c = search needs
+
+returns-3 : tie.Need-returns-3
+returns-3 c =
+    let a = c .before .before .before .before .before .before .before .before .before .before .before .before .before .before .before .before .before .before .before .before .before .before .before .before .before .before .before .before .before .before .before .args in
+    let called = c .before .before .before .before .before .before .before .before .before .before .before .before .before .scan-step in
+    let store = called .last .1 .0 in
+    let answer = called .last .1 .1 .1 .1 .1 .1 .1 .1 .1 .1 .1 .0 in
+    let halted = subst (λ r. Scans r (a .store .now) store (a .state .now) answer (scanningOf (a .table .now) (a .store .now) (a .state .now) (a .s)))
+    (c .before .k .given .1) (called .ensures .0 .scans) in
+    let k = c .before .k .given .0 .0 in (
+      λ input output p stands.
+          record {
+            works = scan-stops input (lent (a .store .now) (a .state .now) output) (a .table .now) (a .s) store k (halted .0) (halted .1);
+          },
+      called .ensures .1,
+    )
+
+pub scan-spec : {M : Type 1} → statement M
+scan-spec =
+    tie.close
+    (tie.spec
+    scan-step-requires
+    enum-known-notes
+    go-to-requires
+    enum-known-notes-2
+    go-to-requires-2
+    enum-known-k
+    same-length
+    same-length-2
+    same-length-3
+    same-length-4
+    same-length-5
+    returns
+    same-length-6
+    same-length-7
+    same-length-8
+    same-length-9
+    same-length-10
+    returns-2
+    same-length-11
+    same-length-12
+    same-length-13
+    same-length-14
+    same-length-15
+    returns-3)

@@ -1,0 +1,146 @@
+-- `step_on` meets its contract: the machine itself turns the step down by 15 or 16, or its statement is carried out. Assumes nothing.
+use mathlib.Core.List.{reverse}
+use mathlib.Core.Path.{sym, ap, subst, _∙_}
+use Prim.Native.Nat.{ℕ, _+_, _*_}
+use native.Mathlib.Omega.{arith}
+use lib.ListN.{getD}
+use borrow.Author.Needs.{needs}
+use borrow.Author.Tests.{eqb-true, not-false, not-true}
+use Rattle.calls.specs.Buffers.{returnsIn}
+use Rattle.calls.specs.Table.{stepsAt}
+use Rattle.calls.specs.TableReading.{rowAt}
+use Rattle.carry.specs.Carrying.{lent}
+use Rattle.rows.specs.Kept.{kept-statement}
+use Rattle.rows.specs.Reading.{StatementRead}
+use Rattle.states.specs.Laws.{running-number}
+use Rattle.steps.specs.Laws.{next-inside, returns-counted, lacking-answers, ended-answers, carried-called, enough-returns}
+use Rattle.steps.proofs.step_on.Statement.{statement}
+use Rattle.steps.proofs.step_on.Tie as tie
+
+next-step-requires : tie.Need-next-step-requires
+next-step-requires c κs = search needs
+
+statement-at-requires : tie.Need-statement-at-requires
+statement-at-requires c κs =
+    let a = c .before .before .before .before .before .before .before .before .before .before .args in
+    let g = c .before .before .before .before .before .before .before .before .before .before .pre .0 in
+    let inside = next-inside (a .table .now) (a .input .now) (lent (a .store .now) (a .state .now) (a .output .now)) g in
+    (g .bytes, omega (arith, inside .0, inside .1, c .next-step .ensures))
+
+returns-held-requires : tie.Need-returns-held-requires
+returns-held-requires c κs = search needs
+
+lacks-return-requires : tie.Need-lacks-return-requires
+lacks-return-requires c κs = search needs
+
+turn-down-requires : tie.Need-turn-down-requires
+turn-down-requires c κs = search needs
+
+returns : tie.Need-returns
+returns c =
+    let a = c .before .before .before .before .before .before .before .before .before .before .before .before .before .before .before .before .before .args in
+    let g = c .before .before .before .before .before .before .before .before .before .before .before .before .before .before .before .before .before .pre .0 in
+    let b = lent (a .store .now) (a .state .now) (a .output .now) in
+    let x = c .before .before .before .before .before .before .statement-at .result in
+    let read = subst (λ (k : ℕ). StatementRead (a .table .now) (rowAt (a .table .now) (stepsAt + 24 * k)) x) (c .before .before .before .before .before .before .before .next-step .ensures) (c .before .before .before .before .before .before .statement-at .ensures) in
+    let counted = returns-counted (a .table .now) (a .input .now) b g ∙ sym (c .before .before .before .before .returns-held .ensures) in
+    let lacks = sym (c .before .before .before .lacks-return .ensures (a .table .now) (reverse (returnsIn (a .state .now))) counted) ∙ c .before .before .if1 .taken in
+    (lacking-answers (a .table .now) (a .input .now) b g x read lacks _ _ (c .turn-down .ensures .0) (c .turn-down .ensures .1), c .before .before .before .before .before .before .before .before .before .before .before .before .before .before .before .before .before .pre .1)
+
+is-running-requires : tie.Need-is-running-requires
+is-running-requires c κs = search needs
+
+turn-down-requires-2 : tie.Need-turn-down-requires-2
+turn-down-requires-2 c κs = search needs
+
+returns-2 : tie.Need-returns-2
+returns-2 c =
+    let a = c .before .before .before .before .before .before .before .before .before .before .before .before .before .before .before .before .before .before .before .before .args in
+    let g = c .before .before .before .before .before .before .before .before .before .before .before .before .before .before .before .before .before .before .before .before .pre .0 in
+    let b = lent (a .store .now) (a .state .now) (a .output .now) in
+    let x = c .before .before .before .before .before .before .before .before .before .statement-at .result in
+    let read = subst (λ (k : ℕ). StatementRead (a .table .now) (rowAt (a .table .now) (stepsAt + 24 * k)) x) (c .before .before .before .before .before .before .before .before .before .before .next-step .ensures) (c .before .before .before .before .before .before .before .before .before .statement-at .ensures) in
+    let counted = returns-counted (a .table .now) (a .input .now) b g ∙ sym (c .before .before .before .before .before .before .before .returns-held .ensures) in
+    let lacks = sym (c .before .before .before .before .before .before .lacks-return .ensures (a .table .now) (reverse (returnsIn (a .state .now))) counted) ∙ c .before .before .before .before .before .if1 .left in
+    let ended = sym (c .before .before .before .is-running .ensures) ∙ not-true _ (c .before .before .if2 .taken) in
+    (ended-answers (a .table .now) (a .input .now) b g x read lacks ended _ _ (c .turn-down2 .ensures .0) (c .turn-down2 .ensures .1), c .before .before .before .before .before .before .before .before .before .before .before .before .before .before .before .before .before .before .before .before .pre .1)
+
+add-go-on : tie.Need-add-go-on
+add-go-on c =
+    let a = c .before .before .before .before .before .before .before .before .before .before .before .before .before .before .before .before .before .before .before .before .before .args in
+    let g = c .before .before .before .before .before .before .before .before .before .before .before .before .before .before .before .before .before .before .before .before .before .pre .0 in
+    let inside = next-inside (a .table .now) (a .input .now) (lent (a .store .now) (a .state .now) (a .output .now)) g in
+    omega (arith, inside .0, inside .1, c .before .before .before .before .before .before .before .before .before .before .before .next-step .ensures)
+
+go-on-requires : tie.Need-go-on-requires
+go-on-requires c κs =
+    let a = c .before .before .before .before .before .before .before .before .before .before .before .before .before .before .before .before .before .before .before .before .before .before .before .before .before .before .before .before .before .args in
+    let g = c .before .before .before .before .before .before .before .before .before .before .before .before .before .before .before .before .before .before .before .before .before .before .before .before .before .before .before .before .before .pre .0 in
+    let b = lent (a .store .now) (a .state .now) (a .output .now) in
+    let x = c .before .before .before .before .before .before .before .before .before .before .before .before .before .before .before .before .before .before .statement-at .result in
+    let read = subst (λ (k : ℕ). StatementRead (a .table .now) (rowAt (a .table .now) (stepsAt + 24 * k)) x) (c .before .before .before .before .before .before .before .before .before .before .before .before .before .before .before .before .before .before .before .next-step .ensures) (c .before .before .before .before .before .before .before .before .before .before .before .before .before .before .before .before .before .before .statement-at .ensures) in
+    let counted = returns-counted (a .table .now) (a .input .now) b g in
+    let lacks = sym (c .before .before .before .before .before .before .before .before .before .before .before .before .before .before .before .lacks-return .ensures (a .table .now) (reverse (returnsIn (a .state .now))) (counted ∙ sym (c .before .before .before .before .before .before .before .before .before .before .before .before .before .before .before .before .returns-held .ensures))) ∙ c .before .before .before .before .before .before .before .before .before .before .before .before .before .before .if1 .left in
+    let runs = sym (c .before .before .before .before .before .before .before .before .before .before .before .before .is-running .ensures) ∙ not-false _ (c .before .before .before .before .before .before .before .before .before .before .before .if2 .left) in (
+      record {
+        given = g;
+        running = eqb-true _ _ (running-number (getD (a .state .now) 0 0) ∙ runs);
+        next-is = ap (λ (n : ℕ). n + 1) (c .before .before .before .before .before .before .before .before .before .before .before .before .before .before .before .before .before .before .before .next-step .ensures);
+        holds = kept-statement (a .table .now) (g .keeps) (getD (a .state .now) 1 0) x (next-inside (a .table .now) (a .input .now) b g .0) read;
+        returns = enough-returns (a .table .now) x (reverse (returnsIn (a .state .now))) (getD (a .state .now) 2 0) counted lacks;
+      },
+      c .before .before .before .before .before .before .before .before .before .before .before .before .before .before .before .before .before .before .before .before .before .before .before .before .before .before .before .before .before .pre .1,
+    )
+
+same-length : tie.Need-same-length
+same-length c = search needs
+
+same-length-2 : tie.Need-same-length-2
+same-length-2 c = search needs
+
+same-length-3 : tie.Need-same-length-3
+same-length-3 c = search needs
+
+same-length-4 : tie.Need-same-length-4
+same-length-4 c = search needs
+
+same-length-5 : tie.Need-same-length-5
+same-length-5 c = search needs
+
+same-length-6 : tie.Need-same-length-6
+same-length-6 c = search needs
+
+returns-3 : tie.Need-returns-3
+returns-3 c =
+    let a = c .before .before .before .before .before .before .before .before .before .before .before .before .before .before .before .before .before .before .before .before .before .before .before .before .before .before .before .before .before .before .before .before .before .before .before .before .before .before .before .before .before .before .args in
+    let g = c .before .before .before .before .before .before .before .before .before .before .before .before .before .before .before .before .before .before .before .before .before .before .before .before .before .before .before .before .before .before .before .before .before .before .before .before .before .before .before .before .before .before .pre .0 in
+    let b = lent (a .store .now) (a .state .now) (a .output .now) in
+    let x = c .before .before .before .before .before .before .before .before .before .before .before .before .before .before .before .before .before .before .before .before .before .before .before .before .before .before .before .before .before .before .before .statement-at .result in
+    let read = subst (λ (k : ℕ). StatementRead (a .table .now) (rowAt (a .table .now) (stepsAt + 24 * k)) x) (c .before .before .before .before .before .before .before .before .before .before .before .before .before .before .before .before .before .before .before .before .before .before .before .before .before .before .before .before .before .before .before .before .next-step .ensures) (c .before .before .before .before .before .before .before .before .before .before .before .before .before .before .before .before .before .before .before .before .before .before .before .before .before .before .before .before .before .before .before .statement-at .ensures) in
+    let counted = returns-counted (a .table .now) (a .input .now) b g ∙ sym (c .before .before .before .before .before .before .before .before .before .before .before .before .before .before .before .before .before .before .before .before .before .before .before .before .before .before .before .before .before .returns-held .ensures) in
+    let lacks = sym (c .before .before .before .before .before .before .before .before .before .before .before .before .before .before .before .before .before .before .before .before .before .before .before .before .before .before .before .before .lacks-return .ensures (a .table .now) (reverse (returnsIn (a .state .now))) counted) ∙ c .before .before .before .before .before .before .before .before .before .before .before .before .before .before .before .before .before .before .before .before .before .before .before .before .before .before .before .if1 .left in
+    let runs = sym (c .before .before .before .before .before .before .before .before .before .before .before .before .before .before .before .before .before .before .before .before .before .before .before .before .before .is-running .ensures) ∙ not-false _ (c .before .before .before .before .before .before .before .before .before .before .before .before .before .before .before .before .before .before .before .before .before .before .before .before .if2 .left) in
+    (rw (carried-called (a .table .now) (a .input .now) b g x read lacks runs) (c .before .before .before .before .before .before .before .before .before .before .before .before .go-on .ensures .0), c .before .before .before .before .before .before .before .before .before .before .before .before .go-on .ensures .1)
+
+pub step-on-spec : {M : Type 1} → statement M
+step-on-spec =
+    tie.close
+    (tie.spec
+    next-step-requires
+    statement-at-requires
+    returns-held-requires
+    lacks-return-requires
+    turn-down-requires
+    returns
+    is-running-requires
+    turn-down-requires-2
+    returns-2
+    add-go-on
+    go-on-requires
+    same-length
+    same-length-2
+    same-length-3
+    same-length-4
+    same-length-5
+    same-length-6
+    returns-3)

@@ -1,0 +1,56 @@
+-- `strigol_step` meets its contract: buffers that are unfit are turned down, others are given to the machine. Assumes nothing.
+use mathlib.Core.Path.{_≡_, _∙_}
+use native.Mathlib.Omega.{arith}
+use borrow.Author.Needs.{needs}
+use Rattle.carry.specs.Carrying.{lent}
+use Rattle.steps.specs.Laws.{unfit-answers, fit-given}
+use Rattle.steps.specs.PromiseLaws.{promised}
+use Rattle.steps.proofs.strigol_step.Statement.{statement}
+use Rattle.steps.proofs.strigol_step.Tie as tie
+
+unfit-requires : tie.Need-unfit-requires
+unfit-requires c κs = search needs
+
+turn-down-requires : tie.Need-turn-down-requires
+turn-down-requires c κs = search needs
+
+same-length : tie.Need-same-length
+same-length c = search needs
+
+returns : tie.Need-returns
+returns c =
+    let a = c .before .before .before .before .before .before .before .before .before .before .args in
+    let b = lent (a .store .now) (a .state .now) (a .output .now) in
+    promised (a .table .now) (a .input .now) b _ _ b
+    (unfit-answers (a .table .now) (a .input .now) b (c .before .before .before .unfit .result) (c .before .before .before .unfit .ensures .0) (c .before .before .if1 .taken) _ _ (c .turn-down .ensures .0)
+    (c .turn-down .ensures .1))
+
+step-alone-requires : tie.Need-step-alone-requires
+step-alone-requires c κs =
+    let a = c .before .before .before .before .before .before .before .before .before .before .before .before .args in
+    let none : 0 ≡ c .before .before .before .before .before .unfit .result = omega (arith, c .before .before .before .before .if1 .left) in
+    fit-given (a .table .now) (a .input .now) (lent (a .store .now) (a .state .now) (a .output .now)) (none ∙ c .before .before .before .before .before .unfit .ensures .0) (c .before .before .before .before .before .unfit .ensures .1)
+
+same-length-2 : tie.Need-same-length-2
+same-length-2 c = search needs
+
+same-length-3 : tie.Need-same-length-3
+same-length-3 c = search needs
+
+returns-2 : tie.Need-returns-2
+returns-2 c =
+    let a = c .before .before .before .before .before .before .before .before .before .before .before .before .before .before .before .before .before .args in
+    promised (a .table .now) (a .input .now) (lent (a .store .now) (a .state .now) (a .output .now)) _ _ _ (c .before .before .before .before .step-alone .ensures)
+
+pub strigol-step-spec : {M : Type 1} → statement M
+strigol-step-spec =
+    tie.close
+    (tie.spec
+    unfit-requires
+    turn-down-requires
+    same-length
+    returns
+    step-alone-requires
+    same-length-2
+    same-length-3
+    returns-2)

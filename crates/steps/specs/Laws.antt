@@ -1,0 +1,347 @@
+-- The laws of a step on the buffers: what turns it down, what a statement's work comes to, and how it is concluded. Assumes nothing.
+use mathlib.Core.Bool.{Bool, true, false, cond, not}
+use mathlib.Core.List.{List, [], _∷_, append-nil, reverse}
+use mathlib.Core.Option.{Option, none, some}
+use mathlib.Core.Path.{_≡_, refl, sym, _∙_, ap, ap₂, subst}
+use Prim.Native.Nat.{ℕ, zero, suc, _+_, _*_, _≤_, _<_}
+use native.Mathlib.Omega.{arith}
+use lib.Dec.{ltb, eqb}
+use lib.ListN.{length, take, drop, getD, set, replicate, length-drop, length-replicate, length-reverse}
+use lib.Seq.{length-take-le}
+use borrow.Author.Tests.{leb-false, ltb-false, ne-eqb, not-false}
+use Rattle.base.specs.Edition.{edition1}
+use Rattle.base.specs.Lists.{isNil}
+use Rattle.calls.specs.BufferLaws.{Good, image-good, fresh-image}
+use Rattle.calls.specs.Buffers.{returnsIn, returnsAt, storeImage, stateIn, stateKeeps, stateSize, statusOf, storeKeeps}
+use Rattle.calls.specs.Calls.{Buffers, carried, givenIn, outOfRange, stepCall, stepRefusal}
+use Rattle.calls.specs.GivenLaws.{StateInRange, state-in-range, given-holds}
+use Rattle.calls.specs.Holding.{Holding}
+use Rattle.calls.specs.Numerals.{numberAt}
+use Rattle.calls.specs.Rules.{keepsRules}
+use Rattle.calls.specs.StepLaws.{Tabled, call-held}
+use Rattle.calls.specs.Table.{stepsAt}
+use Rattle.calls.specs.TableReading.{programIn, rowAt}
+use Rattle.carry.specs.Carrying.{Carries, Standing, Unmoved, lent, machineIn}
+use Rattle.carry.specs.Laws.{bound, stopped, stops, scans}
+use Rattle.expressions.specs.Memory.{Ready, keeps-ready, memoryIn}
+use Rattle.language.specs.Program.{Program}
+use Rattle.machine.specs.State.{State, isRunning}
+use Rattle.machine.specs.Step.{Done, carrying, concluded, lacksReturn, mostReturns, noScan, scannedTo, statementAt, step, turnedDownBy}
+use Rattle.rows.specs.Holds.{StatementHolds}
+use Rattle.rows.specs.Kept.{kept-steps, statement-is, step-count}
+use Rattle.rows.specs.Meaning.{branchMeaning, statementMeaning}
+use Rattle.rows.specs.Reading.{StatementRead}
+use Rattle.rows.specs.declared.Scan.{Scan}
+use Rattle.rows.specs.declared.Statement.{Statement}
+use Rattle.rows.specs.declared.Statement.the-variants as statements
+use Rattle.scanning.specs.Call.{answerNumbers, mostElements, noAnswer, splitNumbers}
+use Rattle.scanning.specs.Splits.{Split}
+use Rattle.scanning.specs.Trials.{Scanned}
+use Rattle.scanstep.specs.Scans.{Ended, Lent, scanningOf}
+use Rattle.statements.specs.declared.Did.{Did}
+use Rattle.statements.specs.declared.Did.the-variants as did
+use Rattle.values.specs.Work.{Work, stop, quietly}
+use Rattle.steps.specs.Contracts.{Given, Going, ReturnsEnough, Worked, Works, WorksOn, carriedOut, workOf, Concludes, Answers, unfitNumber}
+
+-- an answer that says nothing is zeros
+pub silent-zeros : replicate 24 0 ≡ noAnswer
+unfolding noAnswer splitNumbers mostElements
+silent-zeros = refl
+
+-- so is that of a step that is stopped
+stopped-zeros : replicate 24 0 ≡ answerNumbers 0 noScan
+unfolding answerNumbers noScan splitNumbers mostElements
+stopped-zeros = refl
+
+-- an answer of a scan has its notes
+notes-kept : (notes : ℕ) (s : Scanned) → set (answerNumbers notes s) 3 notes ≡ answerNumbers notes s
+unfolding answerNumbers splitNumbers
+notes-kept notes s = by-split (s .split)
+  where
+    by-split : (x : Option Split) → set (splitNumbers x (s .trials) notes) 3 notes ≡ splitNumbers x (s .trials) notes
+    by-split none = refl
+    by-split (some x) = refl
+
+-- a statement that doesn't scan: the answer says nothing but its notes
+pub plain-works : (r : Did) (input : List ℕ) (b left : Buffers) (answer : List ℕ) (w : Work Done) → Carries r input b left w
+    → answer ≡ noAnswer → Works r input b left answer w
+unfolding noAnswer answerNumbers splitNumbers noScan
+plain-works (did.Done notes) input b left answer w c silent =
+    record {
+      machine = c .machine;
+      scanned = noScan;
+      work = c .work;
+      left-is = c .left-is;
+      answer-is = ap (λ (l : List ℕ). set l 3 notes) silent;
+    }
+plain-works (did.Stops k) input b left answer w c silent = c
+
+-- buffers that only the machine turns down
+module _ (table input : List ℕ) (b : Buffers) (g : Given table input b) where
+  -- the table's program, and the machine that the buffers hold
+  abbrev p : Program
+  p = programIn table
+
+  abbrev c : State
+  c = machineIn input b
+
+  facts : StateInRange edition1 (length (p .steps)) (length input) (length (b .output)) (b .state)
+  facts = state-in-range edition1 (length (p .steps)) (length input) (length (b .output)) (b .state) (g .range)
+
+  pub given-ready : Ready (b .store) (b .state)
+  given-ready = keeps-ready (length (p .steps)) (length input) (length (b .output)) (b .state) (g .size) (g .range) (b .store) (g .store-good)
+
+  pub given-standing : getD (b .state) 0 0 ≡ 0 → Standing (programIn table) input b
+  given-standing runs = record { store-good = g .store-good; size = g .size; range = g .range; running = runs }
+
+  -- the next step is one of the table's
+  pub next-inside : (getD (b .state) 1 0 < numberAt 2 table 2) × (numberAt 2 table 2 ≤ 256)
+  next-inside = (omega (arith, facts .next, step-count table), kept-steps table (g .keeps) .1)
+
+  -- so many returns are held, and the places in input and output are inside
+  pub few-returns : getD (b .state) 2 0 ≤ 16
+  unfolding mostReturns
+  few-returns = facts .count
+
+  pub place-inside : getD (b .state) 3 0 ≤ length input
+  place-inside = facts .place
+
+  pub written-inside : getD (b .state) 4 0 ≤ length (b .output)
+  written-inside = facts .written
+
+  tabled : Tabled edition1 p table
+  unfolding edition1
+  tabled = record { size = g .bytes; keeps = g .keeps; reads = refl }
+
+  holding : Holding edition1 p (length (b .output)) input c b
+  unfolding stateSize
+  holding = given-holds edition1 p input b (g .size) (g .store-good) (g .range)
+
+  -- the returns that the machine holds
+  pub returns-counted : length (reverse (returnsIn (b .state))) ≡ getD (b .state) 2 0
+  unfolding returnsIn returnsAt
+  returns-counted =
+      let n = getD (b .state) 2 0 in
+      length-reverse (take n (drop 5 (b .state)))
+      ∙ length-take-le n (drop 5 (b .state)) (simp length-drop (omega (arith, g .size, few-returns)))
+
+  -- the statement read at the next step
+  module _ (x : Statement) (read : StatementRead table (rowAt table (stepsAt + 24 * getD (b .state) 1 0)) x) where
+    pub statement-here : statementAt (programIn table) (getD (b .state) 1 0) ≡ statementMeaning table x
+    statement-here = statement-is table (getD (b .state) 1 0) (next-inside .0) ∙ sym (read .means)
+
+    -- what the machine itself says of the step
+    turned-by : (lacks runs : Bool) → lacksReturn (statementMeaning table x) (reverse (returnsIn (b .state))) ≡ lacks
+        → isRunning (statusOf (getD (b .state) 0 0)) ≡ runs
+        → turnedDownBy p c ≡ cond lacks 15 (cond runs 0 16)
+    unfolding turnedDownBy stateIn
+    turned-by lacks runs h k =
+        ap₂ (λ (t u : Bool). cond t 15 (cond u 0 16))
+        (ap (λ y. lacksReturn y (reverse (returnsIn (b .state)))) statement-here ∙ h) k
+
+    -- a step that is turned down
+    turned-called : (n : ℕ) → turnedDownBy p c ≡ n → eqb n 0 ≡ false
+        → stepCall edition1 table input b ≡ record { number = n; answer = noAnswer; left = b }
+    turned-called n e q =
+        call-held edition1 p table input tabled (length (b .output)) c b holding false (ap (λ (k : ℕ). eqb k 0) e ∙ q)
+        ∙ ap (λ (k : ℕ). record { number = k; answer = noAnswer; left = b }) e
+
+    turned-answers : (n : ℕ) → turnedDownBy p c ≡ n → eqb n 0 ≡ false → (number : ℕ) (answer : List ℕ) → number ≡ n
+        → answer ≡ replicate 24 0 → Answers (stepCall edition1 table input b) number answer b
+    turned-answers n e q number answer is zeros =
+        rw (turned-called n e q) (record { number-is = is; answer-is = zeros ∙ silent-zeros; left-is = refl })
+
+    -- 15: the return that it goes to, or room for the one that it holds, is lacking
+    pub lacking-answers : lacksReturn (statementMeaning table x) (reverse (returnsIn (b .state))) ≡ true
+        → (number : ℕ) (answer : List ℕ) → number ≡ 15 → answer ≡ replicate 24 0 → Answers (stepCall edition1 table input b) number answer b
+    lacking-answers h = turned-answers 15 (turned-by true _ h refl) refl
+
+    -- 16: the run has ended
+    pub ended-answers : lacksReturn (statementMeaning table x) (reverse (returnsIn (b .state))) ≡ false
+        → isRunning (statusOf (getD (b .state) 0 0)) ≡ false
+        → (number : ℕ) (answer : List ℕ) → number ≡ 16 → answer ≡ replicate 24 0 → Answers (stepCall edition1 table input b) number answer b
+    ended-answers h k = turned-answers 16 (turned-by false false h k) refl
+
+    -- neither: the step is the statement's work, concluded
+    pub carried-called : lacksReturn (statementMeaning table x) (reverse (returnsIn (b .state))) ≡ false
+        → isRunning (statusOf (getD (b .state) 0 0)) ≡ true
+        → stepCall edition1 table input b ≡ carriedOut table input b x
+    unfolding step stateIn
+    carried-called h k =
+        let goes : eqb (turnedDownBy p c) 0 ≡ true = ap (λ (n : ℕ). eqb n 0) (turned-by false true h k) in
+        call-held edition1 p table input tabled (length (b .output)) c b holding true goes
+        ∙ ap (carried edition1 table input b)
+        (rw (goes, statement-here))
+
+  -- what is concluded of a statement's work
+  pub concluded-answers : getD (b .state) 0 0 ≡ 0 → (r : Did) (left : Buffers) (answer : List ℕ) (w : Work Done) → Works r input b left answer w
+      → (number : ℕ) (state answerLeft : List ℕ) → Concludes r number (left .state) state answer answerLeft
+      → Answers (carried edition1 table input b (concluded (machineIn input b) w)) number answerLeft (lent (left .store) state (left .output))
+  unfolding carried concluded
+  concluded-answers runs (did.Done notes) left answer w k number state answerLeft e =
+      rw (k .work)
+      (record {
+        number-is = e .number-is;
+        answer-is = e .answer-is ∙ k .answer-is;
+        left-is = ap (λ (l : List ℕ). lent (left .store) l (left .output)) (e .state-is) ∙ k .left-is;
+      })
+  concluded-answers runs (did.Stops n) left answer w k number state answerLeft e =
+      rw (k .work)
+      (record {
+        number-is = e .number-is;
+        answer-is = e .answer-is ∙ stopped-zeros;
+        left-is =
+            ap (λ (l : List ℕ). lent (left .store) l (left .output)) (e .state-is)
+            ∙ ap (λ (l : Buffers). lent (l .store) (set (l .state) 0 2) (l .output)) (k .same)
+            ∙ stops p input b (given-standing runs);
+      })
+
+-- a statement of the table that the machine doesn't turn down, by the name y of it
+module _ (table input : List ℕ) (b : Buffers) (next : ℕ) (x : Statement) (g : Going table input b next x) where
+  pub going-standing : Standing (programIn table) input b
+  going-standing = given-standing table input b (g .given) (g .running)
+
+  pub going-ready : Ready (b .store) (b .state)
+  going-ready = given-ready table input b (g .given)
+
+  pub going-holds : (y : Statement) → x ≡ y → StatementHolds table (numberAt 2 table 2) y
+  going-holds y e = subst (StatementHolds table (numberAt 2 table 2)) e (g .holds)
+
+  pub going-returns : (y : Statement) → x ≡ y → ReturnsEnough y (getD (b .state) 2 0)
+  going-returns y e = subst (λ (z : Statement). ReturnsEnough z (getD (b .state) 2 0)) e (g .returns)
+
+  -- one that doesn't scan, and one that does
+  pub carries-works : (y : Statement) → x ≡ y → (r : Did) (left : Buffers) (answer : List ℕ) → answer ≡ noAnswer
+      → Carries r input b left (workOf table input b y) → WorksOn r table input b left x answer
+  carries-works y e r left answer silent c =
+      rw e (record { works = plain-works r input b left answer (workOf table input b y) c silent })
+
+  pub scans-works : (y : Statement) → x ≡ y → (r : Did) (left : Buffers) (answer : List ℕ)
+      → WorksOn r table input b left y answer → WorksOn r table input b left x answer
+  scans-works y e r left answer w = rw e w
+
+-- returns are enough where none is lacking
+pub enough-returns : (t : List ℕ) (x : Statement) (rs : List ℕ) (held : ℕ) → length rs ≡ held → lacksReturn (statementMeaning t x) rs ≡ false
+    → ReturnsEnough x held
+unfolding lacksReturn mostReturns isNil
+enough-returns t (statements.SetNumber i s) rs held e h = tt
+enough-returns t (statements.SetString q s) rs held e h = tt
+enough-returns t (statements.Goto k) rs held e h = tt
+enough-returns t statements.Finish rs held e h = tt
+enough-returns t (statements.If x b) rs held e h = tt
+enough-returns t (statements.Scan x) rs held e h = tt
+enough-returns t (statements.Read q b) rs held e h = tt
+enough-returns t (statements.Write s) rs held e h = tt
+enough-returns t (statements.Execute k) rs held e h = omega (arith, leb-false 16 (length rs) h)
+enough-returns t statements.Return [] held e h = absurd (let z : _≡_ {A = ℕ} 0 1 = cc in omega arith)
+enough-returns t statements.Return (k ∷ rs) held e h = omega arith
+
+-- SCAN and BACKSCAN, by the step that they go to
+pub scan-works : (p : Program) (input : List ℕ) (b : Buffers) → Standing p input b → (table : List ℕ) (s : Scan) (store answer : List ℕ) (notes k : ℕ)
+    → (e : Ended (b .store) store (b .state) answer notes (scanningOf table (b .store) (b .state) s))
+    → k ≡ scannedTo (e .scanned .split) (branchMeaning (s .branch))
+    → Worked input b (lent store (set (b .state) 1 k) (b .output)) answer notes (workOf table input b (statements.Scan s))
+unfolding carrying quietly stateIn
+scan-works p input b stands table s store answer notes k e goes =
+    let to = scannedTo (e .scanned .split) (branchMeaning (s .branch)) in
+    record {
+      machine = _;
+      scanned = e .scanned;
+      work = bound _ _ (record { memory = memoryIn store (b .state); scanned = e .scanned }) notes _ (e .work) refl;
+      left-is =
+          ap (λ (n : ℕ). lent store (set (b .state) 1 n) (b .output)) goes
+          ∙ scans p input b stands store to (e .stays);
+      answer-is = ap (λ (l : List ℕ). set l 3 notes) (e .answer-is) ∙ notes-kept notes (e .scanned);
+    }
+
+-- a scan that is stopped
+pub scan-stops : (input : List ℕ) (b : Buffers) (table : List ℕ) (s : Scan) (store : List ℕ) (k : ℕ) → store ≡ b .store
+    → scanningOf table (b .store) (b .state) s ≡ stop k
+    → Unmoved b (lent store (b .state) (b .output)) k (workOf table input b (statements.Scan s))
+unfolding carrying stateIn
+scan-stops input b table s store k same w =
+    record { work = stopped _ _ k w; same = ap (λ (l : List ℕ). lent l (b .state) (b .output)) same }
+
+-- zeros are a good store
+null-string : (n i : ℕ) → (let none-there : List ℕ = [] in length (getD (replicate n none-there) i none-there) ≤ 1024)
+null-string zero i = omega arith
+null-string (suc n) zero = omega arith
+null-string (suc n) (suc i) = null-string n i
+
+zeros-good : Good (replicate 32832 0)
+zeros-good =
+    subst Good (append-nil (storeImage (replicate 32 [])) ∙ fresh-image 32) (image-good (replicate 32 []) [] refl (null-string 32))
+
+-- and zeros are buffers that a scan can work in
+pub zeros-lent : Lent (replicate 32832 0) (replicate 20480 0) (replicate 240 0) (replicate 20 0) (replicate 1024 0) (replicate 1024 0) (replicate 1024 0)
+zeros-lent =
+    record {
+      good = zeros-good;
+      twenty-strings = length-replicate {A = ℕ} 20480 0;
+      twenty-rows = length-replicate {A = ℕ} 240 0;
+      twenty-places = length-replicate {A = ℕ} 20 0;
+      searched = length-replicate {A = ℕ} 1024 0;
+      spare = length-replicate {A = ℕ} 1024 0;
+      room = length-replicate {A = ℕ} 1024 0;
+    }
+
+-- as they stay where two of them are written
+pub lent-again : {kept values rows names reference scratch out : List ℕ} → Lent kept values rows names reference scratch out
+    → (scratchLeft outLeft : List ℕ) → (length scratchLeft ≡ 1024) × (length outLeft ≡ 1024)
+    → Lent kept values rows names reference scratchLeft outLeft
+lent-again l scratchLeft outLeft sizes =
+    record {
+      good = l .good;
+      twenty-strings = l .twenty-strings;
+      twenty-rows = l .twenty-rows;
+      twenty-places = l .twenty-places;
+      searched = l .searched;
+      spare = sizes .0;
+      room = sizes .1;
+    }
+
+-- what the tests of unfit tell
+refused-as : (small rules store state : Bool) (n m : ℕ) → m ≡ cond small 2 (cond rules 13 (cond store 14 (cond state 15 0))) → 0 < m
+    → cond small 2 (cond rules 13 (cond store 14 (cond state 15 n))) ≡ m
+refused-as true rules store state n m e h = sym e
+refused-as false true store state n m e h = sym e
+refused-as false false true state n m e h = sym e
+refused-as false false false true n m e h = sym e
+refused-as false false false false n m e h = absurd (omega arith)
+
+none-refused : (small rules store state : Bool) → _≡_ {A = ℕ} (cond small 2 (cond rules 13 (cond store 14 (cond state 15 0)))) 0
+    → (small ≡ false) × (rules ≡ false) × (store ≡ false) × (state ≡ false)
+none-refused true rules store state e = absurd (omega arith)
+none-refused false true store state e = absurd (omega arith)
+none-refused false false true state e = absurd (omega arith)
+none-refused false false false true e = absurd (omega arith)
+none-refused false false false false e = (refl, refl, refl, refl)
+
+module _ (table input : List ℕ) (b : Buffers) where
+  -- buffers that are unfit turn the step down, and are left as they were
+  pub unfit-answers : (n : ℕ) → n ≡ unfitNumber table (b .store) (b .state) (length input) (length (b .output)) → 0 < n
+      → (number : ℕ) (answer : List ℕ) → number ≡ n → answer ≡ replicate 24 0 → Answers (stepCall edition1 table input b) number answer b
+  unfolding stepCall stepRefusal outOfRange edition1
+  unfit-answers n e h number answer is zeros =
+      let refusal : stepRefusal edition1 table input b ≡ n =
+      refused-as (ltb (length table) 28672) (not (keepsRules edition1 table)) (not (storeKeeps (b .store))) (outOfRange edition1 table input b)
+      (turnedDownBy (programIn table) (givenIn edition1 table input b)) n e h in
+      let some : eqb n 0 ≡ false = ne-eqb n 0 (λ z. omega arith) in
+      let went = carried edition1 table input b (step edition1 (programIn table) (length (b .output)) (givenIn edition1 table input b)) in
+      let called : stepCall edition1 table input b ≡ record { number = n; answer = noAnswer; left = b } =
+      ap (λ (k : ℕ). cond (eqb k 0) went (record { number = k; answer = noAnswer; left = b })) refusal
+      ∙ ap (λ (x : Bool). cond x went (record { number = n; answer = noAnswer; left = b })) some in
+      rw called (record { number-is = is; answer-is = zeros ∙ silent-zeros; left-is = refl })
+
+  -- and those that aren't are given to the machine
+  pub fit-given : 0 ≡ unfitNumber table (b .store) (b .state) (length input) (length (b .output)) → length (b .state) ≡ 64 → Given table input b
+  fit-given e size =
+      let all-four = none-refused (ltb (length table) 28672) (not (keepsRules edition1 table)) (not (storeKeeps (b .store)))
+      (not (stateKeeps edition1 (length (programIn table .steps)) (length input) (length (b .output)) (b .state))) (sym e) in
+      record {
+        bytes = ltb-false _ _ (all-four .0);
+        keeps = not-false _ (all-four .1);
+        store-good = not-false _ (all-four .2);
+        size = size;
+        range = not-false _ (all-four .3);
+      }

@@ -1,0 +1,231 @@
+-- The laws of a run: the buffers that a step leaves may be given to the next, and each step brings the run's result nearer. Assumes nothing.
+use mathlib.Core.Bool.{Bool, true, false, cond, not}
+use mathlib.Core.List.{List, [], _∷_}
+use mathlib.Core.Path.{_≡_, refl, sym, _∙_, ap, ap₂, subst}
+use Prim.Native.Nat.{ℕ, suc, _+_, _*_, _-_, _≤_, _<_}
+use native.Mathlib.Omega.{arith}
+use lib.Dec.{ltb, eqb}
+use lib.ListN.{length, getD, replicate}
+use borrow.Author.Tests.{le-ltb, lt-ltb}
+use Rattle.base.specs.Edition.{edition1}
+use Rattle.calls.specs.Buffers.{stateKeeps, stateSize, storeKeeps}
+use Rattle.calls.specs.Calls.{Buffers, StepCalled, RunCalled, stepCall, runCall, runBehind, runEnded, withStep, outcomeNumber}
+use Rattle.calls.specs.DemandLaws.{edition1-limit, edition1-wide}
+use Rattle.calls.specs.GivenLaws.{given-holds, given-sound}
+use Rattle.calls.specs.ProgramLaws.{program-runs}
+use Rattle.calls.specs.Rules.{keepsRules}
+use Rattle.calls.specs.StepLaws.{Tabled, step-holds}
+use Rattle.calls.specs.TableLaws.{keeps-image}
+use Rattle.calls.specs.TableReading.{programIn}
+use Rattle.carry.specs.Carrying.{machineIn}
+use Rattle.steps.specs.Contracts.{Answers, Given, unfitNumber}
+use Rattle.steps.specs.Promises.{RunPromise}
+
+-- the buffers that a step leaves may be given to the next
+pub given-next : (table input : List ℕ) (b : Buffers) → Given table input b → Given table input (stepCall edition1 table input b .left)
+unfolding stateSize edition1
+given-next table input b g =
+    let p = programIn table in
+    let lent = length (b .output) in
+    let c = machineIn input b in
+    let t : Tabled edition1 p table = record { size = g .bytes; keeps = g .keeps; reads = refl } in
+    let runs = program-runs edition1 p (keeps-image edition1 table (g .keeps) .0) in
+    let h = given-holds edition1 p input b (g .size) (g .store-good) (g .range) in
+    let s = given-sound edition1 p input b (g .size) (g .store-good) (g .range) in
+    let left = step-holds edition1 p table input t edition1-limit edition1-wide runs lent c b s h in
+    record {
+      bytes = g .bytes;
+      keeps = g .keeps;
+      store-good = left .storeGood;
+      size = left .stateLength;
+      range =
+          ap (λ (n : ℕ). stateKeeps edition1 (length (p .steps)) (length input) n (stepCall edition1 table input b .left .state)) (left .outputLength)
+          ∙ left .stateGood;
+    }
+
+-- a run with steps and notes made before it
+abbrev pub added : ℕ → ℕ → RunCalled → RunCalled
+added steps notes r =
+    record {
+      outcome = r .outcome;
+      number = r .number;
+      steps = steps + r .steps;
+      notes = notes + r .notes;
+      left = r .left;
+    }
+
+-- nothing was made before it
+pub added-none : (r : RunCalled) → r ≡ added 0 0 r
+added-none r =
+    let steps : r .steps ≡ 0 + r .steps = omega arith in
+    let notes : r .notes ≡ 0 + r .notes = omega arith in
+    λ i. record { outcome = r .outcome; number = r .number; steps = steps i; notes = notes i; left = r .left }
+
+-- a step that was made, and what it gave
+module _ (table input : List ℕ) (b : Buffers) (number : ℕ) (answer : List ℕ) (left : Buffers)
+    (a : Answers (stepCall edition1 table input b) number answer left) (steps notes k : ℕ) where
+  -- the run that begins with it
+  abbrev whole : RunCalled
+  whole = added steps notes (runCall edition1 table input (suc k) b)
+
+  -- the step by what it gave
+  called : stepCall edition1 table input b ≡ record { number = number; answer = answer; left = left }
+  called = λ i. record { number = sym (a .number-is) i; answer = sym (a .answer-is) i; left = sym (a .left-is) i }
+
+  begun : whole
+      ≡ added steps notes (runBehind (record { number = number; answer = answer; left = left }) (runCall edition1 table input k left))
+  unfolding runCall
+  begun = ap (λ (s : StepCalled). added steps notes (runBehind s (runCall edition1 table input k (s .left)))) called
+
+  -- it was stopped
+  pub run-stopped : 17 ≤ number
+      → RunPromise (added steps notes (runCall edition1 table input (suc k) b)) number (1 ∷ (number ∷ ((steps + 1) ∷ ((notes + getD answer 3 0) ∷ [])))) left
+  unfolding runBehind withStep runEnded outcomeNumber
+  run-stopped h =
+      let notes-only : notes + getD answer 3 0 ≡ notes + (getD answer 3 0 + 0) = omega arith in
+      rw (begun, lt-ltb 16 number (omega arith))
+      (record {
+        number-is = refl;
+        result-is = ap (λ (n : ℕ). 1 ∷ (number ∷ ((steps + 1) ∷ (n ∷ [])))) notes-only;
+        left-is = refl;
+      })
+
+  -- it was turned down
+  pub run-refused : number ≤ 16 → 0 < number
+      → RunPromise (added steps notes (runCall edition1 table input (suc k) b)) number (3 ∷ (number ∷ (steps ∷ (notes ∷ [])))) left
+  unfolding runBehind runEnded outcomeNumber
+  run-refused h some =
+      let same-steps : steps ≡ steps + 0 = omega arith in
+      let same-notes : notes ≡ notes + 0 = omega arith in
+      rw (begun, le-ltb 16 number h, lt-ltb 0 number some)
+      (record {
+        number-is = refl;
+        result-is = ap₂ (λ (n m : ℕ). 3 ∷ (number ∷ (n ∷ (m ∷ [])))) same-steps same-notes;
+        left-is = refl;
+      })
+
+  -- it finished
+  pub run-finished : number ≡ 0 → eqb (getD (left .state) 0 0) 1 ≡ true
+      → RunPromise (added steps notes (runCall edition1 table input (suc k) b)) 0 (0 ∷ (0 ∷ ((steps + 1) ∷ ((notes + getD answer 3 0) ∷ [])))) left
+  unfolding runBehind withStep runEnded outcomeNumber
+  run-finished none ends =
+      let notes-only : notes + getD answer 3 0 ≡ notes + (getD answer 3 0 + 0) = omega arith in
+      rw (begun, le-ltb 16 number (omega arith), le-ltb 0 number (omega arith), ends)
+      (record {
+        number-is = refl;
+        result-is = ap (λ (n : ℕ). 0 ∷ (0 ∷ ((steps + 1) ∷ (n ∷ [])))) notes-only;
+        left-is = refl;
+      })
+
+  -- the run goes on
+  pub run-goes : number ≡ 0 → eqb (getD (left .state) 0 0) 1 ≡ false
+      → added steps notes (runCall edition1 table input (suc k) b)
+      ≡ added (steps + 1) (notes + getD answer 3 0) (runCall edition1 table input k left)
+  unfolding runBehind withStep
+  run-goes none more =
+      let rest = runCall edition1 table input k left in
+      let count : steps + (1 + rest .steps) ≡ steps + 1 + rest .steps = omega arith in
+      let all-notes : notes + (getD answer 3 0 + rest .notes) ≡ notes + getD answer 3 0 + rest .notes = omega arith in
+      begun
+      ∙ rw (le-ltb 16 number (omega arith), le-ltb 0 number (omega arith), more)
+      (λ i. record { outcome = rest .outcome; number = rest .number; steps = count i; notes = all-notes i; left = left-of rest })
+    where
+      left-of : RunCalled → Buffers
+      left-of r = r .left
+
+-- all steps are made
+pub run-spent : (table input : List ℕ) (b : Buffers) (steps notes : ℕ)
+    → RunPromise (added steps notes (runCall edition1 table input 0 b)) 0 (2 ∷ (0 ∷ (steps ∷ (notes ∷ [])))) b
+unfolding runCall runEnded outcomeNumber
+run-spent table input b steps notes =
+    let same-steps : steps ≡ steps + 0 = omega arith in
+    let same-notes : notes ≡ notes + 0 = omega arith in
+    record {
+      number-is = refl;
+      result-is = ap₂ (λ (n m : ℕ). 2 ∷ (0 ∷ (n ∷ (m ∷ [])))) same-steps same-notes;
+      left-is = refl;
+    }
+
+-- what is left of a run once some steps are made: count steps on the buffers first, and so many made, with notes, up to the buffers b
+pub record Repeats (table input : List ℕ) (first : Buffers) (count steps notes : ℕ) (b : Buffers) : Type 0 where
+  pub most : steps ≤ count
+  pub few : notes ≤ steps * 4_294_967_295
+  pub given : Given table input b
+  pub run : runCall edition1 table input count first ≡ added steps notes (runCall edition1 table input (count - steps) b)
+
+pub repeats-none : (table input : List ℕ) (b : Buffers) (count : ℕ) → Given table input b → Repeats table input b count 0 0 b
+repeats-none table input b count g =
+    let all-left : count ≡ count - 0 = omega arith in
+    record {
+      most = omega arith;
+      few = omega arith;
+      given = g;
+      run = added-none (runCall edition1 table input count b) ∙ ap (λ (n : ℕ). added 0 0 (runCall edition1 table input n b)) all-left;
+    }
+
+-- a promise kept by what `end` says
+pub ended-as : {r : RunCalled} {number n : ℕ} {result given should : List ℕ} {left : Buffers} → given ≡ should
+    → (n ≡ number) × (result ≡ given) → RunPromise r number should left → RunPromise r n result left
+ended-as same is p = rw (is .0, is .1, same) p
+
+-- a step more
+module _ (table input : List ℕ) (first : Buffers) (count steps notes : ℕ) (b : Buffers) (r : Repeats table input first count steps notes b)
+    (number : ℕ) (answer : List ℕ) (left : Buffers) (a : Answers (stepCall edition1 table input b) number answer left)
+    (below : steps < count) where
+  next-run : runCall edition1 table input count first ≡ added steps notes (runCall edition1 table input (suc (count - (steps + 1))) b)
+  next-run =
+      let one-less : count - steps ≡ suc (count - (steps + 1)) = omega arith in
+      r .run ∙ ap (λ (n : ℕ). added steps notes (runCall edition1 table input n b)) one-less
+
+  pub repeats-stopped : 17 ≤ number
+      → RunPromise (runCall edition1 table input count first) number (1 ∷ (number ∷ ((steps + 1) ∷ ((notes + getD answer 3 0) ∷ [])))) left
+  repeats-stopped h = rw next-run (run-stopped table input b number answer left a steps notes (count - (steps + 1)) h)
+
+  pub repeats-refused : number < 17 → 0 < number
+      → RunPromise (runCall edition1 table input count first) number (3 ∷ (number ∷ (steps ∷ (notes ∷ [])))) left
+  repeats-refused h some = rw next-run (run-refused table input b number answer left a steps notes (count - (steps + 1)) (omega arith) some)
+
+  pub repeats-finished : number ≤ 0 → eqb (getD (left .state) 0 0) 1 ≡ true
+      → RunPromise (runCall edition1 table input count first) 0 (0 ∷ (0 ∷ ((steps + 1) ∷ ((notes + getD answer 3 0) ∷ [])))) left
+  repeats-finished h ends =
+      rw next-run (run-finished table input b number answer left a steps notes (count - (steps + 1)) (omega arith) ends)
+
+  pub repeats-more : number ≤ 0 → eqb (getD (left .state) 0 0) 1 ≡ false → getD answer 3 0 < 4_294_967_296
+      → Repeats table input first count (steps + 1) (notes + getD answer 3 0) left
+  repeats-more h more small =
+      record {
+        most = omega arith;
+        few = omega (arith, r .few);
+        given = subst (Given table input) (sym (a .left-is)) (given-next table input b (r .given));
+        run = next-run ∙ run-goes table input b number answer left a steps notes (count - (steps + 1)) (omega arith) more;
+      }
+
+pub repeats-spent : (table input : List ℕ) (first : Buffers) (count steps notes : ℕ) (b : Buffers)
+    → Repeats table input first count steps notes b → count ≤ steps
+    → RunPromise (runCall edition1 table input count first) 0 (2 ∷ (0 ∷ (steps ∷ (notes ∷ [])))) b
+repeats-spent table input first count steps notes b r h =
+    let none-left : count - steps ≡ 0 = omega arith in
+    rw (r .run, none-left) (run-spent table input b steps notes)
+
+-- the first step is refused before it is made
+unfit-small : (small rules store state : Bool) → cond small 2 (cond rules 13 (cond store 14 (cond state 15 0))) ≤ 16
+unfit-small true rules store state = omega arith
+unfit-small false true store state = omega arith
+unfit-small false false true state = omega arith
+unfit-small false false false true = omega arith
+unfit-small false false false false = omega arith
+
+pub unfit-run : (table input : List ℕ) (b : Buffers) (n : ℕ)
+    → n ≡ unfitNumber table (b .store) (b .state) (length input) (length (b .output)) → 0 < n
+    → Answers (stepCall edition1 table input b) n (replicate 24 0) b → (count : ℕ) → 0 < count
+    → RunPromise (runCall edition1 table input count b) n (3 ∷ (n ∷ (0 ∷ (0 ∷ [])))) b
+unfit-run table input b n e h a count some =
+    let one-less : count ≡ suc (count - 1) = omega arith in
+    let small : n ≤ 16 = rw e (unfit-small (ltb (length table) 28672) (not (keepsRules edition1 table)) (not (storeKeeps (b .store)))
+    (not (stateKeeps edition1 (length (programIn table .steps)) (length input) (length (b .output)) (b .state)))) in
+    rw (one-less, added-none (runCall edition1 table input (suc (count - 1)) b)) (run-refused table input b n (replicate 24 0) b a 0 0 (count - 1) small h)
+
+-- no step is asked for
+pub run-none : (table input : List ℕ) (b : Buffers) (count : ℕ) → count ≡ 0
+    → RunPromise (runCall edition1 table input count b) 0 (2 ∷ (0 ∷ (0 ∷ (0 ∷ [])))) b
+run-none table input b count e = rw (e, added-none (runCall edition1 table input 0 b)) (run-spent table input b 0 0)

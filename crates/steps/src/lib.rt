@@ -1,0 +1,320 @@
+// A step and a run on the buffers: the calls `strigol_step` and `strigol_run`. What is refused is found first, the lowest number first.
+// Each contract is an equation with stepCall and runCall of the crate calls; that of a step carries demand 3 besides.
+pub mod run;
+pub mod scans;
+
+ghost use mathlib.Core.List.{List};
+ghost use mathlib.Core.Path.{_≡_};
+ghost use Prim.Native.Nat.{ℕ};
+ghost use lib.ListN.{length, replicate};
+ghost use Rattle.base.specs.Edition.{edition1};
+ghost use Rattle.calls.specs.Calls.{stepCall};
+ghost use Rattle.carry.specs.Carrying.{lent};
+ghost use Rattle.machine.specs.Step.{lacksReturn};
+ghost use Rattle.rows.specs.Meaning.{statementMeaning};
+ghost use Rattle.scanning.specs.Call.{noAnswer};
+ghost use Rattle.scanstep.specs.Scans.{Lent};
+ghost use Rattle.steps.specs.Contracts.{Given, Going, WorksOn, carriedOut, Concludes, Answers, unfitNumber};
+ghost use Rattle.steps.specs.Promises.{StepPromise};
+use crate::scans::LONGEST;
+use crate::scans::NAMES_SIZE;
+use crate::scans::ROWS_SIZE;
+use crate::scans::STORE_SIZE;
+use crate::scans::VALUES_SIZE;
+use rows::Statement;
+use statements::Did;
+
+// the bytes of a table
+const TABLE_SIZE: usize = 28_672;
+
+// where an answer has its notes
+pub const NOTES: usize = 3;
+
+// the most returns that a state can hold
+const MOST_RETURNS: usize = 16;
+
+// whether a statement lacks the return that it goes to, or room for the one that it holds
+fn lacks_return(x: Statement, held: usize) -> bool
+    ensures { λ r. ⌜ ((t rs : List ℕ) → length rs ≡ held → r ≡ lacksReturn (statementMeaning t x) rs) ⌝ }
+{
+    match x {
+        Statement::SetNumber(_, _) => false,
+        Statement::SetString(_, _) => false,
+        Statement::Goto(_) => false,
+        Statement::Finish => false,
+        Statement::If(_, _) => false,
+        Statement::Scan(_) => false,
+        Statement::Read(_, _) => false,
+        Statement::Write(_) => false,
+        Statement::Execute(_) => MOST_RETURNS <= held,
+        Statement::Return => held == 0,
+    }
+}
+
+// carries a statement out, with the buffers that its work takes; the answer, which must say that nothing was scanned, gets what a scan found
+fn carry_out(
+    table: &[u8],
+    store: &mut [u8],
+    state: &mut [u64; 64],
+    input: &[u8],
+    output: &mut [u8],
+    next: usize,
+    x: Statement,
+    kept: &mut [u8],
+    values: &mut [u8],
+    rows: &mut [u8],
+    names: &mut [u8],
+    reference: &mut [u8; LONGEST],
+    scratch: &mut [u8; LONGEST],
+    out: &mut [u8; LONGEST],
+    answer: &mut [u32; 24],
+) -> Did
+    requires { ⌜ Going (now table) (now input) (lent (now store) (now state) (now output)) next x ⌝ }
+    requires { ⌜ now answer ≡ noAnswer ⌝ }
+    requires { ⌜ Lent (now kept) (now values) (now rows) (now names) (now reference) (now scratch) (now out) ⌝ }
+    ensures { λ r. ⌜ WorksOn r (now (table .entry)) (now (input .entry)) (lent (now (store .entry)) (now (state .entry)) (now (output .entry)))
+        (lent (now (store .exit)) (now (state .exit)) (now (output .exit))) x (now (answer .exit)) ⌝ }
+    ensures { λ _. ⌜ Lent (now (kept .exit)) (now (values .exit)) (now (rows .exit)) (now (names .exit)) (now (reference .exit))
+        (now (scratch .exit)) (now (out .exit)) ⌝ }
+{
+    match x {
+        Statement::SetNumber(place, s) => carry::set_number(table, store, state, next, place, s),
+        Statement::SetString(p, s) => carry::set_string(
+            table,
+            store,
+            state,
+            next,
+            p,
+            s,
+            scratch,
+            out,
+        ),
+        Statement::Goto(k) => carry::go_to(state, k),
+        Statement::Finish => carry::finish(state),
+        Statement::If(t, b) => carry::test(store, state, t, b),
+        Statement::Scan(s) => scans::scan(
+            table,
+            store,
+            state,
+            s,
+            kept,
+            values,
+            rows,
+            names,
+            reference,
+            scratch,
+            out,
+            answer,
+        ),
+        Statement::Read(p, b) => carry::read(store, state, input, p, b),
+        Statement::Write(s) => carry::write(table, store, state, output, next, s, scratch, out),
+        Statement::Execute(k) => carry::execute(state, next, k),
+        Statement::Return => carry::return_to(state),
+    }
+}
+
+// gives the number of a statement's work: where it is done the answer gets its notes, where it is stopped the state is marked so
+fn conclude(did: Did, state: &mut [u64; 64], answer: &mut [u32; 24]) -> u32
+    ensures { λ r. ⌜ Concludes did r (now (state .entry)) (now (state .exit)) (now (answer .entry)) (now (answer .exit)) ⌝ }
+{
+    match did {
+        Did::Done(notes) => {
+            answer[NOTES] = notes;
+            0
+        }
+        Did::Stops(k) => {
+            *answer = [0u32; 24];
+            states::stop(state);
+            k
+        }
+    }
+}
+
+// carries a statement out and concludes it
+fn go_on(
+    table: &[u8],
+    store: &mut [u8],
+    state: &mut [u64; 64],
+    input: &[u8],
+    output: &mut [u8],
+    next: usize,
+    x: Statement,
+    kept: &mut [u8],
+    values: &mut [u8],
+    rows: &mut [u8],
+    names: &mut [u8],
+    reference: &mut [u8; LONGEST],
+    scratch: &mut [u8; LONGEST],
+    out: &mut [u8; LONGEST],
+    answer: &mut [u32; 24],
+) -> u32
+    requires { ⌜ Going (now table) (now input) (lent (now store) (now state) (now output)) next x ⌝ }
+    requires { ⌜ Lent (now kept) (now values) (now rows) (now names) (now reference) (now scratch) (now out) ⌝ }
+    ensures { λ r. ⌜ Answers (carriedOut (now (table .entry)) (now (input .entry)) (lent (now (store .entry)) (now (state .entry)) (now (output .entry))) x)
+        r (now (answer .exit)) (lent (now (store .exit)) (now (state .exit)) (now (output .exit))) ⌝ }
+    ensures { λ _. ⌜ Lent (now (kept .exit)) (now (values .exit)) (now (rows .exit)) (now (names .exit)) (now (reference .exit))
+        (now (scratch .exit)) (now (out .exit)) ⌝ }
+{
+    *answer = [0u32; 24];
+    let did = carry_out(
+        table,
+        store,
+        state,
+        input,
+        output,
+        next,
+        x,
+        kept,
+        values,
+        rows,
+        names,
+        reference,
+        scratch,
+        out,
+        answer,
+    );
+    conclude(did, state, answer)
+}
+
+// turns a step down: no split, no trials, no notes
+fn turn_down(number: u32, answer: &mut [u32; 24]) -> u32
+    ensures { λ r. ⌜ (r ≡ number) × (now (answer .exit) ≡ replicate 24 0) ⌝ }
+{
+    *answer = [0u32; 24];
+    number
+}
+
+// A step on buffers that nothing but the machine itself can turn down.
+pub fn step_on(
+    table: &[u8],
+    store: &mut [u8],
+    state: &mut [u64; 64],
+    input: &[u8],
+    output: &mut [u8],
+    kept: &mut [u8],
+    values: &mut [u8],
+    rows: &mut [u8],
+    names: &mut [u8],
+    reference: &mut [u8; LONGEST],
+    scratch: &mut [u8; LONGEST],
+    out: &mut [u8; LONGEST],
+    answer: &mut [u32; 24],
+) -> u32
+    requires { ⌜ Given (now table) (now input) (lent (now store) (now state) (now output)) ⌝ }
+    requires { ⌜ Lent (now kept) (now values) (now rows) (now names) (now reference) (now scratch) (now out) ⌝ }
+    ensures { λ r. ⌜ Answers (stepCall edition1 (now (table .entry)) (now (input .entry)) (lent (now (store .entry)) (now (state .entry)) (now (output .entry))))
+        r (now (answer .exit)) (lent (now (store .exit)) (now (state .exit)) (now (output .exit))) ⌝ }
+    ensures { λ _. ⌜ Lent (now (kept .exit)) (now (values .exit)) (now (rows .exit)) (now (names .exit)) (now (reference .exit))
+        (now (scratch .exit)) (now (out .exit)) ⌝ }
+{
+    let k = states::next_step(state);
+    let x = rows::statement_at(table, k);
+    if lacks_return(x, states::returns_held(state)) {
+        return turn_down(15, answer);
+    }
+    if !states::is_running(state) {
+        return turn_down(16, answer);
+    }
+    go_on(
+        table,
+        store,
+        state,
+        input,
+        output,
+        k + 1,
+        x,
+        kept,
+        values,
+        rows,
+        names,
+        reference,
+        scratch,
+        out,
+        answer,
+    )
+}
+
+// says that a state is 64 numbers, to those who are lent one by its type
+fn sized(state: &[u64])
+    requires { ⌜ length (now state) ≡ 64 ⌝ }
+    ensures { λ _. ⌜ length (now (state .entry)) ≡ 64 ⌝ }
+{}
+
+// the number by which buffers that no step may be given are turned down, or 0
+pub fn unfit(table: &[u8], store: &[u8], state: &[u64; 64], input: usize, output: usize) -> u32
+    ensures { λ r. ⌜ (r ≡ unfitNumber (now (table .entry)) (now (store .entry)) (now (state .entry)) input output)
+        × (length (now (state .entry)) ≡ 64) ⌝ }
+{
+    sized(state);
+    if table.len() < TABLE_SIZE {
+        return 2;
+    }
+    if !rules::keeps(table) {
+        return 13;
+    }
+    if !cells::keeps(store) {
+        return 14;
+    }
+    let counts = rows::counts_of(table);
+    if !states::keeps(state, counts.steps, input, output) {
+        return 15;
+    }
+    0
+}
+
+// A step by itself, with buffers of its own for its work.
+fn step_alone(
+    table: &[u8],
+    store: &mut [u8],
+    state: &mut [u64; 64],
+    input: &[u8],
+    output: &mut [u8],
+    answer: &mut [u32; 24],
+) -> u32
+    requires { ⌜ Given (now table) (now input) (lent (now store) (now state) (now output)) ⌝ }
+    ensures { λ r. ⌜ Answers (stepCall edition1 (now (table .entry)) (now (input .entry)) (lent (now (store .entry)) (now (state .entry)) (now (output .entry))))
+        r (now (answer .exit)) (lent (now (store .exit)) (now (state .exit)) (now (output .exit))) ⌝ }
+{
+    let mut kept = [0u8; STORE_SIZE];
+    let mut values = [0u8; VALUES_SIZE];
+    let mut rows = [0u8; ROWS_SIZE];
+    let mut names = [0u8; NAMES_SIZE];
+    let mut reference = [0u8; LONGEST];
+    let mut scratch = [0u8; LONGEST];
+    let mut out = [0u8; LONGEST];
+    step_on(
+        table,
+        store,
+        state,
+        input,
+        output,
+        &mut kept,
+        &mut values,
+        &mut rows,
+        &mut names,
+        &mut reference,
+        &mut scratch,
+        &mut out,
+        answer,
+    )
+}
+
+// The step call.
+#[no_mangle]
+pub extern "C" fn strigol_step(
+    table: &[u8],
+    store: &mut [u8],
+    state: &mut [u64; 64],
+    input: &[u8],
+    output: &mut [u8],
+    answer: &mut [u32; 24],
+) -> u32
+    ensures { λ r. ⌜ StepPromise (now (table .entry)) (now (input .entry)) (lent (now (store .entry)) (now (state .entry)) (now (output .entry)))
+        r (now (answer .exit)) (lent (now (store .exit)) (now (state .exit)) (now (output .exit))) ⌝ }
+{
+    let n = unfit(table, store, state, input.len(), output.len());
+    if 0 < n {
+        return turn_down(n, answer);
+    }
+    step_alone(table, store, state, input, output, answer)
+}

@@ -1,0 +1,135 @@
+// A run: the table and the store are looked at once, and then a step is repeated until one finishes, stops or is turned down.
+ghost use mathlib.Core.List.{[], _∷_};
+ghost use mathlib.Core.Path.{_≡_};
+ghost use lib.Dec.{eqb};
+ghost use lib.ListN.{getD};
+ghost use Rattle.base.specs.Edition.{edition1};
+ghost use Rattle.calls.specs.Calls.{runCall};
+ghost use Rattle.carry.specs.Carrying.{lent};
+ghost use Rattle.steps.specs.Contracts.{Given};
+ghost use Rattle.steps.specs.Promises.{RunPromise};
+use crate::NOTES;
+use crate::scans::LONGEST;
+use crate::scans::NAMES_SIZE;
+use crate::scans::ROWS_SIZE;
+use crate::scans::STORE_SIZE;
+use crate::scans::VALUES_SIZE;
+use crate::step_on;
+use crate::unfit;
+
+// how a run ends
+const FINISHED: u64 = 0;
+
+const STOPPED: u64 = 1;
+
+const SPENT: u64 = 2;
+
+const REFUSED: u64 = 3;
+
+// the least number by which a step is stopped; those below turn it down
+const FIRST_STOP: u32 = 17;
+
+// where a state keeps its status
+const STATUS: usize = 0;
+
+// whether the run has finished
+fn is_finished(state: &[u64; 64]) -> bool
+    ensures { λ r. ⌜ r ≡ eqb (getD (now (state .entry)) 0 0) 1 ⌝ }
+{
+    state[STATUS] == 1
+}
+
+// the notes of a step
+fn notes_of(answer: &[u32; 24]) -> u32
+    ensures { λ r. ⌜ r ≡ getD (now (answer .entry)) 3 0 ⌝ }
+{
+    answer[NOTES]
+}
+
+// says how a run ended, and gives its number
+fn end(result: &mut [u64; 4], outcome: u64, number: u32, steps: u32, notes: u64) -> u32
+    ensures { λ r. ⌜ (r ≡ number) × (now (result .exit) ≡ outcome ∷ (number ∷ (steps ∷ (notes ∷ [])))) ⌝ }
+{
+    *result = [outcome, number as u64, steps as u64, notes];
+    number
+}
+
+// so many steps on buffers that only the machine itself can turn down, unless one ends the run
+fn repeat(
+    table: &[u8],
+    store: &mut [u8],
+    state: &mut [u64; 64],
+    input: &[u8],
+    output: &mut [u8],
+    count: u32,
+    result: &mut [u64; 4],
+) -> u32
+    requires { ⌜ Given (now table) (now input) (lent (now store) (now state) (now output)) ⌝ }
+    ensures { λ r. ⌜ RunPromise (runCall edition1 (now (table .entry)) (now (input .entry)) count (lent (now (store .entry)) (now (state .entry)) (now (output .entry))))
+        r (now (result .exit)) (lent (now (store .exit)) (now (state .exit)) (now (output .exit))) ⌝ }
+{
+    let mut kept = [0u8; STORE_SIZE];
+    let mut values = [0u8; VALUES_SIZE];
+    let mut rows = [0u8; ROWS_SIZE];
+    let mut names = [0u8; NAMES_SIZE];
+    let mut reference = [0u8; LONGEST];
+    let mut scratch = [0u8; LONGEST];
+    let mut out = [0u8; LONGEST];
+    let mut answer = [0u32; 24];
+    let mut done: u32 = 0;
+    let mut notes: u64 = 0;
+    while done < count {
+        let n = step_on(
+            table,
+            store,
+            state,
+            input,
+            output,
+            &mut kept,
+            &mut values,
+            &mut rows,
+            &mut names,
+            &mut reference,
+            &mut scratch,
+            &mut out,
+            &mut answer,
+        );
+        let more = notes + (notes_of(&answer) as u64);
+        if FIRST_STOP <= n {
+            return end(result, STOPPED, n, done + 1, more);
+        }
+        if 0 < n {
+            return end(result, REFUSED, n, done, notes);
+        }
+        done += 1;
+        notes = more;
+        if is_finished(state) {
+            return end(result, FINISHED, 0, done, notes);
+        }
+    }
+    end(result, SPENT, 0, done, notes)
+}
+
+// The run call: so many steps at most. A run of more is a run again on what the last one left.
+#[no_mangle]
+pub extern "C" fn strigol_run(
+    table: &[u8],
+    store: &mut [u8],
+    state: &mut [u64; 64],
+    input: &[u8],
+    output: &mut [u8],
+    count: u32,
+    result: &mut [u64; 4],
+) -> u32
+    ensures { λ r. ⌜ RunPromise (runCall edition1 (now (table .entry)) (now (input .entry)) count (lent (now (store .entry)) (now (state .entry)) (now (output .entry))))
+        r (now (result .exit)) (lent (now (store .exit)) (now (state .exit)) (now (output .exit))) ⌝ }
+{
+    if count == 0 {
+        return end(result, SPENT, 0, 0, 0);
+    }
+    let n = unfit(table, store, state, input.len(), output.len());
+    if 0 < n {
+        return end(result, REFUSED, n, 0, 0);
+    }
+    repeat(table, store, state, input, output, count, result)
+}

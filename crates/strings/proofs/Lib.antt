@@ -1,0 +1,2 @@
+-- The laws that several proofs share: counts up to a quote, places where nothing stands.
+mod Quotes

@@ -1,0 +1,103 @@
+-- `strings::cells::filler` reads a filler.
+-- Assumes nothing.
+use mathlib.Core.List.{[], _∷_}
+use mathlib.Core.Path.{sym, subst, _∙_}
+use native.Mathlib.Omega.{arith}
+use lib.ListN.{drop}
+use Rattle.base.specs.Edition.{edition1}
+use Rattle.calls.specs.Table.{patternCell}
+use Rattle.language.specs.Strings.{fillerAt}
+use Rattle.met.specs.Known.{placesIn}
+use Rattle.numeric.specs.OperandLaws.{place-case, place-none, ready-moved, cell-inside}
+use Rattle.numeric.specs.Operands.{Ready, CellRead}
+use Rattle.strings.specs.CellLaws.{filler-fixed, filler-free, filler-broken}
+use borrow.Author.Needs.{needs}
+use Rattle.strings.proofs.cells.filler.Statement.{statement}
+use Rattle.strings.proofs.cells.filler.Tie as tie
+
+read-string-requires : tie.Need-read-string-requires
+read-string-requires c κs = search needs
+
+enum-told : tie.Need-enum-told
+enum-told c = search needs
+
+enum-known-place : tie.Need-enum-known-place
+enum-known-place c = search needs
+
+stands-at-requires : tie.Need-stands-at-requires
+stands-at-requires c κs = search needs
+
+skip-requires : tie.Need-skip-requires
+skip-requires c κs =
+    let g = place-case (c .before .before .before .before .before .before .before .read-string .ensures) (c .before .before .before .before .before .place .given .1) in
+    omega (arith, g .ready)
+
+read-bound-requires : tie.Need-read-bound-requires
+read-bound-requires c κs =
+    let p = c .before .before .before .before .before .before .before .before .before .before .before .before in
+    let n = c .before .before .before .before .before .before .before .before .read-string in
+    let g = place-case (n .ensures) (c .before .before .before .before .before .before .place .given .1) in
+    let dollar = sym (c .before .before .before .before .stands-at .ensures) ∙ c .before .before .before .if1 .taken in (
+      subst (Ready (p .args .text .now) (n .last .1 .1 .0) (n .last .1 .1 .1 .0)) (sym (c .skip .ensures)) (ready-moved (36 ∷ []) (g .ready) dollar),
+      (p .pre .1, omega arith),
+    )
+
+closed-requires : tie.Need-closed-requires
+closed-requires c κs = cell-inside (c .read-bound .result) (c .read-bound .ensures)
+
+returns : tie.Need-returns
+returns c =
+    let p = c .before .before .before .before .before .before .before .before .before .before .before .before .before .before in
+    let a = p .args in
+    let g = place-case (c .before .before .before .before .before .before .before .before .before .before .read-string .ensures) (c .before .before .before .before .before .before .before .before .place .given .1) in
+    let dollar = sym (c .before .before .before .before .before .before .stands-at .ensures) ∙ c .before .before .before .before .before .if1 .taken in
+    let b = c .before .read-bound in
+    subst
+    (λ r.
+    CellRead (patternCell 0) (a .text .now) (a .keys .now) (a .tags .now) (a .c)
+    (fillerAt edition1 (placesIn (a .known .now)) (drop (a .c .at) (a .text .now))) r (b .last .1 .1 .0) (b .last .1 .1 .1 .0))
+    (sym (c .closed .ensures))
+    (filler-fixed (placesIn (a .known .now)) (p .pre .0) g (b .result) (c .before .before .skip .ensures) dollar (b .ensures))
+
+closed-requires-2 : tie.Need-closed-requires-2
+closed-requires-2 c κs =
+    let g = place-case (c .before .before .before .before .before .read-string .ensures) (c .before .before .before .place .given .1) in
+    (g .ready .inside, g .ready .textSize)
+
+returns-2 : tie.Need-returns-2
+returns-2 c =
+    let a = c .before .before .before .before .before .before .args in
+    record {
+      answer =
+          filler-broken (placesIn (a .known .now)) (drop (a .c .at) (a .text .now))
+          (place-none (c .before .before .read-string .ensures) (c .enum-told .given .1));
+    }
+
+returns-3 : tie.Need-returns-3
+returns-3 c =
+    let p = c .before .before .before .before .before .before .before .before .before .before in
+    let a = p .args in
+    let n = c .before .before .before .before .before .before .read-string in
+    let g = place-case (n .ensures) (c .before .before .before .before .place .given .1) in
+    let none = sym (c .before .before .stands-at .ensures) ∙ c .before .if1 .left in
+    subst
+    (λ r.
+    CellRead (patternCell 0) (a .text .now) (a .keys .now) (a .tags .now) (a .c)
+    (fillerAt edition1 (placesIn (a .known .now)) (drop (a .c .at) (a .text .now))) r (n .last .1 .1 .0) (n .last .1 .1 .1 .0))
+    (sym (c .closed2 .ensures)) (filler-free (placesIn (a .known .now)) (p .pre .0) g none)
+
+pub filler-spec : {M : Type 1} → statement M
+filler-spec =
+    tie.close
+    (tie.spec
+    read-string-requires
+    enum-told
+    enum-known-place
+    stands-at-requires
+    skip-requires
+    read-bound-requires
+    closed-requires
+    returns
+    closed-requires-2
+    returns-2
+    returns-3)

@@ -1,0 +1,47 @@
+-- `strings::cells::number_behind` reads the m of STRING behind a comma.
+-- Assumes nothing.
+use mathlib.Core.List.{[], _∷_}
+use mathlib.Core.Path.{sym, subst, _∙_}
+use lib.ListN.{drop}
+use Rattle.met.specs.Known.{placesIn}
+use Rattle.numeric.specs.OperandLaws.{ready-moved}
+use Rattle.numeric.specs.Operands.{Ready}
+use Rattle.strings.specs.CellLaws.{number-follows, number-alone}
+use borrow.Author.Needs.{needs}
+use Rattle.strings.proofs.cells.number_behind.Statement.{statement}
+use Rattle.strings.proofs.cells.number_behind.Tie as tie
+
+stands-at-requires : tie.Need-stands-at-requires
+stands-at-requires c κs = search needs
+
+skip-requires : tie.Need-skip-requires
+skip-requires c κs = search needs
+
+number-end-requires : tie.Need-number-end-requires
+number-end-requires c κs =
+    let p = c .before .before .before .before .before .before in
+    let comma = sym (c .before .before .before .before .stands-at .ensures) ∙ c .before .before .before .if1 .taken in (
+      subst (Ready (p .args .text .now) (p .args .keys .now) (p .args .tags .now)) (sym (c .skip .ensures))
+          (ready-moved (44 ∷ []) (p .pre .0) comma),
+      p .pre .1,
+    )
+
+returns : tie.Need-returns
+returns c =
+    let a = c .before .before .before .before .before .before .before .args in
+    let comma = sym (c .before .before .before .before .before .stands-at .ensures) ∙ c .before .before .before .before .if1 .taken in
+    number-follows (placesIn (a .known .now)) (a .kind) (a .value) (c .number-end .result) (c .before .skip .ensures) comma (c .number-end .ensures)
+
+returns-2 : tie.Need-returns-2
+returns-2 c =
+    let a = c .before .before .before .args in
+    λ n standing.
+    record {
+      answer =
+          number-alone (placesIn (a .known .now)) (drop (a .c .at) (a .text .now))
+          (sym (c .before .stands-at .ensures) ∙ c .if1 .left) n;
+    }
+
+pub number-behind-spec : {M : Type 1} → statement M
+number-behind-spec =
+    tie.close (tie.spec stands-at-requires skip-requires number-end-requires returns returns-2)

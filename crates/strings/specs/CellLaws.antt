@@ -1,0 +1,321 @@
+-- How STRING calls and fillers are put together from names, constants and marks. Assumes nothing.
+use mathlib.Core.Bool.{Bool, true, false, true≢false, _||_}
+use mathlib.Core.List.{List, [], _∷_}
+use mathlib.Core.Path.{_≡_, refl, sym, ap, subst, _∙_}
+use Prim.Native.Nat.{ℕ, suc, _+_, _-_, _^_, _≤_}
+use native.Mathlib.Nat.{zero-add}
+use native.Mathlib.Omega.{arith}
+use lib.IntN.{ℤ, pos, negsuc, natAbs}
+use lib.ListN.{length, drop, getD}
+use lib.Seq.{drop-drop}
+use borrow.Author.Tests.{ltb-true, le-ltb}
+use Rattle.base.specs.Edition.{edition1}
+use Rattle.base.specs.Lists.{begins}
+use Rattle.base.specs.Text.{bytes}
+use Rattle.calls.specs.Numerals.{bias, biased}
+use Rattle.calls.specs.Table as Table
+use Rattle.calls.specs.Table.{lengthCell, elementCell, patternCell, literalIn}
+use Rattle.cards.specs.Bytes.{isDigit}
+use Rattle.language.specs.Program as Program
+use Rattle.language.specs.Program.{Part, Length, constantly, numbered, Element, PatternElement, freeFiller, fixedFiller}
+use Rattle.language.specs.Reading.{Role, Met, nothing, both, Read, got, broken, _>>=_, meeting, give, skip}
+use Rattle.language.specs.Strings.{textCall, fillerAt}
+use Rattle.language.specs.Words.{Places, signed, isSign, numberName, bound, stringName, partName}
+use Rattle.met.specs.Entries.{roleOf, metIn}
+use Rattle.met.specs.declared.Cursor.{Cursor}
+use Rattle.numeric.specs.OperandLaws.{gets-then, then-broken, chosen, skipped, cell-skip, closed-cell}
+use Rattle.numeric.specs.Operands.{moved, Ready, Gets, CellRead, PlaceRead, meaning, closedBy}
+use Rattle.numeric.specs.declared.operands.Operand as OperandCode
+use Rattle.numeric.specs.declared.operands.Operand.{Operand}
+use Rattle.numeric.specs.declared.operands.Place as PlaceCode
+use Rattle.numeric.specs.declared.operands.Place.{Place}
+use Rattle.values.specs.Numbers.{isNegative}
+use Rattle.strings.specs.Cells.{bareCell, valuedIn, numberEnd, numberFollows, constantCall, numberOrEnd, numberCall, Standing}
+
+-- a constant as its cell has it
+pub biased-above : (z : ℤ) → isNegative z ≡ false → 2 ^ 47 + natAbs z ≡ biased z
+unfolding biased bias isNegative
+biased-above (pos n) e = omega arith
+biased-above (negsuc n) e = absurd (true≢false e)
+
+pub biased-below : (z : ℤ) → isNegative z ≡ true → natAbs z ≤ 8_388_607 → 2 ^ 47 - natAbs z ≡ biased z
+unfolding biased bias isNegative
+biased-below (pos n) e h = absurd (omega (arith, ltb-true n 0 e))
+biased-below (negsuc n) e h = rw (le-ltb (2 ^ 47) (suc n) (omega arith)) (omega arith)
+
+-- nothing was met before what is read
+pub meeting-nothing : {A : Type 0} (x : Read A) → meeting nothing x ≡ x
+unfolding meeting both nothing
+meeting-nothing (got a m rest) =
+    λ t.
+    got a
+    (record {
+      declared = m .declared;
+      used = m .used;
+      items = zero-add (m .items) t;
+      rows = m .rows;
+      literals = zero-add (m .literals) t;
+      roles = m .roles;
+    })
+    rest
+meeting-nothing broken = refl
+
+-- what comes behind a value that took no bytes, behind a mark that stands, and behind one that doesn't
+pub given-then : {A B : Type 0} (a : A) (rest : List ℕ) (next : A × List ℕ → Read B) → (give a rest >>= next) ≡ next (a, rest)
+unfolding _>>=_ give
+given-then a rest next = meeting-nothing (next (a, rest))
+
+module _ {B : Type 0} (w bs : List ℕ) (next : Unit {0} × List ℕ → Read B) where
+  pub skip-here : begins w bs ≡ true → (skip w bs >>= next) ≡ next (tt, drop (length w) bs)
+  unfolding skip
+  skip-here e = ap (λ (y : Read (Unit {0})). y >>= next) (chosen _ _ e) ∙ given-then tt (drop (length w) bs) next
+
+  pub skip-not : begins w bs ≡ false → (skip w bs >>= next) ≡ broken
+  unfolding skip
+  skip-not e = then-broken next (chosen _ _ e)
+
+-- a cell read behind another reading
+module _ {A B C : Type 0} {f : A → C} {v : C} {text keys tags : List ℕ} {c : Cursor} {x : Read A} {k t : List ℕ} {d : Cursor}
+    (r : Gets f v text keys tags c x k t d) where
+  pub cell-then : (next : A × List ℕ → Read B) (h : B → Table.Cell) (q : Operand) {k′ t′ : List ℕ} → Ready text keys tags c
+      → CellRead h text k t d (next (r .value, drop (d .at) text)) q k′ t′ → CellRead h text keys tags c (x >>= next) q k′ t′
+  unfolding _>>=_ meeting
+  cell-then next h (OperandCode.the-variants.Got w e) ready a = record { answer = gets-then next h (meaning w) ready r (a .answer) }
+  cell-then next h OperandCode.the-variants.Broken ready a =
+      record {
+        answer = ap (λ (y : Read A). y >>= next) (r .is) ∙ ap (meeting (metIn (r .entries) 0 [] 0)) (a .answer);
+      }
+
+  -- two ways to go on are the same where they are the same behind it
+  pub then-same : (next next′ : A × List ℕ → Read B) → next (r .value, drop (d .at) text) ≡ next′ (r .value, drop (d .at) text)
+      → x >>= next ≡ x >>= next′
+  unfolding _>>=_ meeting
+  then-same next next′ e =
+      ap (λ (y : Read A). y >>= next) (r .is)
+      ∙ ap (meeting (metIn (r .entries) 0 [] 0)) e
+      ∙ sym (ap (λ (y : Read A). y >>= next′) (r .is))
+
+-- a place in a cell of a kind and a value
+pub valued-cell : (kind v : ℕ) {text keys tags : List ℕ} {c : Cursor} {x : Read ℕ} {k t : List ℕ} (p : Place)
+    → PlaceRead text keys tags c x p k t → CellRead (λ n. Table.cell kind n v) text keys tags c x (valuedIn kind v p) k t
+valued-cell kind v (PlaceCode.the-variants.Got place d) a =
+    let r = a .answer in
+    record {
+      answer =
+          record {
+            value = r .value;
+            entries = r .entries;
+            is = r .is;
+            made = ap (λ n. Table.cell kind n v) (r .made);
+            noting = r .noting;
+            goes = r .goes;
+            ready = r .ready;
+            few = r .few;
+            further = r .further;
+          };
+    }
+valued-cell kind v PlaceCode.the-variants.Broken a = record { answer = a .answer }
+
+module _ (p : Places) {text keys tags : List ℕ} {c : Cursor} where
+  -- the m of STRING with its `)`
+  pub number-ends : (kind v : ℕ) (q : Place) {k t : List ℕ} → PlaceRead text keys tags c (numberName edition1 p (drop (c .at) text)) q k t
+      → (n : Length) → Standing n kind v
+      → CellRead bareCell text keys tags c (numberEnd p n (drop (c .at) text)) (closedBy text (valuedIn kind v q)) k t
+  unfolding patternCell elementCell
+  number-ends kind v q a n same =
+      closed-cell (Program.text n) bareCell same (valuedIn kind v q) (valued-cell kind v q a)
+
+  -- behind a comma
+  pub number-follows : (kind v : ℕ) (q : Operand) {d : Cursor} {k t : List ℕ} → d ≡ moved c 1 → begins (44 ∷ []) (drop (c .at) text) ≡ true
+      → ((n : Length) → Standing n kind v → CellRead bareCell text keys tags d (numberEnd p n (drop (d .at) text)) q k t) → (n : Length)
+      → Standing n kind v → CellRead bareCell text keys tags c (numberFollows p n (drop (c .at) text)) q k t
+  unfolding bytes
+  number-follows kind v q {d} {k} {t} s e a n same =
+      let from : drop (d .at) text ≡ drop 1 (drop (c .at) text) =
+      ap (λ (z : Cursor). drop (z .at) text) s ∙ sym (drop-drop 1 (c .at) text) in
+      subst (λ y. CellRead bareCell text keys tags c y q k t)
+      (ap (numberEnd p n) from ∙ sym (skip-here (44 ∷ []) (drop (c .at) text) (λ (_, rest). numberEnd p n rest) e))
+      (cell-skip 1 q (skipped c 1 s) (a n same))
+
+  -- STRING with a constant
+  pub constant-called : (q : Operand) (z : ℤ) (n next : ℕ) {d : Cursor} {k t : List ℕ} → d ≡ moved c n → c .at + n ≡ next
+      → signed edition1 (drop (c .at) text) ≡ give z (drop next text)
+      → CellRead bareCell text keys tags d (numberFollows p (constantly z) (drop (d .at) text)) q k t
+      → CellRead bareCell text keys tags c (constantCall p (drop (c .at) text)) q k t
+  constant-called q z n next {d} {k} {t} s place is a =
+      let from : drop (d .at) text ≡ drop next text =
+      ap (λ (w : Cursor). drop (w .at) text) s ∙ ap (λ j. drop j text) place in
+      subst (λ y. CellRead bareCell text keys tags c y q k t)
+      (ap (numberFollows p (constantly z)) from
+      ∙ sym (given-then z (drop next text) (λ (n, rest). numberFollows p (constantly n) rest))
+      ∙ ap (λ (y : Read ℤ). y >>= λ (n, rest). numberFollows p (constantly n) rest) (sym is))
+      (cell-skip n q (skipped c n s) a)
+
+pub number-alone : (p : Places) (bs : List ℕ) → begins (44 ∷ []) bs ≡ false → (n : Length) → numberFollows p n bs ≡ broken
+unfolding bytes
+number-alone p bs e n = skip-not (44 ∷ []) bs (λ (_, rest). numberEnd p n rest) e
+
+-- a kind of its own for each n
+pub standing-constant : (z : ℤ) {v : ℕ} → v ≡ biased z → Standing (constantly z) 17 v
+unfolding lengthCell
+standing-constant z e m = ap (Table.cell 17 m) (sym e)
+
+pub standing-number : (i : ℕ) → Standing (numbered i) 18 i
+unfolding lengthCell
+standing-number i m = refl
+
+module _ (p : Places) {text keys tags : List ℕ} {c : Cursor} (ready : Ready text keys tags c) {place : ℕ} {k t : List ℕ} {d : Cursor} where
+  -- STRING with a number n, and with m alone
+  module _ (a : Gets (λ j. j) place text keys tags c (numberName edition1 p (drop (c .at) text)) k t d) where
+    pub number-comma : (q : Operand) {e : Cursor} {k′ t′ : List ℕ} → e ≡ moved d 1 → begins (44 ∷ []) (drop (d .at) text) ≡ true
+        → ((n : Length) → Standing n 18 place → CellRead bareCell text k t e (numberEnd p n (drop (e .at) text)) q k′ t′)
+        → CellRead bareCell text keys tags c (numberCall p (drop (c .at) text)) q k′ t′
+    unfolding bytes
+    number-comma q {e} {k′} {t′} s comma b =
+        let from : drop (e .at) text ≡ drop 1 (drop (d .at) text) =
+        ap (λ (z : Cursor). drop (z .at) text) s ∙ sym (drop-drop 1 (d .at) text) in
+        let standing : Standing (numbered (a .value)) 18 place = λ m. standing-number (a .value) m ∙ ap (Table.cell 18 m) (a .made) in
+        cell-then a (λ (i, rest). numberOrEnd p i rest) bareCell q ready
+        (subst (λ y. CellRead bareCell text k t d y q k′ t′) (ap (numberEnd p (numbered (a .value))) from ∙ sym (chosen _ _ comma))
+        (cell-skip 1 q (skipped d 1 s) (b (numbered (a .value)) standing)))
+
+    pub number-only : begins (44 ∷ []) (drop (d .at) text) ≡ false
+        → CellRead bareCell text keys tags c (numberCall p (drop (c .at) text))
+        (closedBy text (OperandCode.the-variants.Got (record { kind = 17; place = place; value = 140_737_488_355_328 }) d)) k t
+    unfolding bytes patternCell elementCell lengthCell biased bias
+    number-only none =
+        let v : Operand = OperandCode.the-variants.Got (record { kind = 17; place = place; value = 140_737_488_355_328 }) d in
+        let only : ℕ × List ℕ → Read Element =
+        λ (i, rest). skip (bytes ")") rest >>= λ (_, rest). give (Program.text (constantly (pos 0)) i) rest in
+        subst (λ y. CellRead bareCell text keys tags c y (closedBy text v) k t)
+        (then-same a only (λ (i, rest). numberOrEnd p i rest) (sym (chosen _ _ none)))
+        (closed-cell (Program.text (constantly (pos 0))) bareCell (λ _. refl) v
+        (valued-cell 17 140_737_488_355_328 (PlaceCode.the-variants.Got place d) (record { answer = a })))
+
+  -- a filler: fixed where `$` and a length follow
+  module _ (a : Gets (λ j. j) place text keys tags c (stringName edition1 p (roleOf 3) (drop (c .at) text)) k t d) where
+    pub filler-fixed : (q : Operand) {e : Cursor} {k′ t′ : List ℕ} → e ≡ moved d 1 → begins (36 ∷ []) (drop (d .at) text) ≡ true
+        → CellRead (lengthCell 20 place) text k t e (bound edition1 p (drop (e .at) text)) q k′ t′
+        → CellRead (patternCell 0) text keys tags c (fillerAt edition1 p (drop (c .at) text)) (closedBy text q) k′ t′
+    unfolding bytes patternCell fillerAt roleOf
+    filler-fixed q {e} {k′} {t′} s dollar b =
+        let from : drop (e .at) text ≡ drop 1 (drop (d .at) text) =
+        ap (λ (z : Cursor). drop (z .at) text) s ∙ sym (drop-drop 1 (d .at) text) in
+        let closes : List ℕ → Read PatternElement =
+        λ l. bound edition1 p l >>= λ (n, rest). skip (bytes ")") rest >>= λ (_, rest). give (fixedFiller (a .value) n) rest in
+        cell-then a _ (patternCell 0) (closedBy text q) ready
+        (subst (λ y. CellRead (patternCell 0) text k t d y (closedBy text q) k′ t′) (ap closes from ∙ sym (chosen _ _ dollar))
+        (closed-cell (fixedFiller (a .value)) (patternCell 0) (λ n. ap (λ j. lengthCell 20 j n) (a .made)) q
+        (cell-skip 1 q (skipped d 1 s) b)))
+
+    pub filler-free : begins (36 ∷ []) (drop (d .at) text) ≡ false
+        → CellRead (patternCell 0) text keys tags c (fillerAt edition1 p (drop (c .at) text))
+        (closedBy text (OperandCode.the-variants.Got (record { kind = 19; place = place; value = 0 }) d)) k t
+    unfolding bytes patternCell fillerAt roleOf
+    filler-free none =
+        let v : Operand = OperandCode.the-variants.Got (record { kind = 19; place = place; value = 0 }) d in
+        let free : ℕ × List ℕ → Read PatternElement =
+        λ (s, rest). skip (bytes ")") rest >>= λ (_, rest). give (freeFiller s) rest in
+        subst (λ y. CellRead (patternCell 0) text keys tags c y (closedBy text v) k t) (then-same a free _ (sym (chosen _ _ none)))
+        (closed-cell freeFiller (patternCell 0) (λ _. refl) v
+        (valued-cell 19 0 (PlaceCode.the-variants.Got place d) (record { answer = a })))
+
+pub filler-broken : (p : Places) (bs : List ℕ) → stringName edition1 p (roleOf 3) bs ≡ broken → fillerAt edition1 p bs ≡ broken
+unfolding fillerAt roleOf
+filler-broken p bs e = then-broken _ e
+
+-- a STRING call by its first byte
+module _ (p : Places) {text keys tags : List ℕ} {c : Cursor} {q : Operand} {k t : List ℕ} where
+  pub text-constant : (isDigit (getD (drop (c .at) text) 0 0) || isSign (drop (c .at) text)) ≡ true
+      → CellRead bareCell text keys tags c (constantCall p (drop (c .at) text)) q k t
+      → CellRead bareCell text keys tags c (textCall edition1 p (drop (c .at) text)) q k t
+  unfolding textCall
+  text-constant e a = subst (λ y. CellRead bareCell text keys tags c y q k t) (sym (chosen _ _ e)) a
+
+  pub text-number : (isDigit (getD (drop (c .at) text) 0 0) || isSign (drop (c .at) text)) ≡ false
+      → CellRead bareCell text keys tags c (numberCall p (drop (c .at) text)) q k t
+      → CellRead bareCell text keys tags c (textCall edition1 p (drop (c .at) text)) q k t
+  unfolding textCall
+  text-number e a = subst (λ y. CellRead bareCell text keys tags c y q k t) (sym (chosen _ _ e)) a
+
+-- an element with no literal bytes, whose cell doesn't depend on those before
+pub record Bare (x : PatternElement) : Type 0 where
+  pub none : literalIn x ≡ []
+  pub same : (l : ℕ) → patternCell l x ≡ patternCell 0 x
+
+bare-text : (n : Length) (m : ℕ) → Bare (Program.value (Program.text n m))
+unfolding literalIn patternCell elementCell
+bare-text n m = record { none = refl; same = λ _. refl }
+
+bare-part : (x : Part) → Bare (Program.value (Program.part x))
+unfolding literalIn patternCell elementCell
+bare-part x = record { none = refl; same = λ _. refl }
+
+bare-free : (s : ℕ) → Bare (freeFiller s)
+unfolding literalIn patternCell
+bare-free s = record { none = refl; same = λ _. refl }
+
+bare-fixed : (s : ℕ) (n : Length) → Bare (fixedFiller s n)
+unfolding literalIn patternCell
+bare-fixed s n = record { none = refl; same = λ _. refl }
+
+-- whatever is read is so
+pub data Always {A : Type 0} (P : A → Type 0) : Read A → Type 0 where
+  so : {a : A} {m : Met} {rest : List ℕ} → P a → Always P (got a m rest)
+  never : Always P broken
+
+always-meeting : {B : Type 0} (P : B → Type 0) (m : Met) (x : Read B) → Always P x → Always P (meeting m x)
+unfolding meeting
+always-meeting P m (got b n rest) (so h) = so h
+always-meeting P m broken never = never
+
+always-then : {A B : Type 0} (P : B → Type 0) (x : Read A) (next : A × List ℕ → Read B)
+    → ((a : A) (rest : List ℕ) → Always P (next (a, rest))) → Always P (x >>= next)
+unfolding _>>=_
+always-then P (got a m rest) next h = always-meeting P m (next (a, rest)) (h a rest)
+always-then P broken next h = never
+
+always-chosen : {A : Type 0} (P : A → Type 0) (test : Bool) (x y : Read A) → Always P x → Always P y
+    → Always P (elim test [ true ↦ x | false ↦ y ])
+always-chosen P true x y h g = h
+always-chosen P false x y h g = g
+
+-- so is the value that was read
+pub always-got : {A : Type 0} {P : A → Type 0} {a : A} {m : Met} {rest : List ℕ} → Always P (got a m rest) → P a
+always-got (so h) = h
+
+module _ (p : Places) where
+  abbrev BareElement : Element → Type 0
+  BareElement x = Bare (Program.value x)
+
+  end-bare : (n : Length) (bs : List ℕ) → Always BareElement (numberEnd p n bs)
+  unfolding give
+  end-bare n bs = always-then BareElement _ _ (λ m rest. always-then BareElement _ _ (λ _ rest. so (bare-text n m)))
+
+  pub text-bare : (bs : List ℕ) → Always BareElement (textCall edition1 p bs)
+  unfolding textCall give
+  text-bare bs =
+      let constants : Always BareElement (constantCall p bs) =
+      always-then BareElement _ _ (λ n rest. always-then BareElement _ _ (λ _ rest. end-bare (constantly n) rest)) in
+      let alone : (i : ℕ) (rest : List ℕ)
+      → Always BareElement (skip (bytes ")") rest >>= λ (_, rest). give (Program.text (constantly (pos 0)) i) rest) =
+      λ i rest. always-then BareElement _ _ (λ _ rest. so (bare-text (constantly (pos 0)) i)) in
+      let numbers : Always BareElement (numberCall p bs) =
+      always-then BareElement _ _ (λ i rest.
+      always-chosen BareElement (begins (bytes ",") rest) _ _ (end-bare (numbered i) (drop 1 rest)) (alone i rest)) in
+      always-chosen BareElement (isDigit (getD bs 0 0) || isSign bs) (constantCall p bs) (numberCall p bs) constants numbers
+
+  pub part-bare : (roles : List ℕ → List Role) (bs : List ℕ)
+      → Always BareElement (partName edition1 p roles bs >>= λ (x, rest). give (Program.part x) rest)
+  unfolding give
+  part-bare roles bs = always-then BareElement _ _ (λ x rest. so (bare-part x))
+
+  pub filler-bare : (bs : List ℕ) → Always Bare (fillerAt edition1 p bs)
+  unfolding fillerAt give
+  filler-bare bs =
+      let fixed : (s : ℕ) (rest : List ℕ)
+      → Always Bare (bound edition1 p rest >>= λ (n, rest). skip (bytes ")") rest >>= λ (_, rest). give (fixedFiller s n) rest) =
+      λ s rest. always-then Bare _ _ (λ n rest. always-then Bare _ _ (λ _ rest. so (bare-fixed s n))) in
+      let free : (s : ℕ) (rest : List ℕ) → Always Bare (skip (bytes ")") rest >>= λ (_, rest). give (freeFiller s) rest) =
+      λ s rest. always-then Bare _ _ (λ _ rest. so (bare-free s)) in
+      always-then Bare _ _ (λ s rest. always-chosen Bare (begins (bytes "$") rest) _ _ (fixed s (drop 1 rest)) (free s rest))

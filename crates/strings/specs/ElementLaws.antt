@@ -1,0 +1,182 @@
+-- How readings of elements follow each other: a value that takes no bytes, a reading behind another, one that meets names alone, one
+-- behind skipped bytes. Assumes nothing.
+use mathlib.Core.Bool.{Bool, true, false, _||_, or-assoc, or-false}
+use mathlib.Core.List.{List, [], _∷_, _++_}
+use mathlib.Core.Path.{_≡_, refl, sym, ap, ap₂, subst, _∙_}
+use Prim.Native.Nat.{ℕ, _+_}
+use native.Mathlib.Nat.{add-zero}
+use native.Mathlib.Omega.{arith}
+use lib.Dec.{eqb, ltb}
+use lib.ListN.{length, drop, length-append}
+use borrow.Author.Tests.{eqb-true}
+use Rattle.base.specs.Choice.{cond-cases}
+use Rattle.base.specs.Limits as Limits
+use Rattle.base.specs.Lists.{any, total}
+use Rattle.calls.specs.Splices.{splice-nil}
+use Rattle.calls.specs.Table.{allLiterals}
+use Rattle.calls.specs.YieldingForms.{literals-append}
+use Rattle.judgement.specs.Names.{any-append}
+use Rattle.language.specs.Program.{PatternElement}
+use Rattle.language.specs.Reading.{Met, nothing, Read, got, broken, _>>=_, meeting, give}
+use Rattle.met.specs.Elements.{withElements, elements-append}
+use Rattle.met.specs.Entries.{gather, metIn}
+use Rattle.met.specs.EntryLaws.{met-both}
+use Rattle.met.specs.declared.Cursor.{Cursor}
+use Rattle.numeric.specs.OperandLaws.{noting-more, met-nothing}
+use Rattle.numeric.specs.Operands.{Skips, Ready, Noting, Gets}
+use Rattle.numeric.specs.declared.Outcome as OutcomeCode
+use Rattle.numeric.specs.declared.Outcome.{Outcome}
+use Rattle.strings.specs.Elements.{GetsElements, rowsOf, GetsRow, RowAnswer, RowRead}
+
+pub literals-size : (xs ys : List PatternElement) → length (allLiterals (xs ++ ys)) ≡ length (allLiterals xs) + length (allLiterals ys)
+literals-size xs ys = ap length (literals-append xs ys) ∙ length-append (allLiterals xs) (allLiterals ys)
+
+-- as many elements as rows count
+pub rows-total : (n : ℕ) → total (λ k. k) (rowsOf n) ≡ n
+unfolding rowsOf total
+rows-total n =
+    cond-cases (λ rows. total (λ k. k) rows ≡ n) (eqb n 0) (λ e. sym (eqb-true n 0 e)) (λ _. add-zero n)
+
+-- the row's outcome by its case
+module _ {A : Type 0} {f : List A → List PatternElement} {text table keys tags : List ℕ} {c : Cursor} {x : Read (List A)} {r : Outcome}
+    {t k g : List ℕ} (a : RowRead f text table keys tags c x r t k g) where
+  pub row-case : {d : Cursor} → r ≡ OutcomeCode.the-variants.Got d → GetsRow f text table keys tags c x t k g d
+  row-case e = subst (λ z. RowAnswer f text table keys tags c x z t k g) e (a .answer)
+
+  pub row-none : r ≡ OutcomeCode.the-variants.Broken → x ≡ broken
+  row-none e = subst (λ z. RowAnswer f text table keys tags c x z t k g) e (a .answer)
+
+-- names alone are no elements
+pub names-elements : {A C : Type 0} {f : A → C} {v : C} {text keys tags : List ℕ} {c : Cursor} {x : Read A} {k t : List ℕ} {d : Cursor}
+    (table : List ℕ) (r : Gets f v text keys tags c x k t d) → GetsElements text table keys tags c x (r .value) [] [] table k t d
+unfolding allLiterals withElements any
+names-elements {c = c} {d = d} table r =
+    record {
+      entries = r .entries;
+      is = r .is;
+      written = refl;
+      noting = r .noting;
+      goes =
+          record {
+            names = r .goes .names;
+            items = r .goes .items ∙ add-zero (c .items);
+            elements = r .goes .elements ∙ sym (add-zero (c .elements));
+            literals = r .goes .literals ∙ sym (add-zero (c .literals));
+            longest = ap (ltb Limits.row) (r .goes .longest) ∙ sym (or-false (ltb Limits.row (c .longest)));
+          };
+      ready = r .ready;
+      few = r .few;
+    }
+
+-- nothing is read
+pub elements-none : {A : Type 0} (a : A) {text table keys tags : List ℕ} {c : Cursor} → Ready text keys tags c
+    → GetsElements text table keys tags c (give a (drop (c .at) text)) a [] [] table keys tags c
+unfolding allLiterals withElements any give nothing metIn gather
+elements-none a {text} {table} {keys} {tags} {c} ready =
+    record {
+      entries = [];
+      is = refl;
+      written = refl;
+      noting = record { keyed = sym (splice-nil keys (c .names)); tagged = sym (splice-nil tags (c .names)) };
+      goes =
+          record {
+            names = sym (add-zero (c .names));
+            items = refl;
+            elements = sym (add-zero (c .elements));
+            literals = sym (add-zero (c .literals));
+            longest = sym (or-false (ltb Limits.row (c .longest)));
+          };
+      ready = ready;
+      few = omega arith;
+    }
+
+module _ {A B : Type 0} {text table keys tags : List ℕ} {c : Cursor} {x : Read A} {a : A} {es : List PatternElement} {rows : List ℕ}
+    {t k g : List ℕ} {d : Cursor} (r : GetsElements text table keys tags c x a es rows t k g d) where
+  -- a value that takes no more bytes
+  pub elements-give : (next : A × List ℕ → Read B) (b : B) → next (a, drop (d .at) text) ≡ give b (drop (d .at) text)
+      → GetsElements text table keys tags c (x >>= next) b es rows t k g d
+  unfolding _>>=_ meeting give
+  elements-give next b same =
+      let met = metIn (r .entries) 0 rows (length (allLiterals es)) in
+      record {
+        entries = r .entries;
+        is =
+            ap (λ (y : Read A). y >>= next) (r .is)
+            ∙ ap (meeting met) same
+            ∙ ap (λ (m : Met). got b m (drop (d .at) text)) (met-nothing met);
+        written = r .written;
+        noting = r .noting;
+        goes = r .goes;
+        ready = r .ready;
+        few = r .few;
+      }
+
+  -- a reading behind another
+  pub elements-then : (next : A × List ℕ → Read B) {b : B} {fs : List PatternElement} {rows₂ : List ℕ} {t₂ k₂ g₂ : List ℕ} {e : Cursor}
+      → Ready text keys tags c → GetsElements text t k g d (next (a, drop (d .at) text)) b fs rows₂ t₂ k₂ g₂ e
+      → GetsElements text table keys tags c (x >>= next) b (es ++ fs) (rows ++ rows₂) t₂ k₂ g₂ e
+  unfolding _>>=_ meeting
+  elements-then next {b} {fs} {rows₂} {e = e} ready q =
+      let size = length-append (r .entries) (q .entries) in
+      let count = length-append es fs in
+      let bytes = literals-size es fs in
+      record {
+        entries = r .entries ++ q .entries;
+        is =
+            ap (λ (y : Read A). y >>= next) (r .is)
+            ∙ ap (meeting (metIn (r .entries) 0 rows (length (allLiterals es)))) (q .is)
+            ∙ ap (λ (m : Met). got b m (drop (e .at) text))
+            (met-both (r .entries) (q .entries) 0 0 rows rows₂ (length (allLiterals es)) (length (allLiterals fs))
+            ∙ ap (metIn (r .entries ++ q .entries) 0 (rows ++ rows₂)) (sym bytes));
+        written =
+            q .written
+            ∙ ap (λ (l : List ℕ). withElements l (d .elements) (d .literals) fs) (r .written)
+            ∙ ap₂ (λ (i j : ℕ). withElements (withElements table (c .elements) (c .literals) es) i j fs) (r .goes .elements) (r .goes .literals)
+            ∙ sym (elements-append table (c .elements) (c .literals) es fs);
+        noting = noting-more (omega (arith, ready)) (omega (arith, ready)) (r .goes .names) (r .noting) (q .noting);
+        goes =
+            record {
+              names = omega (arith, r .goes, q .goes);
+              items = q .goes .items ∙ r .goes .items;
+              elements = omega (arith, r .goes, q .goes);
+              literals = omega (arith, r .goes, q .goes);
+              longest =
+                  q .goes .longest
+                  ∙ ap (λ b. b || any (ltb Limits.row) rows₂) (r .goes .longest)
+                  ∙ or-assoc (ltb Limits.row (c .longest)) (any (ltb Limits.row) rows) (any (ltb Limits.row) rows₂)
+                  ∙ ap (λ b. ltb Limits.row (c .longest) || b) (sym (any-append (ltb Limits.row) rows rows₂));
+            };
+        ready = q .ready;
+        few = omega (arith, r .few, q .few);
+      }
+
+  -- what follows is broken
+  pub elements-broken : (next : A × List ℕ → Read B) → next (a, drop (d .at) text) ≡ broken → x >>= next ≡ broken
+  unfolding _>>=_ meeting
+  elements-broken next e =
+      ap (λ (y : Read A). y >>= next) (r .is) ∙ ap (meeting (metIn (r .entries) 0 rows (length (allLiterals es)))) e
+
+module _ {A : Type 0} {text table keys tags : List ℕ} {c : Cursor} {x : Read A} {a : A} {es : List PatternElement} {rows : List ℕ}
+    {t k g : List ℕ} {d : Cursor} where
+  -- a reading behind skipped bytes
+  pub elements-skip : (n : ℕ) {b : Cursor} → Skips b n c → GetsElements text table keys tags c x a es rows t k g d
+      → GetsElements text table keys tags b x a es rows t k g d
+  elements-skip n {b} s r =
+      let names : c .names ≡ b .names = omega (arith, s .goes) in
+      record {
+        entries = r .entries;
+        is = r .is;
+        written =
+            r .written ∙ ap₂ (λ (i j : ℕ). withElements table i j es) (s .goes .elements) (s .goes .literals);
+        noting = subst (λ j. Noting keys tags j (r .entries) k g) names (r .noting);
+        goes =
+            record {
+              names = omega (arith, r .goes, s .goes);
+              items = r .goes .items ∙ s .goes .items ∙ add-zero (b .items);
+              elements = omega (arith, r .goes, s .goes);
+              literals = omega (arith, r .goes, s .goes);
+              longest = r .goes .longest ∙ ap (λ j. ltb Limits.row j || any (ltb Limits.row) rows) (s .goes .longest);
+            };
+        ready = r .ready;
+        few = omega (arith, r .few, s .at);
+      }

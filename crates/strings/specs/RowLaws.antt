@@ -1,0 +1,592 @@
+-- Literals, elements and rows of them: how each is read and written. Assumes nothing.
+use mathlib.Core.Bool.{Bool, true, false, cond, not, _||_, or-false}
+use mathlib.Core.List.{List, [], _∷_, _++_, map, append-nil}
+use mathlib.Core.Path.{_≡_, refl, sym, ap, ap₂, subst, _∙_}
+use Prim.Native.Nat.{ℕ, zero, suc, _+_, _*_, _-_, _^_, _≤_, _<_}
+use native.Mathlib.Nat.{add-zero}
+use native.Mathlib.Omega.{arith}
+use lib.Dec.{eqb, ltb}
+use lib.ListN.{length, take, drop, length-drop, length-map, drop-of-length-le}
+use lib.Seq.{drop-drop, length-take-le, take-take}
+use borrow.Author.Tests.{ltb-true, ltb-false, lt-ltb, le-ltb, ne-eqb}
+use Rattle.base.specs.Choice.{test-cases}
+use Rattle.base.specs.Edition.{edition1}
+use Rattle.base.specs.Limits as Limits
+use Rattle.base.specs.Lists.{any, begins}
+use Rattle.base.specs.ListLaws.{begins-iff}
+use Rattle.base.specs.Text.{bytes}
+use Rattle.calls.specs.Splices.{splice-nil}
+use Rattle.calls.specs.Table as Table
+use Rattle.calls.specs.Table.{partCell, range, elementCell, patternCell, literalIn, allLiterals}
+use Rattle.cards.specs.Bytes.{quote}
+use Rattle.language.specs.Program.{literal, part, PatternElement, value}
+use Rattle.language.specs.Reading.{Role, Met, both, aRow, aLiteral, Read, got, broken, _>>=_, meeting, give}
+use Rattle.language.specs.Strings as Strings
+use Rattle.language.specs.Strings.{literalAt, nothingHere, moreOf, listOf, rowOf, textCall, fillerAt}
+use Rattle.language.specs.Words.{Places, run, partName}
+use Rattle.met.specs.Elements.{withElement, withLiterals, elements-one}
+use Rattle.met.specs.Entries.{Entry, roleOf, gather, metIn}
+use Rattle.met.specs.EntryLaws.{met-both}
+use Rattle.met.specs.Known.{placesIn}
+use Rattle.met.specs.declared.Cursor.{Cursor}
+use Rattle.numeric.specs.OperandLaws.{then-broken, chosen, skipped, cell-skip, cell-made, begins-room, role-none}
+use Rattle.numeric.specs.Operands.{moved, Ready, CellRead}
+use Rattle.numeric.specs.declared.operands.Operand as OperandCode
+use Rattle.numeric.specs.declared.operands.Operand.{Operand}
+use Rattle.numeric.specs.declared.Outcome as OutcomeCode
+use Rattle.numeric.specs.declared.Outcome.{Outcome}
+use Rattle.strings.specs.CellLaws.{Bare, Always, always-got, text-bare, part-bare, filler-bare}
+use Rattle.strings.specs.Cells.{bareCell}
+use Rattle.strings.specs.ElementLaws.{elements-none, elements-give, elements-then, elements-broken, elements-skip}
+use Rattle.strings.specs.Elements.{GetsElements, rowsOf, GetsRow, RowRead, Roomy, written, celled, Spelt, LiteralRead}
+use Rattle.strings.specs.Elements.{GetsOne, OneAnswer, ReadsOne, ElementRead, PatternElementRead, OneRead, ReadsMany, Follows, Behind, longer, ended}
+
+-- the outcome by its case
+module _ {A : Type 0} {f : A → PatternElement} {text table keys tags : List ℕ} {c : Cursor} {x : Read A} {r : Outcome} {t k g : List ℕ}
+    (a : ReadsOne f text table keys tags c x r t k g) where
+  pub one-case : {d : Cursor} → r ≡ OutcomeCode.the-variants.Got d → GetsOne f text table keys tags c x t k g d
+  one-case e = subst (λ z. OneAnswer f text table keys tags c x z t k g) e (a .answer)
+
+  pub one-none : r ≡ OutcomeCode.the-variants.Broken → x ≡ broken
+  one-none e = subst (λ z. OneAnswer f text table keys tags c x z t k g) e (a .answer)
+
+-- a literal of n bytes behind the quote at the cursor
+pub literal-spelt : {text table keys tags : List ℕ} {c : Cursor} (n size : ℕ) {t : List ℕ} {d : Cursor} → Ready text keys tags c
+    → c .at + 1 + n ≤ length text → c .at + size ≤ length text → n < size
+    → literalAt (drop (c .at + 1) text) ≡ got (take n (drop (c .at + 1) text)) (aLiteral n) (drop (c .at + size) text)
+    → Spelt text table c n size t d → LiteralRead text table keys tags c t d
+unfolding aLiteral metIn gather allLiterals literalIn patternCell elementCell range any
+literal-spelt {text} {table} {keys} {tags} {c} n size {t} {d} ready inside end more is s =
+    let w = take n (drop (c .at + 1) text) in
+    let count : length w ≡ n = length-take-le n (drop (c .at + 1) text) (omega (arith, length-drop (c .at + 1) text)) in
+    let all : length (w ++ []) ≡ n = ap length (append-nil w) ∙ count in
+    let place : c .literals + 65_536 * n ≡ c .literals + 2 ^ 16 * (length w + 2 ^ 16 * 0) = omega arith in
+    let at : d .at ≡ c .at + size = ap (λ (z : Cursor). z .at) (s .goes) in
+    let names : d .names ≡ c .names = ap (λ (z : Cursor). z .names) (s .goes) in
+    let items : d .items ≡ c .items = ap (λ (z : Cursor). z .items) (s .goes) in
+    let elements : d .elements ≡ c .elements + 1 = ap (λ (z : Cursor). z .elements) (s .goes) in
+    let literals : d .literals ≡ c .literals + n = ap (λ (z : Cursor). z .literals) (s .goes) in
+    record {
+      bytes = w;
+      gets =
+          record {
+            entries = [];
+            is =
+                is
+                ∙ ap₂ (λ (i j : ℕ). got w (metIn [] 0 [] i) (drop j text)) (sym all) (sym at);
+            written =
+                s .written
+                ∙ ap (λ j. withElement (withLiterals table (c .literals) w) (c .elements) (Table.cell 16 0 j)) place
+                ∙ sym (elements-one table (c .elements) (c .literals) (value (literal w)));
+            noting = record { keyed = sym (splice-nil keys (c .names)); tagged = sym (splice-nil tags (c .names)) };
+            goes =
+                record {
+                  names = names ∙ sym (add-zero (c .names));
+                  items = items;
+                  elements = elements;
+                  literals = literals ∙ ap (λ j. c .literals + j) (sym all);
+                  longest =
+                      ap (λ (z : Cursor). ltb Limits.row (z .longest)) (s .goes) ∙ sym (or-false (ltb Limits.row (c .longest)));
+                };
+            ready =
+                record {
+                  textSize = ready .textSize;
+                  inside = omega arith;
+                  names = omega (arith, ready .names);
+                  items = omega (arith, ready .items);
+                  elements = omega (arith, ready .elements);
+                  literals = omega (arith, ready .literals);
+                  keysSize = ready .keysSize;
+                  tagsSize = ready .tagsSize;
+                };
+            few = omega arith;
+          };
+      further = omega arith;
+    }
+
+-- the bytes of a literal: one quote, or those before the next one
+module _ (bs : List ℕ) where
+  pub literal-quote : begins (34 ∷ (34 ∷ [])) bs ≡ true → literalAt bs ≡ got (take 1 bs) (aLiteral 1) (drop 2 bs)
+  unfolding literalAt bytes quote
+  literal-quote e =
+      let two : take 2 bs ≡ 34 ∷ (34 ∷ []) = begins-iff (34 ∷ (34 ∷ [])) bs .0 e in
+      let one : take 1 bs ≡ 34 ∷ [] = sym (take-take 1 2 bs (omega arith)) ∙ ap (take 1) two in
+      chosen _ _ e ∙ ap (λ (w : List ℕ). got w (aLiteral 1) (drop 2 bs)) (sym one)
+
+  pub literal-run : {n : ℕ} → begins (34 ∷ (34 ∷ [])) bs ≡ false → n ≡ run (λ b. not (eqb b quote)) bs
+      → literalAt bs ≡ got (take n bs) (aLiteral n) (drop (n + 1) bs)
+  unfolding literalAt bytes
+  literal-run e is = chosen _ _ e ∙ ap (λ n. got (take n bs) (aLiteral n) (drop (n + 1) bs)) (sym is)
+
+-- where a literal ends: behind its last quote, or at the end of the text
+module _ (text : List ℕ) (at n : ℕ) where
+  pub literal-ends : (j size : ℕ) → j + 1 ≡ size
+      → got (take n (drop (at + 1) text)) (aLiteral n) (drop j (drop (at + 1) text))
+      ≡ got (take n (drop (at + 1) text)) (aLiteral n) (drop (at + size) text)
+  literal-ends j size e =
+      let place : at + 1 + j ≡ at + size = omega arith in
+      ap (got (take n (drop (at + 1) text)) (aLiteral n)) (drop-drop j (at + 1) text ∙ ap (λ i. drop i text) place)
+
+  pub literal-open : length text ≤ at + 1 + n
+      → got (take n (drop (at + 1) text)) (aLiteral n) (drop (n + 1) (drop (at + 1) text))
+      ≡ got (take n (drop (at + 1) text)) (aLiteral n) (drop (at + (n + 1)) text)
+  literal-open h =
+      let behind : length text ≤ at + 1 + (n + 1) = omega arith in
+      let end : length text ≤ at + (n + 1) = omega arith in
+      ap (got (take n (drop (at + 1) text)) (aLiteral n))
+      (drop-drop (n + 1) (at + 1) text ∙ drop-of-length-le text behind ∙ sym (drop-of-length-le text end))
+
+-- a cell that was read is one element with no literal bytes
+pub cell-element : {A : Type 0} (f : A → PatternElement) {text : List ℕ} (table : List ℕ) {keys tags : List ℕ} {c : Cursor} {x : Read A} (r : Operand)
+    {k t : List ℕ} → Ready text keys tags c → Always (λ a. Bare (f a)) x → CellRead (λ a. patternCell 0 (f a)) text keys tags c x r k t
+    → ReadsOne f text table keys tags c x (written r) (celled table r) k t
+unfolding allLiterals withLiterals any
+cell-element f {text} table {c = c} {x} (OperandCode.the-variants.Got v d) {k} {t} ready bare a =
+    let r = a .answer in
+    let e = f (r .value) in
+    let b = always-got (subst (Always (λ a. Bare (f a))) (r .is) bare) in
+    let zero : length (literalIn e ++ []) ≡ 0 = ap (λ (l : List ℕ). length (l ++ [])) (b .none) in
+    record {
+      answer =
+          record {
+            element = r .value;
+            gets =
+                record {
+                  entries = r .entries;
+                  is = r .is ∙ ap (λ j. got (r .value) (metIn (r .entries) 0 [] j) (drop (d .at) text)) (sym zero);
+                  written =
+                      ap₂ (λ (j : ℕ) (w : Table.Cell). withElement table j w) (r .goes .elements) (sym (r .made) ∙ sym (b .same (c .literals)))
+                      ∙ ap (λ (l : List ℕ). withElement (withLiterals table (c .literals) l) (c .elements) (patternCell (c .literals) e)) (sym (b .none))
+                      ∙ sym (elements-one table (c .elements) (c .literals) e);
+                  noting = r .noting;
+                  goes =
+                      record {
+                        names = r .goes .names;
+                        items = r .goes .items ∙ add-zero (c .items);
+                        elements = ap (λ j. j + 1) (r .goes .elements);
+                        literals = r .goes .literals ∙ sym (add-zero (c .literals)) ∙ ap (λ j. c .literals + j) (sym zero);
+                        longest = ap (ltb Limits.row) (r .goes .longest) ∙ sym (or-false (ltb Limits.row (c .longest)));
+                      };
+                  ready =
+                      record {
+                        textSize = r .ready .textSize;
+                        inside = r .ready .inside;
+                        names = r .ready .names;
+                        items = r .ready .items;
+                        elements = omega (arith, ready .elements, r .goes, r .further);
+                        literals = r .ready .literals;
+                        keysSize = r .ready .keysSize;
+                        tagsSize = r .ready .tagsSize;
+                      };
+                  few = r .few;
+                };
+            further = r .further;
+          };
+    }
+cell-element f table OperandCode.the-variants.Broken ready bare a = record { answer = a .answer }
+
+-- there is room for it, and the code's outcome is this one
+pub cell-roomy : {A : Type 0} {f : A → Table.Cell} {text keys tags : List ℕ} {c : Cursor} {x : Read A} (r : Operand) {k t : List ℕ}
+    → CellRead f text keys tags c x r k t → Roomy r
+cell-roomy (OperandCode.the-variants.Got v d) a = omega (arith, a .answer .ready)
+cell-roomy OperandCode.the-variants.Broken a = tt
+
+pub one-written : {A : Type 0} {f : A → PatternElement} {text table keys tags : List ℕ} {c : Cursor} {x : Read A} (q : Operand) {r : Outcome}
+    {t k g : List ℕ} → (r ≡ written q) × (t ≡ celled table q) → ReadsOne f text table keys tags c x (written q) (celled table q) k g
+    → ReadsOne f text table keys tags c x r t k g
+one-written {f = f} {text} {table} {keys} {tags} {c} {x} q {r} {t} {k} {g} e a =
+    subst (λ z. ReadsOne f text table keys tags c x z t k g) (sym (e .0))
+    (subst (λ (z : List ℕ). ReadsOne f text table keys tags c x (written q) z k g) (sym (e .1)) a)
+
+-- an element by its first bytes
+module _ (p : Places) (roles : List ℕ → List Role) {text table keys tags : List ℕ} {c : Cursor} (ready : Ready text keys tags c) where
+  pub element-literal : {t : List ℕ} {d : Cursor} → begins (34 ∷ []) (drop (c .at) text) ≡ true → LiteralRead text table keys tags c t d
+      → ReadsOne value text table keys tags c (Strings.element edition1 p roles (drop (c .at) text)) (OutcomeCode.the-variants.Got d) t keys tags
+  unfolding Strings.element bytes
+  element-literal {t} {d} e a =
+      let from : drop (c .at + 1) text ≡ drop 1 (drop (c .at) text) = sym (drop-drop 1 (c .at) text) in
+      record {
+        answer =
+            record {
+              element = literal (a .bytes);
+              gets =
+                  subst (λ y. GetsElements text table keys tags c y (literal (a .bytes)) (value (literal (a .bytes)) ∷ []) [] t keys tags d)
+                  (ap (λ (l : List ℕ). literalAt l >>= λ (w, rest). give (literal w) rest) from ∙ sym (chosen _ _ e))
+                  (elements-give (a .gets) (λ (w, rest). give (literal w) rest) (literal (a .bytes)) refl);
+              further = a .further;
+            };
+      }
+
+  module _ (no : begins (34 ∷ []) (drop (c .at) text) ≡ false) where
+    pub element-text : (q : Operand) {d : Cursor} {k t : List ℕ} → d ≡ moved c 7 → begins (bytes "STRING(") (drop (c .at) text) ≡ true
+        → CellRead bareCell text keys tags d (textCall edition1 p (drop (d .at) text)) q k t
+        → ReadsOne value text table keys tags c (Strings.element edition1 p roles (drop (c .at) text)) (written q) (celled table q) k t
+    unfolding Strings.element bytes
+    element-text q {d} {k} {t} s e a =
+        let from : drop (d .at) text ≡ drop 7 (drop (c .at) text) =
+        ap (λ (z : Cursor). drop (z .at) text) s ∙ sym (drop-drop 7 (c .at) text) in
+        subst (λ y. ReadsOne value text table keys tags c y (written q) (celled table q) k t)
+        (ap (textCall edition1 p) from ∙ sym (chosen _ _ no ∙ chosen _ _ e))
+        (cell-element value table q ready (text-bare p (drop (d .at) text)) (cell-skip 7 q (skipped c 7 s) a))
+
+    pub element-part : (q : Operand) {k t : List ℕ} → begins (bytes "STRING(") (drop (c .at) text) ≡ false
+        → CellRead (partCell 0) text keys tags c (partName edition1 p roles (drop (c .at) text)) q k t
+        → ReadsOne value text table keys tags c (Strings.element edition1 p roles (drop (c .at) text)) (written q) (celled table q) k t
+    unfolding Strings.element bytes patternCell elementCell
+    element-part q {k} {t} e a =
+        subst (λ y. ReadsOne value text table keys tags c y (written q) (celled table q) k t)
+        (sym (chosen _ _ no ∙ chosen _ _ e))
+        (cell-element value table q ready (part-bare p roles (drop (c .at) text)) (cell-made part bareCell q (λ _. refl) a))
+
+-- an element of a pattern
+module _ (p : Places) {text table keys tags : List ℕ} {c : Cursor} where
+  pub pattern-filler : Ready text keys tags c → (q : Operand) {d : Cursor} {k t : List ℕ} → d ≡ moved c 1
+      → begins (40 ∷ []) (drop (c .at) text) ≡ true
+      → CellRead (patternCell 0) text keys tags d (fillerAt edition1 p (drop (d .at) text)) q k t
+      → ReadsOne (λ x. x) text table keys tags c (Strings.patternElement edition1 p (drop (c .at) text)) (written q) (celled table q) k t
+  unfolding Strings.patternElement bytes
+  pattern-filler ready q {d} {k} {t} s e a =
+      let from : drop (d .at) text ≡ drop 1 (drop (c .at) text) =
+      ap (λ (z : Cursor). drop (z .at) text) s ∙ sym (drop-drop 1 (c .at) text) in
+      subst (λ y. ReadsOne (λ x. x) text table keys tags c y (written q) (celled table q) k t)
+      (ap (fillerAt edition1 p) from ∙ sym (chosen _ _ e))
+      (cell-element (λ x. x) table q ready (filler-bare p (drop (d .at) text)) (cell-skip 1 q (skipped c 1 s) a))
+
+  pub pattern-value : (r : Outcome) {t k g : List ℕ} → begins (40 ∷ []) (drop (c .at) text) ≡ false
+      → ReadsOne value text table keys tags c (Strings.element edition1 p (roleOf 2) (drop (c .at) text)) r t k g
+      → ReadsOne (λ x. x) text table keys tags c (Strings.patternElement edition1 p (drop (c .at) text)) r t k g
+  unfolding Strings.patternElement bytes roleOf
+  pattern-value (OutcomeCode.the-variants.Got d) {t} {k} {g} e a =
+      let q = a .answer in
+      record {
+        answer =
+            record {
+              element = value (q .element);
+              gets =
+                  subst (λ y. GetsElements text table keys tags c y (value (q .element)) (value (q .element) ∷ []) [] t k g d)
+                  (sym (chosen _ _ e)) (elements-give (q .gets) (λ (x, rest). give (value x) rest) (value (q .element)) refl);
+              further = q .further;
+            };
+      }
+  pattern-value OutcomeCode.the-variants.Broken e a = record { answer = chosen _ _ e ∙ then-broken _ (a .answer) }
+
+-- an element of either
+module _ (known : List ℕ) {text table keys tags : List ℕ} {c : Cursor} {b : Bool} {r : Outcome} {t k g : List ℕ} where
+  pub one-pattern : b ≡ true → PatternElementRead text known table keys tags c r t k g → OneRead text known table keys tags c b r t k g
+  one-pattern e a = subst (λ z. OneRead text known table keys tags c z r t k g) (sym e) a
+
+  pub one-string : b ≡ false → ElementRead text known table keys tags c 4 r t k g → OneRead text known table keys tags c b r t k g
+  one-string e a =
+      subst (λ z. OneRead text known table keys tags c z r t k g) (sym e)
+      (subst
+      (λ roles. ReadsOne value text table keys tags c (Strings.element edition1 (placesIn known) roles (drop (c .at) text)) r t k g)
+      role-none a)
+
+-- where a comma stands one turn is taken
+abbrev turn : ℕ → ℕ
+turn zero = 0
+turn (suc n) = n
+
+turns : (text : List ℕ) (d : Cursor) (n : ℕ) → begins (44 ∷ []) (drop (d .at) text) ≡ true → length text ≤ n + d .at → n ≡ suc (turn n)
+turns text d zero comma h = absurd (omega (arith, begins-room (44 ∷ []) (drop (d .at) text) comma, length-drop (d .at) text))
+turns text d (suc n) comma h = refl
+
+module _ {A : Type 0} (one : List ℕ → Read A) where
+  abbrev after : ℕ → A × List ℕ → Read (List A)
+  after n = λ (x, rest). moreOf one n rest >>= λ (xs, rest). give (x ∷ xs) rest
+
+  begun : (text : List ℕ) (d : Cursor) {b : Cursor} → b ≡ moved d 1 → begins (44 ∷ []) (drop (d .at) text) ≡ true → (n : ℕ)
+      → one (drop (b .at) text) >>= after n ≡ moreOf one (suc n) (drop (d .at) text)
+  unfolding moreOf bytes
+  begun text d {b} s comma n =
+      let from : drop (b .at) text ≡ drop 1 (drop (d .at) text) =
+      ap (λ (z : Cursor). drop (z .at) text) s ∙ sym (drop-drop 1 (d .at) text) in
+      ap (λ (l : List ℕ). one l >>= after n) from ∙ sym (chosen _ _ comma)
+
+-- more behind commas
+module _ {A : Type 0} (f : A → PatternElement) (one : List ℕ → Read A) {text table keys tags : List ℕ} {d : Cursor} where
+  pub follows-end : Ready text keys tags d → begins (44 ∷ []) (drop (d .at) text) ≡ false
+      → Follows f one text table keys tags d (OutcomeCode.the-variants.Got d) table keys tags
+  unfolding moreOf bytes
+  follows-end ready e zero h = record { answer = record { values = []; gets = elements-none [] ready } }
+  follows-end ready e (suc n) h =
+      record {
+        answer =
+            record {
+              values = [];
+              gets =
+                  subst (λ y. GetsElements {A = List A} text table keys tags d y [] [] [] table keys tags d) (sym (chosen _ _ e))
+                  (elements-none [] ready);
+            };
+      }
+
+  module _ (ready : Ready text keys tags d) (comma : begins (44 ∷ []) (drop (d .at) text) ≡ true) {b : Cursor} (s : b ≡ moved d 1) where
+    pub follows-broken : one (drop (b .at) text) ≡ broken → {t k g : List ℕ}
+        → Follows f one text table keys tags d OutcomeCode.the-variants.Broken t k g
+    follows-broken e n h =
+        record {
+          answer =
+              ap (λ j. moreOf one j (drop (d .at) text)) (turns text d n comma h)
+              ∙ sym (begun one text d s comma (turn n))
+              ∙ then-broken (after one (turn n)) e;
+        }
+
+    module _ {t k g : List ℕ} {e : Cursor} (a : GetsOne f text table keys tags b (one (drop (b .at) text)) t k g e) where
+      followed : (r : Outcome) {t₂ k₂ g₂ : List ℕ} (n : ℕ)
+          → ReadsMany f text t k g e (moreOf one n (drop (e .at) text)) r t₂ k₂ g₂
+          → ReadsMany f text table keys tags d (one (drop (b .at) text) >>= after one n) r t₂ k₂ g₂
+      followed (OutcomeCode.the-variants.Got z) n m =
+          let q = m .answer in
+          record {
+            answer =
+                record {
+                  values = a .element ∷ q .values;
+                  gets =
+                      elements-then (elements-skip 1 (skipped d 1 s) (a .gets)) (after one n) ready
+                      (elements-give (q .gets) (λ (xs, rest). give (a .element ∷ xs) rest) (a .element ∷ q .values) refl);
+                };
+          }
+      followed OutcomeCode.the-variants.Broken n m =
+          record {
+            answer = elements-broken (a .gets) (after one n) (then-broken (λ (xs, rest). give (a .element ∷ xs) rest) (m .answer));
+          }
+
+      pub follows-more : (r : Outcome) {t₂ k₂ g₂ : List ℕ} → Follows f one text t k g e r t₂ k₂ g₂
+          → Follows f one text table keys tags d r t₂ k₂ g₂
+      follows-more r {t₂} {k₂} {g₂} m n h =
+          let more = turns text d n comma h in
+          let far : length text ≤ turn n + e .at = omega (arith, more, a .further, ap (λ (z : Cursor). z .at) s) in
+          subst (λ y. ReadsMany f text table keys tags d y r t₂ k₂ g₂)
+          (begun one text d s comma (turn n) ∙ ap (λ j. moreOf one j (drop (d .at) text)) (sym more))
+          (followed r (turn n) (m (turn n) far))
+
+-- the code is at d, and what is read from there leads to all that is read from c on
+pub record Passing {A : Type 0} (f : A → PatternElement) (one : List ℕ → Read A) (text table₀ keys₀ tags₀ : List ℕ) (c : Cursor)
+    (table keys tags : List ℕ) (d : Cursor) : Type 0 where
+  pub ready : Ready text keys tags d
+  pub size : length table ≡ length table₀
+  pub leads : (r : Outcome) (t k g : List ℕ) → Follows f one text table keys tags d r t k g → Follows f one text table₀ keys₀ tags₀ c r t k g
+
+module _ {A : Type 0} (f : A → PatternElement) (one : List ℕ → Read A) {text table₀ keys₀ tags₀ : List ℕ} {c : Cursor} where
+  pub passing-none : Ready text keys₀ tags₀ c → Passing f one text table₀ keys₀ tags₀ c table₀ keys₀ tags₀ c
+  passing-none ready = record { ready = ready; size = refl; leads = λ r t k g m. m }
+
+  module _ {table keys tags : List ℕ} {d : Cursor} (p : Passing f one text table₀ keys₀ tags₀ c table keys tags d) where
+    pub passing-more : begins (44 ∷ []) (drop (d .at) text) ≡ true → {b : Cursor} → b ≡ moved d 1 → {t k g : List ℕ} {e : Cursor}
+        → GetsOne f text table keys tags b (one (drop (b .at) text)) t k g e → length t ≡ length table
+        → Passing f one text table₀ keys₀ tags₀ c t k g e
+    passing-more comma s a same =
+        record {
+          ready = a .gets .ready;
+          size = same ∙ p .size;
+          leads = λ r t′ k′ g′ m. p .leads r t′ k′ g′ (follows-more f one (p .ready) comma s a r m);
+        }
+
+    pub passing-broken : begins (44 ∷ []) (drop (d .at) text) ≡ true → {b : Cursor} → b ≡ moved d 1 → one (drop (b .at) text) ≡ broken
+        → {t k g : List ℕ} → Follows f one text table₀ keys₀ tags₀ c OutcomeCode.the-variants.Broken t k g
+    passing-broken comma s e = p .leads OutcomeCode.the-variants.Broken _ _ _ (follows-broken f one (p .ready) comma s e)
+
+    pub passing-end : begins (44 ∷ []) (drop (d .at) text) ≡ false
+        → Follows f one text table₀ keys₀ tags₀ c (OutcomeCode.the-variants.Got d) table keys tags
+    passing-end e = p .leads (OutcomeCode.the-variants.Got d) table keys tags (follows-end f one (p .ready) e)
+
+-- which of two rows is the longer
+longest-row : (l n : ℕ) → ltb Limits.row (cond (ltb l n) n l) ≡ (ltb Limits.row l || (ltb Limits.row n || false))
+longest-row l n =
+    test-cases (λ b. ltb l n ≡ b → ltb 20 (cond b n l) ≡ (ltb 20 l || (ltb 20 n || false))) (ltb l n)
+    (λ _ e.
+    test-cases (λ b. ltb 20 l ≡ b → ltb 20 n ≡ (b || (ltb 20 n || false))) (ltb 20 l)
+    (λ _ h. lt-ltb 20 n (omega (arith, ltb-true l n e, ltb-true 20 l h)))
+    (λ _ h. sym (or-false (ltb 20 n))) refl)
+    (λ _ e.
+    test-cases (λ b. ltb 20 l ≡ b → b ≡ (b || (ltb 20 n || false))) (ltb 20 l)
+    (λ _ h. refl)
+    (λ _ h. sym (or-false (ltb 20 n) ∙ le-ltb 20 n (omega (arith, ltb-false l n e, ltb-false 20 l h)))) refl) refl
+
+-- a row of some elements is met as one
+rows-some : (n : ℕ) → rowsOf (suc n) ≡ suc n ∷ []
+unfolding rowsOf
+rows-some n = rw (ne-eqb (suc n) 0 (λ e. omega arith))
+
+row-met : (es : List Entry) (n l : ℕ) → both (metIn es 0 [] l) (aRow n) ≡ metIn es 0 (n ∷ []) l
+unfolding aRow metIn gather
+row-met es n l =
+    met-both es [] 0 0 [] (n ∷ []) l 0
+    ∙ ap₂ (λ (fs : List Entry) (j : ℕ). metIn fs 0 (n ∷ []) j) (append-nil es) (add-zero l)
+
+-- a row that is read whole
+module _ {A : Type 0} (f : A → PatternElement) (one : List ℕ → Read A) {text table keys tags : List ℕ} {c : Cursor}
+    (some : nothingHere (drop (c .at) text) ≡ false) where
+  module _ (x : A) (xs : List A) {t k g : List ℕ} (z : Cursor)
+      (a : GetsElements text table keys tags c (listOf one (drop (c .at) text)) (x ∷ xs) (map f (x ∷ xs)) [] t k g z) where
+    row-counted : (j : ℕ) → ltb Limits.row j ≡ (ltb Limits.row (z .longest) || (ltb Limits.row (length (x ∷ xs)) || false))
+        → GetsRow (map f) text table keys tags c (rowOf one (drop (c .at) text)) t k g (longer z j)
+    unfolding rowOf _>>=_ meeting any
+    row-counted j e =
+        let n = length (x ∷ xs) in
+        let l = length (allLiterals (map f (x ∷ xs))) in
+        record {
+          values = x ∷ xs;
+          gets =
+              subst
+              (λ rows.
+              GetsElements text table keys tags c (rowOf one (drop (c .at) text)) (x ∷ xs) (map f (x ∷ xs)) rows t k g (longer z j))
+              (sym (rows-some (length xs)))
+              (record {
+                entries = a .entries;
+                is =
+                    chosen _ _ some
+                    ∙ ap (λ (y : Read (List A)). y >>= λ (xs, rest). got xs (aRow (length xs)) rest) (a .is)
+                    ∙ ap (λ (m : Met). got (x ∷ xs) m (drop (z .at) text)) (row-met (a .entries) n l);
+                written = a .written;
+                noting = a .noting;
+                goes =
+                    record {
+                      names = a .goes .names;
+                      items = a .goes .items;
+                      elements = a .goes .elements;
+                      literals = a .goes .literals;
+                      longest =
+                          e
+                          ∙ ap (λ b. b || (ltb Limits.row n || false)) (a .goes .longest ∙ or-false (ltb Limits.row (c .longest)));
+                    };
+                ready =
+                    record {
+                      textSize = a .ready .textSize;
+                      inside = a .ready .inside;
+                      names = a .ready .names;
+                      items = a .ready .items;
+                      elements = a .ready .elements;
+                      literals = a .ready .literals;
+                      keysSize = a .ready .keysSize;
+                      tagsSize = a .ready .tagsSize;
+                    };
+                few = a .few;
+              });
+          size = a .goes .elements ∙ ap (λ i. c .elements + i) (length-map (x ∷ xs) f);
+        }
+
+    row-ended : RowRead (map f) text table keys tags c (rowOf one (drop (c .at) text)) (ended (c .elements) (OutcomeCode.the-variants.Got z)) t k g
+    row-ended =
+        let count : z .elements - c .elements ≡ length (x ∷ xs) = omega (arith, a .goes .elements, length-map (x ∷ xs) f) in
+        let longest = longest-row (z .longest) (length (x ∷ xs)) in
+        test-cases
+        (λ b.
+        ltb (z .longest) (z .elements - c .elements) ≡ b
+        → RowRead (map f) text table keys tags c (rowOf one (drop (c .at) text))
+        (elim b [
+          | true ↦ OutcomeCode.the-variants.Got (longer z (z .elements - c .elements))
+          | false ↦ OutcomeCode.the-variants.Got z
+        ])
+        t k g)
+        (ltb (z .longest) (z .elements - c .elements))
+        (λ _ e.
+        let more = ap (ltb (z .longest)) (sym count) ∙ e in
+        record {
+          answer =
+              row-counted (z .elements - c .elements)
+              (ap (ltb Limits.row) count ∙ ap (λ b. ltb Limits.row (cond b (length (x ∷ xs)) (z .longest))) (sym more) ∙ longest);
+        })
+        (λ _ e.
+        let less = ap (ltb (z .longest)) (sym count) ∙ e in
+        record {
+          answer =
+              row-counted (z .longest)
+              (ap (λ b. ltb Limits.row (cond b (length (x ∷ xs)) (z .longest))) (sym less) ∙ longest);
+        })
+        refl
+
+  pub row-got : Ready text keys tags c → {t k g : List ℕ} {d : Cursor} → GetsOne f text table keys tags c (one (drop (c .at) text)) t k g d
+      → (r : Outcome) {t₂ k₂ g₂ : List ℕ} → Follows f one text t k g d r t₂ k₂ g₂
+      → RowRead (map f) text table keys tags c (rowOf one (drop (c .at) text)) (ended (c .elements) r) t₂ k₂ g₂
+  unfolding rowOf listOf
+  row-got ready {d = d} a (OutcomeCode.the-variants.Got z) m =
+      let far : length text ≤ length (drop (d .at) text) + d .at = omega (arith, length-drop (d .at) text) in
+      let q = m (length (drop (d .at) text)) far .answer in
+      row-ended (a .element) (q .values) z
+      (elements-then (a .gets) (λ (x, rest). moreOf one (length rest) rest >>= λ (xs, rest). give (x ∷ xs) rest) ready
+      (elements-give (q .gets) (λ (xs, rest). give (a .element ∷ xs) rest) (a .element ∷ q .values) refl))
+  row-got ready {d = d} a OutcomeCode.the-variants.Broken m =
+      let far : length text ≤ length (drop (d .at) text) + d .at = omega (arith, length-drop (d .at) text) in
+      record {
+        answer =
+            chosen _ _ some
+            ∙ then-broken _
+            (elements-broken (a .gets) (λ (x, rest). moreOf one (length rest) rest >>= λ (xs, rest). give (x ∷ xs) rest)
+            (then-broken (λ (xs, rest). give (a .element ∷ xs) rest) (m (length (drop (d .at) text)) far .answer)));
+      }
+
+  -- up to more elements the code counts on
+  pub row-behind : {t k g : List ℕ} {d : Cursor} → GetsOne f text table keys tags c (one (drop (c .at) text)) t k g d → (r : Outcome)
+      {t₂ k₂ g₂ : List ℕ} → Follows f one text t k g d r t₂ k₂ g₂ → Behind (c .elements) r
+  row-behind {d = d} a (OutcomeCode.the-variants.Got z) m =
+      let q = m (length text) (omega arith) .answer in
+      omega (arith, a .gets .goes .elements, q .gets .goes .elements)
+  row-behind a OutcomeCode.the-variants.Broken m = tt
+
+pub row-broken : {A : Type 0} (one : List ℕ → Read A) (bs : List ℕ) → nothingHere bs ≡ false → one bs ≡ broken → rowOf one bs ≡ broken
+unfolding rowOf listOf
+row-broken one bs some e = chosen _ _ some ∙ then-broken _ (then-broken _ e)
+
+-- nothing stands there
+pub row-nothing : {A : Type 0} (f : A → PatternElement) (one : List ℕ → Read A) {text table keys tags : List ℕ} {c : Cursor}
+    → Ready text keys tags c → nothingHere (drop (c .at) text) ≡ true
+    → RowRead (map f) text table keys tags c (rowOf one (drop (c .at) text)) (OutcomeCode.the-variants.Got c) table keys tags
+unfolding rowOf rowsOf
+row-nothing {A} f one {text} {table} {keys} {tags} {c} ready e =
+    record {
+      answer =
+          record {
+            values = [];
+            gets =
+                subst (λ y. GetsElements {A = List A} text table keys tags c y [] [] [] table keys tags c) (sym (chosen _ _ e))
+                (elements-none [] ready);
+            size = sym (add-zero (c .elements));
+          };
+    }
+
+-- the end of a row, as the code has it
+module _ (from : ℕ) {r : Outcome} {d : Cursor} (e : r ≡ OutcomeCode.the-variants.Got d) where
+  pub ended-longer : ltb (d .longest) (d .elements - from) ≡ true
+      → OutcomeCode.the-variants.Got (longer d (d .elements - from)) ≡ ended from r
+  ended-longer h =
+      ap {B = Outcome}
+      (λ b.
+      elim b [
+        | true ↦ OutcomeCode.the-variants.Got (longer d (d .elements - from))
+        | false ↦ OutcomeCode.the-variants.Got d
+      ])
+      (sym h)
+      ∙ ap (ended from) (sym e)
+
+  pub ended-same : ltb (d .longest) (d .elements - from) ≡ false → OutcomeCode.the-variants.Got d ≡ ended from r
+  ended-same h =
+      ap {B = Outcome}
+      (λ b.
+      elim b [
+        | true ↦ OutcomeCode.the-variants.Got (longer d (d .elements - from))
+        | false ↦ OutcomeCode.the-variants.Got d
+      ])
+      (sym h)
+      ∙ ap (ended from) (sym e)
+
+map-same : {A : Type 0} (xs : List A) → map (λ x. x) xs ≡ xs
+map-same [] = refl
+map-same (x ∷ xs) = ap (λ l. x ∷ l) (map-same xs)
+
+-- the elements of a pattern are its values
+pub pattern-row : {text table keys tags : List ℕ} {c : Cursor} {x : Read (List PatternElement)} (r : Outcome) {t k g : List ℕ}
+    → RowRead (map (λ x. x)) text table keys tags c x r t k g → RowRead (λ xs. xs) text table keys tags c x r t k g
+pattern-row {text} {table} {keys} {tags} {c} {x} (OutcomeCode.the-variants.Got d) {t} {k} {g} a =
+    let q = a .answer in
+    record {
+      answer =
+          record {
+            values = q .values;
+            gets =
+                subst (λ es. GetsElements text table keys tags c x (q .values) es (rowsOf (length (q .values))) t k g d)
+                (map-same (q .values)) (q .gets);
+            size = q .size;
+          };
+    }
+pattern-row OutcomeCode.the-variants.Broken a = record { answer = a .answer }

@@ -1,0 +1,222 @@
+// STRING calls and fillers, each read as a cell of the table.
+// Assumes nothing.
+use convert::Int;
+use met::Cursor;
+use met::KNOWN;
+use met::NAMES;
+use numeric::operands::BIAS;
+use numeric::operands::Cell;
+use numeric::operands::FILLER;
+use numeric::operands::Operand;
+use numeric::operands::Place;
+use numeric::operands::closed;
+use numeric::operands::read_bound;
+use numeric::operands::read_number;
+use numeric::operands::read_string;
+use numeric::operands::skip;
+use packer::classes::is_digit;
+use words::byte_at;
+use words::constants::SignedConstant;
+use words::constants::signed;
+use words::sign_at;
+use words::stands_at;
+ghost use mathlib.Core.Path.{_≡_};
+ghost use Rattle.calls.specs.Numerals.{biased};
+ghost use Rattle.convert.specs.Numbers.{InRange};
+ghost use Rattle.met.specs.Known.{Counted};
+ghost use Rattle.numeric.specs.Operands.{Ready};
+ghost use Rattle.strings.specs.Cells.{valuedIn, NumberEnds, NumberFollows, ConstantCalled, NumberCalled, TextCalled, FillerRead};
+
+// the kind of STRING with a constant; the next one is that with a number
+const TEXT: u8 = 17;
+
+// the kind of a free filler, and of a fixed one by a constant; the next one is that by a number
+const FREE: u8 = 19;
+
+const FIXED: u8 = 20;
+
+// a constant as its cell has it
+fn bias(z: Int) -> usize
+    requires { ⌜ InRange z ⌝ }
+    ensures { λ r. ⌜ r ≡ biased (z .value) ⌝ }
+{
+    let size = convert::size(z) as usize;
+    if convert::is_negative(z) {
+        BIAS - size
+    } else {
+        BIAS + size
+    }
+}
+
+// a place, in a cell of a kind and a value
+fn valued(kind: u8, value: usize, p: Place) -> Operand
+    ensures { λ r. ⌜ r ≡ valuedIn kind value p ⌝ }
+{
+    match p {
+        Place::Broken => Operand::Broken,
+        Place::Got(place, d) => Operand::Got(Cell { kind, place, value }, d),
+    }
+}
+
+// the m of STRING with its `)`, in a cell of a kind and a value
+fn number_end(
+    text: &[u8],
+    known: &[u64; KNOWN],
+    keys: &mut [u64; NAMES],
+    tags: &mut [u8; NAMES],
+    c: Cursor,
+    kind: u8,
+    value: usize,
+) -> Operand
+    requires { ⌜ Ready (now text) (now keys) (now tags) c ⌝ }
+    requires { ⌜ Counted (now known) ⌝ }
+    ensures { λ r. ⌜ NumberEnds (now (text .entry)) (now (known .entry)) (now (keys .entry)) (now (tags .entry)) c kind value r (now (keys .exit)) (now (tags .exit)) ⌝ }
+{
+    closed(
+        text,
+        valued(kind, value, read_number(text, known, keys, tags, c)),
+    )
+}
+
+// the m of STRING behind a comma
+fn number_behind(
+    text: &[u8],
+    known: &[u64; KNOWN],
+    keys: &mut [u64; NAMES],
+    tags: &mut [u8; NAMES],
+    c: Cursor,
+    kind: u8,
+    value: usize,
+) -> Operand
+    requires { ⌜ Ready (now text) (now keys) (now tags) c ⌝ }
+    requires { ⌜ Counted (now known) ⌝ }
+    ensures { λ r. ⌜ NumberFollows (now (text .entry)) (now (known .entry)) (now (keys .entry)) (now (tags .entry)) c kind value r (now (keys .exit)) (now (tags .exit)) ⌝ }
+{
+    if stands_at(text, c.at, b',') {
+        return number_end(text, known, keys, tags, skip(c, 1), kind, value);
+    }
+    Operand::Broken
+}
+
+// STRING with a constant n
+fn constant_call(
+    text: &[u8],
+    known: &[u64; KNOWN],
+    keys: &mut [u64; NAMES],
+    tags: &mut [u8; NAMES],
+    c: Cursor,
+) -> Operand
+    requires { ⌜ Ready (now text) (now keys) (now tags) c ⌝ }
+    requires { ⌜ Counted (now known) ⌝ }
+    ensures { λ r. ⌜ ConstantCalled (now (text .entry)) (now (known .entry)) (now (keys .entry)) (now (tags .entry)) c r (now (keys .exit)) (now (tags .exit)) ⌝ }
+{
+    let at = c.at;
+    match signed(text, at) {
+        SignedConstant::Broken => Operand::Broken,
+        SignedConstant::Is { value, next } => number_behind(
+            text,
+            known,
+            keys,
+            tags,
+            skip(c, next - at),
+            TEXT,
+            bias(value),
+        ),
+    }
+}
+
+// STRING with a number n, or with m alone: its n is 0
+fn number_call(
+    text: &[u8],
+    known: &[u64; KNOWN],
+    keys: &mut [u64; NAMES],
+    tags: &mut [u8; NAMES],
+    c: Cursor,
+) -> Operand
+    requires { ⌜ Ready (now text) (now keys) (now tags) c ⌝ }
+    requires { ⌜ Counted (now known) ⌝ }
+    ensures { λ r. ⌜ NumberCalled (now (text .entry)) (now (known .entry)) (now (keys .entry)) (now (tags .entry)) c r (now (keys .exit)) (now (tags .exit)) ⌝ }
+{
+    match read_number(text, known, keys, tags, c) {
+        Place::Broken => Operand::Broken,
+        Place::Got(place, d) => {
+            if stands_at(text, d.at, b',') {
+                return number_end(
+                    text,
+                    known,
+                    keys,
+                    tags,
+                    skip(d, 1),
+                    TEXT + 1,
+                    place as usize,
+                );
+            }
+            closed(
+                text,
+                Operand::Got(
+                    Cell {
+                        kind: TEXT,
+                        place,
+                        value: BIAS,
+                    },
+                    d,
+                ),
+            )
+        }
+    }
+}
+
+// a STRING call behind its `(`
+pub fn text_call(
+    text: &[u8],
+    known: &[u64; KNOWN],
+    keys: &mut [u64; NAMES],
+    tags: &mut [u8; NAMES],
+    c: Cursor,
+) -> Operand
+    requires { ⌜ Ready (now text) (now keys) (now tags) c ⌝ }
+    requires { ⌜ Counted (now known) ⌝ }
+    ensures { λ r. ⌜ TextCalled (now (text .entry)) (now (known .entry)) (now (keys .entry)) (now (tags .entry)) c r (now (keys .exit)) (now (tags .exit)) ⌝ }
+{
+    let at = c.at;
+    if is_digit(byte_at(text, at)) | sign_at(text, at) {
+        return constant_call(text, known, keys, tags, c);
+    }
+    number_call(text, known, keys, tags, c)
+}
+
+// a filler behind its `(`
+pub fn filler(
+    text: &[u8],
+    known: &[u64; KNOWN],
+    keys: &mut [u64; NAMES],
+    tags: &mut [u8; NAMES],
+    c: Cursor,
+) -> Operand
+    requires { ⌜ Ready (now text) (now keys) (now tags) c ⌝ }
+    requires { ⌜ Counted (now known) ⌝ }
+    ensures { λ r. ⌜ FillerRead (now (text .entry)) (now (known .entry)) (now (keys .entry)) (now (tags .entry)) c r (now (keys .exit)) (now (tags .exit)) ⌝ }
+{
+    match read_string(text, known, keys, tags, c, FILLER) {
+        Place::Broken => Operand::Broken,
+        Place::Got(place, d) => {
+            if stands_at(text, d.at, b'$') {
+                return closed(
+                    text,
+                    read_bound(text, known, keys, tags, skip(d, 1), FIXED, place),
+                );
+            }
+            closed(
+                text,
+                Operand::Got(
+                    Cell {
+                        kind: FREE,
+                        place,
+                        value: 0,
+                    },
+                    d,
+                ),
+            )
+        }
+    }
+}

@@ -1,0 +1,72 @@
+// Literals: their bytes go to the literal bytes of the table, behind those written before.
+// Assumes nothing.
+use met::Cursor;
+use met::put_element;
+use met::put_literals;
+use words::begins_at;
+ghost use mathlib.Core.Bool.{not};
+ghost use mathlib.Core.List.{List};
+ghost use Prim.Native.Nat.{ℕ, _≤_, _<_};
+ghost use lib.Dec.{eqb};
+ghost use lib.ListN.{length, drop};
+ghost use Rattle.cards.specs.Bytes.{quote};
+ghost use Rattle.language.specs.Words.{run};
+ghost use Rattle.numeric.specs.Operands.{Ready};
+ghost use Rattle.words.specs.Places.{Counts};
+ghost use Rattle.strings.specs.Elements.{Spellable, Spelt, LiteralRead};
+
+const QUOTE: u8 = 34;
+
+// the kind of a literal
+const LITERAL: u8 = 16;
+
+// how many bytes stand before the next quote
+fn literal_length(text: &[u8], at: usize) -> usize
+    ensures { λ r. ⌜ Counts (now (text .entry)) at (run (λ (b : ℕ). not (eqb b quote)) (drop at (now (text .entry)))) r ⌝ }
+{
+    let mut i = at;
+    while i < text.len() {
+        if text[i] == QUOTE {
+            return i - at;
+        }
+        i += 1;
+    }
+    i - at
+}
+
+// writes the n bytes behind the quote at the cursor as a literal; the cursor goes size further
+fn put_literal(text: &[u8], table: &mut [u8], c: Cursor, n: usize, size: usize) -> Cursor
+    requires { ⌜ Spellable (now text) (now table) c n size ⌝ }
+    ensures { λ r. ⌜ Spelt (now (text .entry)) (now (table .entry)) c n size (now (table .exit)) r ⌝ }
+{
+    let from = c.at + 1;
+    let end = from + n;
+    put_literals(table, c.literals, &text[from..end]);
+    put_element(table, c.elements, LITERAL, 0, c.literals + 65_536 * n);
+    Cursor {
+        at: c.at + size,
+        names: c.names,
+        items: c.items,
+        elements: c.elements + 1,
+        literals: c.literals + n,
+        longest: c.longest,
+    }
+}
+
+// a literal at its first quote: `""` behind it is one quote, else it goes up to the next quote
+pub fn literal(text: &[u8], table: &mut [u8], c: Cursor) -> Cursor
+    requires { ⌜ (c .at < length (now text)) × (length (now text) ≤ 32768) ⌝ }
+    requires { ⌜ (c .elements ≤ 5_000_000_000) × (c .literals ≤ 5_000_000_000) ⌝ }
+    requires { ⌜ 28672 ≤ length (now table) ⌝ }
+    ensures { λ r. ⌜ ((keys tags : List ℕ) → Ready (now (text .entry)) keys tags c → LiteralRead (now (text .entry)) (now (table .entry)) keys tags c (now (table .exit)) r) ⌝ }
+{
+    let at = c.at + 1;
+    if begins_at(text, at, b"\"\"") {
+        return put_literal(text, table, c, 1, 3);
+    }
+    let n = literal_length(text, at);
+    if at + n < text.len() {
+        return put_literal(text, table, c, n, n + 2);
+    }
+    put_literal(text, table, c, n, n + 1)
+}

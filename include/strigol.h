@@ -1,0 +1,229 @@
+/* strigol.h: the calls of the proved STRIGOL library, for C and C++. Link libstrigol.a; nothing else is needed.
+
+   STRIGOL decks cut trade lines into fields. A gateway reads a deck into a table once, starts a store and a state for each run, and then steps
+   or runs:
+
+       uint32_t number = strigol_read(deck, deck_len, table, sizeof table, &card);     0, or the deck is refused
+       strigol_start(store, sizeof store, state);
+       strigol_run(table, sizeof table, store, sizeof store, state, input, input_len, output, sizeof output, 1000000, result);
+
+   What holds of every call:
+   - It takes any bytes and numbers, and ends. What it can't use gets a number, the lowest of the list below that applies; 0 is success.
+   - It keeps nothing, allocates nothing, prints nothing. All it knows is lent by the caller; one table may serve many runs at once, each
+     with its own store, state and output, in threads of their own.
+   - A pointer must not be NULL, not even with length 0, and two buffers lent to one call must not overlap. A buffer may be longer than it
+     need be; the bytes past its size stay.
+   - The numbers are those of document 01, the layouts those of docs/TABLE.md. */
+#ifndef STRIGOL_H
+#define STRIGOL_H
+
+#include <limits.h>
+#include <stddef.h>
+#include <stdint.h>
+
+#ifdef __cplusplus
+extern "C" {
+#define STRIGOL_CHECK(fact, words) static_assert(fact, words)
+#else
+#define STRIGOL_CHECK(fact, words) _Static_assert(fact, words)
+#endif
+
+/* The numbers that a call gives, and document 01's words for each. 1 to 12 refuse a deck, 13 to 16 (and 2) turn a step down, 17 to 21 stop
+   it, 22 to 24 turn a scan call down.
+
+   1, 2           strigol_read leaves the table as it was.
+   3 to 12        strigol_read leaves a table of zeros, which every step turns down by 13.
+   2, 13 to 16    strigol_step changes nothing. strigol_start gives 14 with a good state if the store is too small, and leaves the store.
+   17 to 21       strigol_step sets the state's status to stopped and changes nothing else. */
+#define STRIGOL_NUMBER_LIST(X)                                                                                                                 \
+    X(STRIGOL_DECK_TOO_LONG, 1, "the deck exceeds 32,768 bytes")                                                                               \
+    X(STRIGOL_TABLE_TOO_SMALL, 2, "the table has under 28,672 bytes")                                                                          \
+    X(STRIGOL_BAD_CARD, 3,                                                                                                                     \
+      "a byte is refused, a line exceeds 80, column 9 is / outside a comment, or a joined line is a comment, blank or missing")               \
+    X(STRIGOL_BAD_ORDER, 4, "PROGRAM isn't first or comes twice, END is missing, or a statement follows it")                                  \
+    X(STRIGOL_BAD_FORM, 5, "the statement or a label breaks its form, or a constant its range")                                               \
+    X(STRIGOL_TWO_PURPOSES, 6, "a name has two purposes, or a label, routine or number is declared twice")                                    \
+    X(STRIGOL_NOT_DECLARED, 7, "a name used as a number isn't declared before")                                                               \
+    X(STRIGOL_BAD_FILLER, 8, "the reference is also a filler, or a pattern string has the name of a filler left of it")                       \
+    X(STRIGOL_BAD_ROUTINE, 9, "ROUTINE or END stands inside a routine, RETURN or ENDROUTINE outside")                                         \
+    X(STRIGOL_TOO_MANY, 10,                                                                                                                    \
+      "a count passes 256 statements, 32 strings, 32 numbers, 64 labels or 16 routines declared, 20 elements in an expression, "              \
+      "1,024 elements, 1,024 operands and + - * / in numeric expressions, or 4,096 literal bytes")                                            \
+    X(STRIGOL_BAD_TARGET, 11, "a label or routine used is undefined, or a branch crosses a routine's border")                                 \
+    X(STRIGOL_RECURSION, 12, "a routine executes itself, directly or through others")                                                         \
+    X(STRIGOL_BAD_TABLE, 13, "the table breaks its written rules")                                                                             \
+    X(STRIGOL_BAD_STORE, 14, "the store is under 32,832 bytes, a length exceeds 1,024, or a byte behind it isn't zero")                       \
+    X(STRIGOL_BAD_STATE, 15,                                                                                                                   \
+      "the state's statement, held return or their count, number, input place or output length is out of range; or RETURN or ENDROUTINE "     \
+      "comes next with no return held, or EXECUTE with 16 held")                                                                              \
+    X(STRIGOL_RUN_ENDED, 16, "the run has finished or stopped")                                                                                \
+    X(STRIGOL_NEGATIVE_LENGTH, 17, "the reference or READ length is negative")                                                                 \
+    X(STRIGOL_ZERO_DIVISOR, 18, "a divisor is zero")                                                                                           \
+    X(STRIGOL_OUT_OF_RANGE, 19, "a number leaves its range")                                                                                   \
+    X(STRIGOL_STRING_TOO_LONG, 20, "a string to be stored, or |n| in STRING(n,m), exceeds 1,024 bytes")                                       \
+    X(STRIGOL_OUTPUT_FULL, 21, "a record and its byte 10 exceed the output left")                                                             \
+    X(STRIGOL_REFERENCE_TOO_LONG, 22, "in the scan call, the reference exceeds 1,024 bytes")                                                  \
+    X(STRIGOL_TOO_MANY_ELEMENTS, 23, "the pattern has over 20 elements")                                                                       \
+    X(STRIGOL_BAD_ELEMENT, 24,                                                                                                                 \
+      "an element has no known kind, a fixed filler's length is negative, or a string isn't a part of the values lent")
+
+#define STRIGOL_NAMED(name, number, words) name = number,
+enum strigol_number { STRIGOL_OK = 0, STRIGOL_NUMBER_LIST(STRIGOL_NAMED) STRIGOL_LAST_NUMBER = 24 };
+#undef STRIGOL_NAMED
+
+/* Document 01's words for a number of the list; "" for any other. */
+#define STRIGOL_WORDS(name, number, words)                                                                                                     \
+    case number: return words;
+static inline const char *strigol_words(uint32_t number)
+{
+    switch (number) {
+        STRIGOL_NUMBER_LIST(STRIGOL_WORDS)
+    default: return "";
+    }
+}
+#undef STRIGOL_WORDS
+
+/* Sizes. A state, an answer and a result are counted in numbers, the others in bytes. */
+enum strigol_size {
+    STRIGOL_DECK_MOST = 32768,  /* a longer deck gets 1 */
+    STRIGOL_TABLE_SIZE = 28672, /* a smaller table gets 2 */
+    STRIGOL_STORE_SIZE = 32832, /* a smaller store gets 14 */
+    STRIGOL_STATE_SIZE = 64,    /* uint64_t */
+    STRIGOL_ANSWER_SIZE = 24,   /* uint32_t */
+    STRIGOL_RESULT_SIZE = 4,    /* uint64_t */
+
+    STRIGOL_STRING_MOST = 1024, /* a string, a record, a reference of the scan call */
+    STRIGOL_STRINGS = 32,       /* strings of a store */
+    STRIGOL_CELL_SIZE = 1026,   /* a string in the store: length in 2 bytes, low byte first; its bytes; zeros */
+    STRIGOL_NUMBERS = 32,       /* numbers of a state */
+    STRIGOL_LIMIT = 8388607,    /* a number runs from -STRIGOL_LIMIT to STRIGOL_LIMIT */
+    STRIGOL_HELD_MOST = 16,     /* returns held in a state */
+
+    STRIGOL_ELEMENTS_MOST = 20, /* elements of a pattern */
+    STRIGOL_ROW_SIZE = 12,      /* an element lent to the scan call */
+
+    STRIGOL_STEPS_AT = 64,      /* the table's steps: from this byte on, */
+    STRIGOL_STEP_SIZE = 24,     /* a row of this size for each, */
+    STRIGOL_STEPS_MOST = 256,   /* and at most so many */
+    STRIGOL_CARD_AT = 2         /* in a row: the card of the statement, 2 bytes, low byte first */
+};
+
+/* The state: which number says what. A gateway reads it between steps; what it writes there itself is judged by 15 at the next step. */
+enum strigol_state {
+    STRIGOL_STATUS = 0,   /* STRIGOL_RUNNING, STRIGOL_ENDED, or any other for a run that was stopped */
+    STRIGOL_NEXT = 1,     /* the next step; of a run that has ended, the step that ended it */
+    STRIGOL_HELD = 2,     /* how many returns are held */
+    STRIGOL_TAKEN = 3,    /* input place: how many bytes of the input are taken */
+    STRIGOL_PUT = 4,      /* output length: how many bytes of the output are put */
+    STRIGOL_HELD_AT = 5,  /* the returns held, the oldest first */
+    STRIGOL_NUMBERS_AT = 21 /* the numbers, each with STRIGOL_BIAS added, in the order in which the deck declares them */
+};
+enum strigol_status { STRIGOL_RUNNING = 0, STRIGOL_ENDED = 1, STRIGOL_HALTED = 2 };
+#define STRIGOL_BIAS ((uint64_t)1 << 47)
+
+/* The answer of a scan call and of a step. Without a split, STRIGOL_START and the lengths are 0; a step that is stopped, turned down or
+   holds no scan has no split and 0 trials. */
+enum strigol_answer {
+    STRIGOL_SPLIT = 0,      /* 1 with a split, 0 without */
+    STRIGOL_START = 1,      /* the split's start in the reference; of a BACKSCAN, in the reference turned round */
+    STRIGOL_TRIALS = 2,     /* trials made, also by a scan that failed */
+    STRIGOL_NOTES = 3,      /* the step's notes; 0 in the scan call */
+    STRIGOL_LENGTHS_AT = 4  /* 20 numbers: the length of each element's piece, then zeros */
+};
+
+/* The result of a run. */
+enum strigol_result {
+    STRIGOL_OUTCOME = 0,  /* one of the four below */
+    STRIGOL_BY = 1,       /* the number that stopped or refused it, else 0 */
+    STRIGOL_DONE = 2,     /* steps done; a finishing or stopping step counts, one turned down doesn't */
+    STRIGOL_NOTED = 3     /* the notes of all steps done */
+};
+enum strigol_outcome {
+    STRIGOL_FINISHED = 0, /* a step finished: END or EXIT */
+    STRIGOL_STOPPED = 1,  /* a step was stopped by 17 to 21 */
+    STRIGOL_SPENT = 2,    /* all steps were done; call again to go on */
+    STRIGOL_REFUSED = 3   /* a step was turned down by 2 or 13 to 16 */
+};
+
+/* The kinds of elements lent to the scan call. */
+enum strigol_element {
+    STRIGOL_STRING = 1, /* the values from the first number up to, without, the second */
+    STRIGOL_FIXED = 2,  /* a filler of as many bytes as the first number says */
+    STRIGOL_FREE = 3    /* a filler of any length */
+};
+
+STRIGOL_CHECK(CHAR_BIT == 8 && sizeof(size_t) == 8 && sizeof(void *) == 8, "the library is built for x86-64");
+STRIGOL_CHECK(STRIGOL_STORE_SIZE == STRIGOL_STRINGS * STRIGOL_CELL_SIZE, "a store is one cell for each string");
+STRIGOL_CHECK(STRIGOL_CELL_SIZE == 2 + STRIGOL_STRING_MOST, "a cell is a length and a string");
+STRIGOL_CHECK(STRIGOL_NUMBERS_AT == STRIGOL_HELD_AT + STRIGOL_HELD_MOST, "the numbers follow the returns");
+STRIGOL_CHECK(STRIGOL_NUMBERS_AT + STRIGOL_NUMBERS <= STRIGOL_STATE_SIZE, "the numbers fit into a state");
+STRIGOL_CHECK(STRIGOL_LENGTHS_AT + STRIGOL_ELEMENTS_MOST == STRIGOL_ANSWER_SIZE, "an answer has a length for each element");
+STRIGOL_CHECK(STRIGOL_STEPS_AT + STRIGOL_STEPS_MOST * STRIGOL_STEP_SIZE <= STRIGOL_TABLE_SIZE, "the steps fit into a table");
+STRIGOL_CHECK(STRIGOL_TABLE_SIZE + STRIGOL_STORE_SIZE == 61504, "what a step checks of table and store");
+
+/* Reads a deck into the table: 0, or 1 to 12. `card` is set to the line that a refusal is about, counted from 1; 0 for an accepted deck, for
+   1, 2, 11 and 12, and where END is missing. An accepted deck's table is for strigol_step and strigol_run; its layout is in docs/TABLE.md. */
+uint32_t strigol_read(const uint8_t *deck, size_t deck_len, uint8_t *table, size_t table_len, uint32_t *card);
+
+/* Makes the store's first 32,832 bytes zero and the state that before the first step: 0. Of the store it looks at the size alone: 14 if it is
+   too small; the store then stays and the state is set all the same. */
+uint32_t strigol_start(uint8_t *store, size_t store_len, uint64_t state[STRIGOL_STATE_SIZE]);
+
+/* Makes the next step: 0, or 2 or 13 to 16 (turned down), or 17 to 21 (stopped). Table, store and state are checked each time. A record is
+   taken from the input at the state's input place and put to the output at its output length; lend the same input and output, or at least
+   those bytes, to all steps of a run. After 0, state[STRIGOL_STATUS] tells whether the run has finished. */
+uint32_t strigol_step(const uint8_t *table, size_t table_len, uint8_t *store, size_t store_len, uint64_t state[STRIGOL_STATE_SIZE],
+                      const uint8_t *input, size_t input_len, uint8_t *output, size_t output_len, uint32_t answer[STRIGOL_ANSWER_SIZE]);
+
+/* Repeats the step until one finishes, stops or is turned down, or `count` are done. Leaves what these steps leave, and checks table and store
+   only once. Gives result[STRIGOL_BY]. With `count` 0 nothing is looked at, and the outcome is STRIGOL_SPENT. */
+uint32_t strigol_run(const uint8_t *table, size_t table_len, uint8_t *store, size_t store_len, uint64_t state[STRIGOL_STATE_SIZE],
+                     const uint8_t *input, size_t input_len, uint8_t *output, size_t output_len, uint32_t count,
+                     uint64_t result[STRIGOL_RESULT_SIZE]);
+
+/* Scans the reference by a pattern: 0, or 22 to 24. The pattern is one row of 12 bytes for each element, its strings are parts of `values`;
+   the functions below write such rows. The answer is the first split that fits, or none. */
+uint32_t strigol_scan(const uint8_t *reference, size_t reference_len, const uint8_t *values, size_t values_len, const uint8_t *elements,
+                      size_t elements_len, uint32_t answer[STRIGOL_ANSWER_SIZE]);
+
+/* What stands in the buffers. The place of a string is 0 to 31 in order of first appearance in the deck, that of a number 0 to 31 in order of
+   declaration. */
+
+/* The value of a number of the state. */
+static inline int64_t strigol_number_in(const uint64_t state[STRIGOL_STATE_SIZE], unsigned place)
+{
+    return (int64_t)(state[STRIGOL_NUMBERS_AT + place] - STRIGOL_BIAS);
+}
+
+/* The bytes of a string of the store, and its length. */
+static inline const uint8_t *strigol_string_in(const uint8_t *store, unsigned place, size_t *length)
+{
+    const uint8_t *cell = store + (size_t)place * STRIGOL_CELL_SIZE;
+    *length = (size_t)cell[0] + 256 * (size_t)cell[1];
+    return cell + 2;
+}
+
+/* The card of a step: the line of the deck, from 1, on which its statement begins. `step` is state[STRIGOL_NEXT], say. */
+static inline uint32_t strigol_card_of(const uint8_t *table, uint64_t step)
+{
+    const uint8_t *row = table + STRIGOL_STEPS_AT + (step % STRIGOL_STEPS_MOST) * STRIGOL_STEP_SIZE;
+    return (uint32_t)row[STRIGOL_CARD_AT] + 256 * (uint32_t)row[STRIGOL_CARD_AT + 1];
+}
+
+/* Writes an element's row for the scan call: STRIGOL_STRING with the ends of a part of the values, STRIGOL_FIXED with a length and 0,
+   STRIGOL_FREE with 0 and 0. */
+static inline void strigol_put_element(uint8_t row[STRIGOL_ROW_SIZE], enum strigol_element kind, uint32_t first, uint32_t second)
+{
+    int i;
+    row[0] = (uint8_t)kind;
+    row[1] = row[2] = row[3] = 0;
+    for (i = 0; i < 4; i++) {
+        row[4 + i] = (uint8_t)(first >> (8 * i));
+        row[8 + i] = (uint8_t)(second >> (8 * i));
+    }
+}
+
+#ifdef __cplusplus
+}
+#endif
+#endif

@@ -1,0 +1,83 @@
+/* Tries what include/strigol.h says beyond the calls themselves: the words for the numbers, and the functions that read and write the buffers'
+   layouts, on document 01's deck LOTS and line P1. */
+#include "strigol.h"
+
+#include <stdio.h>
+#include <string.h>
+
+static int failures;
+
+static void expect(int holds, const char *what)
+{
+    if (holds) return;
+    printf("header test: %s\n", what);
+    failures++;
+}
+
+static void words(void)
+{
+    expect(strigol_words(0)[0] == 0 && strigol_words(STRIGOL_LAST_NUMBER + 1)[0] == 0, "a number that is none has words");
+    for (uint32_t i = 1; i <= STRIGOL_LAST_NUMBER; i++) expect(strigol_words(i)[0] != 0, "a number without words");
+    expect(strcmp(strigol_words(STRIGOL_ZERO_DIVISOR), "a divisor is zero") == 0, "the words of 18");
+}
+
+static void elements(void)
+{
+    static const uint8_t reference[] = "ABCDEFGHIJKLMNOP", values[] = "K";
+    static const uint32_t right[] = {1, 0, 7, 0, 5, 5, 1, 5};
+    uint8_t rows[4 * STRIGOL_ROW_SIZE];
+    uint32_t answer[STRIGOL_ANSWER_SIZE];
+    strigol_put_element(rows, STRIGOL_FIXED, 5, 0);
+    strigol_put_element(rows + STRIGOL_ROW_SIZE, STRIGOL_FREE, 0, 0);
+    strigol_put_element(rows + 2 * STRIGOL_ROW_SIZE, STRIGOL_STRING, 0, 1);
+    strigol_put_element(rows + 3 * STRIGOL_ROW_SIZE, STRIGOL_FREE, 0, 0);
+    expect(strigol_scan(reference, 16, values, 1, rows, sizeof rows, answer) == STRIGOL_OK, "P1 is turned down");
+    expect(memcmp(answer, right, sizeof right) == 0, "P1's answer");
+    strigol_put_element(rows, STRIGOL_FIXED, 0x80000000u, 0);
+    expect(strigol_scan(reference, 16, values, 1, rows, sizeof rows, answer) == STRIGOL_BAD_ELEMENT, "a negative filler is taken");
+}
+
+static int is_string(const uint8_t *store, unsigned place, const char *right)
+{
+    size_t n;
+    const uint8_t *s = strigol_string_in(store, place, &n);
+    return n == strlen(right) && memcmp(s, right, n) == 0;
+}
+
+static void buffers(void)
+{
+    static const char deck[] = "         PROGRAM LOTS\n         NUMBER N\nNEXT     READ LINE /,DONE\n"
+                               "         SCAN LINE [(LOT),\",\",(TONS)] /,NEXT\n         N=N+NUMBER(TONS)\n"
+                               "         PRINT LOT,\" \",STRING(4,N)\n         GO TO NEXT\nDONE     END\n";
+    static const uint8_t input[] = "W7,120\nNOTE\nB2,-250\n";
+    static uint8_t table[STRIGOL_TABLE_SIZE], store[STRIGOL_STORE_SIZE], output[100];
+    uint64_t state[STRIGOL_STATE_SIZE], result[STRIGOL_RESULT_SIZE];
+    uint32_t answer[STRIGOL_ANSWER_SIZE], card;
+    const size_t taken = sizeof input - 1;
+    expect(strigol_read((const uint8_t *)deck, sizeof deck - 1, table, sizeof table, &card) == STRIGOL_OK && card == 0, "LOTS is refused");
+    expect(strigol_start(store, sizeof store, state) == STRIGOL_OK && state[STRIGOL_STATUS] == STRIGOL_RUNNING, "starting");
+    for (uint64_t step = 0; step < 6; step++) expect(strigol_card_of(table, step) == step + 3, "a card");
+    expect(strigol_run(table, sizeof table, store, sizeof store, state, input, taken, output, sizeof output, 4, result) == 0, "a run");
+    expect(result[STRIGOL_OUTCOME] == STRIGOL_SPENT && result[STRIGOL_DONE] == 4, "four steps");
+    expect(state[STRIGOL_TAKEN] == 7 && state[STRIGOL_PUT] == 8 && state[STRIGOL_NEXT] == 4, "the state behind four steps");
+    expect(strigol_number_in(state, 0) == 120 && is_string(store, 0, "W7,120") && is_string(store, 1, "W7"), "values behind four steps");
+    strigol_run(table, sizeof table, store, sizeof store, state, input, taken, output, sizeof output, 1000, result);
+    expect(result[STRIGOL_OUTCOME] == STRIGOL_FINISHED && result[STRIGOL_BY] == 0 && result[STRIGOL_NOTED] == 0, "the run's end");
+    expect(strigol_number_in(state, 0) == -130 && is_string(store, 2, "-250") && is_string(store, 31, ""), "values at the end");
+    expect(state[STRIGOL_STATUS] == STRIGOL_ENDED && state[STRIGOL_NEXT] == 5, "the state at the end");
+    expect(strigol_run(table, sizeof table, store, sizeof store, state, input, taken, output, sizeof output, 9, result) == STRIGOL_RUN_ENDED,
+           "a run behind the end gives 16");
+    expect(result[STRIGOL_OUTCOME] == STRIGOL_REFUSED && result[STRIGOL_BY] == STRIGOL_RUN_ENDED && result[STRIGOL_DONE] == 0, "its result");
+    expect(strigol_step(table, sizeof table, store, sizeof store, state, input, taken, output, sizeof output, answer) == STRIGOL_RUN_ENDED,
+           "a step behind the end gives 16");
+    expect(answer[STRIGOL_SPLIT] == 0 && answer[STRIGOL_TRIALS] == 0, "its answer");
+}
+
+int main(void)
+{
+    words();
+    elements();
+    buffers();
+    printf("header test: %d failures\n", failures);
+    return failures != 0;
+}

@@ -1,0 +1,108 @@
+/* A second reader and interpreter of STRIGOL decks, to test the calls against. It follows document 01 sentence by sentence; the sentences'
+   numbers (C1, Q3, ..) are those of docs/PAPER.md. It says what is right and takes no care to be fast. */
+#ifndef ORACLE_H
+#define ORACLE_H
+
+#include <stddef.h>
+#include <stdint.h>
+
+enum {
+    MOST_DECK = 32768, MOST_STEPS = 256, MOST_STRINGS = 32, MOST_NUMBERS = 32, MOST_LABELS = 64, MOST_ROUTINES = 16,
+    MOST_ROW = 20, MOST_ELEMENTS = 1024, MOST_ITEMS = 1024, MOST_LITERALS = 4096, MOST_DEPTH = 16, MOST_NAME = 8,
+    MOST_STRING = 1024, MOST_HELD = 16, MOST_WAITING = 64, LIMIT = 8388607,
+    TABLE_SIZE = 28672, STORE_SIZE = 32832, CELL_SIZE = 1026, STATE_SIZE = 64, ANSWER_SIZE = 24
+};
+
+/* A length behind `$`: none, a constant or a number. */
+enum bound { WHOLE, CONSTANT, VARIABLE };
+
+/* S or S$n: the string's place; n is the constant, or the number's place. */
+struct part { int string; enum bound bound; int32_t n; };
+
+/* What an expression or IF takes as a number. `number` is a place; `part` is what LENGTH and NUMBER look at. */
+enum operand_kind { OPERAND_CONSTANT, OPERAND_NUMBER, OPERAND_LENGTH, OPERAND_VALUE };
+struct operand { enum operand_kind kind; int32_t constant; int number; struct part part; };
+
+/* An item of a numeric expression in postfix: an operand, an operator behind its two sides, a sign behind the first term. */
+enum item_kind { ITEM_OPERAND, ITEM_ADD, ITEM_SUBTRACT, ITEM_MULTIPLY, ITEM_DIVIDE, ITEM_PLUS, ITEM_MINUS };
+struct item { enum item_kind kind; struct operand operand; };
+
+/* An element of a string expression or pattern. A literal is `length` bytes from `from` on. STRING(n,m) has m's place in `number`, and n in
+   `bound` and `n`. A filler's name is `part.string`, its length, if fixed, the part's bound. */
+enum element_kind { ELEMENT_LITERAL, ELEMENT_PART, ELEMENT_TEXT, ELEMENT_FREE, ELEMENT_FIXED };
+struct element { enum element_kind kind; int from, length; struct part part; int number; enum bound bound; int32_t n; };
+
+/* The kinds of steps, with the numbers of docs/TABLE.md. */
+enum step_kind {
+    SET_NUMBER = 1, SET_STRING, GOES, FINISHES, IF_NULL, IF_NUMERIC, IF_COMPARES, SCANS, READS, WRITES, EXECUTES, RETURNS
+};
+enum comparison { EQUAL = 1, UNEQUAL, LESS, GREATER, AT_MOST, AT_LEAST };
+
+/* One step. `first`, `count`, `more`: its items; or its elements, `more` being those of a replacement behind the pattern. */
+struct step {
+    enum step_kind kind;
+    uint32_t card;
+    int success, failure;
+    int number;
+    struct part part;
+    struct operand left, right;
+    enum comparison comparison;
+    int backwards, replaces;
+    int first, count, more;
+};
+
+/* The program of an accepted deck. Strings are in order of first appearance, numbers in order of declaration. */
+struct oracle_program {
+    int steps, strings, numbers, elements, items, literals;
+    struct step step[MOST_STEPS];
+    struct element element[MOST_ELEMENTS];
+    struct item item[MOST_ITEMS];
+    uint8_t literal[MOST_LITERALS];
+    char string_name[MOST_STRINGS][MOST_NAME + 1], number_name[MOST_NUMBERS][MOST_NAME + 1];
+};
+
+struct text { int length; uint8_t bytes[MOST_STRING]; };
+
+/* The run's state. It can hold any state lent, also one that is out of range. */
+enum { RUNNING, FINISHED, STOPPED };
+struct machine {
+    uint64_t status, next, held, taken, put, returns[MOST_HELD];
+    int64_t numbers[MOST_NUMBERS];
+    struct text strings[MOST_STRINGS];
+};
+
+/* What a step answers. */
+struct answer { int number; uint32_t notes, trials; int found, start, pieces, lengths[MOST_ROW]; };
+
+/* An element of a scan once its value is known. */
+enum scan_kind { SCAN_STRING, SCAN_FIXED, SCAN_FREE };
+struct scan_element { enum scan_kind kind; int length; const uint8_t *bytes; };
+
+/* reader.c: the number and card of a deck: 0 with its program, 1, or 3 to 12. */
+int oracle_read(const uint8_t *deck, size_t n, struct oracle_program *p, uint32_t *card);
+
+/* table.c: the table of a program; whether bytes keep the rules of a table; the program of a table that keeps them. */
+void oracle_table(const struct oracle_program *p, uint8_t table[TABLE_SIZE]);
+int oracle_keeps(const uint8_t table[TABLE_SIZE]);
+void oracle_program_of(const uint8_t table[TABLE_SIZE], struct oracle_program *p);
+
+/* interpreter.c: the machine before the first step; one step of it; a scan, which sets found, start, lengths, pieces and trials. */
+void oracle_fresh(struct machine *m);
+void oracle_step(const struct oracle_program *p, struct machine *m, const uint8_t *input, size_t input_len, uint8_t *output,
+                 size_t output_len, struct answer *a);
+void oracle_scan(const uint8_t *reference, int n, const struct scan_element *e, int count, struct answer *a);
+
+/* calls.c: the calls over byte slices and numbers, as docs/TABLE.md lays them out. */
+void oracle_store(const struct machine *m, uint8_t store[STORE_SIZE]);
+void oracle_state(const struct machine *m, uint64_t state[STATE_SIZE]);
+void oracle_answer(const struct answer *a, uint32_t numbers[ANSWER_SIZE]);
+uint32_t oracle_read_call(const uint8_t *deck, size_t n, uint8_t *table, size_t table_len, uint32_t *card);
+uint32_t oracle_start_call(uint8_t *store, size_t store_len, uint64_t *state);
+uint32_t oracle_step_call(const uint8_t *table, size_t table_len, uint8_t *store, size_t store_len, uint64_t *state, const uint8_t *input,
+                          size_t input_len, uint8_t *output, size_t output_len, uint32_t *answer);
+uint32_t oracle_scan_call(const uint8_t *reference, size_t reference_len, const uint8_t *values, size_t values_len, const uint8_t *elements,
+                          size_t elements_len, uint32_t *answer);
+void oracle_run_call(const uint8_t *table, size_t table_len, uint8_t *store, size_t store_len, uint64_t *state, const uint8_t *input,
+                     size_t input_len, uint8_t *output, size_t output_len, uint32_t count, uint64_t *result);
+
+#endif

@@ -1,0 +1,433 @@
+/* The table of docs/TABLE.md: a program to bytes, the rules that bytes keep, and bytes to a program. */
+#include "oracle.h"
+
+#include <string.h>
+
+enum {
+    STEPS_AT = 64, ELEMENTS_AT = 6208, ITEMS_AT = 14400, LITERALS_AT = 22592, LITERALS_END = 26688, ROW_SIZE = 24, CELL = 8,
+    LEFT = 8, RIGHT = 16
+};
+
+/* The kinds of cells. */
+enum {
+    NO_CELL, STRING_CELL, CONSTANT_PART, VARIABLE_PART, CONSTANT_CELL, NUMBER_CELL, LENGTH_CELL, VALUE_CELL, CONSTANT_VALUE, VARIABLE_VALUE,
+    ADD_CELL, SUBTRACT_CELL, MULTIPLY_CELL, DIVIDE_CELL, PLUS_CELL, MINUS_CELL, LITERAL_CELL, CONSTANT_TEXT, VARIABLE_TEXT, FREE_CELL,
+    CONSTANT_FIXED, VARIABLE_FIXED, RANGE_CELL
+};
+
+static const int64_t bias = (int64_t)1 << 47;
+
+static void put_number(uint8_t *at, int bytes, uint64_t n)
+{
+    for (int i = 0; i < bytes; i++) at[i] = (uint8_t)(n >> (8 * i));
+}
+
+static uint64_t get_number(const uint8_t *at, int bytes)
+{
+    uint64_t n = 0;
+    for (int i = 0; i < bytes; i++) n |= (uint64_t)at[i] << (8 * i);
+    return n;
+}
+
+/* Writing */
+
+static void put_cell(uint8_t *at, int kind, int place, uint64_t value)
+{
+    put_number(at, 1, (uint64_t)kind);
+    put_number(at + 1, 1, (uint64_t)place);
+    put_number(at + 2, 6, value);
+}
+
+static void put_range(uint8_t *at, int kind, int from, int count, int more)
+{
+    put_cell(at, kind, 0, 0);
+    put_number(at + 2, 2, (uint64_t)from);
+    put_number(at + 4, 2, (uint64_t)count);
+    put_number(at + 6, 2, (uint64_t)more);
+}
+
+/* A cell with a place and a length: its kind depends on whether the length is none, a constant or a number. */
+static void put_bound(uint8_t *at, int whole, int constant, int variable, int place, enum bound bound, int32_t n)
+{
+    if (bound == WHOLE) put_cell(at, whole, place, 0);
+    else if (bound == CONSTANT) put_cell(at, constant, place, (uint64_t)(n + bias));
+    else put_cell(at, variable, place, (uint64_t)n);
+}
+
+static void put_part(uint8_t *at, struct part p)
+{
+    put_bound(at, STRING_CELL, CONSTANT_PART, VARIABLE_PART, p.string, p.bound, p.n);
+}
+
+static void put_operand(uint8_t *at, struct operand o)
+{
+    switch (o.kind) {
+    case OPERAND_CONSTANT: put_cell(at, CONSTANT_CELL, 0, (uint64_t)(o.constant + bias)); break;
+    case OPERAND_NUMBER: put_cell(at, NUMBER_CELL, o.number, 0); break;
+    case OPERAND_LENGTH: put_cell(at, LENGTH_CELL, o.part.string, 0); break;
+    case OPERAND_VALUE: put_bound(at, VALUE_CELL, CONSTANT_VALUE, VARIABLE_VALUE, o.part.string, o.part.bound, o.part.n); break;
+    }
+}
+
+static void put_item(uint8_t *at, struct item i)
+{
+    static const int kinds[] = {NO_CELL, ADD_CELL, SUBTRACT_CELL, MULTIPLY_CELL, DIVIDE_CELL, PLUS_CELL, MINUS_CELL};
+    if (i.kind == ITEM_OPERAND) put_operand(at, i.operand);
+    else put_cell(at, kinds[i.kind], 0, 0);
+}
+
+static void put_element(uint8_t *at, struct element e)
+{
+    switch (e.kind) {
+    case ELEMENT_LITERAL: put_range(at, LITERAL_CELL, e.from, e.length, 0); break;
+    case ELEMENT_PART: put_part(at, e.part); break;
+    case ELEMENT_TEXT: put_bound(at, NO_CELL, CONSTANT_TEXT, VARIABLE_TEXT, e.number, e.bound, e.n); break;
+    case ELEMENT_FREE: case ELEMENT_FIXED:
+        put_bound(at, FREE_CELL, CONSTANT_FIXED, VARIABLE_FIXED, e.part.string, e.part.bound, e.part.n);
+        break;
+    }
+}
+
+static int flag_of(const struct step *s)
+{
+    if (s->kind == IF_COMPARES) return (int)s->comparison;
+    if (s->kind == SCANS) return 1 + s->backwards + 2 * s->replaces;
+    return 0;
+}
+
+static void put_step(uint8_t *row, const struct step *s)
+{
+    put_number(row, 1, s->kind);
+    put_number(row + 1, 1, (uint64_t)flag_of(s));
+    put_number(row + 2, 2, s->card);
+    put_number(row + 4, 2, (uint64_t)s->success);
+    put_number(row + 6, 2, (uint64_t)s->failure);
+    switch (s->kind) {
+    case SET_NUMBER: put_cell(row + LEFT, NUMBER_CELL, s->number, 0); break;
+    case SET_STRING: case IF_NULL: case IF_NUMERIC: case SCANS: case READS: put_part(row + LEFT, s->part); break;
+    case IF_COMPARES:
+        put_operand(row + LEFT, s->left);
+        put_operand(row + RIGHT, s->right);
+        break;
+    default: break;
+    }
+    if (s->kind == SET_NUMBER || s->kind == SET_STRING || s->kind == SCANS || s->kind == WRITES)
+        put_range(row + RIGHT, RANGE_CELL, s->first, s->count, s->more);
+}
+
+void oracle_table(const struct oracle_program *p, uint8_t table[TABLE_SIZE])
+{
+    const int counts[] = {p->steps, p->strings, p->numbers, p->elements, p->items, p->literals};
+    memset(table, 0, TABLE_SIZE);
+    table[0] = 1;
+    for (int i = 0; i < 6; i++) put_number(table + 2 + 2 * i, 2, (uint64_t)counts[i]);
+    for (int i = 0; i < p->steps; i++) put_step(table + STEPS_AT + i * ROW_SIZE, &p->step[i]);
+    for (int i = 0; i < p->elements; i++) put_element(table + ELEMENTS_AT + i * CELL, p->element[i]);
+    for (int i = 0; i < p->items; i++) put_item(table + ITEMS_AT + i * CELL, p->item[i]);
+    memcpy(table + LITERALS_AT, p->literal, (size_t)p->literals);
+}
+
+/* The rules 1 to 13, on the bytes. `seen` counts what the ranges so far cover. */
+
+struct rules {
+    const uint8_t *table;
+    uint64_t steps, strings, numbers, elements, items, literals;
+    uint64_t elements_seen, items_seen, literals_seen;
+};
+
+static int all_zero(const uint8_t *at, size_t count)
+{
+    static const uint8_t zeros[TABLE_SIZE];
+    return memcmp(at, zeros, count) == 0;
+}
+
+static int kind_of(const uint8_t *cell)
+{
+    return cell[0];
+}
+
+static uint64_t place_of(const uint8_t *cell)
+{
+    return cell[1];
+}
+
+static uint64_t value_of(const uint8_t *cell)
+{
+    return get_number(cell + 2, 6);
+}
+
+/* A biased constant between the two. */
+static int constant_in(const uint8_t *cell, int64_t lowest, int64_t highest)
+{
+    int64_t z = (int64_t)value_of(cell) - bias;
+    return z >= lowest && z <= highest;
+}
+
+/* What place and value a cell of each kind may have (rules 1, 5, 6, 7), but for the ranges. */
+static int cell_holds(const struct rules *k, const uint8_t *cell)
+{
+    int of_string = place_of(cell) < k->strings, of_number = place_of(cell) < k->numbers, none = place_of(cell) == 0;
+    int no_value = value_of(cell) == 0, number_value = value_of(cell) < k->numbers;
+    switch (kind_of(cell)) {
+    case STRING_CELL: case LENGTH_CELL: case VALUE_CELL: case FREE_CELL: return of_string && no_value;
+    case CONSTANT_PART: case CONSTANT_VALUE: case CONSTANT_FIXED: return of_string && constant_in(cell, 0, LIMIT);
+    case VARIABLE_PART: case VARIABLE_VALUE: case VARIABLE_FIXED: return of_string && number_value;
+    case CONSTANT_CELL: return none && constant_in(cell, -LIMIT, LIMIT);
+    case NUMBER_CELL: return of_number && no_value;
+    case NO_CELL: case ADD_CELL: case SUBTRACT_CELL: case MULTIPLY_CELL: case DIVIDE_CELL: case PLUS_CELL: case MINUS_CELL:
+        return none && no_value;
+    case CONSTANT_TEXT: return of_number && constant_in(cell, -LIMIT, LIMIT);
+    case VARIABLE_TEXT: return of_number && number_value;
+    default: return 0;
+    }
+}
+
+static int kind_between(const uint8_t *cell, int first, int last)
+{
+    return kind_of(cell) >= first && kind_of(cell) <= last;
+}
+
+static int is_part(const struct rules *k, const uint8_t *cell)
+{
+    return kind_between(cell, STRING_CELL, VARIABLE_PART) && cell_holds(k, cell);
+}
+
+static int is_operand(const struct rules *k, const uint8_t *cell)
+{
+    return kind_between(cell, CONSTANT_CELL, VARIABLE_VALUE) && cell_holds(k, cell);
+}
+
+static int is_nothing(const uint8_t *cell)
+{
+    return all_zero(cell, CELL);
+}
+
+/* A range that starts where those before it ended (rule 4). */
+static int range_follows(const uint8_t *cell, int kind, uint64_t *seen, uint64_t all)
+{
+    uint64_t from = get_number(cell + 2, 2), count = get_number(cell + 4, 2), more = get_number(cell + 6, 2);
+    if (kind_of(cell) != kind || place_of(cell) != 0 || from != *seen || from + count + more > all) return 0;
+    *seen += count + more;
+    return 1;
+}
+
+static uint64_t range_count(const uint8_t *cell)
+{
+    return get_number(cell + 4, 2);
+}
+
+static uint64_t range_more(const uint8_t *cell)
+{
+    return get_number(cell + 6, 2);
+}
+
+/* One element of an expression, or of a pattern that searches the string `searched` (rules 3, 9, 10, 11). */
+static int element_holds(struct rules *k, const uint8_t *cell, int in_pattern, uint64_t searched)
+{
+    if (kind_of(cell) == LITERAL_CELL)
+        return range_follows(cell, LITERAL_CELL, &k->literals_seen, k->literals) && range_count(cell) >= 1 && range_more(cell) == 0;
+    if (kind_between(cell, FREE_CELL, VARIABLE_FIXED)) return in_pattern && cell_holds(k, cell) && place_of(cell) != searched;
+    return (kind_between(cell, STRING_CELL, VARIABLE_PART) || kind_between(cell, CONSTANT_TEXT, VARIABLE_TEXT)) && cell_holds(k, cell);
+}
+
+static int elements_hold(struct rules *k, uint64_t from, uint64_t count, int in_pattern, uint64_t searched)
+{
+    if (count > MOST_ROW) return 0;
+    for (uint64_t i = from; i < from + count; i++)
+        if (!element_holds(k, k->table + ELEMENTS_AT + i * CELL, in_pattern, searched)) return 0;
+    return 1;
+}
+
+/* The items of one expression (rule 12). */
+static int items_hold(const struct rules *k, uint64_t from, uint64_t count)
+{
+    int waiting = 0;
+    for (uint64_t i = from; i < from + count; i++) {
+        const uint8_t *cell = k->table + ITEMS_AT + i * CELL;
+        if (!kind_between(cell, CONSTANT_CELL, MINUS_CELL) || !cell_holds(k, cell)) return 0;
+        if (kind_between(cell, CONSTANT_CELL, VARIABLE_VALUE)) {
+            waiting++;
+        } else if (kind_between(cell, ADD_CELL, DIVIDE_CELL)) {
+            if (waiting < 2) return 0;
+            waiting--;
+        } else if (waiting < 1) {
+            return 0;
+        }
+        if (waiting > MOST_WAITING) return 0;
+    }
+    return waiting == 1;
+}
+
+/* A row's elements: an expression with no more behind it. */
+static int expression_holds(struct rules *k, const uint8_t *cell)
+{
+    uint64_t from = k->elements_seen;
+    return range_follows(cell, RANGE_CELL, &k->elements_seen, k->elements) && range_more(cell) == 0 &&
+           elements_hold(k, from, range_count(cell), 0, 0);
+}
+
+static int scan_holds(struct rules *k, const uint8_t *row)
+{
+    uint64_t from = k->elements_seen, searched = place_of(row + LEFT);
+    const uint8_t *cell = row + RIGHT;
+    if (row[1] < 1 || row[1] > 4 || !range_follows(cell, RANGE_CELL, &k->elements_seen, k->elements)) return 0;
+    if (row[1] <= 2 && range_more(cell) != 0) return 0;
+    return elements_hold(k, from, range_count(cell), 1, searched) &&
+           elements_hold(k, from + range_count(cell), range_more(cell), 0, 0);
+}
+
+static int number_holds(struct rules *k, const uint8_t *cell)
+{
+    uint64_t from = k->items_seen;
+    return range_follows(cell, RANGE_CELL, &k->items_seen, k->items) && range_more(cell) == 0 && items_hold(k, from, range_count(cell));
+}
+
+static int row_holds(struct rules *k, const uint8_t *row)
+{
+    const uint8_t *left = row + LEFT, *right = row + RIGHT;
+    int no_flag = row[1] == 0;
+    int no_success = get_number(row + 4, 2) == 0, no_failure = get_number(row + 6, 2) == 0;
+    int leads = get_number(row + 4, 2) < k->steps, branches = leads && get_number(row + 6, 2) < k->steps;
+    int no_branch = no_success && no_failure;
+    switch (row[0]) {
+    case SET_NUMBER:
+        return no_flag && no_branch && kind_of(left) == NUMBER_CELL && cell_holds(k, left) && number_holds(k, right);
+    case SET_STRING: return no_flag && no_branch && is_part(k, left) && expression_holds(k, right);
+    case GOES: case EXECUTES: return no_flag && leads && no_failure && is_nothing(left) && is_nothing(right);
+    case FINISHES: case RETURNS: return no_flag && no_branch && is_nothing(left) && is_nothing(right);
+    case IF_NULL: return no_flag && branches && kind_of(left) == STRING_CELL && cell_holds(k, left) && is_nothing(right);
+    case IF_NUMERIC: case READS: return no_flag && branches && is_part(k, left) && is_nothing(right);
+    case IF_COMPARES: return row[1] >= 1 && row[1] <= 6 && branches && is_operand(k, left) && is_operand(k, right);
+    case SCANS: return branches && is_part(k, left) && scan_holds(k, row);
+    case WRITES: return no_flag && no_branch && is_nothing(left) && expression_holds(k, right);
+    default: return 0;
+    }
+}
+
+static int rest_is_zero(const struct rules *k)
+{
+    const uint8_t *t = k->table;
+    return all_zero(t + STEPS_AT + k->steps * ROW_SIZE, ELEMENTS_AT - STEPS_AT - k->steps * ROW_SIZE) &&
+           all_zero(t + ELEMENTS_AT + k->elements * CELL, ITEMS_AT - ELEMENTS_AT - k->elements * CELL) &&
+           all_zero(t + ITEMS_AT + k->items * CELL, LITERALS_AT - ITEMS_AT - k->items * CELL) &&
+           all_zero(t + LITERALS_AT + k->literals, LITERALS_END - LITERALS_AT - k->literals) &&
+           all_zero(t + LITERALS_END, TABLE_SIZE - LITERALS_END);
+}
+
+int oracle_keeps(const uint8_t table[TABLE_SIZE])
+{
+    struct rules k = {table,
+                      get_number(table + 2, 2), get_number(table + 4, 2), get_number(table + 6, 2),
+                      get_number(table + 8, 2), get_number(table + 10, 2), get_number(table + 12, 2),
+                      0, 0, 0};
+    if (table[0] != 1 || table[1] != 0 || !all_zero(table + 14, 50)) return 0;
+    if (k.steps < 1 || k.steps > MOST_STEPS || k.strings > MOST_STRINGS || k.numbers > MOST_NUMBERS) return 0;
+    if (k.elements > MOST_ELEMENTS || k.items > MOST_ITEMS || k.literals > MOST_LITERALS) return 0;
+    for (uint64_t i = 0; i < k.steps; i++)
+        if (!row_holds(&k, table + STEPS_AT + i * ROW_SIZE)) return 0;
+    if (k.elements_seen != k.elements || k.items_seen != k.items || k.literals_seen != k.literals) return 0;
+    return rest_is_zero(&k) && table[STEPS_AT + (k.steps - 1) * ROW_SIZE] == FINISHES;
+}
+
+/* Reading a table that keeps the rules */
+
+static int32_t unbiased(const uint8_t *cell)
+{
+    return (int32_t)((int64_t)value_of(cell) - bias);
+}
+
+/* The length of a cell whose three kinds begin at `whole`. */
+static enum bound bound_of(const uint8_t *cell, int whole, int32_t *n)
+{
+    enum bound bound = (enum bound)(kind_of(cell) - whole);
+    *n = bound == WHOLE ? 0 : bound == CONSTANT ? unbiased(cell) : (int32_t)value_of(cell);
+    return bound;
+}
+
+static struct part part_in(const uint8_t *cell, int whole)
+{
+    struct part p = {(int)place_of(cell), WHOLE, 0};
+    p.bound = bound_of(cell, whole, &p.n);
+    return p;
+}
+
+static struct operand operand_in(const uint8_t *cell)
+{
+    struct operand o = {OPERAND_VALUE, 0, 0, {0, WHOLE, 0}};
+    switch (kind_of(cell)) {
+    case CONSTANT_CELL: o.kind = OPERAND_CONSTANT; o.constant = unbiased(cell); break;
+    case NUMBER_CELL: o.kind = OPERAND_NUMBER; o.number = (int)place_of(cell); break;
+    case LENGTH_CELL: o.kind = OPERAND_LENGTH; o.part.string = (int)place_of(cell); break;
+    default: o.part = part_in(cell, VALUE_CELL); break;
+    }
+    return o;
+}
+
+static struct item item_in(const uint8_t *cell)
+{
+    struct item i = {ITEM_OPERAND, {OPERAND_CONSTANT, 0, 0, {0, WHOLE, 0}}};
+    if (kind_of(cell) < ADD_CELL) i.operand = operand_in(cell);
+    else i.kind = (enum item_kind)(ITEM_ADD + kind_of(cell) - ADD_CELL);
+    return i;
+}
+
+static struct element element_in(const uint8_t *cell)
+{
+    struct element e;
+    memset(&e, 0, sizeof e);
+    if (kind_of(cell) == LITERAL_CELL) {
+        e.kind = ELEMENT_LITERAL;
+        e.from = (int)get_number(cell + 2, 2);
+        e.length = (int)range_count(cell);
+    } else if (kind_of(cell) == CONSTANT_TEXT || kind_of(cell) == VARIABLE_TEXT) {
+        e.kind = ELEMENT_TEXT;
+        e.number = (int)place_of(cell);
+        e.bound = bound_of(cell, CONSTANT_TEXT - 1, &e.n);
+    } else if (kind_of(cell) >= FREE_CELL) {
+        e.kind = kind_of(cell) == FREE_CELL ? ELEMENT_FREE : ELEMENT_FIXED;
+        e.part = part_in(cell, FREE_CELL);
+    } else {
+        e.kind = ELEMENT_PART;
+        e.part = part_in(cell, STRING_CELL);
+    }
+    return e;
+}
+
+static struct step step_in(const uint8_t *row)
+{
+    struct step s;
+    memset(&s, 0, sizeof s);
+    s.kind = (enum step_kind)row[0];
+    s.card = (uint32_t)get_number(row + 2, 2);
+    s.success = (int)get_number(row + 4, 2);
+    s.failure = (int)get_number(row + 6, 2);
+    if (s.kind == SET_NUMBER) s.number = (int)place_of(row + LEFT);
+    if (s.kind == SET_STRING || s.kind == IF_NULL || s.kind == IF_NUMERIC || s.kind == SCANS || s.kind == READS)
+        s.part = part_in(row + LEFT, STRING_CELL);
+    if (s.kind == IF_COMPARES) {
+        s.comparison = (enum comparison)row[1];
+        s.left = operand_in(row + LEFT);
+        s.right = operand_in(row + RIGHT);
+    }
+    if (s.kind == SCANS) {
+        s.backwards = row[1] == 2 || row[1] == 4;
+        s.replaces = row[1] >= 3;
+    }
+    if (kind_of(row + RIGHT) == RANGE_CELL) {
+        s.first = (int)get_number(row + RIGHT + 2, 2);
+        s.count = (int)range_count(row + RIGHT);
+        s.more = (int)range_more(row + RIGHT);
+    }
+    return s;
+}
+
+void oracle_program_of(const uint8_t table[TABLE_SIZE], struct oracle_program *p)
+{
+    int *const counts[] = {&p->steps, &p->strings, &p->numbers, &p->elements, &p->items, &p->literals};
+    memset(p, 0, sizeof *p);
+    for (int i = 0; i < 6; i++) *counts[i] = (int)get_number(table + 2 + 2 * i, 2);
+    for (int i = 0; i < p->steps; i++) p->step[i] = step_in(table + STEPS_AT + i * ROW_SIZE);
+    for (int i = 0; i < p->elements; i++) p->element[i] = element_in(table + ELEMENTS_AT + i * CELL);
+    for (int i = 0; i < p->items; i++) p->item[i] = item_in(table + ITEMS_AT + i * CELL);
+    memcpy(p->literal, table + LITERALS_AT, (size_t)p->literals);
+}
