@@ -27,12 +27,9 @@ $(program): program/strigol.c include/strigol.h $(library)
 test:
 	bash .ci/run
 
-# how fast; nothing that is timed passes or fails
-bench:
-	bench/scan
-	bench/read
-	bench/run
-	bench/threads
+# how fast: runs all benchmarks and puts their figures into these pages; nothing that is timed passes or fails
+bench: build
+	bench/pages docs/BENCH.md docs/GATEWAY.md
 
 # header, static library, program, pkg-config file
 install: build

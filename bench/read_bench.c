@@ -1,7 +1,7 @@
 /* The reading call beside a plain reader of the same grammar in C (tests/oracle/reader.c), on decks of up to 32,768 bytes: accepted ones, and
    refused ones made to cost as much as can be before they are refused. Each figure is the best of several rounds in one run. A ratio above
-   1 means that the reading call is the faster of the two. Both must give the same number, card and table. */
-#include "now.h"
+   1 means that the reading call is the faster of the two. Both must give the same number, card and table. Printed are tables in Markdown. */
+#include "figures.h"
 #include "oracle.h"
 #include "strigol.h"
 
@@ -9,7 +9,7 @@
 #include <stdio.h>
 #include <string.h>
 
-enum { ROUNDS = 15, TEXT_FROM = 9, TEXT_TO = 72, NAMES = 26 * 26 * 36 };
+enum { ROUNDS = 40, TEXT_FROM = 9, TEXT_TO = 72, NAMES = 26 * 26 * 36 };
 
 static char deck[STRIGOL_DECK_MOST + 1];
 static size_t length;
@@ -232,44 +232,77 @@ static const struct { const char *what; void (*make)(void); } cases[] = {
     {"250 IFs to 500 undefined labels", undefined_labels},
 };
 
-typedef uint32_t (*reader)(const uint8_t *, size_t, uint8_t *, size_t, uint32_t *);
+/* A reader, what it leaves, its best round so far in microseconds a call, and how many calls a round has: as many as take some milliseconds. */
+struct timed {
+    uint32_t (*read)(const uint8_t *, size_t, uint8_t *, size_t, uint32_t *);
+    uint32_t number, card;
+    uint8_t table[STRIGOL_TABLE_SIZE];
+    double best;
+    int calls;
+};
 
-/* Microseconds for a call: the best of the rounds, each of as many calls as take some milliseconds. */
-static double time_reader(reader read, uint8_t *table, uint32_t *number, uint32_t *card)
+static void time_round(struct timed *r)
 {
-    double best = 1e18;
-    int calls = 1;
+    double from = now(CLOCK_PROCESS_CPUTIME_ID), t;
+    for (int i = 0; i < r->calls; i++) r->number = r->read((const uint8_t *)deck, length, r->table, STRIGOL_TABLE_SIZE, &r->card);
+    t = (now(CLOCK_PROCESS_CPUTIME_ID) - from) / r->calls / 1e3;
+    if (t < r->best) r->best = t;
+    r->calls = t > 2000 ? 1 : (int)(2000 / t) + 1;
+}
+
+/* Both read the deck, a round each in turn. */
+static void time_both(struct timed *call, struct timed *plain)
+{
+    call->best = plain->best = 1e18;
+    call->calls = plain->calls = 1;
     for (int round = 0; round < ROUNDS; round++) {
-        double from = now(), t;
-        for (int i = 0; i < calls; i++) *number = read((const uint8_t *)deck, length, table, STRIGOL_TABLE_SIZE, card);
-        t = (now() - from) / calls / 1e3;
-        if (t < best) best = t;
-        if (round == 0) calls = t > 2000 ? 1 : (int)(2000 / t) + 1;
+        time_round(call);
+        time_round(plain);
     }
-    return best;
+}
+
+/* What reading a deck took. */
+struct reading { const char *what; double call, plain; };
+
+static double times(struct reading r)
+{
+    return r.call / r.plain;
+}
+
+static void show_demand(const char *which, struct reading r)
+{
+    printf("| %s%s | %.2f | %s |\n", which, r.what, times(r), met(times(r) <= 2));
 }
 
 int main(void)
 {
-    static uint8_t table[STRIGOL_TABLE_SIZE], plain_table[STRIGOL_TABLE_SIZE];
-    const char *worst = "";
-    double most = 0;
-    printf("%-44s %7s %7s %5s %10s %10s %6s\n", "deck", "bytes", "number", "card", "read, us", "plain, us", "ratio");
+    static struct timed call = {.read = strigol_read}, plain = {.read = oracle_read_call};
+    struct reading full = {"", 0, 1}, costliest = full, next = full, furthest = full;
+    printf("| deck | bytes | number | call, us | plain reader, us | ratio |\n|---|---|---|---|---|---|\n");
     for (size_t i = 0; i < sizeof cases / sizeof cases[0]; i++) {
-        uint32_t number, card, plain_number, plain_card;
+        struct reading r;
         cases[i].make();
-        double plain = time_reader(oracle_read_call, plain_table, &plain_number, &plain_card);
-        double ours = time_reader(strigol_read, table, &number, &card);
-        if (number != plain_number || card != plain_card || memcmp(table, plain_table, sizeof table) != 0) {
-            printf("%s: the two disagree: %u %u, %u %u\n", cases[i].what, number, card, plain_number, plain_card);
+        time_both(&call, &plain);
+        r = (struct reading){cases[i].what, call.best, plain.best};
+        if (call.number != plain.number || call.card != plain.card || memcmp(call.table, plain.table, sizeof call.table) != 0) {
+            fprintf(stderr, "%s: the two disagree: %u %u, %u %u\n", r.what, call.number, call.card, plain.number, plain.card);
             return 1;
         }
-        printf("%-44s %7zu %7u %5u %10.1f %10.1f %6.2f\n", cases[i].what, length, number, card, ours, plain, plain / ours);
-        if (number != 0 && ours > most) {
-            most = ours;
-            worst = cases[i].what;
+        printf("| %s | %s | %u | %s | %s | %.2f |\n", r.what, whole(length), call.number, figure(r.call), figure(r.plain), r.plain / r.call);
+        if (cases[i].make == full_deck) full = r;
+        if (call.number == 0) continue;
+        if (times(r) > times(furthest)) furthest = r;
+        if (r.call > costliest.call) {
+            next = costliest;
+            costliest = r;
+        } else if (r.call > next.call) {
+            next = r;
         }
     }
-    printf("the refused deck that costs most: %s, %.1f us\n", worst, most);
+    printf("\n| demanded: at most 2 times the plain reader's time | times | |\n|---|---|---|\n");
+    show_demand("", full);
+    show_demand("the refused deck that takes longest: ", costliest);
+    show_demand("the one after it: ", next);
+    show_demand("the refused deck that is furthest behind: ", furthest);
     return 0;
 }

@@ -1,11 +1,12 @@
 /* Helpers of bench/run and bench/read.
 
    run_bench values DECK: runs the deck for 1,000,000 steps on no input and prints all its strings, then its numbers, a line each.
-   run_bench step DECK..: times one step through the stepping call, with all its checks, beside one pass over as many bytes as table and store
-   have; the best of several rounds.
-   run_bench check DECK: times the check of the deck's table, by a step that is turned down by 14 right behind it, beside one pass over the
-   table. */
-#include "now.h"
+   run_bench step NAME DECK NAME DECK..: times one step of each deck through the stepping call, with all its checks, beside one pass over as many
+   bytes as table and store have; the best of several rounds. A run that has finished starts anew.
+   run_bench check NAME DECK..: times the check of the deck's table, by a step that is turned down by 14 right behind it, beside one pass over the
+   table.
+   Both print a table in Markdown with the deck's name in each row. */
+#include "figures.h"
 #include "strigol.h"
 
 #include <inttypes.h>
@@ -20,6 +21,7 @@ static uint64_t state[STRIGOL_STATE_SIZE];
 static const uint8_t input[1];
 static volatile uint32_t sink;
 static size_t stored = sizeof store; /* bytes of the store lent, and passed over */
+static uint32_t wanted;              /* the number that steps get */
 
 static void read_deck(const char *name)
 {
@@ -51,7 +53,11 @@ static void values(const char *name)
 static void step(void)
 {
     uint32_t answer[STRIGOL_ANSWER_SIZE];
-    sink = strigol_step(table, sizeof table, store, stored, state, input, 0, output, sizeof output, answer);
+    if (state[STRIGOL_STATUS] == STRIGOL_ENDED) strigol_start(store, sizeof store, state);
+    if (strigol_step(table, sizeof table, store, stored, state, input, 0, output, sizeof output, answer) != wanted) {
+        fprintf(stderr, "run_bench: a step gets another number than %u\n", wanted);
+        exit(1);
+    }
 }
 
 /* One pass over table and store, a byte at a time. */
@@ -77,27 +83,26 @@ static double time_one(void (*one)(void))
 {
     double best = 1e18;
     for (int round = 0; round < ROUNDS; round++) {
-        double from = now(), t;
+        double from = now(CLOCK_PROCESS_CPUTIME_ID), t;
         for (int i = 0; i < CALLS; i++) one();
-        t = (now() - from) / CALLS / 1e3;
+        t = (now(CLOCK_PROCESS_CPUTIME_ID) - from) / CALLS / 1e3;
         if (t < best) best = t;
     }
     return best;
 }
 
-/* A step of the deck on the bytes lent, which gets this number, beside a pass over them. */
-static void step_beside_pass(const char *what, const char *name, uint32_t number)
+/* Steps of decks, given as a name and a file each, on the bytes lent, beside passes over these bytes. */
+static void beside_passes(const char *what, int count, char **decks)
 {
-    const char *slash = strrchr(name, '/');
-    read_deck(name);
-    double ours = time_one(step), plain = time_one(pass), vectors = time_one(vector_pass);
-    step();
-    if (sink != number || state[STRIGOL_STATUS] != STRIGOL_RUNNING) {
-        fprintf(stderr, "run_bench: %s got another number or ended\n", name);
-        exit(1);
+    printf("| %s | us | one pass over %s bytes, us | in passes; demanded: at most 3 | | a pass in vectors, us | in passes |\n", what,
+           whole(sizeof table + stored));
+    printf("|---|---|---|---|---|---|---|\n");
+    for (int i = 0; i + 1 < count; i += 2) {
+        read_deck(decks[i + 1]);
+        double ours = time_one(step), plain = time_one(pass), vectors = time_one(vector_pass);
+        printf("| %s | %s | %s | %.2f | %s | %s | %.2f |\n", decks[i], figure(ours), figure(plain), ours / plain, met(ours <= 3 * plain),
+               figure(vectors), ours / vectors);
     }
-    printf("%s of %-12s %8.2f us; one pass over %zu bytes %6.2f us, %5.2f passes; in vectors %5.2f us, %5.2f passes\n", what,
-           slash == NULL ? name : slash + 1, ours, sizeof table + stored, plain, ours / plain, vectors, ours / vectors);
 }
 
 int main(int argc, char **argv)
@@ -106,15 +111,16 @@ int main(int argc, char **argv)
         values(argv[2]);
         return 0;
     }
-    if (argc > 2 && strcmp(argv[1], "step") == 0) {
-        for (int i = 2; i < argc; i++) step_beside_pass("one step", argv[i], 0);
+    if (argc > 3 && strcmp(argv[1], "step") == 0) {
+        beside_passes("one step of", argc - 2, argv + 2);
         return 0;
     }
-    if (argc == 3 && strcmp(argv[1], "check") == 0) {
+    if (argc > 3 && strcmp(argv[1], "check") == 0) {
         stored = 0;
-        step_beside_pass("the table's check", argv[2], STRIGOL_BAD_STORE);
+        wanted = STRIGOL_BAD_STORE;
+        beside_passes("the check of the table of", argc - 2, argv + 2);
         return 0;
     }
-    fprintf(stderr, "usage: run_bench values DECK, run_bench step DECK.., run_bench check DECK\n");
+    fprintf(stderr, "usage: run_bench values DECK, run_bench step NAME DECK.., run_bench check NAME DECK..\n");
     return 2;
 }

@@ -1,7 +1,7 @@
 /* The scan call beside PCRE2 with JIT: the same lines, the same run, each figure the best of several rounds. PCRE2 is called both ways that
    it has: pcre2_match, which checks what it is given as the scan call does, and pcre2_jit_match, which checks nothing. A ratio above 1
-   means that the scan call is the faster of the two. */
-#include "now.h"
+   means that the scan call is the faster of the two. Printed are tables in Markdown. */
+#include "figures.h"
 #include "strigol.h"
 
 #define PCRE2_CODE_UNIT_WIDTH 8
@@ -43,12 +43,12 @@ static double time_scan(const char *r, size_t n, int calls)
 {
     double best = 1e18;
     for (int round = 0; round < ROUNDS; round++) {
-        double from = now();
+        double from = now(CLOCK_PROCESS_CPUTIME_ID);
         for (int i = 0; i < calls; i++) {
             strigol_scan((const uint8_t *)r, n, values, values_len, rows, rows_len, answer);
             sink = answer[1];
         }
-        double t = (now() - from) / calls;
+        double t = (now(CLOCK_PROCESS_CPUTIME_ID) - from) / calls;
         if (t < best) best = t;
     }
     return best;
@@ -62,18 +62,18 @@ static double time_pcre2(matcher match, const char *regex, const char *r, size_t
     PCRE2_SIZE offset;
     pcre2_code *code = pcre2_compile((PCRE2_SPTR)regex, PCRE2_ZERO_TERMINATED, PCRE2_DOTALL, &error, &offset, NULL);
     if (code == NULL || pcre2_jit_compile(code, PCRE2_JIT_COMPLETE) != 0) {
-        printf("PCRE2 can't compile %s\n", regex);
+        fprintf(stderr, "PCRE2 can't compile %s\n", regex);
         exit(1);
     }
     pcre2_match_data *data = pcre2_match_data_create_from_pattern(code, NULL);
     double best = 1e18;
     for (int round = 0; round < ROUNDS; round++) {
-        double from = now();
+        double from = now(CLOCK_PROCESS_CPUTIME_ID);
         for (int i = 0; i < calls; i++) {
             *found = match(code, (PCRE2_SPTR)r, n, 0, 0, data, NULL) > 0;
             sink = (uint32_t)pcre2_get_ovector_pointer(data)[0];
         }
-        double t = (now() - from) / calls;
+        double t = (now(CLOCK_PROCESS_CPUTIME_ID) - from) / calls;
         if (t < best) best = t;
     }
     pcre2_match_data_free(data);
@@ -81,7 +81,17 @@ static double time_pcre2(matcher match, const char *regex, const char *r, size_t
     return best;
 }
 
-static void compare(const char *what, const char *p, const char *regex, const char *r, size_t n)
+/* How many lines there are, and on how many the scan is at least as fast. */
+static int lines, as_fast_as_checked, as_fast_as_unchecked;
+
+/* PCRE2's time over the scan's, as it is printed. */
+static double ratio(double pcre2, double scan)
+{
+    return (double)(long)(100 * pcre2 / scan + 0.5) / 100;
+}
+
+/* A line of n bytes; its pattern in words, as `pattern` takes it, and as a regular expression. */
+static void compare(const char *what, const char *words, const char *p, const char *regex, const char *r, size_t n)
 {
     int calls = n > 100 ? 20000 : 200000, found;
     pattern(p);
@@ -89,11 +99,14 @@ static void compare(const char *what, const char *p, const char *regex, const ch
     double unchecked = time_pcre2(pcre2_jit_match, regex, r, n, calls, &found);
     double ours = time_scan(r, n, calls);
     if ((int)answer[0] != found) {
-        printf("%s: the two disagree\n", what);
+        fprintf(stderr, "%s: the two disagree\n", what);
         exit(1);
     }
-    printf("%-44s scan %6.1f ns   pcre2_match %6.1f ns ratio %5.2f   pcre2_jit_match %6.1f ns ratio %5.2f\n", what, ours, checked,
-           checked / ours, unchecked, unchecked / ours);
+    printf("| %s | %s | %s | %s | %.2f | %s | %.2f |\n", what, words, figure(ours), figure(checked), ratio(checked, ours), figure(unchecked),
+           ratio(unchecked, ours));
+    lines++;
+    as_fast_as_checked += ratio(checked, ours) >= 1;
+    as_fast_as_unchecked += ratio(unchecked, ours) >= 1;
 }
 
 int main(void)
@@ -106,11 +119,18 @@ int main(void)
     memset(nearly, 'A', sizeof nearly);
     memset(failing, 'x', sizeof failing);
     failing[10] = 'A';
-    compare("a lot line of 6 bytes", ".,.", "\\A(.*?),(.*)", "W7,120", 6);
-    compare("four fields in 24 bytes", ".,.,.,.", "\\A(.*?),(.*?),(.*?),(.*)", "W7,120,BARLEY-6,10495432", 24);
-    compare("a comma at byte 1,000", ",", ",", comma, sizeof comma);
-    compare("a 4-byte literal at byte 1,020", "LOTS", "LOTS", literal, sizeof literal);
-    compare("16 bytes that nearly match all along 1,024", "AAAAAAAAAAAAAAAB", "AAAAAAAAAAAAAAAB", nearly, sizeof nearly);
-    compare("a failing (X),\"A\",(Y),\"B\" in 1,024 bytes", ".A.B", "\\A(.*?)A(.*?)B", failing, sizeof failing);
+    printf("| line | pattern | scan, ns | `pcre2_match`, ns | ratio | `pcre2_jit_match`, ns | ratio |\n|---|---|---|---|---|---|---|\n");
+    compare("a lot line of 6 bytes", "(LOT),\",\",(TONS)", ".,.", "\\A(.*?),(.*)", "W7,120", 6);
+    compare("four fields in 24 bytes", "three commas between four free fillers", ".,.,.,.", "\\A(.*?),(.*?),(.*?),(.*)",
+            "W7,120,BARLEY-6,10495432", 24);
+    compare("a comma at byte 1,000 of 1,024", "\",\"", ",", ",", comma, sizeof comma);
+    compare("a literal of 4 bytes at byte 1,020 of 1,024", "\"LOTS\"", "LOTS", "LOTS", literal, sizeof literal);
+    compare("16 bytes that nearly match all along 1,024", "fifteen \"A\" and a \"B\", in a row of \"A\"", "AAAAAAAAAAAAAAAB", "AAAAAAAAAAAAAAAB",
+            nearly, sizeof nearly);
+    compare("a scan that fails in 1,024 bytes", "(X),\"A\",(Y),\"B\", with an \"A\" and no \"B\"", ".A.B", "\\A(.*?)A(.*?)B", failing,
+            sizeof failing);
+    printf("\n| demanded: a ratio of at least 1 on every line | reached | |\n|---|---|---|\n");
+    printf("| beside `pcre2_match` | on %d of %d | %s |\n", as_fast_as_checked, lines, met(as_fast_as_checked == lines));
+    printf("| beside `pcre2_jit_match` | on %d of %d | %s |\n", as_fast_as_unchecked, lines, met(as_fast_as_unchecked == lines));
     return 0;
 }

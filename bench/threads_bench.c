@@ -1,9 +1,10 @@
 /* Steps, lines and trials in a second, of one thread and of two on one table. A round begins with all threads at once, each on a core of its
    own. Each makes the same steps on its own store, state and output; the round ends with the last of them. A figure is the best of many rounds.
    The arguments are LOTS and an input for it, a deck that nearly fills its table, one that only counts, one that scans and replaces, one whose
-   scans make as many trials as can be, and one whose scans compare as many bytes as can be. */
+   scans make as many trials as can be, and one whose scans compare as many bytes as can be. Printed are tables in Markdown: these counts, and
+   what follows from one thread's for a step, a trial and a line. */
 #define _GNU_SOURCE
-#include "now.h"
+#include "figures.h"
 #include "strigol.h"
 
 #include <pthread.h>
@@ -83,9 +84,9 @@ static void *thread_once(void *thread)
 {
     struct own *o = thread;
     pthread_barrier_wait(&at_once);
-    o->from = now();
+    o->from = now(CLOCK_MONOTONIC);
     once(o);
-    o->to = now();
+    o->to = now(CLOCK_MONOTONIC);
     return NULL;
 }
 
@@ -152,8 +153,18 @@ static uint64_t trials(const struct work *of)
     return own[0].trials;
 }
 
-static void show(const struct work *of, const char *deck_name, const char *input_name)
+/* What is done in a second. */
+struct rate { double steps, lines, trials; };
+
+/* A figure, or nothing where there is nothing to count. */
+static const char *counted(double x)
 {
+    return x == 0 ? "" : figure(x);
+}
+
+static struct rate show(const struct work *of, const char *deck_name, const char *input_name)
+{
+    struct rate alone = {0, 0, 0};
     uint32_t card;
     uint64_t tried;
     deck_len = load(deck_name, deck, sizeof deck);
@@ -162,29 +173,57 @@ static void show(const struct work *of, const char *deck_name, const char *input
     tried = trials(of);
     work = of;
     for (int threads = 1; threads <= MOST_THREADS; threads++) {
-        double t = best_of(threads), each = threads / t * 1e9;
-        printf("%-26s %7d %13.0f %10.0f %13.0f\n", of->name, threads, each * (double)own[0].result[STRIGOL_DONE], each * (double)lines(&own[0]),
-               each * (double)tried);
+        double rounds = threads / best_of(threads) * 1e9, done = (double)own[0].result[STRIGOL_DONE];
+        struct rate all = {rounds * done, rounds * (double)lines(&own[0]), rounds * (double)tried};
+        if (threads == 1) alone = all;
+        printf("| %s | %d | %s | %s | %s | %s |\n", threads == 1 ? of->name : "", threads, figure(all.steps), counted(all.lines),
+               counted(all.trials), threads == 1 ? "" : figure(all.steps / alone.steps));
     }
+    return alone;
+}
+
+/* So many, at this rate, take so long. */
+static void show_time(const char *what, double count, double a_second)
+{
+    static const char *const units[] = {"ns", "us", "ms", "s"};
+    double t = count / a_second * 1e9;
+    int unit = 0;
+    for (; unit < 3 && t >= 1000; unit++) t /= 1000;
+    printf("| %s | %s %s |\n", what, figure(t), units[unit]);
 }
 
 int main(int argc, char **argv)
 {
-    static const struct work lots = {"LOTS, run", 1000000, 0, 1, 0}, stepped = {"LOTS, step by step", 1000, 1, 1, 0},
-                             full = {"a full table, step by step", 100, 1, 1, 0},
-                             counts = {"counts, run", 10000, 0, 0, 0}, swaps = {"scans and replaces, run", 10000, 0, 0, 0},
-                             tries = {"scans, most trials, run", 40, 0, 0, 10}, compares = {"scans, most bytes, run", 10, 0, 0, 10};
+    static const struct work by_run = {"LOTS, by `strigol_run`", 1000000, 0, 1, 0}, by_step = {"LOTS, by `strigol_step`", 1000, 1, 1, 0},
+                             full = {"a deck that nearly fills its table, by `strigol_step`", 100, 1, 1, 0},
+                             counts = {"a deck that counts, by `strigol_run`", 10000, 0, 0, 0},
+                             swaps = {"a deck that scans and replaces, by `strigol_run`", 10000, 0, 0, 0},
+                             tries = {"scans with as many trials as can be, by `strigol_run`", 40, 0, 0, 10},
+                             compares = {"scans that compare as many bytes as can be, by `strigol_run`", 10, 0, 0, 10};
+    struct rate lots, stepped, filled, counting, swapping, trying, comparing;
     if (argc != 8) {
         fprintf(stderr, "usage: threads_bench LOTS INPUT FULL COUNTS SWAPS TRIES COMPARES\n");
         return 2;
     }
-    printf("%-26s %s %13s %10s %13s\n", "work", "threads", "steps/s", "lines/s", "trials/s");
-    show(&lots, argv[1], argv[2]);
-    show(&stepped, argv[1], argv[2]);
-    show(&full, argv[3], NULL);
-    show(&counts, argv[4], NULL);
-    show(&swaps, argv[5], NULL);
-    show(&tries, argv[6], NULL);
-    show(&compares, argv[7], NULL);
+    printf("| work | threads | steps a second | lines a second | trials a second | times one thread |\n|---|---|---|---|---|---|\n");
+    lots = show(&by_run, argv[1], argv[2]);
+    stepped = show(&by_step, argv[1], argv[2]);
+    filled = show(&full, argv[3], NULL);
+    counting = show(&counts, argv[4], NULL);
+    swapping = show(&swaps, argv[5], NULL);
+    trying = show(&tries, argv[6], NULL);
+    comparing = show(&compares, argv[7], NULL);
+
+    printf("\n| what | takes |\n|---|---|\n");
+    show_time("a step in a run, in a deck that counts", 1, counting.steps);
+    show_time("a step in a run, in a deck that scans and replaces; one step in four scans", 1, swapping.steps);
+    show_time("a trial, in scans with as many as can be", 1, trying.trials);
+    show_time("a step by `strigol_step`, with LOTS", 1, stepped.steps);
+    show_time("a step by `strigol_step`, with a deck that nearly fills its table", 1, filled.steps);
+    printf("| a line of LOTS | %.1f steps, %.0f trials |\n", lots.steps / lots.lines, lots.trials / lots.lines);
+    show_time("the same by `strigol_run`", 1, lots.lines);
+    show_time("the costliest step found: a scan that compares as many bytes as can be", 1, comparing.steps);
+    show_time("10,000 of these", 10000, comparing.steps);
+    show_time("1,000,000 of these", 1000000, comparing.steps);
     return 0;
 }
