@@ -1,5 +1,7 @@
 -- The laws that several proofs share.
 mod Appending
+mod Operands
+mod Pairing
 mod Spanning
 mod Spelling
 mod Valuing

@@ -20,18 +20,16 @@ use Rattle.convert.specs.declared.Number.the-variants as numbers
 use Rattle.language.specs.Program.{Item, Element}
 use Rattle.machine.specs.Expressions.{itemIn, itemsIn, latest, numericIn, elementIn, stringIn}
 use Rattle.machine.specs.State.{Memory}
-use Rattle.values.specs.Conversion as Conversion
 use Rattle.values.specs.Work.{Work, done, stop, noting, quietly, _>>=_}
-use Rattle.expressions.specs.Values.{thenNumber}
 
--- NUMBER of a string that came with notes
-module _ (s : List ℕ) (n : ℕ) {r : Number} (a : Answers r (Conversion.numberOf edition1 s)) where
-  pub number-noted : {v : Int} {more : ℕ} → r ≡ numbers.Is v more → Answers (numbers.Is v (n + more)) (thenNumber (done s n))
-  unfolding _>>=_ noting
+-- an answer that comes behind notes
+module _ (n : ℕ) {r : Number} {w : Work ℤ} (a : Answers r w) where
+  pub number-noted : {v : Int} {more : ℕ} → r ≡ numbers.Is v more → Answers (numbers.Is v (n + more)) (noting n w)
+  unfolding noting
   number-noted e = record { work = ap (noting n) (sym (number-is a e)); range = number-range a e }
 
-  pub number-stopped : {k : ℕ} → r ≡ numbers.Stops k → Answers (numbers.Stops k) (thenNumber (done s n))
-  unfolding _>>=_ noting
+  pub number-stopped : {k : ℕ} → r ≡ numbers.Stops k → Answers (numbers.Stops k) (noting n w)
+  unfolding noting
   number-stopped e = record { work = ap (noting n) (sym (number-stops a e)); range = tt }
 
 -- notes on top of others

@@ -32,7 +32,7 @@ pub few-done : {A : Type 0} {most n : ℕ} {a : A} {w : Work A} → Few most w �
 few-done {most = most} h e = subst (Few most) e h
 
 -- few notes are no more than many
-few-more : {A : Type 0} (most more : ℕ) (w : Work A) → most ≤ more → Few most w → Few more w
+pub few-more : {A : Type 0} (most more : ℕ) (w : Work A) → most ≤ more → Few most w → Few more w
 few-more most more (done a n) h g = omega arith
 few-more most more (stop k) h g = tt
 
@@ -85,7 +85,7 @@ module _ (e : Edition) (m : Memory) where
   few-operand (lengthOf s) = omega arith
   few-operand (numberOf p) = few-bind 1 1 (partIn m p) (λ s. Conversion.numberOf e s) (few-part m p) (few-number e)
 
-  few-operation : (o : Operator) (a b : ℤ) → Few 0 (operation e m o a b)
+  pub few-operation : (o : Operator) (a b : ℤ) → Few 0 (operation e m o a b)
   unfolding operation sum difference product quotient
   few-operation plus a b = few-held e _
   few-operation minus a b = few-held e _

@@ -3,7 +3,7 @@
 ghost use mathlib.Core.List.{List};
 ghost use mathlib.Core.Path.{_≡_};
 ghost use Prim.Native.Nat.{ℕ, _+_, _-_, _≤_, _<_};
-ghost use lib.IntN.{pos};
+ghost use lib.IntN.{ℤ, pos};
 ghost use lib.ListN.{length, getD};
 ghost use Rattle.base.specs.Edition.{edition1};
 ghost use Rattle.calls.specs.BufferLaws.{Good};
@@ -17,9 +17,11 @@ ghost use Rattle.rows.specs.Holds.{SignedLengthHolds, PartHolds, OperandHolds, 
 ghost use Rattle.rows.specs.Meaning.{lengthMeaning, partMeaning, operandMeaning, operatorMeaning, signMeaning, itemMeaning, itemsMeaning};
 ghost use Rattle.rows.specs.Meaning.{elementMeaning, elementsMeaning, testMeaning};
 ghost use Rattle.values.specs.Conversion.{substring, textOf};
-ghost use Rattle.values.specs.Work.{done};
+ghost use Rattle.values.specs.Work.{Work, done, noting};
 ghost use Rattle.expressions.specs.Appending.{Appended, Addable, Adding};
 ghost use Rattle.expressions.specs.Memory.{memoryIn, Numbered, Ready};
+ghost use Rattle.expressions.specs.Notes.{Few};
+ghost use Rattle.expressions.specs.Pairs.{PairAt};
 ghost use Rattle.expressions.specs.Values.{spanned, Lies, Spans, thenNumber, thenNumeric, Valuable, Spellable, Written, truthWorked};
 ghost use Rattle.expressions.specs.Waiting.{waitingIn, pushed, signedAs, Waits, Keepable, waitingAfter, Takable, Taken};
 use convert::Int;
@@ -41,6 +43,9 @@ const NUMBERS_AT: usize = 21;
 
 // the most numbers that wait for an operator
 const WAITING: usize = 64;
+
+// the last of the kinds that operands have in a cell
+const LAST_OPERAND: usize = 9;
 
 // the longest string
 const LONGEST: usize = 1024;
@@ -141,6 +146,20 @@ pub fn part_ends(store: &[u8], state: &[u64; 64], p: Part) -> Ends
     }
 }
 
+// an answer with so many notes before its own
+fn noted(before: u32, v: Number) -> Number
+    requires { ⌜ (before ≤ 4) × Few 2 (worked v) ⌝ }
+    ensures { λ r. ⌜ ((w : Work ℤ) → Answers v w → Answers r (noting before w)) ⌝ }
+{
+    match v {
+        Number::Is { value, notes } => Number::Is {
+            value,
+            notes: before + notes,
+        },
+        Number::Stops(k) => Number::Stops(k),
+    }
+}
+
 // NUMBER of the bytes between these ends
 fn number_between(store: &[u8], ends: Ends) -> Number
     requires { ⌜ Lies (now store) ends ⌝ }
@@ -148,13 +167,7 @@ fn number_between(store: &[u8], ends: Ends) -> Number
 {
     let from = ends.from;
     let to = ends.to;
-    match convert::number_of(&store[from..to]) {
-        Number::Is { value, notes } => Number::Is {
-            value,
-            notes: ends.notes + notes,
-        },
-        Number::Stops(k) => Number::Stops(k),
-    }
+    noted(ends.notes, convert::number_of(&store[from..to]))
 }
 
 // a constant, a number, the length of a string, or NUMBER of a part of one
@@ -166,7 +179,7 @@ pub fn operand_value(store: &[u8], state: &[u64; 64], a: Operand) -> Number
     match a {
         Operand::Constant(z) => Number::Is { value: z, notes: 0 },
         Operand::Number(i) => Number::Is {
-            value: number_at(state, i),
+            value: number_at(state, i as usize),
             notes: 0,
         },
         Operand::LengthOf(s) => Number::Is {
@@ -174,6 +187,23 @@ pub fn operand_value(store: &[u8], state: &[u64; 64], a: Operand) -> Number
             notes: 0,
         },
         Operand::NumberOf(p) => number_between(store, part_ends(store, state, p)),
+    }
+}
+
+// the same, a constant and a number without a call
+fn quick_value(store: &[u8], state: &[u64; 64], a: Operand) -> Number
+    requires { ⌜ Ready (now store) (now state) ⌝ }
+    requires { ⌜ OperandHolds a ⌝ }
+    ensures { λ r. ⌜ Answers r (operandIn edition1 (memoryIn (now (store .entry)) (now (state .entry))) (operandMeaning a)) ⌝ }
+{
+    match a {
+        Operand::Constant(z) => Number::Is { value: z, notes: 0 },
+        Operand::Number(i) => Number::Is {
+            value: number_at(state, i as usize),
+            notes: 0,
+        },
+        Operand::LengthOf(s) => operand_value(store, state, Operand::LengthOf(s)),
+        Operand::NumberOf(p) => operand_value(store, state, Operand::NumberOf(p)),
     }
 }
 
@@ -272,8 +302,28 @@ fn take_item(
     }
 }
 
+// the value of two operands and the operator behind them
+fn pair_value(table: &[u8], store: &[u8], state: &[u64; 64], s: Stretch) -> Number
+    requires { ⌜ Valuable (now table) (now store) (now state) s ⌝ }
+    requires { ⌜ PairAt (now table) s ⌝ }
+    ensures { λ r. ⌜ Answers r
+        (numericIn edition1 (memoryIn (now (store .entry)) (now (state .entry))) (itemsMeaning (now (table .entry)) s)) ⌝ }
+{
+    let from = s.from;
+    let first = rows::operand_at(table, from);
+    let second = rows::operand_at(table, from + 1);
+    let operator = rows::operator_of(rows::item_kind(table, from + 2));
+    match quick_value(store, state, first) {
+        Number::Is { value: a, notes: n } => match quick_value(store, state, second) {
+            Number::Is { value: b, notes: m } => noted(n + m, operation(operator, a, b)),
+            Number::Stops(k) => Number::Stops(k),
+        },
+        Number::Stops(k) => Number::Stops(k),
+    }
+}
+
 // the value of a numeric expression, item by item; each operator finds its operands waiting
-pub fn numeric_value(table: &[u8], store: &[u8], state: &[u64; 64], s: Stretch) -> Number
+fn items_value(table: &[u8], store: &[u8], state: &[u64; 64], s: Stretch) -> Number
     requires { ⌜ Valuable (now table) (now store) (now state) s ⌝ }
     ensures { λ r. ⌜ Answers r
         (numericIn edition1 (memoryIn (now (store .entry)) (now (state .entry))) (itemsMeaning (now (table .entry)) s)) ⌝ }
@@ -298,6 +348,20 @@ pub fn numeric_value(table: &[u8], store: &[u8], state: &[u64; 64], s: Stretch) 
         value: waiting_at(&waiting, 0),
         notes,
     }
+}
+
+// the value of a numeric expression; most are a pair, for which no number has to wait
+pub fn numeric_value(table: &[u8], store: &[u8], state: &[u64; 64], s: Stretch) -> Number
+    requires { ⌜ Valuable (now table) (now store) (now state) s ⌝ }
+    ensures { λ r. ⌜ Answers r
+        (numericIn edition1 (memoryIn (now (store .entry)) (now (state .entry))) (itemsMeaning (now (table .entry)) s)) ⌝ }
+{
+    if s.count == 3 {
+        if rows::item_kind(table, s.from + 1) <= LAST_OPERAND {
+            return pair_value(table, store, state, s);
+        }
+    }
+    items_value(table, store, state, s)
 }
 
 // writes v from a place of a string's buffer on, as far as there is room
@@ -448,8 +512,8 @@ fn compares_value(store: &[u8], state: &[u64; 64], x: Compares) -> Truth
     let left = x.left;
     let right = x.right;
     let sign = x.sign;
-    match operand_value(store, state, left) {
-        Number::Is { value: a, notes: n } => match operand_value(store, state, right) {
+    match quick_value(store, state, left) {
+        Number::Is { value: a, notes: n } => match quick_value(store, state, right) {
             Number::Is { value: b, notes: m } => Truth::Is {
                 holds: convert::compare(sign, a, b),
                 notes: n + m,

@@ -24,15 +24,19 @@ use Rattle.rows.specs.declared.Scan as Scan
 use Rattle.rows.specs.declared.Statement.{Statement}
 use Rattle.rows.specs.declared.Statement.the-variants as statements
 
+-- the place of a cell has 1 byte, its value 6
+pub record SmallCell (c : Cell) : Type 0 where
+  pub place : c .place < 256
+  pub value : c .value < 2 ^ 48
+
 -- a cell that was read at a place
 pub record CellRead (t : List ℕ) (at : ℕ) (c : Cell) : Type 0 where
   pub same : cellMeaning c ≡ cellAt t at
-  pub small : c .value < 2 ^ 48
+  pub small : SmallCell c
 
--- the values of a row's cells have 6 bytes
 pub record SmallRow (r : Row) : Type 0 where
-  pub left : r .left .value < 2 ^ 48
-  pub right : r .right .value < 2 ^ 48
+  pub left : SmallCell (r .left)
+  pub right : SmallCell (r .right)
 
 -- a row that was read at a place
 pub record RowRead (t : List ℕ) (at : ℕ) (r : Row) : Type 0 where

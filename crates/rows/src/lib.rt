@@ -9,7 +9,7 @@ ghost use Rattle.calls.specs.Table.{stepsAt, elementsAt, itemsAt};
 ghost use Rattle.calls.specs.TableReading.{cellAt, rowAt, lengthOfCell, partOfCell, operandOfCell, operatorOfKind, signOfKind, itemOfCell, comparisonOf, testOf, directionOf, branchOf};
 ghost use Rattle.convert.specs.Numbers.{comparison};
 ghost use Rattle.rows.specs.Meaning.{tableSize, cellMeaning, rowMeaning, lengthMeaning, partMeaning, operandMeaning, operatorMeaning, signMeaning, itemMeaning, testMeaning, directionMeaning, branchMeaning};
-ghost use Rattle.rows.specs.Reading.{CellRead, RowRead, SmallRow, StretchRead, ElementRead, PatternRead, ReplacementRead, ScanRead, StatementRead, CountsRead};
+ghost use Rattle.rows.specs.Reading.{SmallCell, CellRead, RowRead, SmallRow, StretchRead, ElementRead, PatternRead, ReplacementRead, ScanRead, StatementRead, CountsRead};
 use convert::Comparison;
 use convert::Int;
 
@@ -64,9 +64,10 @@ pub enum Part {
     First(usize, Length),
 }
 
+// a number by its place, which a byte holds
 pub enum Operand {
     Constant(Int),
-    Number(usize),
+    Number(u8),
     LengthOf(usize),
     NumberOf(Part),
 }
@@ -228,14 +229,14 @@ fn part_of(shift: usize, c: Cell) -> Part
 }
 
 fn operand_of(c: Cell) -> Operand
-    requires { ⌜ c .value < 2 ^ 48 ⌝ }
+    requires { ⌜ SmallCell c ⌝ }
     ensures { λ r. ⌜ operandMeaning r ≡ operandOfCell (cellMeaning c) ⌝ }
 {
     if c.kind == 4 {
         return Operand::Constant(unbias(c.value));
     }
     if c.kind == 5 {
-        return Operand::Number(c.place);
+        return Operand::Number(c.place as u8);
     }
     if c.kind == 6 {
         return Operand::LengthOf(c.place);
@@ -243,7 +244,7 @@ fn operand_of(c: Cell) -> Operand
     Operand::NumberOf(part_of(6, c))
 }
 
-fn operator_of(kind: usize) -> Operator
+pub fn operator_of(kind: usize) -> Operator
     ensures { λ r. ⌜ operatorMeaning r ≡ operatorOfKind kind ⌝ }
 {
     match kind {
@@ -265,7 +266,7 @@ fn sign_of(kind: usize) -> Sign
 }
 
 fn item_of(c: Cell) -> Item
-    requires { ⌜ c .value < 2 ^ 48 ⌝ }
+    requires { ⌜ SmallCell c ⌝ }
     ensures { λ r. ⌜ itemMeaning r ≡ itemOfCell (cellMeaning c) ⌝ }
 {
     if c.kind <= 9 {
@@ -320,6 +321,22 @@ pub fn item_at(t: &[u8], k: usize) -> Item
     ensures { λ r. ⌜ itemMeaning r ≡ itemOfCell (cellAt (now (t .entry)) (itemsAt + 8 * k)) ⌝ }
 {
     item_of(cell_at(t, ITEMS_AT + 8 * k))
+}
+
+// the kind of item k of all items
+pub fn item_kind(t: &[u8], k: usize) -> usize
+    requires { ⌜ (tableSize ≤ length (now t)) × (k < 1024) ⌝ }
+    ensures { λ r. ⌜ r ≡ cellAt (now (t .entry)) (itemsAt + 8 * k) .kind ⌝ }
+{
+    wide(t[ITEMS_AT + 8 * k])
+}
+
+// item k of all items, which is an operand
+pub fn operand_at(t: &[u8], k: usize) -> Operand
+    requires { ⌜ (tableSize ≤ length (now t)) × (k < 1024) ⌝ }
+    ensures { λ r. ⌜ operandMeaning r ≡ operandOfCell (cellAt (now (t .entry)) (itemsAt + 8 * k)) ⌝ }
+{
+    operand_of(cell_at(t, ITEMS_AT + 8 * k))
 }
 
 // element k of all elements, outside a pattern
@@ -450,6 +467,14 @@ fn statement_of(r: Row) -> Statement
         11 => Statement::Execute(r.success),
         _ => Statement::Return,
     }
+}
+
+// the kind of step k
+pub fn kind_at(t: &[u8], k: usize) -> usize
+    requires { ⌜ (tableSize ≤ length (now t)) × (k < 256) ⌝ }
+    ensures { λ r. ⌜ r ≡ rowAt (now (t .entry)) (stepsAt + 24 * k) .kind ⌝ }
+{
+    wide(t[STEPS_AT + 24 * k])
 }
 
 // the statement of step k

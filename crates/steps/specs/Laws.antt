@@ -5,10 +5,11 @@ use mathlib.Core.Option.{Option, none, some}
 use mathlib.Core.Path.{_≡_, refl, sym, _∙_, ap, ap₂, subst}
 use Prim.Native.Nat.{ℕ, zero, suc, _+_, _*_, _≤_, _<_}
 use native.Mathlib.Omega.{arith}
-use lib.Dec.{ltb, eqb}
+use lib.Dec.{leb, ltb, eqb}
 use lib.ListN.{length, take, drop, getD, set, replicate, length-drop, length-replicate, length-reverse}
 use lib.Seq.{length-take-le}
-use borrow.Author.Tests.{leb-false, ltb-false, ne-eqb, not-false}
+use borrow.Author.Tests.{leb-false, ltb-false, eqb-false, lt-leb, ne-eqb, not-false}
+use Rattle.base.specs.Choice.{cond-cases}
 use Rattle.base.specs.Edition.{edition1}
 use Rattle.base.specs.Lists.{isNil}
 use Rattle.calls.specs.BufferLaws.{Good, image-good, fresh-image}
@@ -19,11 +20,12 @@ use Rattle.calls.specs.Holding.{Holding}
 use Rattle.calls.specs.Numerals.{numberAt}
 use Rattle.calls.specs.Rules.{keepsRules}
 use Rattle.calls.specs.StepLaws.{Tabled, call-held}
-use Rattle.calls.specs.Table.{stepsAt}
-use Rattle.calls.specs.TableReading.{programIn, rowAt}
+use Rattle.calls.specs.Table.{Row, stepsAt}
+use Rattle.calls.specs.TableReading.{programIn, rowAt, statementOfRow}
 use Rattle.carry.specs.Carrying.{Carries, Standing, Unmoved, lent, machineIn}
 use Rattle.carry.specs.Laws.{bound, stopped, stops, scans}
 use Rattle.expressions.specs.Memory.{Ready, keeps-ready, memoryIn}
+use Rattle.language.specs.Program as Program
 use Rattle.language.specs.Program.{Program}
 use Rattle.machine.specs.State.{State, isRunning}
 use Rattle.machine.specs.Step.{Done, carrying, concluded, lacksReturn, mostReturns, noScan, scannedTo, statementAt, step, turnedDownBy}
@@ -125,53 +127,63 @@ module _ (table input : List ℕ) (b : Buffers) (g : Given table input b) where
       length-reverse (take n (drop 5 (b .state)))
       ∙ length-take-le n (drop 5 (b .state)) (simp length-drop (omega (arith, g .size, few-returns)))
 
-  -- the statement read at the next step
-  module _ (x : Statement) (read : StatementRead table (rowAt table (stepsAt + 24 * getD (b .state) 1 0)) x) where
-    pub statement-here : statementAt (programIn table) (getD (b .state) 1 0) ≡ statementMeaning table x
-    statement-here = statement-is table (getD (b .state) 1 0) (next-inside .0) ∙ sym (read .means)
+  -- the row of the next step, and whether it lacks a return
+  abbrev pub nextRow : Row
+  nextRow = rowAt table (stepsAt + 24 * getD (b .state) 1 0)
 
-    -- what the machine itself says of the step
-    turned-by : (lacks runs : Bool) → lacksReturn (statementMeaning table x) (reverse (returnsIn (b .state))) ≡ lacks
-        → isRunning (statusOf (getD (b .state) 0 0)) ≡ runs
-        → turnedDownBy p c ≡ cond lacks 15 (cond runs 0 16)
-    unfolding turnedDownBy stateIn
-    turned-by lacks runs h k =
-        ap₂ (λ (t u : Bool). cond t 15 (cond u 0 16))
-        (ap (λ y. lacksReturn y (reverse (returnsIn (b .state)))) statement-here ∙ h) k
+  abbrev pub lacksNext : Bool
+  lacksNext = lacksReturn (statementOfRow table nextRow) (reverse (returnsIn (b .state)))
 
-    -- a step that is turned down
-    turned-called : (n : ℕ) → turnedDownBy p c ≡ n → eqb n 0 ≡ false
-        → stepCall edition1 table input b ≡ record { number = n; answer = noAnswer; left = b }
-    turned-called n e q =
-        call-held edition1 p table input tabled (length (b .output)) c b holding false (ap (λ (k : ℕ). eqb k 0) e ∙ q)
-        ∙ ap (λ (k : ℕ). record { number = k; answer = noAnswer; left = b }) e
+  -- as the code reads them
+  pub kind-next : (k kind : ℕ) → k ≡ getD (b .state) 1 0 → kind ≡ rowAt table (stepsAt + 24 * k) .kind → nextRow .kind ≡ kind
+  kind-next k kind e read = sym (read ∙ ap (λ (n : ℕ). rowAt table (stepsAt + 24 * n) .kind) e)
 
-    turned-answers : (n : ℕ) → turnedDownBy p c ≡ n → eqb n 0 ≡ false → (number : ℕ) (answer : List ℕ) → number ≡ n
-        → answer ≡ replicate 24 0 → Answers (stepCall edition1 table input b) number answer b
-    turned-answers n e q number answer is zeros =
-        rw (turned-called n e q) (record { number-is = is; answer-is = zeros ∙ silent-zeros; left-is = refl })
+  pub statement-next : (k : ℕ) (x : Statement) → k ≡ getD (b .state) 1 0 → StatementRead table (rowAt table (stepsAt + 24 * k)) x
+      → StatementRead table nextRow x
+  statement-next k x e = subst (λ (n : ℕ). StatementRead table (rowAt table (stepsAt + 24 * n)) x) e
 
-    -- 15: the return that it goes to, or room for the one that it holds, is lacking
-    pub lacking-answers : lacksReturn (statementMeaning table x) (reverse (returnsIn (b .state))) ≡ true
-        → (number : ℕ) (answer : List ℕ) → number ≡ 15 → answer ≡ replicate 24 0 → Answers (stepCall edition1 table input b) number answer b
-    lacking-answers h = turned-answers 15 (turned-by true _ h refl) refl
+  next-statement : statementAt (programIn table) (getD (b .state) 1 0) ≡ statementOfRow table nextRow
+  next-statement = statement-is table (getD (b .state) 1 0) (next-inside .0)
 
-    -- 16: the run has ended
-    pub ended-answers : lacksReturn (statementMeaning table x) (reverse (returnsIn (b .state))) ≡ false
-        → isRunning (statusOf (getD (b .state) 0 0)) ≡ false
-        → (number : ℕ) (answer : List ℕ) → number ≡ 16 → answer ≡ replicate 24 0 → Answers (stepCall edition1 table input b) number answer b
-    ended-answers h k = turned-answers 16 (turned-by false false h k) refl
+  -- what the machine itself says of the step
+  turned-by : (lacks runs : Bool) → lacksNext ≡ lacks → isRunning (statusOf (getD (b .state) 0 0)) ≡ runs
+      → turnedDownBy p c ≡ cond lacks 15 (cond runs 0 16)
+  unfolding turnedDownBy stateIn
+  turned-by lacks runs h k =
+      ap₂ (λ (t u : Bool). cond t 15 (cond u 0 16))
+      (ap (λ y. lacksReturn y (reverse (returnsIn (b .state)))) next-statement ∙ h) k
 
-    -- neither: the step is the statement's work, concluded
-    pub carried-called : lacksReturn (statementMeaning table x) (reverse (returnsIn (b .state))) ≡ false
-        → isRunning (statusOf (getD (b .state) 0 0)) ≡ true
-        → stepCall edition1 table input b ≡ carriedOut table input b x
-    unfolding step stateIn
-    carried-called h k =
-        let goes : eqb (turnedDownBy p c) 0 ≡ true = ap (λ (n : ℕ). eqb n 0) (turned-by false true h k) in
-        call-held edition1 p table input tabled (length (b .output)) c b holding true goes
-        ∙ ap (carried edition1 table input b)
-        (rw (goes, statement-here))
+  -- a step that is turned down
+  turned-called : (n : ℕ) → turnedDownBy p c ≡ n → eqb n 0 ≡ false
+      → stepCall edition1 table input b ≡ record { number = n; answer = noAnswer; left = b }
+  turned-called n e q =
+      call-held edition1 p table input tabled (length (b .output)) c b holding false (ap (λ (k : ℕ). eqb k 0) e ∙ q)
+      ∙ ap (λ (k : ℕ). record { number = k; answer = noAnswer; left = b }) e
+
+  turned-answers : (n : ℕ) → turnedDownBy p c ≡ n → eqb n 0 ≡ false → (number : ℕ) (answer : List ℕ) → number ≡ n
+      → answer ≡ replicate 24 0 → Answers (stepCall edition1 table input b) number answer b
+  turned-answers n e q number answer is zeros =
+      rw (turned-called n e q) (record { number-is = is; answer-is = zeros ∙ silent-zeros; left-is = refl })
+
+  -- 15: the return that it goes to, or room for the one that it holds, is lacking
+  pub lacking-answers : lacksNext ≡ true → (number : ℕ) (answer : List ℕ) → number ≡ 15 → answer ≡ replicate 24 0
+      → Answers (stepCall edition1 table input b) number answer b
+  lacking-answers h = turned-answers 15 (turned-by true _ h refl) refl
+
+  -- 16: the run has ended
+  pub ended-answers : lacksNext ≡ false → isRunning (statusOf (getD (b .state) 0 0)) ≡ false
+      → (number : ℕ) (answer : List ℕ) → number ≡ 16 → answer ≡ replicate 24 0 → Answers (stepCall edition1 table input b) number answer b
+  ended-answers h k = turned-answers 16 (turned-by false false h k) refl
+
+  -- neither: the step is the work of the statement read there, concluded
+  pub carried-called : (x : Statement) → StatementRead table nextRow x → lacksNext ≡ false → isRunning (statusOf (getD (b .state) 0 0)) ≡ true
+      → stepCall edition1 table input b ≡ carriedOut table input b x
+  unfolding step stateIn
+  carried-called x read h k =
+      let goes : eqb (turnedDownBy p c) 0 ≡ true = ap (λ (n : ℕ). eqb n 0) (turned-by false true h k) in
+      let here = next-statement ∙ sym (read .means) in
+      call-held edition1 p table input tabled (length (b .output)) c b holding true goes
+      ∙ ap (carried edition1 table input b) (rw (goes, here))
 
   -- what is concluded of a statement's work
   pub concluded-answers : getD (b .state) 0 0 ≡ 0 → (r : Did) (left : Buffers) (answer : List ℕ) (w : Work Done) → Works r input b left answer w
@@ -219,6 +231,48 @@ module _ (table input : List ℕ) (b : Buffers) (next : ℕ) (x : Statement) (g 
   pub scans-works : (y : Statement) → x ≡ y → (r : Did) (left : Buffers) (answer : List ℕ)
       → WorksOn r table input b left y answer → WorksOn r table input b left x answer
   scans-works y e r left answer w = rw e w
+
+-- what the kind of a row tells of the returns that its statement takes
+module _ (t rs : List ℕ) (r : Row) where
+  pub plain-lacks : r .kind < 11 → lacksReturn (statementOfRow t r) rs ≡ false
+  unfolding lacksReturn statementOfRow
+  plain-lacks low =
+      let kind = r .kind in
+      let Lacks : Program.Statement → Type 0 = λ s. lacksReturn s rs ≡ false in
+      cond-cases Lacks (eqb kind 1) (λ _. refl) (λ _.
+      cond-cases Lacks (eqb kind 2) (λ _. refl) (λ _.
+      cond-cases Lacks (eqb kind 3) (λ _. refl) (λ _.
+      cond-cases Lacks (eqb kind 4) (λ _. refl) (λ _.
+      cond-cases Lacks (leb kind 7) (λ _. refl) (λ seven.
+      cond-cases Lacks (eqb kind 8) (λ _. refl) (λ eight.
+      cond-cases Lacks (eqb kind 9) (λ _. refl) (λ nine.
+      cond-cases Lacks (eqb kind 10) (λ _. refl) (λ ten.
+      let high : 7 < kind = leb-false kind 7 seven in
+      let not8 : kind ≡ 8 → ⊥ = eqb-false kind 8 eight in
+      let not9 : kind ≡ 9 → ⊥ = eqb-false kind 9 nine in
+      let not10 : kind ≡ 10 → ⊥ = eqb-false kind 10 ten in
+      absurd (omega (arith, not8, not9, not10))))))))))
+
+  pub execute-lacks : r .kind ≡ 11 → lacksReturn (statementOfRow t r) rs ≡ leb 16 (length rs)
+  unfolding lacksReturn statementOfRow mostReturns
+  execute-lacks h = rw h
+
+  pub return-lacks : 11 < r .kind → lacksReturn (statementOfRow t r) rs ≡ isNil rs
+  unfolding lacksReturn statementOfRow
+  return-lacks high =
+      let kind = r .kind in
+      let other : (k : ℕ) → k ≤ 11 → eqb kind k ≡ false = λ k low. ne-eqb kind k (λ q. omega arith) in
+      rw (
+        other 1 (omega arith),
+        other 2 (omega arith),
+        other 3 (omega arith),
+        other 4 (omega arith),
+        lt-leb kind 7 (omega arith),
+        other 8 (omega arith),
+        other 9 (omega arith),
+        other 10 (omega arith),
+        other 11 (omega arith),
+      )
 
 -- returns are enough where none is lacking
 pub enough-returns : (t : List ℕ) (x : Statement) (rs : List ℕ) (held : ℕ) → length rs ≡ held → lacksReturn (statementMeaning t x) rs ≡ false

@@ -9,9 +9,10 @@ ghost use Prim.Native.Nat.{ℕ};
 ghost use lib.ListN.{length, replicate};
 ghost use Rattle.base.specs.Edition.{edition1};
 ghost use Rattle.calls.specs.Calls.{stepCall};
+ghost use Rattle.calls.specs.Table.{Row};
+ghost use Rattle.calls.specs.TableReading.{statementOfRow};
 ghost use Rattle.carry.specs.Carrying.{lent};
 ghost use Rattle.machine.specs.Step.{lacksReturn};
-ghost use Rattle.rows.specs.Meaning.{statementMeaning};
 ghost use Rattle.scanning.specs.Call.{noAnswer};
 ghost use Rattle.scanstep.specs.Scans.{Lent};
 ghost use Rattle.steps.specs.Contracts.{Given, Going, WorksOn, carriedOut, Concludes, Answers, unfitNumber};
@@ -33,22 +34,20 @@ pub const NOTES: usize = 3;
 // the most returns that a state can hold
 const MOST_RETURNS: usize = 16;
 
-// whether a statement lacks the return that it goes to, or room for the one that it holds
-fn lacks_return(x: Statement, held: usize) -> bool
-    ensures { λ r. ⌜ ((t rs : List ℕ) → length rs ≡ held → r ≡ lacksReturn (statementMeaning t x) rs) ⌝ }
+// the kind of a step that is an EXECUTE; what is above it returns
+const EXECUTE: usize = 11;
+
+// whether a step of this kind lacks the return that it goes to, or room for the one that it holds
+fn lacks_return(kind: usize, held: usize) -> bool
+    ensures { λ r. ⌜ ((t rs : List ℕ) (row : Row) → row .kind ≡ kind → length rs ≡ held → r ≡ lacksReturn (statementOfRow t row) rs) ⌝ }
 {
-    match x {
-        Statement::SetNumber(_, _) => false,
-        Statement::SetString(_, _) => false,
-        Statement::Goto(_) => false,
-        Statement::Finish => false,
-        Statement::If(_, _) => false,
-        Statement::Scan(_) => false,
-        Statement::Read(_, _) => false,
-        Statement::Write(_) => false,
-        Statement::Execute(_) => MOST_RETURNS <= held,
-        Statement::Return => held == 0,
+    if kind < EXECUTE {
+        return false;
     }
+    if kind == EXECUTE {
+        return MOST_RETURNS <= held;
+    }
+    held == 0
 }
 
 // carries a statement out, with the buffers that its work takes; the answer, which must say that nothing was scanned, gets what a scan found
@@ -208,13 +207,13 @@ pub fn step_on(
         (now (scratch .exit)) (now (out .exit)) ⌝ }
 {
     let k = states::next_step(state);
-    let x = rows::statement_at(table, k);
-    if lacks_return(x, states::returns_held(state)) {
+    if lacks_return(rows::kind_at(table, k), states::returns_held(state)) {
         return turn_down(15, answer);
     }
     if !states::is_running(state) {
         return turn_down(16, answer);
     }
+    let x = rows::statement_at(table, k);
     go_on(
         table,
         store,

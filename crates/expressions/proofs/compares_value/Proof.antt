@@ -17,14 +17,14 @@ use Rattle.expressions.proofs.Working.{both-done, second-stops, first-s
 use Rattle.expressions.proofs.compares_value.Statement.{statement}
 use Rattle.expressions.proofs.compares_value.Tie as tie
 
-operand-value-requires : tie.Need-operand-value-requires
-operand-value-requires c κs = search needs
+quick-value-requires : tie.Need-quick-value-requires
+quick-value-requires c κs = search needs
 
 enum-known-a : tie.Need-enum-known-a
 enum-known-a c = search needs
 
-operand-value-requires-2 : tie.Need-operand-value-requires-2
-operand-value-requires-2 c κs = search needs
+quick-value-requires-2 : tie.Need-quick-value-requires-2
+quick-value-requires-2 c κs = search needs
 
 enum-known-b : tie.Need-enum-known-b
 enum-known-b c = search needs
@@ -36,9 +36,9 @@ add-t18 : tie.Need-add-t18
 add-t18 c =
     let s = c .before .before .before .before .before .before .before .before .before .before in
     let m = memoryIn (s .args .store .now) (s .args .state .now) in
-    let left = number-is (c .before .before .before .before .before .before .before .before .operand-value .ensures)
+    let left = number-is (c .before .before .before .before .before .before .before .before .quick-value .ensures)
     (c .before .before .before .before .before .before .a .given .1) in
-    let right = number-is (c .before .before .before .before .operand-value2 .ensures) (c .before .before .b .given .1) in
+    let right = number-is (c .before .before .before .before .quick-value2 .ensures) (c .before .before .b .given .1) in
     omega (
       arith,
       few-done (few-operand edition1 m (operandMeaning (s .args .x .left))) left,
@@ -58,8 +58,8 @@ returns c =
     let m = memoryIn (s .args .store .now) (s .args .state .now) in
     let a = c .before .before .before .before .before .before .a .given in
     let b = c .before .before .b .given in
-    let left = number-is (c .before .before .before .before .before .before .before .before .operand-value .ensures) (a .1) in
-    let right = number-is (c .before .before .before .before .operand-value2 .ensures) (b .1) in
+    let left = number-is (c .before .before .before .before .before .before .before .before .quick-value .ensures) (a .1) in
+    let right = number-is (c .before .before .before .before .quick-value2 .ensures) (b .1) in
     ap (λ (t : Bool). done t (a .0 .1 .0 + b .0 .1 .0)) (c .compare .ensures m)
     ∙ sym (both-done (compared edition1 m (comparison (s .args .x .sign))) left right)
 
@@ -68,9 +68,9 @@ unfolding testIn
 returns-2 c =
     let s = c .before .before .before .before .before .before .before .before .before in
     let m = memoryIn (s .args .store .now) (s .args .state .now) in
-    let left = number-is (c .before .before .before .before .before .before .before .operand-value .ensures)
+    let left = number-is (c .before .before .before .before .before .before .before .quick-value .ensures)
     (c .before .before .before .before .before .a .given .1) in
-    let right = number-stops (c .before .before .before .operand-value2 .ensures) (c .before .k .given .1) in
+    let right = number-stops (c .before .before .before .quick-value2 .ensures) (c .before .k .given .1) in
     sym (second-stops (compared edition1 m (comparison (s .args .x .sign))) left right)
 
 returns-3 : tie.Need-returns-3
@@ -78,16 +78,16 @@ unfolding testIn
 returns-3 c =
     let s = c .before .before .before .before .before in
     let m = memoryIn (s .args .store .now) (s .args .state .now) in
-    let left = number-stops (c .before .before .before .operand-value .ensures) (c .before .k2 .given .1) in
+    let left = number-stops (c .before .before .before .quick-value .ensures) (c .before .k2 .given .1) in
     sym (first-stops (compared edition1 m (comparison (s .args .x .sign))) (operandIn edition1 m (operandMeaning (s .args .x .right))) left)
 
 pub compares-value-spec : {M : Type 1} → statement M
 compares-value-spec =
     tie.close
     (tie.spec
-    operand-value-requires
+    quick-value-requires
     enum-known-a
-    operand-value-requires-2
+    quick-value-requires-2
     enum-known-b
     compare-requires
     add-t18

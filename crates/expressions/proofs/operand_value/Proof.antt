@@ -2,7 +2,7 @@
 -- Assumes nothing.
 use borrow.Author.Needs.{needs}
 use mathlib.Core.List.{List}
-use mathlib.Core.Path.{refl, sym, ap, subst, _∙_}
+use mathlib.Core.Path.{sym, ap, subst, _∙_}
 use Prim.Native.Nat.{ℕ}
 use lib.IntN.{ℤ, pos}
 use Rattle.convert.specs.Numbers.{Answers}
@@ -10,7 +10,9 @@ use Rattle.machine.specs.Expressions.{operandIn}
 use Rattle.machine.specs.State.{stringAt}
 use Rattle.rows.specs.Holds.{OperandHolds}
 use Rattle.values.specs.Work.{Work, done, quietly}
+use Rattle.expressions.specs.Memory.{memoryIn}
 use Rattle.expressions.specs.Values.{thenNumber}
+use Rattle.expressions.proofs.Operands.{constant-answers, number-answers}
 use Rattle.expressions.proofs.operand_value.Statement.{statement}
 use Rattle.expressions.proofs.operand_value.Tie as tie
 
@@ -19,6 +21,9 @@ enum-known-a c = search needs
 
 enum-known-a-2 : tie.Need-enum-known-a-2
 enum-known-a-2 c = search needs
+
+cast-number-at : tie.Need-cast-number-at
+cast-number-at c = search needs
 
 number-at-requires : tie.Need-number-at-requires
 number-at-requires c κs =
@@ -48,16 +53,17 @@ number-between-requires : tie.Need-number-between-requires
 number-between-requires c κs = search needs
 
 returns : tie.Need-returns
-unfolding operandIn quietly
 returns c =
-    let is = c .before .a .given .1 in
-    rw is (record { work = refl; range = subst OperandHolds is (c .before .before .before .before .pre .1) })
+    let s = c .before .before .before .before in
+    let is = c .before .a .given in
+    constant-answers (memoryIn (s .args .store .now) (s .args .state .now)) (s .args .a) (is .0 .0) (is .1) (s .pre .1)
 
 returns-2 : tie.Need-returns-2
-unfolding operandIn quietly
 returns-2 c =
-    let gives = c .number-at .ensures (c .before .before .before .before .before .args .store .now) in
-    rw (c .before .before .a2 .given .1) (record { work = ap (λ (z : ℤ). done z 0) (gives .value); range = gives .range })
+    let s = c .before .before .before .before .before in
+    let is = c .before .before .a2 .given in
+    number-answers (memoryIn (s .args .store .now) (s .args .state .now)) (s .args .a) (is .0 .0) (c .number-at .result) (is .1)
+    (c .number-at .ensures (s .args .store .now))
 
 returns-3 : tie.Need-returns-3
 unfolding operandIn quietly stringAt
@@ -78,6 +84,7 @@ operand-value-spec =
     (tie.spec
     enum-known-a
     enum-known-a-2
+    cast-number-at
     number-at-requires
     enum-known-a-3
     string-length-requires

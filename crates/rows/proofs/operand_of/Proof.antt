@@ -13,8 +13,11 @@ returns : tie.Need-returns
 returns c =
     constant-operand (cellMeaning (c .before .before .before .args .c)) (c .unbias .result) (c .before .if1 .taken) (c .unbias .ensures)
 
+cast-t4 : tie.Need-cast-t4
+cast-t4 c = search needs
+
 returns-2 : tie.Need-returns-2
-returns-2 c = number-operand (cellMeaning (c .before .before .before .before .args .c)) (c .if2 .taken)
+returns-2 c = number-operand (cellMeaning (c .before .before .before .before .before .args .c)) (c .before .if2 .taken)
 
 returns-3 : tie.Need-returns-3
 returns-3 c = length-operand (cellMeaning (c .before .before .before .before .before .before .args .c)) (c .if3 .taken)
@@ -31,4 +34,4 @@ returns-4 c =
 
 pub operand-of-spec : {M : Type 1} → statement M
 operand-of-spec =
-    tie.close (tie.spec unbias-requires returns returns-2 returns-3 part-of-requires returns-4)
+    tie.close (tie.spec unbias-requires returns cast-t4 returns-2 returns-3 part-of-requires returns-4)

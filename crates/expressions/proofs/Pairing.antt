@@ -1,0 +1,185 @@
+-- What a numeric expression of two operands and an operator comes to. Assumes nothing.
+use mathlib.Core.Bool.{true, false≢true, and-eq-true-iff}
+use mathlib.Core.List.{List, [], _∷_}
+use mathlib.Core.Path.{_≡_, refl, sym, ap, _∙_}
+use Prim.Native.Nat.{ℕ, suc, _+_, _*_, _≤_, _<_}
+use native.Mathlib.Nat.{add-zero}
+use native.Mathlib.Omega.{arith}
+use lib.Dec.{leb, ltb}
+use lib.IntN.{ℤ}
+use borrow.Author.Tests.{leb-true, leb-false, le-leb, lt-leb}
+use Rattle.base.specs.Choice.{cond-cases}
+use Rattle.base.specs.Edition.{edition1}
+use Rattle.calls.specs.Rules.{mostWaiting, balanced}
+use Rattle.calls.specs.Table.{itemsAt}
+use Rattle.calls.specs.Table as Table
+use Rattle.calls.specs.TableReading.{cellAt, operandOfCell, operatorOfKind, itemOfCell, itemsFrom}
+use Rattle.language.specs.Program.{Operand, Operator, Item, operand, operator}
+use Rattle.machine.specs.Expressions.{operandIn, operation, combined, itemIn, numericIn}
+use Rattle.machine.specs.State.{Memory}
+use Rattle.rows.specs.Holds.{ItemsHold, OperandHolds, Within}
+use Rattle.rows.specs.Meaning.{operandMeaning, operatorMeaning, itemsMeaning}
+use Rattle.rows.specs.declared.Operand as rows
+use Rattle.rows.specs.declared.Operator as operators
+use Rattle.rows.specs.declared.Item.the-variants as items
+use Rattle.rows.specs.declared.Stretch.{Stretch}
+use Rattle.values.specs.Work.{Work, done, stop, noting, quietly, _>>=_}
+use Rattle.expressions.specs.Pairs.{PairAt}
+use Rattle.expressions.proofs.Working.{numericFrom, numeric-begins, numeric-more, numeric-stops, numeric-ends}
+
+-- the first item of a balanced expression is an operand
+first-operand : (c : Table.Cell) (is : List Item) → balanced 0 (itemOfCell c ∷ is) ≡ true → c .kind ≤ 9
+unfolding itemOfCell balanced mostWaiting
+first-operand c is =
+    cond-cases (λ (x : Item). balanced 0 (x ∷ is) ≡ true → c .kind ≤ 9) (leb (c .kind) 9)
+    (λ low h. leb-true (c .kind) 9 low)
+    (λ high.
+    cond-cases (λ (x : Item). balanced 0 (x ∷ is) ≡ true → c .kind ≤ 9) (leb (c .kind) 13) (λ _ h. absurd (false≢true h))
+    (λ _ h. absurd (false≢true h)))
+
+-- the item that leaves one number of two is an operator
+last-operator : (c : Table.Cell) → balanced 2 (itemOfCell c ∷ []) ≡ true → (9 < c .kind) × (c .kind ≤ 13)
+unfolding itemOfCell balanced mostWaiting
+last-operator c =
+    cond-cases (λ (x : Item). balanced 2 (x ∷ []) ≡ true → (9 < c .kind) × (c .kind ≤ 13)) (leb (c .kind) 9)
+    (λ low h. absurd (false≢true h))
+    (λ high.
+    cond-cases (λ (x : Item). balanced 2 (x ∷ []) ≡ true → (9 < c .kind) × (c .kind ≤ 13)) (leb (c .kind) 13)
+    (λ low h. (omega (arith, leb-false (c .kind) 9 high), leb-true (c .kind) 13 low))
+    (λ _ h. absurd (false≢true h)))
+
+operand-item : (c : Table.Cell) → c .kind ≤ 9 → itemOfCell c ≡ operand (operandOfCell c)
+unfolding itemOfCell
+operand-item c h = rw (le-leb (c .kind) 9 h)
+
+operator-item : (c : Table.Cell) → 9 < c .kind → c .kind ≤ 13 → itemOfCell c ≡ operator (operatorOfKind (c .kind))
+unfolding itemOfCell
+operator-item c h g = rw (lt-leb (c .kind) 9 h, le-leb (c .kind) 13 g)
+
+-- two operands and the operator behind them
+abbrev pub pairOf : Operand → Operand → Operator → List Item
+pairOf a b o = operand a ∷ (operand b ∷ (operator o ∷ []))
+
+-- behind an operand one number more is known
+balanced-behind : (a : Operand) (known : ℕ) (is : List Item) → balanced known (operand a ∷ is) ≡ true → balanced (suc known) is ≡ true
+unfolding balanced
+balanced-behind a known is e = and-eq-true-iff (ltb known mostWaiting) (balanced (suc known) is) .0 e .1
+
+-- the items of a pair
+module _ (t : List ℕ) (s : Stretch) (hold : ItemsHold t s) where
+  abbrev cellOf : ℕ → Table.Cell
+  cellOf k = cellAt t (itemsAt + 8 * k)
+
+  -- an operand, as the code reads it
+  operand-holds : (k : ℕ) → Within s k → cellOf k .kind ≤ 9 → (a : rows.Operand) → operandMeaning a ≡ operandOfCell (cellOf k)
+      → OperandHolds a
+  operand-holds k within low a read =
+      hold .each k (items.Operand a) within (ap operand read ∙ sym (operand-item (cellOf k) low))
+
+  module _ (p : PairAt t s) where
+    abbrev first : Table.Cell
+    first = cellOf (s .from)
+
+    abbrev second : Table.Cell
+    second = cellOf (s .from + 1)
+
+    abbrev third : Table.Cell
+    third = cellOf (s .from + 2)
+
+    three-items : itemsMeaning t s ≡ itemOfCell first ∷ (itemOfCell second ∷ (itemOfCell third ∷ []))
+    unfolding itemsFrom
+    three-items =
+        let next : s .from + 1 + 1 ≡ s .from + 2 = omega arith in
+        ap (itemsFrom t (s .from)) (p .three)
+        ∙ ap (λ (k : ℕ). itemOfCell first ∷ (itemOfCell second ∷ (itemOfCell (cellOf k) ∷ []))) next
+
+    balanced-items : balanced 0 (itemOfCell first ∷ (itemOfCell second ∷ (itemOfCell third ∷ []))) ≡ true
+    balanced-items = ap (balanced 0) (sym three-items) ∙ hold .whole
+
+    first-low : first .kind ≤ 9
+    first-low = first-operand first (itemOfCell second ∷ (itemOfCell third ∷ [])) balanced-items
+
+    third-kind : (9 < third .kind) × (third .kind ≤ 13)
+    third-kind =
+        let rest = itemOfCell second ∷ (itemOfCell third ∷ []) in
+        let one =
+        balanced-behind (operandOfCell first) 0 rest
+        (ap (λ (x : Item). balanced 0 (x ∷ rest)) (sym (operand-item first first-low)) ∙ balanced-items) in
+        last-operator third
+        (balanced-behind (operandOfCell second) 1 (itemOfCell third ∷ [])
+        (ap (λ (x : Item). balanced 1 (x ∷ (itemOfCell third ∷ []))) (sym (operand-item second (p .middle))) ∙ one))
+
+    pair-items : itemsMeaning t s ≡ pairOf (operandOfCell first) (operandOfCell second) (operatorOfKind (third .kind))
+    pair-items =
+        let a = operand-item first first-low in
+        let b = operand-item second (p .middle) in
+        let o = operator-item third (third-kind .0) (third-kind .1) in
+        three-items ∙ (λ i. a i ∷ (b i ∷ (o i ∷ [])))
+
+    -- its operands and its operator, as the code reads them
+    pub first-holds : (a : rows.Operand) → operandMeaning a ≡ operandOfCell first → OperandHolds a
+    first-holds = operand-holds (s .from) (record { low = omega arith; high = omega (arith, p .three) }) first-low
+
+    pub second-holds : (b : rows.Operand) → operandMeaning b ≡ operandOfCell second → OperandHolds b
+    second-holds = operand-holds (s .from + 1) (record { low = omega arith; high = omega (arith, p .three) }) (p .middle)
+
+    pub pair-read : (a b : rows.Operand) (o : operators.Operator) (kind : ℕ) → operandMeaning a ≡ operandOfCell first
+        → operandMeaning b ≡ operandOfCell second → kind ≡ third .kind → operatorMeaning o ≡ operatorOfKind kind
+        → itemsMeaning t s ≡ pairOf (operandMeaning a) (operandMeaning b) (operatorMeaning o)
+    pair-read a b o kind x y z w =
+        let last = w ∙ ap operatorOfKind z in
+        pair-items ∙ sym (λ i. pairOf (x i) (y i) (last i))
+
+-- the value of a pair
+module _ (m : Memory) (a b : Operand) (o : Operator) where
+  abbrev pair : List Item
+  pair = pairOf a b o
+
+  operand-known : (c : Operand) (known : List ℤ) {x : ℤ} {n : ℕ} → operandIn edition1 m c ≡ done x n
+      → itemIn edition1 m known (operand c) ≡ done (x ∷ known) (n + 0)
+  unfolding itemIn _>>=_ noting quietly
+  operand-known c known e = ap (λ (w : Work ℤ). w >>= λ z. quietly (z ∷ known)) e
+
+  operand-stops : (c : Operand) (known : List ℤ) {k : ℕ} → operandIn edition1 m c ≡ stop k
+      → itemIn edition1 m known (operand c) ≡ stop k
+  unfolding itemIn _>>=_
+  operand-stops c known e = ap (λ (w : Work ℤ). w >>= λ z. quietly (z ∷ known)) e
+
+  -- the operator makes what is left of two numbers
+  operator-works : (x y : ℤ) (notes : ℕ) (w : Work ℤ) → operation edition1 m o x y ≡ w
+      → numericFrom m notes (y ∷ (x ∷ [])) (operator o ∷ []) ≡ noting notes w
+  unfolding itemIn combined _>>=_ noting quietly
+  operator-works x y notes (done z n) e =
+      let item : itemIn edition1 m (y ∷ (x ∷ [])) (operator o) ≡ done (z ∷ []) (n + 0) =
+      ap (λ (w : Work ℤ). w >>= λ v. quietly (v ∷ [])) e in
+      numeric-more m notes (n + 0) (y ∷ (x ∷ [])) (z ∷ []) (operator o) [] item
+      ∙ numeric-ends m (notes + (n + 0)) z []
+      ∙ ap (λ (k : ℕ). done z (notes + k)) (add-zero n)
+  operator-works x y notes (stop k) e =
+      numeric-stops m notes k (y ∷ (x ∷ [])) (operator o) []
+      (ap (λ (w : Work ℤ). w >>= λ v. quietly (v ∷ [])) e)
+
+  module _ {x : ℤ} {n : ℕ} (one : operandIn edition1 m a ≡ done x n) where
+    first-known : numericIn edition1 m pair ≡ numericFrom m n (x ∷ []) (operand b ∷ (operator o ∷ []))
+    first-known =
+        let count : 0 + (n + 0) ≡ n = omega arith in
+        numeric-begins m pair
+        ∙ numeric-more m 0 (n + 0) [] (x ∷ []) (operand a) (operand b ∷ (operator o ∷ [])) (operand-known a [] one)
+        ∙ ap (λ (k : ℕ). numericFrom m k (x ∷ []) (operand b ∷ (operator o ∷ []))) count
+
+    pub pair-works : {y : ℤ} {k : ℕ} → operandIn edition1 m b ≡ done y k
+        → numericIn edition1 m pair ≡ noting (n + k) (operation edition1 m o x y)
+    pair-works {y} {k} two =
+        let count : n + (k + 0) ≡ n + k = omega arith in
+        first-known
+        ∙ numeric-more m n (k + 0) (x ∷ []) (y ∷ (x ∷ [])) (operand b) (operator o ∷ []) (operand-known b (x ∷ []) two)
+        ∙ ap (λ (l : ℕ). numericFrom m l (y ∷ (x ∷ [])) (operator o ∷ [])) count
+        ∙ operator-works x y (n + k) (operation edition1 m o x y) refl
+
+    pub pair-second-stops : {k : ℕ} → operandIn edition1 m b ≡ stop k → numericIn edition1 m pair ≡ stop k
+    pair-second-stops {k} two =
+        first-known ∙ numeric-stops m n k (x ∷ []) (operand b) (operator o ∷ []) (operand-stops b (x ∷ []) two)
+
+  pub pair-first-stops : {k : ℕ} → operandIn edition1 m a ≡ stop k → numericIn edition1 m pair ≡ stop k
+  pair-first-stops {k} one =
+      numeric-begins m pair ∙ numeric-stops m 0 k [] (operand a) (operand b ∷ (operator o ∷ [])) (operand-stops a [] one)

@@ -1,0 +1,174 @@
+-- `expressions::pair_value` meets its contract. Either operand may stop the run, the first one first, and then the operator.
+-- Assumes nothing.
+use borrow.Author.Needs.{needs}
+use mathlib.Core.Path.{sym, ap, subst, _∙_}
+use native.Mathlib.Omega.{arith}
+use lib.IntN.{ℤ}
+use Rattle.base.specs.Edition.{edition1}
+use Rattle.convert.specs.Laws.{number-is, number-range, number-stops}
+use Rattle.convert.specs.Numbers.{Answers}
+use Rattle.machine.specs.Expressions.{operation, numericIn}
+use Rattle.rows.specs.Meaning.{operandMeaning, operatorMeaning}
+use Rattle.values.specs.Work.{Work}
+use Rattle.expressions.specs.Memory.{memoryIn}
+use Rattle.expressions.specs.Notes.{Few, few-done, few-more, few-operand, few-operation}
+use Rattle.expressions.proofs.Pairing.{first-holds, second-holds, pair-read, pair-works, pair-first-stops, pair-second-stops}
+use Rattle.expressions.proofs.pair_value.Statement.{statement}
+use Rattle.expressions.proofs.pair_value.Tie as tie
+
+operand-at-requires : tie.Need-operand-at-requires
+operand-at-requires c κs = search needs
+
+add-operand-at : tie.Need-add-operand-at
+add-operand-at c = search needs
+
+operand-at-requires-2 : tie.Need-operand-at-requires-2
+operand-at-requires-2 c κs = search needs
+
+add-item-kind : tie.Need-add-item-kind
+add-item-kind c = search needs
+
+item-kind-requires : tie.Need-item-kind-requires
+item-kind-requires c κs = search needs
+
+operator-of-requires : tie.Need-operator-of-requires
+operator-of-requires c κs = search needs
+
+quick-value-requires : tie.Need-quick-value-requires
+quick-value-requires c κs =
+    let s = c .before .before .before .before .before .before in
+    let first = c .before .before .before .operand-at in
+    (s .pre .0 .ready, first-holds (s .args .table .now) (s .args .s) (s .pre .0 .items) (s .pre .1) (first .result) (first .ensures))
+
+enum-known-a : tie.Need-enum-known-a
+enum-known-a c = search needs
+
+quick-value-requires-2 : tie.Need-quick-value-requires-2
+quick-value-requires-2 c κs =
+    let s = c .before .before .before .before .before .before .before .before .before .before in
+    let second = c .before .before .before .before .before .before .operand-at2 in
+    (s .pre .0 .ready, second-holds (s .args .table .now) (s .args .s) (s .pre .0 .items) (s .pre .1) (second .result) (second .ensures))
+
+enum-known-b : tie.Need-enum-known-b
+enum-known-b c = search needs
+
+add-noted : tie.Need-add-noted
+add-noted c =
+    let read = c .before .before .before .before .before .before .before .before in
+    let s = read .before .before .before .before .before .before in
+    let m = memoryIn (s .args .store .now) (s .args .state .now) in
+    let a = operandMeaning (read .before .before .before .operand-at .result) in
+    let b = operandMeaning (read .before .before .operand-at2 .result) in
+    let left = number-is (c .before .before .before .before .before .before .before .quick-value .ensures) (c .before .before .before .before .before .a .given .1) in
+    let right = number-is (c .before .before .before .quick-value2 .ensures) (c .before .b .given .1) in
+    omega (arith, few-done (few-operand edition1 m a) left, few-done (few-operand edition1 m b) right)
+
+operation-requires : tie.Need-operation-requires
+operation-requires c κs =
+    record {
+      left = number-range (c .before .before .before .before .before .before .before .quick-value .ensures) (c .before .before .before .before .before .a .given .1);
+      right = number-range (c .before .before .before .quick-value2 .ensures) (c .before .b .given .1);
+    }
+
+noted-requires : tie.Need-noted-requires
+noted-requires c κs =
+    let read = c .before .before .before .before .before .before .before .before .before in
+    let s = read .before .before .before .before .before .before in
+    let m = memoryIn (s .args .store .now) (s .args .state .now) in
+    let a = operandMeaning (read .before .before .before .operand-at .result) in
+    let b = operandMeaning (read .before .before .operand-at2 .result) in
+    let x = c .before .before .before .before .before .before .a .given in
+    let y = c .before .before .b .given in
+    let left = number-is (c .before .before .before .before .before .before .before .before .quick-value .ensures) (x .1) in
+    let right = number-is (c .before .before .before .before .quick-value2 .ensures) (y .1) in
+    let o = operatorMeaning (read .operator-of .result) in
+    let made = operation edition1 m o (x .0 .0 .value) (y .0 .0 .value) in
+    let few = few-more 0 2 made (omega arith) (few-operation edition1 m o (x .0 .0 .value) (y .0 .0 .value)) in (
+      omega (arith, few-done (few-operand edition1 m a) left, few-done (few-operand edition1 m b) right),
+      subst (λ (w : Work ℤ). Few 2 w) (sym (c .operation .ensures m .work)) few,
+    )
+
+enum-known-k : tie.Need-enum-known-k
+enum-known-k c = search needs
+
+enum-known-k-2 : tie.Need-enum-known-k-2
+enum-known-k-2 c = search needs
+
+returns : tie.Need-returns
+returns c =
+    let read = c .before .before .before .before .before .before .before .before .before .before in
+    let s = read .before .before .before .before .before .before in
+    let m = memoryIn (s .args .store .now) (s .args .state .now) in
+    let first = read .before .before .before .operand-at in
+    let second = read .before .before .operand-at2 in
+    let kind = read .before .item-kind in
+    let items =
+    pair-read (s .args .table .now) (s .args .s) (s .pre .0 .items) (s .pre .1) (first .result) (second .result) (read .operator-of .result)
+    (kind .result) (first .ensures) (second .ensures) (kind .ensures) (read .operator-of .ensures) in
+    let a = operandMeaning (first .result) in
+    let b = operandMeaning (second .result) in
+    let o = operatorMeaning (read .operator-of .result) in
+    let x = c .before .before .before .before .before .before .before .a .given in
+    let y = c .before .before .before .b .given in
+    let left = number-is (c .before .before .before .before .before .before .before .before .before .quick-value .ensures) (x .1) in
+    let right = number-is (c .before .before .before .before .before .quick-value2 .ensures) (y .1) in
+    subst (Answers (c .noted .result)) (sym (ap (numericIn edition1 m) items ∙ pair-works m a b o left right))
+    (c .noted .ensures (operation edition1 m o (x .0 .0 .value) (y .0 .0 .value)) (c .before .operation .ensures m))
+
+returns-2 : tie.Need-returns-2
+returns-2 c =
+    let read = c .before .before .before .before .before .before .before .before in
+    let s = read .before .before .before .before .before .before in
+    let m = memoryIn (s .args .store .now) (s .args .state .now) in
+    let first = read .before .before .before .operand-at in
+    let second = read .before .before .operand-at2 in
+    let kind = read .before .item-kind in
+    let items =
+    pair-read (s .args .table .now) (s .args .s) (s .pre .0 .items) (s .pre .1) (first .result) (second .result) (read .operator-of .result)
+    (kind .result) (first .ensures) (second .ensures) (kind .ensures) (read .operator-of .ensures) in
+    let a = operandMeaning (first .result) in
+    let b = operandMeaning (second .result) in
+    let o = operatorMeaning (read .operator-of .result) in
+    let left = number-is (c .before .before .before .before .before .before .before .quick-value .ensures) (c .before .before .before .before .before .a .given .1) in
+    let right = number-stops (c .before .before .before .quick-value2 .ensures) (c .before .k .given .1) in
+    record { work = sym (ap (numericIn edition1 m) items ∙ pair-second-stops m a b o left right); range = tt }
+
+returns-3 : tie.Need-returns-3
+returns-3 c =
+    let read = c .before .before .before .before in
+    let s = read .before .before .before .before .before .before in
+    let m = memoryIn (s .args .store .now) (s .args .state .now) in
+    let first = read .before .before .before .operand-at in
+    let second = read .before .before .operand-at2 in
+    let kind = read .before .item-kind in
+    let items =
+    pair-read (s .args .table .now) (s .args .s) (s .pre .0 .items) (s .pre .1) (first .result) (second .result) (read .operator-of .result)
+    (kind .result) (first .ensures) (second .ensures) (kind .ensures) (read .operator-of .ensures) in
+    let a = operandMeaning (first .result) in
+    let b = operandMeaning (second .result) in
+    let o = operatorMeaning (read .operator-of .result) in
+    let left = number-stops (c .before .before .before .quick-value .ensures) (c .before .k2 .given .1) in
+    record { work = sym (ap (numericIn edition1 m) items ∙ pair-first-stops m a b o left); range = tt }
+
+pub pair-value-spec : {M : Type 1} → statement M
+pair-value-spec =
+    tie.close
+    (tie.spec
+    operand-at-requires
+    add-operand-at
+    operand-at-requires-2
+    add-item-kind
+    item-kind-requires
+    operator-of-requires
+    quick-value-requires
+    enum-known-a
+    quick-value-requires-2
+    enum-known-b
+    add-noted
+    operation-requires
+    noted-requires
+    enum-known-k
+    enum-known-k-2
+    returns
+    returns-2
+    returns-3)

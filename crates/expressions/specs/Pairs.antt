@@ -1,0 +1,12 @@
+-- A numeric expression of two operands and an operator. Assumes nothing.
+use mathlib.Core.List.{List}
+use mathlib.Core.Path.{_≡_}
+use Prim.Native.Nat.{ℕ, _+_, _*_, _≤_}
+use Rattle.calls.specs.Table.{itemsAt}
+use Rattle.calls.specs.TableReading.{cellAt}
+use Rattle.rows.specs.declared.Stretch.{Stretch}
+
+-- three items, the one in the middle an operand: since they are balanced, the first is an operand too, and the last an operator
+pub record PairAt (t : List ℕ) (s : Stretch) : Type 0 where
+  pub three : s .count ≡ 3
+  pub middle : cellAt t (itemsAt + 8 * (s .from + 1)) .kind ≤ 9
