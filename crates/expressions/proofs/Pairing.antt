@@ -18,9 +18,8 @@ use Rattle.language.specs.Program.{Operand, Operator, Item, operand, operator}
 use Rattle.machine.specs.Expressions.{operandIn, operation, combined, itemIn, numericIn}
 use Rattle.machine.specs.State.{Memory}
 use Rattle.rows.specs.Holds.{ItemsHold, OperandHolds, Within}
-use Rattle.rows.specs.Meaning.{operandMeaning, operatorMeaning, itemsMeaning}
+use Rattle.rows.specs.Meaning.{operandMeaning, itemsMeaning}
 use Rattle.rows.specs.declared.Operand as rows
-use Rattle.rows.specs.declared.Operator as operators
 use Rattle.rows.specs.declared.Item.the-variants as items
 use Rattle.rows.specs.declared.Stretch.{Stretch}
 use Rattle.values.specs.Work.{Work, done, stop, noting, quietly, _>>=_}
@@ -77,13 +76,13 @@ module _ (t : List ℕ) (s : Stretch) (hold : ItemsHold t s) where
       hold .each k (items.Operand a) within (ap operand read ∙ sym (operand-item (cellOf k) low))
 
   module _ (p : PairAt t s) where
-    abbrev first : Table.Cell
+    abbrev pub first : Table.Cell
     first = cellOf (s .from)
 
-    abbrev second : Table.Cell
+    abbrev pub second : Table.Cell
     second = cellOf (s .from + 1)
 
-    abbrev third : Table.Cell
+    abbrev pub third : Table.Cell
     third = cellOf (s .from + 2)
 
     three-items : itemsMeaning t s ≡ itemOfCell first ∷ (itemOfCell second ∷ (itemOfCell third ∷ []))
@@ -109,26 +108,19 @@ module _ (t : List ℕ) (s : Stretch) (hold : ItemsHold t s) where
         (balanced-behind (operandOfCell second) 1 (itemOfCell third ∷ [])
         (ap (λ (x : Item). balanced 1 (x ∷ (itemOfCell third ∷ []))) (sym (operand-item second (p .middle))) ∙ one))
 
-    pair-items : itemsMeaning t s ≡ pairOf (operandOfCell first) (operandOfCell second) (operatorOfKind (third .kind))
+    pub pair-items : itemsMeaning t s ≡ pairOf (operandOfCell first) (operandOfCell second) (operatorOfKind (third .kind))
     pair-items =
         let a = operand-item first first-low in
         let b = operand-item second (p .middle) in
         let o = operator-item third (third-kind .0) (third-kind .1) in
         three-items ∙ (λ i. a i ∷ (b i ∷ (o i ∷ [])))
 
-    -- its operands and its operator, as the code reads them
+    -- its operands, as the code reads them
     pub first-holds : (a : rows.Operand) → operandMeaning a ≡ operandOfCell first → OperandHolds a
     first-holds = operand-holds (s .from) (record { low = omega arith; high = omega (arith, p .three) }) first-low
 
     pub second-holds : (b : rows.Operand) → operandMeaning b ≡ operandOfCell second → OperandHolds b
     second-holds = operand-holds (s .from + 1) (record { low = omega arith; high = omega (arith, p .three) }) (p .middle)
-
-    pub pair-read : (a b : rows.Operand) (o : operators.Operator) (kind : ℕ) → operandMeaning a ≡ operandOfCell first
-        → operandMeaning b ≡ operandOfCell second → kind ≡ third .kind → operatorMeaning o ≡ operatorOfKind kind
-        → itemsMeaning t s ≡ pairOf (operandMeaning a) (operandMeaning b) (operatorMeaning o)
-    pair-read a b o kind x y z w =
-        let last = w ∙ ap operatorOfKind z in
-        pair-items ∙ sym (λ i. pairOf (x i) (y i) (last i))
 
 -- the value of a pair
 module _ (m : Memory) (a b : Operand) (o : Operator) where

@@ -310,12 +310,16 @@ fn pair_value(table: &[u8], store: &[u8], state: &[u64; 64], s: Stretch) -> Numb
         (numericIn edition1 (memoryIn (now (store .entry)) (now (state .entry))) (itemsMeaning (now (table .entry)) s)) ⌝ }
 {
     let from = s.from;
-    let first = rows::operand_at(table, from);
-    let second = rows::operand_at(table, from + 1);
-    let operator = rows::operator_of(rows::item_kind(table, from + 2));
-    match quick_value(store, state, first) {
-        Number::Is { value: a, notes: n } => match quick_value(store, state, second) {
-            Number::Is { value: b, notes: m } => noted(n + m, operation(operator, a, b)),
+    match quick_value(store, state, rows::operand_at(table, from)) {
+        Number::Is { value: a, notes: n } => match quick_value(
+            store,
+            state,
+            rows::operand_at(table, from + 1),
+        ) {
+            Number::Is { value: b, notes: m } => {
+                let operator = rows::operator_of(rows::item_kind(table, from + 2));
+                noted(n + m, operation(operator, a, b))
+            }
             Number::Stops(k) => Number::Stops(k),
         },
         Number::Stops(k) => Number::Stops(k),
