@@ -2,7 +2,6 @@
    records and a line: outcome, number or 0, steps done (of a refused deck its card), notes.
 
    Exit status: 0 when all of that was printed, whatever the outcome; 1 when something could not be read or written; 2 for arguments. */
-#define _POSIX_C_SOURCE 200809L
 #include "strigol.h"
 
 #include <errno.h>
@@ -10,9 +9,8 @@
 #include <stdio.h>
 #include <stdlib.h>
 #include <string.h>
-#include <sys/resource.h>
 
-enum { KEPT_DECK = STRIGOL_DECK_MOST + 1, KEPT_INPUT = 32768, LENT_OUTPUT = 16384, MOST_STEPS = 1000000, STACK = 16 << 20 };
+enum { KEPT_DECK = STRIGOL_DECK_MOST + 1, KEPT_INPUT = 32768, LENT_OUTPUT = 16384, MOST_STEPS = 1000000 };
 
 static const char deck_name[] = "deck";
 
@@ -24,15 +22,6 @@ static void fail(const char *what)
 {
     fprintf(stderr, "strigol: %s: %s\n", what, strerror(errno));
     exit(1);
-}
-
-/* Lets the stack grow as far as reading any deck may need (docs/GATEWAY.md), whatever arguments and environment take of it. */
-static void widen_stack(void)
-{
-    struct rlimit limit;
-    if (getrlimit(RLIMIT_STACK, &limit) != 0 || limit.rlim_cur == RLIM_INFINITY || limit.rlim_cur >= STACK) return;
-    limit.rlim_cur = limit.rlim_max == RLIM_INFINITY || limit.rlim_max >= STACK ? STACK : limit.rlim_max;
-    setrlimit(RLIMIT_STACK, &limit);
 }
 
 /* Keeps the first bytes of a file: as many as there are, `most` at most. */
@@ -80,7 +69,6 @@ int main(int argc, char **argv)
         fprintf(stderr, "usage: %s <INPUT\nruns the file `%s` of this folder on standard input\n", argv[0], deck_name);
         return 2;
     }
-    widen_stack();
     deck_len = keep_deck();
     input_len = keep(stdin, "standard input", input, sizeof input);
     number = strigol_read(deck, deck_len, table, sizeof table, &card);

@@ -30,7 +30,7 @@ enum {
 };
 
 /* What docs/GATEWAY.md says of the stack, in bytes: what strigol_read takes at most, what any other call does, and what a thread should have. */
-enum { STACK_OF_READ = 7680 << 10, STACK_OF_OTHERS = 128 << 10, STACK_TO_READ = 8 << 20 };
+enum { STACK_OF_READ = 1280 << 10, STACK_OF_OTHERS = 128 << 10, STACK_TO_READ = 2 << 20 };
 
 static struct lent first, second;
 static uint64_t only_seed;

@@ -350,13 +350,14 @@ fn more_numbers(text: &[u8], keys: &mut [u64; NAMES], tags: &mut [u8; NAMES], c:
     requires { ⌜ Ready (now text) (now keys) (now tags) c ⌝ }
     ensures { λ r. ⌜ MoreNumbersRead (now (text .entry)) (now (keys .entry)) (now (tags .entry)) c r (now (keys .exit)) (now (tags .exit)) ⌝ }
 {
-    if !stands_at(text, c.at, b',') {
-        return unstepped(text, c);
+    let mut d = c;
+    while stands_at(text, d.at, b',') {
+        let Name::Got(key, e) = read_name(text, keys, tags, skip(d, 1), NUMBER_DECLARED) else {
+            return Form::Broken;
+        };
+        d = e;
     }
-    match read_name(text, keys, tags, skip(c, 1), NUMBER_DECLARED) {
-        Name::Broken => Form::Broken,
-        Name::Got(key, d) => more_numbers(text, keys, tags, d),
-    }
+    unstepped(text, d)
 }
 
 // NUMBER is no step

@@ -1,9 +1,9 @@
--- Kinds of signs and operators, the items they stand for, and the members of the cycle with them.
+-- Kinds of signs and operators, the items they stand for, and the outcomes of the readers by their case.
 -- Assumes nothing.
-use mathlib.Core.Bool.{Bool, true, false, cond, _||_}
+use mathlib.Core.Bool.{Bool, true, false, _||_}
 use mathlib.Core.List.{List, [], _∷_}
 use mathlib.Core.Path.{_≡_, refl, sym, ap, subst, _∙_}
-use Prim.Native.Nat.{ℕ, suc, _+_, _*_, _-_, _≤_, _<_}
+use Prim.Native.Nat.{ℕ, suc, _+_, _≤_, _<_}
 use native.Mathlib.Nat.{add-zero}
 use native.Mathlib.Omega.{arith}
 use lib.Dec.{eqb, ltb}
@@ -16,7 +16,7 @@ use Rattle.base.specs.Lists.{begins}
 use Rattle.base.specs.Text.{bytes}
 use Rattle.calls.specs.Table as Table
 use Rattle.calls.specs.Table.{itemCell, operandCell, operatorKind, signKind}
-use Rattle.language.specs.Fuel.{expressionFrom, moreTermsFrom, termFrom, moreFactorsFrom, factorFrom, factorBy, factor-is}
+use Rattle.language.specs.Fuel.{expressionFrom, factorFrom, factorBy, factor-is}
 use Rattle.language.specs.Numeric.{deepest, plainFactor, leadingSign, sumOperator, productOperator}
 use Rattle.language.specs.Program.{Item, Operator, operator, sign, plus, minus, times, over, positive, negative}
 use Rattle.language.specs.Reading.{Read, got, broken, anItem, give, nothing}
@@ -24,11 +24,10 @@ use Rattle.language.specs.Words.{Places, isSign}
 use Rattle.met.specs.Entries.{gather, metIn}
 use Rattle.met.specs.Items.{withItem, withItems}
 use Rattle.met.specs.declared.Cursor.{Cursor}
-use Rattle.numeric.specs.Kinds.{SignAt, Stands, SumAt, ProductAt, PutsCell, Puts, Within, closes}
+use Rattle.numeric.specs.Kinds.{SignAt, OperatorAt, SumAt, ProductAt, PutsCell, Puts, Within, closes}
 use Rattle.numeric.specs.OperandLaws.{chosen, begins-room, then-broken}
-use Rattle.numeric.specs.Operands.{Onward, moved, Ready, Gets, meaning}
-use Rattle.numeric.specs.ReadLaws.{expression-then, terms-then, factors-then, inside-then, inside-open, inside-broken, operand-item}
-use Rattle.numeric.specs.ReadLaws.{expression-broken, terms-broken, factors-broken, term-then, term-broken, terms-end, factors-end}
+use Rattle.numeric.specs.Operands.{moved, Ready, Gets, meaning}
+use Rattle.numeric.specs.ReadLaws.{inside-then, inside-open, inside-broken, operand-item}
 use Rattle.numeric.specs.Reads.{GetsItems, ItemsAnswer, ItemsRead, waiting}
 use Rattle.numeric.specs.declared.operands.Cell.{Cell}
 use Rattle.numeric.specs.declared.Outcome as OutcomeCode
@@ -138,88 +137,71 @@ module _ (text : List ℕ) (at : ℕ) where
           inside = λ h. omega arith;
         }
 
-    pub sum-minus : begins (45 ∷ []) (drop at text) ≡ true → SumAt text at 11
-    unfolding sumOperator bytes waiting isSign
-    sum-minus e =
-        record {
-          none = λ z. absurd (omega arith);
-          sign = λ _. true-behind (begins (43 ∷ []) (drop at text)) _ e;
-          stands =
-              λ _.
-              record {
-                which = minus;
-                waits = refl;
-                is = chosen _ _ no ∙ chosen _ _ e ∙ ap (got minus anItem) (drop-drop 1 at text);
-                further = behind 45 e;
-              };
-        }
+-- the operator by which of two marks stands
+module _ (text : List ℕ) (at w v : ℕ) where
+  abbrev marked : Bool
+  marked = begins (w ∷ []) (drop at text) || begins (v ∷ []) (drop at text)
 
-    pub sum-none : begins (45 ∷ []) (drop at text) ≡ false → SumAt text at 0
-    unfolding bytes isSign
-    sum-none e =
-        record {
-          none = λ _. ap (λ t. t || begins (45 ∷ []) (drop at text)) no ∙ e;
-          sign = λ h. absurd (h refl);
-          stands = λ h. absurd (h refl);
-        }
+  abbrev markedBy : Operator → Operator → Read Operator
+  markedBy a b = elim (begins (w ∷ []) (drop at text)) [
+    | true ↦ got a anItem (drop 1 (drop at text))
+    | false ↦ elim (begins (v ∷ []) (drop at text)) [ true ↦ got b anItem (drop 1 (drop at text)) | false ↦ broken ]
+  ]
 
+  operator-at : {x : Read Operator} (o : Operator) {kind : ℕ} → waiting kind ≡ operator o ∷ [] → (kind ≡ 0 → ⊥) → at < length text
+      → marked ≡ true → x ≡ got o anItem (drop 1 (drop at text)) → OperatorAt marked x text at kind
+  operator-at o waits some further test is =
+      record {
+        none = λ z. absurd (some z);
+        sign = λ _. test;
+        stands =
+            λ _. record { which = o; waits = waits; is = is ∙ ap (got o anItem) (drop-drop 1 at text); further = further };
+      }
+
+  module _ (a b : Operator) {kind : ℕ} where
+    first-mark : waiting kind ≡ operator a ∷ [] → (kind ≡ 0 → ⊥) → begins (w ∷ []) (drop at text) ≡ true
+        → OperatorAt marked (markedBy a b) text at kind
+    first-mark waits some e =
+        operator-at a waits some (behind text at w e) (ap (λ t. t || begins (v ∷ []) (drop at text)) e) (chosen _ _ e)
+
+    second-mark : waiting kind ≡ operator b ∷ [] → (kind ≡ 0 → ⊥) → begins (w ∷ []) (drop at text) ≡ false
+        → begins (v ∷ []) (drop at text) ≡ true → OperatorAt marked (markedBy a b) text at kind
+    second-mark waits some other e =
+        operator-at b waits some (behind text at v e) (true-behind (begins (w ∷ []) (drop at text)) _ e) (chosen _ _ other ∙ chosen _ _ e)
+
+  no-mark : {x : Read Operator} → begins (w ∷ []) (drop at text) ≡ false → begins (v ∷ []) (drop at text) ≡ false
+      → OperatorAt marked x text at 0
+  no-mark other e =
+      record {
+        none = λ _. ap (λ t. t || begins (v ∷ []) (drop at text)) other ∙ e;
+        sign = λ h. absurd (h refl);
+        stands = λ h. absurd (h refl);
+      }
+
+module _ (text : List ℕ) (at : ℕ) where
   pub sum-plus : begins (43 ∷ []) (drop at text) ≡ true → SumAt text at 10
   unfolding sumOperator bytes waiting isSign
-  sum-plus e =
-      record {
-        none = λ z. absurd (omega arith);
-        sign = λ _. ap (λ t. t || begins (45 ∷ []) (drop at text)) e;
-        stands =
-            λ _.
-            record {
-              which = plus;
-              waits = refl;
-              is = chosen _ _ e ∙ ap (got plus anItem) (drop-drop 1 at text);
-              further = behind 43 e;
-            };
-      }
+  sum-plus = first-mark text at 43 45 plus minus refl (λ z. omega arith)
+
+  pub sum-minus : begins (43 ∷ []) (drop at text) ≡ false → begins (45 ∷ []) (drop at text) ≡ true → SumAt text at 11
+  unfolding sumOperator bytes waiting isSign
+  sum-minus = second-mark text at 43 45 plus minus refl (λ z. omega arith)
+
+  pub sum-none : begins (43 ∷ []) (drop at text) ≡ false → begins (45 ∷ []) (drop at text) ≡ false → SumAt text at 0
+  unfolding bytes isSign
+  sum-none = no-mark text at 43 45
 
   pub product-times : begins (42 ∷ []) (drop at text) ≡ true → ProductAt text at 12
   unfolding productOperator bytes waiting
-  product-times e =
-      record {
-        none = λ z. absurd (omega arith);
-        sign = λ _. ap (λ t. t || begins (47 ∷ []) (drop at text)) e;
-        stands =
-            λ _.
-            record {
-              which = times;
-              waits = refl;
-              is = chosen _ _ e ∙ ap (got times anItem) (drop-drop 1 at text);
-              further = behind 42 e;
-            };
-      }
+  product-times = first-mark text at 42 47 times over refl (λ z. omega arith)
 
-  module _ (no : begins (42 ∷ []) (drop at text) ≡ false) where
-    pub product-over : begins (47 ∷ []) (drop at text) ≡ true → ProductAt text at 13
-    unfolding productOperator bytes waiting
-    product-over e =
-        record {
-          none = λ z. absurd (omega arith);
-          sign = λ _. true-behind (begins (42 ∷ []) (drop at text)) _ e;
-          stands =
-              λ _.
-              record {
-                which = over;
-                waits = refl;
-                is = chosen _ _ no ∙ chosen _ _ e ∙ ap (got over anItem) (drop-drop 1 at text);
-                further = behind 47 e;
-              };
-        }
+  pub product-over : begins (42 ∷ []) (drop at text) ≡ false → begins (47 ∷ []) (drop at text) ≡ true → ProductAt text at 13
+  unfolding productOperator bytes waiting
+  product-over = second-mark text at 42 47 times over refl (λ z. omega arith)
 
-    pub product-none : begins (47 ∷ []) (drop at text) ≡ false → ProductAt text at 0
-    unfolding bytes
-    product-none e =
-        record {
-          none = λ _. ap (λ t. t || begins (47 ∷ []) (drop at text)) no ∙ e;
-          sign = λ h. absurd (h refl);
-          stands = λ h. absurd (h refl);
-        }
+  pub product-none : begins (42 ∷ []) (drop at text) ≡ false → begins (47 ∷ []) (drop at text) ≡ false → ProductAt text at 0
+  unfolding bytes
+  product-none = no-mark text at 42 47
 
 -- the outcome by its case
 module _ {before : List Item} {text table keys tags : List ℕ} {c : Cursor} {x : Read (List Item)} {r : Outcome} {t k g : List ℕ}
@@ -243,21 +225,6 @@ ready-on n ready h =
       literals = omega (arith, ready .literals);
       keysSize = ready .keysSize;
       tagsSize = ready .tagsSize;
-    }
-
--- behind what waited, and is now written
-pub ready-put : (n : ℕ) {text table keys tags : List ℕ} {c : Cursor} {x : Read (List Item)} {t k g : List ℕ} {d e : Cursor}
-    → Ready text keys tags c → GetsItems [] text table keys tags (moved c n) x t k g d → Onward d 0 n e → e .at ≡ d .at → Ready text k g e
-ready-put n ready a on at =
-    record {
-      textSize = ready .textSize;
-      inside = omega (arith, a .ready);
-      names = omega (arith, a .ready, on);
-      items = omega (arith, ready, a .goes, a .short, on);
-      elements = omega (arith, ready, a .ready, on);
-      literals = omega (arith, ready, a .ready, on);
-      keysSize = a .ready .keysSize;
-      tagsSize = a .ready .tagsSize;
     }
 
 pub items-within : {before : List Item} {text table keys tags : List ℕ} {c : Cursor} {x : Read (List Item)} (r : Outcome) {t k g : List ℕ}
@@ -313,99 +280,6 @@ module _ (p : Places) (depth : ℕ) {text table keys tags : List ℕ} {c : Curso
   unfolding factorBy
   operand-broken open′ h =
       record { answer = factor-is edition1 p depth (drop (c .at) text) ∙ chosen _ _ open′ ∙ then-broken _ h }
-
--- how the measures of the cycle fall
-pub falls-near : (l x y k j t : ℕ) → 4 * (l - x) + k ≡ t → x ≤ y → j < k → 4 * (l - y) + j < t
-falls-near l x y k j t e h g = omega arith
-
-pub falls-far : (l x y j t : ℕ) → 4 * (l - x) + 1 ≡ t → x < y → y ≤ l → j ≤ 3 → 4 * (l - y) + j < t
-falls-far l x y j t e h i g = omega arith
-
--- a reading behind what waits, the code's cursor being moved
-module _ {text table keys tags : List ℕ} (c : Cursor) (l : List Item) {n : ℕ} {b : Cursor} (en : n ≡ length l) (eb : b ≡ moved c n)
-    (y : List ℕ → Read (List Item)) {r₁ : Outcome} {t₁ k₁ g₁ : List ℕ}
-    (a : ItemsRead [] text table keys tags b (y (drop (b .at) text)) r₁ t₁ k₁ g₁) where
-  pub moved-read : ItemsRead [] text table keys tags (moved c (length l)) (y (drop (c .at + length l) text)) r₁ t₁ k₁ g₁
-  moved-read =
-      subst (λ (z : Cursor). ItemsRead [] text table keys tags z (y (drop (z .at) text)) r₁ t₁ k₁ g₁) (eb ∙ ap (moved c) en) a
-
-  module _ {d : Cursor} (e : r₁ ≡ OutcomeCode.the-variants.Got d) {t₂ : List ℕ} {f : Cursor} (q : Puts t₁ d l t₂ f) where
-    pub ready-after : Ready text keys tags c → Ready text k₁ g₁ f
-    ready-after ready = ready-put (length l) ready (items-case moved-read e) (q .goes) (q .at)
-
-    pub at-after : c .at + n ≤ f .at
-    at-after = let g = items-case moved-read e in omega (arith, g .few, q .at, en)
-
-module _ (p : Places) (depth : ℕ) {text table keys tags : List ℕ} (c : Cursor) {kind : ℕ} {n : ℕ} {b : Cursor} (eb : b ≡ moved c n)
-    {r₁ : Outcome} {t₁ k₁ g₁ : List ℕ} where
-  module _ (s : SignAt text (c .at) kind) (en : n ≡ length (waiting kind))
-      (a : ItemsRead [] text table keys tags b (termFrom edition1 p depth (drop (b .at) text)) r₁ t₁ k₁ g₁) where
-    pub expression-got : Ready text keys tags c → {d : Cursor} → r₁ ≡ OutcomeCode.the-variants.Got d → {t₂ : List ℕ} {e : Cursor}
-        → Puts t₁ d (waiting kind) t₂ e → (r : Outcome) {t₃ k₂ g₂ : List ℕ}
-        → ((b : List Item) → ItemsRead b text t₂ k₁ g₁ e (moreTermsFrom edition1 p depth b (drop (e .at) text)) r t₃ k₂ g₂)
-        → ItemsRead [] text table keys tags c (expressionFrom edition1 p depth (drop (c .at) text)) r t₃ k₂ g₂
-    expression-got ready e q r m =
-        expression-then p depth (waiting kind) c ready (s .is)
-        (items-case (moved-read c (waiting kind) en eb (termFrom edition1 p depth) a) e) (q .written) (q .goes) (q .at) r m
-
-    pub expression-none : r₁ ≡ OutcomeCode.the-variants.Broken → {t k g : List ℕ}
-        → ItemsRead [] text table keys tags c (expressionFrom edition1 p depth (drop (c .at) text)) OutcomeCode.the-variants.Broken t k g
-    expression-none e =
-        record {
-          answer =
-              expression-broken p depth (drop (c .at) text) (s .is)
-              (items-none (moved-read c (waiting kind) en eb (termFrom edition1 p depth) a) e);
-        }
-
-  module _ (s : SumAt text (c .at) kind) (some : kind ≡ 0 → ⊥) (en : n ≡ 1)
-      (a : ItemsRead [] text table keys tags b (termFrom edition1 p depth (drop (b .at) text)) r₁ t₁ k₁ g₁) where
-    pub terms-got : Ready text keys tags c → {d : Cursor} → r₁ ≡ OutcomeCode.the-variants.Got d → {t₂ : List ℕ} {e : Cursor}
-        → Puts t₁ d (waiting kind) t₂ e → (r : Outcome) {t₃ k₂ g₂ : List ℕ}
-        → ((b : List Item) → ItemsRead b text t₂ k₁ g₁ e (moreTermsFrom edition1 p depth b (drop (e .at) text)) r t₃ k₂ g₂)
-        → (before : List Item)
-        → ItemsRead before text table keys tags c (moreTermsFrom edition1 p depth before (drop (c .at) text)) r t₃ k₂ g₂
-    terms-got ready {d} e {t₂} {e = f} q r m before =
-        let o = s .stands some in
-        let q′ = subst (λ (l : List Item). Puts t₁ d l t₂ f) (o .waits) q in
-        terms-then p depth (o .which) before c ready (q′ .written) (q′ .goes) (q′ .at) r (s .sign some) (o .is)
-        (items-case (moved-read c (operator (o .which) ∷ []) en eb (termFrom edition1 p depth) a) e) m
-
-    pub terms-none : r₁ ≡ OutcomeCode.the-variants.Broken → {t k g : List ℕ} (before : List Item)
-        → ItemsRead before text table keys tags c (moreTermsFrom edition1 p depth before (drop (c .at) text)) OutcomeCode.the-variants.Broken t k g
-    terms-none e before =
-        let o = s .stands some in
-        record {
-          answer =
-              terms-broken p depth (drop (c .at) text) before (s .sign some) (o .is)
-              (items-none (moved-read c (operator (o .which) ∷ []) en eb (termFrom edition1 p depth) a) e);
-        }
-
-  module _ (s : ProductAt text (c .at) kind) (some : kind ≡ 0 → ⊥) (en : n ≡ 1)
-      (a : ItemsRead [] text table keys tags b (factorFrom edition1 p depth (drop (b .at) text)) r₁ t₁ k₁ g₁) where
-    pub factors-got : Ready text keys tags c → {d : Cursor} → r₁ ≡ OutcomeCode.the-variants.Got d → {t₂ : List ℕ} {e : Cursor}
-        → Puts t₁ d (waiting kind) t₂ e → (r : Outcome) {t₃ k₂ g₂ : List ℕ}
-        → ((b : List Item) → ItemsRead b text t₂ k₁ g₁ e (moreFactorsFrom edition1 p depth b (drop (e .at) text)) r t₃ k₂ g₂)
-        → (before : List Item)
-        → ItemsRead before text table keys tags c (moreFactorsFrom edition1 p depth before (drop (c .at) text)) r t₃ k₂ g₂
-    factors-got ready {d} e {t₂} {e = f} q r m before =
-        let o = s .stands some in
-        let q′ = subst (λ (l : List Item). Puts t₁ d l t₂ f) (o .waits) q in
-        factors-then p depth (o .which) before c ready (q′ .written) (q′ .goes) (q′ .at) r (s .sign some) (o .is)
-        (items-case (moved-read c (operator (o .which) ∷ []) en eb (factorFrom edition1 p depth) a) e) m
-
-    pub factors-none : r₁ ≡ OutcomeCode.the-variants.Broken → {t k g : List ℕ} (before : List Item)
-        → ItemsRead before text table keys tags c (moreFactorsFrom edition1 p depth before (drop (c .at) text)) OutcomeCode.the-variants.Broken t k g
-    factors-none e before =
-        let o = s .stands some in
-        record {
-          answer =
-              factors-broken p depth (drop (c .at) text) before (s .sign some) (o .is)
-              (items-none (moved-read c (operator (o .which) ∷ []) en eb (factorFrom edition1 p depth) a) e);
-        }
-
--- one item waits where an operator stands
-pub stands-size : {x : Read Operator} {text : List ℕ} {at kind : ℕ} → Stands x text at kind → 1 ≡ length (waiting kind)
-stands-size o = sym (ap length (o .waits))
 
 -- an expression one deeper, as the code counts
 pub deeper : (p : Places) (depth : ℕ) {text table keys tags : List ℕ} (c : Cursor) {b : Cursor} {r : Outcome} {t k g : List ℕ} → b ≡ moved c 1

@@ -1,6 +1,6 @@
 -- What the helpers of the cycle do: the kind of a sign or an operator at a place, an item written, a cursor before `)`.
 -- Assumes nothing.
-use mathlib.Core.Bool.{true, false, _||_}
+use mathlib.Core.Bool.{Bool, true, false, _||_}
 use mathlib.Core.List.{List, [], _∷_}
 use mathlib.Core.Path.{_≡_}
 use Prim.Native.Nat.{ℕ, _+_, _≤_, _<_}
@@ -32,17 +32,20 @@ pub record Stands (x : Read Operator) (text : List ℕ) (at kind : ℕ) : Type 0
   pub is : x ≡ got which anItem (drop (at + 1) text)
   pub further : at < length text
 
--- `+` or `-` at a place, 0 for none
-pub record SumAt (text : List ℕ) (at kind : ℕ) : Type 0 where
-  pub none : kind ≡ 0 → isSign (drop at text) ≡ false
-  pub sign : (kind ≡ 0 → ⊥) → isSign (drop at text) ≡ true
-  pub stands : (kind ≡ 0 → ⊥) → Stands (sumOperator (drop at text)) text at kind
+-- whether an operator stands at a place, as a test says, and which; kind 0 for none
+pub record OperatorAt (test : Bool) (x : Read Operator) (text : List ℕ) (at kind : ℕ) : Type 0 where
+  pub none : kind ≡ 0 → test ≡ false
+  pub sign : (kind ≡ 0 → ⊥) → test ≡ true
+  pub stands : (kind ≡ 0 → ⊥) → Stands x text at kind
 
--- `*` or `/` at a place, 0 for none
-pub record ProductAt (text : List ℕ) (at kind : ℕ) : Type 0 where
-  pub none : kind ≡ 0 → (begins (bytes "*") (drop at text) || begins (bytes "/") (drop at text)) ≡ false
-  pub sign : (kind ≡ 0 → ⊥) → (begins (bytes "*") (drop at text) || begins (bytes "/") (drop at text)) ≡ true
-  pub stands : (kind ≡ 0 → ⊥) → Stands (productOperator (drop at text)) text at kind
+-- `+` or `-`
+abbrev pub SumAt : (text : List ℕ) (at kind : ℕ) → Type 0
+SumAt text at = OperatorAt (isSign (drop at text)) (sumOperator (drop at text)) text at
+
+-- `*` or `/`
+abbrev pub ProductAt : (text : List ℕ) (at kind : ℕ) → Type 0
+ProductAt text at =
+    OperatorAt (begins (bytes "*") (drop at text) || begins (bytes "/") (drop at text)) (productOperator (drop at text)) text at
 
 -- one cell is written as the next item
 pub record PutsCell (table : List ℕ) (c : Cursor) (v : Table.Cell) (table′ : List ℕ) (d : Cursor) : Type 0 where

@@ -3,7 +3,7 @@
 use mathlib.Core.Bool.{Bool, true, false}
 use mathlib.Core.List.{List, [], _∷_, _++_, append-nil, map, map-append}
 use mathlib.Core.Path.{_≡_, refl, sym, ap, ap₂, subst, _∙_}
-use Prim.Native.Nat.{ℕ, suc, _+_, _-_, _/_, _^_, _≤_, _<_}
+use Prim.Native.Nat.{ℕ, _+_, _-_, _/_, _^_, _≤_, _<_}
 use native.Mathlib.Nat.{add-zero, zero-add}
 use native.Mathlib.Omega.{arith}
 use lib.IntN.{pos}
@@ -32,7 +32,7 @@ use Rattle.met.specs.declared.Cursor.{Cursor}
 use Rattle.packer.specs.Keys.{keyOf, isKeyByte}
 use Rattle.words.specs.Laws.{name-is, name-keys}
 use Rattle.words.specs.Places.{NameAt}
-use Rattle.numeric.specs.Operands.{Onward, moved, Skips, Ready, Noting, Gets, StringTag, Names, NameAnswer, NameRead}
+use Rattle.numeric.specs.Operands.{moved, Skips, Ready, Noting, Gets, StringTag, Names, NameAnswer, NameRead}
 use Rattle.numeric.specs.Operands.{PlaceAnswer, PlaceRead, CellAnswer, CellRead, meaning, placedIn, ConstantRead, Inside, closedBy}
 use Rattle.numeric.specs.declared.operands.Cell.{Cell}
 use Rattle.numeric.specs.declared.operands.Name as NameCode
@@ -164,7 +164,7 @@ skipped c n e =
     }
 
 -- nothing was met before
-nothing-met : (m : Met) → both nothing m ≡ m
+pub nothing-met : (m : Met) → both nothing m ≡ m
 unfolding both nothing
 nothing-met m =
     λ t.

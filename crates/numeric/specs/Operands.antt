@@ -16,7 +16,7 @@ use Rattle.language.specs.Reading.{Read, got, broken, give}
 use Rattle.language.specs.Words as Words
 use Rattle.language.specs.Words.{unsigned, numberName, stringName, bound, partName}
 use Rattle.met.specs.Entries.{Entry, entry, roleOf, metIn}
-use Rattle.met.specs.Known.{Counted, placesIn}
+use Rattle.met.specs.Known.{placesIn}
 use Rattle.met.specs.declared.Cursor.{Cursor}
 use Rattle.packer.specs.Keys.{keyOf, isKeyByte}
 use Rattle.numeric.specs.declared.operands.Cell.{Cell}

@@ -7,7 +7,7 @@ use Prim.Native.Nat.{ℕ, _+_, _≤_}
 use lib.Dec.{eqb}
 use lib.ListN.{length, drop}
 use Rattle.base.specs.Edition.{edition1}
-use Rattle.language.specs.Fuel.{expressionFrom, moreTermsFrom, termFrom, moreFactorsFrom, factorFrom}
+use Rattle.language.specs.Fuel.{expressionFrom, termFrom, factorFrom}
 use Rattle.language.specs.Program.{Item, operator, sign, plus, minus, times, over, positive, negative}
 use Rattle.language.specs.Reading.{Read, got, broken}
 use Rattle.met.specs.Entries.{Entry, metIn}
@@ -63,13 +63,3 @@ TermRead text known table keys tags c depth =
 abbrev pub FactorRead : (text known table keys tags : List ℕ) (c : Cursor) (depth : ℕ) → Outcome → (table′ keys′ tags′ : List ℕ) → Type 0
 FactorRead text known table keys tags c depth =
     ItemsRead [] text table keys tags c (factorFrom edition1 (placesIn known) depth (drop (c .at) text))
-
-abbrev pub MoreTermsRead : (text known table keys tags : List ℕ) (c : Cursor) (depth : ℕ) → Outcome → (table′ keys′ tags′ : List ℕ) → Type 0
-MoreTermsRead text known table keys tags c depth r table′ keys′ tags′ =
-    (before : List Item)
-    → ItemsRead before text table keys tags c (moreTermsFrom edition1 (placesIn known) depth before (drop (c .at) text)) r table′ keys′ tags′
-
-abbrev pub MoreFactorsRead : (text known table keys tags : List ℕ) (c : Cursor) (depth : ℕ) → Outcome → (table′ keys′ tags′ : List ℕ) → Type 0
-MoreFactorsRead text known table keys tags c depth r table′ keys′ tags′ =
-    (before : List Item)
-    → ItemsRead before text table keys tags c (moreFactorsFrom edition1 (placesIn known) depth before (drop (c .at) text)) r table′ keys′ tags′

@@ -18,7 +18,7 @@ ghost use Rattle.calls.specs.Table.{cell};
 ghost use Rattle.met.specs.Known.{Counted};
 ghost use Rattle.numeric.specs.Operands.{Ready};
 ghost use Rattle.numeric.specs.Kinds.{SignAt, SumAt, ProductAt, PutsCell, Puts, OperandWritten, Within, closes};
-ghost use Rattle.numeric.specs.Reads.{waiting, FactorRead, ExpressionRead, TermRead, MoreTermsRead, MoreFactorsRead};
+ghost use Rattle.numeric.specs.Reads.{waiting, FactorRead, ExpressionRead, TermRead};
 
 // how deep parentheses go
 const DEEPEST: usize = 16;
@@ -144,7 +144,7 @@ fn pass_closing(text: &[u8], r: Outcome) -> Outcome
     }
 }
 
-// an expression at a depth of parentheses: the sign of its first term stands behind that term
+// an expression at a depth of parentheses: each operator, and the sign of the first term, is written behind the term it stands before
 pub fn expression(
     text: &[u8],
     known: &[u64; KNOWN],
@@ -159,45 +159,23 @@ pub fn expression(
     requires { ⌜ 28672 ≤ length (now table) ⌝ }
     ensures { λ r. ⌜ ExpressionRead (now (text .entry)) (now (known .entry)) (now (table .entry)) (now (keys .entry)) (now (tags .entry)) c depth r (now (table .exit)) (now (keys .exit)) (now (tags .exit)) ⌝ }
 {
-    let kind = sign_kind(text, c.at);
-    match term(text, known, table, keys, tags, skip(c, size(kind)), depth) {
-        Outcome::Broken => Outcome::Broken,
-        Outcome::Got(d) => {
-            let e = put_kind(table, d, kind);
-            more_terms(text, known, table, keys, tags, e, depth)
+    // what waits for the next term
+    let mut kind = sign_kind(text, c.at);
+    let mut d = skip(c, size(kind));
+    loop {
+        let Outcome::Got(e) = term(text, known, table, keys, tags, d, depth) else {
+            return Outcome::Broken;
+        };
+        let f = put_kind(table, e, kind);
+        kind = sum_kind(text, f.at);
+        if kind == 0 {
+            return Outcome::Got(f);
         }
+        d = skip(f, 1);
     }
 }
 
-// further terms, each before its operator
-fn more_terms(
-    text: &[u8],
-    known: &[u64; KNOWN],
-    table: &mut [u8],
-    keys: &mut [u64; NAMES],
-    tags: &mut [u8; NAMES],
-    c: Cursor,
-    depth: usize,
-) -> Outcome
-    requires { ⌜ Ready (now text) (now keys) (now tags) c ⌝ }
-    requires { ⌜ Counted (now known) ⌝ }
-    requires { ⌜ 28672 ≤ length (now table) ⌝ }
-    ensures { λ r. ⌜ MoreTermsRead (now (text .entry)) (now (known .entry)) (now (table .entry)) (now (keys .entry)) (now (tags .entry)) c depth r (now (table .exit)) (now (keys .exit)) (now (tags .exit)) ⌝ }
-{
-    let kind = sum_kind(text, c.at);
-    if kind == 0 {
-        return Outcome::Got(c);
-    }
-    match term(text, known, table, keys, tags, skip(c, 1), depth) {
-        Outcome::Broken => Outcome::Broken,
-        Outcome::Got(d) => {
-            let e = put_kind(table, d, kind);
-            more_terms(text, known, table, keys, tags, e, depth)
-        }
-    }
-}
-
-// a factor, and further ones
+// a term: each operator is written behind the factor it stands before
 fn term(
     text: &[u8],
     known: &[u64; KNOWN],
@@ -212,37 +190,19 @@ fn term(
     requires { ⌜ 28672 ≤ length (now table) ⌝ }
     ensures { λ r. ⌜ TermRead (now (text .entry)) (now (known .entry)) (now (table .entry)) (now (keys .entry)) (now (tags .entry)) c depth r (now (table .exit)) (now (keys .exit)) (now (tags .exit)) ⌝ }
 {
-    match factor(text, known, table, keys, tags, c, depth) {
-        Outcome::Broken => Outcome::Broken,
-        Outcome::Got(d) => more_factors(text, known, table, keys, tags, d, depth),
-    }
-}
-
-// further factors, each before its operator
-fn more_factors(
-    text: &[u8],
-    known: &[u64; KNOWN],
-    table: &mut [u8],
-    keys: &mut [u64; NAMES],
-    tags: &mut [u8; NAMES],
-    c: Cursor,
-    depth: usize,
-) -> Outcome
-    requires { ⌜ Ready (now text) (now keys) (now tags) c ⌝ }
-    requires { ⌜ Counted (now known) ⌝ }
-    requires { ⌜ 28672 ≤ length (now table) ⌝ }
-    ensures { λ r. ⌜ MoreFactorsRead (now (text .entry)) (now (known .entry)) (now (table .entry)) (now (keys .entry)) (now (tags .entry)) c depth r (now (table .exit)) (now (keys .exit)) (now (tags .exit)) ⌝ }
-{
-    let kind = product_kind(text, c.at);
-    if kind == 0 {
-        return Outcome::Got(c);
-    }
-    match factor(text, known, table, keys, tags, skip(c, 1), depth) {
-        Outcome::Broken => Outcome::Broken,
-        Outcome::Got(d) => {
-            let e = put_kind(table, d, kind);
-            more_factors(text, known, table, keys, tags, e, depth)
+    // what waits for the next factor: nothing at first
+    let mut kind = 0;
+    let mut d = c;
+    loop {
+        let Outcome::Got(e) = factor(text, known, table, keys, tags, d, depth) else {
+            return Outcome::Broken;
+        };
+        let f = put_kind(table, e, kind);
+        kind = product_kind(text, f.at);
+        if kind == 0 {
+            return Outcome::Got(f);
         }
+        d = skip(f, 1);
     }
 }
 
