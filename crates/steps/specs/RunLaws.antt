@@ -168,6 +168,40 @@ pub ended-as : {r : RunCalled} {number n : ℕ} {result given should : List ℕ}
     → (n ≡ number) × (result ≡ given) → RunPromise r number should left → RunPromise r n result left
 ended-as same is p = rw (is .0, is .1, same) p
 
+-- of a run of one step: before it the buffers are those that were given, behind it the answer is the step's
+pub record Alone (table input : List ℕ) (first : Buffers) (steps : ℕ) (answer : List ℕ) (b : Buffers) : Type 0 where
+  pub none : steps ≡ 0 → b ≡ first
+  pub one : steps ≡ 1 → Answers (stepCall edition1 table input first) 0 answer b
+
+pub alone-none : (table input : List ℕ) (b : Buffers) (answer : List ℕ) → Alone table input b 0 answer b
+alone-none table input b answer = record { none = λ _. refl; one = λ e. absurd (omega (arith, e)) }
+
+module _ (table input : List ℕ) (first : Buffers) (steps : ℕ) (answer : List ℕ) (b : Buffers) (r : Alone table input first steps answer b) where
+  -- the step that is made next
+  module _ (number : ℕ) (answer′ : List ℕ) (left : Buffers) (a : Answers (stepCall edition1 table input b) number answer′ left) where
+    first-answers : steps ≡ 0 → (n : ℕ) → n ≡ number → Answers (stepCall edition1 table input first) n answer′ left
+    first-answers e n is =
+        subst (λ (c : Buffers). Answers (stepCall edition1 table input c) n answer′ left) (r .none e)
+        (record { number-is = is ∙ a .number-is; answer-is = a .answer-is; left-is = a .left-is })
+
+    pub alone-ends : (count : ℕ) → steps < count → (n : ℕ) → n ≡ number → count ≡ 1
+        → Answers (stepCall edition1 table input first) n answer′ left
+    alone-ends count below n is one = first-answers (omega (arith, below, one)) n is
+
+    pub alone-more : number ≤ 0 → Alone table input first (steps + 1) answer′ left
+    alone-more zero =
+        record {
+          none = λ e. absurd (omega (arith, e));
+          one = λ e. first-answers (omega (arith, e)) 0 (omega (arith, zero));
+        }
+
+  -- no step is left
+  pub alone-spent : (count : ℕ) → steps ≤ count → (steps < count → ⊥) → (n : ℕ) → n ≡ 0 → count ≡ 1
+      → Answers (stepCall edition1 table input first) n answer b
+  alone-spent count most above n is one =
+      let a = r .one (omega (arith, most, above, one)) in
+      record { number-is = is ∙ a .number-is; answer-is = a .answer-is; left-is = a .left-is }
+
 -- a step more
 module _ (table input : List ℕ) (first : Buffers) (count steps notes : ℕ) (b : Buffers) (r : Repeats table input first count steps notes b)
     (number : ℕ) (answer : List ℕ) (left : Buffers) (a : Answers (stepCall edition1 table input b) number answer left)

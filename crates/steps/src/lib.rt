@@ -18,10 +18,6 @@ ghost use Rattle.scanstep.specs.Scans.{Lent};
 ghost use Rattle.steps.specs.Contracts.{Given, Going, WorksOn, carriedOut, Concludes, Answers, unfitNumber};
 ghost use Rattle.steps.specs.Promises.{StepPromise};
 use crate::scans::LONGEST;
-use crate::scans::NAMES_SIZE;
-use crate::scans::ROWS_SIZE;
-use crate::scans::STORE_SIZE;
-use crate::scans::VALUES_SIZE;
 use rows::Statement;
 use statements::Did;
 
@@ -261,44 +257,7 @@ pub fn unfit(table: &[u8], store: &[u8], state: &[u64; 64], input: usize, output
     0
 }
 
-// A step by itself, with buffers of its own for its work.
-fn step_alone(
-    table: &[u8],
-    store: &mut [u8],
-    state: &mut [u64; 64],
-    input: &[u8],
-    output: &mut [u8],
-    answer: &mut [u32; 24],
-) -> u32
-    requires { ⌜ Given (now table) (now input) (lent (now store) (now state) (now output)) ⌝ }
-    ensures { λ r. ⌜ Answers (stepCall edition1 (now (table .entry)) (now (input .entry)) (lent (now (store .entry)) (now (state .entry)) (now (output .entry))))
-        r (now (answer .exit)) (lent (now (store .exit)) (now (state .exit)) (now (output .exit))) ⌝ }
-{
-    let mut kept = [0u8; STORE_SIZE];
-    let mut values = [0u8; VALUES_SIZE];
-    let mut rows = [0u8; ROWS_SIZE];
-    let mut names = [0u8; NAMES_SIZE];
-    let mut reference = [0u8; LONGEST];
-    let mut scratch = [0u8; LONGEST];
-    let mut out = [0u8; LONGEST];
-    step_on(
-        table,
-        store,
-        state,
-        input,
-        output,
-        &mut kept,
-        &mut values,
-        &mut rows,
-        &mut names,
-        &mut reference,
-        &mut scratch,
-        &mut out,
-        answer,
-    )
-}
-
-// The step call.
+// The step call: a run of one step.
 #[no_mangle]
 pub extern "C" fn strigol_step(
     table: &[u8],
@@ -315,5 +274,6 @@ pub extern "C" fn strigol_step(
     if 0 < n {
         return turn_down(n, answer);
     }
-    step_alone(table, store, state, input, output, answer)
+    let mut result = [0u64; 4];
+    run::repeat(table, store, state, input, output, 1, &mut result, answer)
 }

@@ -4,9 +4,9 @@ ghost use mathlib.Core.Path.{_≡_};
 ghost use lib.Dec.{eqb};
 ghost use lib.ListN.{getD};
 ghost use Rattle.base.specs.Edition.{edition1};
-ghost use Rattle.calls.specs.Calls.{runCall};
+ghost use Rattle.calls.specs.Calls.{runCall, stepCall};
 ghost use Rattle.carry.specs.Carrying.{lent};
-ghost use Rattle.steps.specs.Contracts.{Given};
+ghost use Rattle.steps.specs.Contracts.{Given, Answers};
 ghost use Rattle.steps.specs.Promises.{RunPromise};
 use crate::NOTES;
 use crate::scans::LONGEST;
@@ -54,8 +54,8 @@ fn end(result: &mut [u64; 4], outcome: u64, number: u32, steps: u32, notes: u64)
     number
 }
 
-// so many steps on buffers that only the machine itself can turn down, unless one ends the run
-fn repeat(
+// So many steps on buffers that only the machine itself can turn down, unless one ends the run; the answer is that of the last.
+pub fn repeat(
     table: &[u8],
     store: &mut [u8],
     state: &mut [u64; 64],
@@ -63,10 +63,13 @@ fn repeat(
     output: &mut [u8],
     count: u32,
     result: &mut [u64; 4],
+    answer: &mut [u32; 24],
 ) -> u32
     requires { ⌜ Given (now table) (now input) (lent (now store) (now state) (now output)) ⌝ }
     ensures { λ r. ⌜ RunPromise (runCall edition1 (now (table .entry)) (now (input .entry)) count (lent (now (store .entry)) (now (state .entry)) (now (output .entry))))
         r (now (result .exit)) (lent (now (store .exit)) (now (state .exit)) (now (output .exit))) ⌝ }
+    ensures { λ r. ⌜ (count ≡ 1 → Answers (stepCall edition1 (now (table .entry)) (now (input .entry)) (lent (now (store .entry)) (now (state .entry)) (now (output .entry))))
+        r (now (answer .exit)) (lent (now (store .exit)) (now (state .exit)) (now (output .exit)))) ⌝ }
 {
     let mut kept = [0u8; STORE_SIZE];
     let mut values = [0u8; VALUES_SIZE];
@@ -75,7 +78,6 @@ fn repeat(
     let mut reference = [0u8; LONGEST];
     let mut scratch = [0u8; LONGEST];
     let mut out = [0u8; LONGEST];
-    let mut answer = [0u32; 24];
     let mut done: u32 = 0;
     let mut notes: u64 = 0;
     while done < count {
@@ -92,9 +94,9 @@ fn repeat(
             &mut reference,
             &mut scratch,
             &mut out,
-            &mut answer,
+            answer,
         );
-        let more = notes + (notes_of(&answer) as u64);
+        let more = notes + (notes_of(answer) as u64);
         if FIRST_STOP <= n {
             return end(result, STOPPED, n, done + 1, more);
         }
@@ -131,5 +133,15 @@ pub extern "C" fn strigol_run(
     if 0 < n {
         return end(result, REFUSED, n, 0, 0);
     }
-    repeat(table, store, state, input, output, count, result)
+    let mut answer = [0u32; 24];
+    repeat(
+        table,
+        store,
+        state,
+        input,
+        output,
+        count,
+        result,
+        &mut answer,
+    )
 }

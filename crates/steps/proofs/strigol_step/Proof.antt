@@ -1,5 +1,5 @@
 -- `strigol_step` meets its contract: buffers that are unfit are turned down, others are given to the machine. Assumes nothing.
-use mathlib.Core.Path.{_≡_, _∙_}
+use mathlib.Core.Path.{_≡_, refl, _∙_}
 use native.Mathlib.Omega.{arith}
 use borrow.Author.Needs.{needs}
 use Rattle.carry.specs.Carrying.{lent}
@@ -25,11 +25,12 @@ returns c =
     (unfit-answers (a .table .now) (a .input .now) b (c .before .before .before .unfit .result) (c .before .before .before .unfit .ensures .0) (c .before .before .if1 .taken) _ _ (c .turn-down .ensures .0)
     (c .turn-down .ensures .1))
 
-step-alone-requires : tie.Need-step-alone-requires
-step-alone-requires c κs =
-    let a = c .before .before .before .before .before .before .before .before .before .before .before .before .args in
-    let none : 0 ≡ c .before .before .before .before .before .unfit .result = omega (arith, c .before .before .before .before .if1 .left) in
-    fit-given (a .table .now) (a .input .now) (lent (a .store .now) (a .state .now) (a .output .now)) (none ∙ c .before .before .before .before .before .unfit .ensures .0) (c .before .before .before .before .before .unfit .ensures .1)
+repeat-requires : tie.Need-repeat-requires
+repeat-requires c κs =
+    let a = c .before .before .before .before .before .before .before .before .before .before .before .before .before .args in
+    let fit = c .before .before .before .before .before .before .unfit in
+    let none : 0 ≡ fit .result = omega (arith, c .before .before .before .before .before .if1 .left) in
+    fit-given (a .table .now) (a .input .now) (lent (a .store .now) (a .state .now) (a .output .now)) (none ∙ fit .ensures .0) (fit .ensures .1)
 
 same-length-2 : tie.Need-same-length-2
 same-length-2 c = search needs
@@ -39,8 +40,8 @@ same-length-3 c = search needs
 
 returns-2 : tie.Need-returns-2
 returns-2 c =
-    let a = c .before .before .before .before .before .before .before .before .before .before .before .before .before .before .before .before .before .args in
-    promised (a .table .now) (a .input .now) (lent (a .store .now) (a .state .now) (a .output .now)) _ _ _ (c .before .before .before .before .step-alone .ensures)
+    let a = c .before .before .before .before .before .before .before .before .before .before .before .before .before .before .before .before .before .before .args in
+    promised (a .table .now) (a .input .now) (lent (a .store .now) (a .state .now) (a .output .now)) _ _ _ (c .before .before .before .before .repeat .ensures .1 refl)
 
 pub strigol-step-spec : {M : Type 1} → statement M
 strigol-step-spec =
@@ -50,7 +51,7 @@ strigol-step-spec =
     turn-down-requires
     same-length
     returns
-    step-alone-requires
+    repeat-requires
     same-length-2
     same-length-3
     returns-2)

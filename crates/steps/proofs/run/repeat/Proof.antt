@@ -10,27 +10,29 @@ use borrow.Author.Needs.{needs}
 use Rattle.carry.specs.Carrying.{lent}
 use Rattle.scanstep.specs.Scans.{Lent}
 use Rattle.steps.specs.Laws.{zeros-lent}
+use Rattle.steps.specs.RunLaws.{Alone, alone-none, alone-ends, alone-more, alone-spent}
 use Rattle.steps.specs.RunLaws.{Repeats, ended-as, repeats-none, repeats-stopped, repeats-refused, repeats-finished, repeats-more, repeats-spent}
 use Rattle.steps.proofs.run.repeat.Statement.{statement}
 use Rattle.steps.proofs.run.repeat.Tie as tie
 
 abbrev Inv-loop : tie.InvT-loop
-Inv-loop table store₀ state₀ input output₀ count result₀ kept₀ values₀ rows₀ names₀ reference₀ scratch₀ out₀ answer₀ done₀ notes₀ store state output result kept values rows names reference scratch out answer done notes =
+Inv-loop table store₀ state₀ input output₀ count result₀ answer₀ kept₀ values₀ rows₀ names₀ reference₀ scratch₀ out₀ done₀ notes₀ store state output result answer kept values rows names reference scratch out done notes =
     Repeats table input (lent store₀ state₀ output₀) count done notes (lent store state output)
     × (lists.length store ≡ lists.length store₀)
     × (lists.length output ≡ lists.length output₀)
     × Lent kept values rows names reference scratch out
     × (lists.length kept ≡ 32832)
+    × Alone table input (lent store₀ state₀ output₀) done answer (lent store state output)
 
 abbrev μ-loop : tie.MeasureT-loop
-μ-loop table store₀ state₀ input output₀ count result₀ kept₀ values₀ rows₀ names₀ reference₀ scratch₀ out₀ answer₀ done₀ notes₀ store state output result kept values rows names reference scratch out answer done notes =
+μ-loop table store₀ state₀ input output₀ count result₀ answer₀ kept₀ values₀ rows₀ names₀ reference₀ scratch₀ out₀ done₀ notes₀ store state output result answer kept values rows names reference scratch out done notes =
     count - done
 
 loop-holds : tie.Need-loop-holds Inv-loop μ-loop
 loop-holds c =
     let a = c .before .before .before .before .args in
     let g = c .before .before .before .before .pre in
-    (repeats-none (a .table .now) (a .input .now) (lent (a .store .now) (a .state .now) (a .output .now)) (a .count) g, refl, refl, zeros-lent, lists.length-replicate {A = ℕ} 32832 0)
+    (repeats-none (a .table .now) (a .input .now) (lent (a .store .now) (a .state .now) (a .output .now)) (a .count) g, refl, refl, zeros-lent, lists.length-replicate {A = ℕ} 32832 0, alone-none (a .table .now) (a .input .now) (lent (a .store .now) (a .state .now) (a .output .now)) (a .answer .now))
 
 slice-aggregate-step-on : tie.Need-slice-aggregate-step-on Inv-loop μ-loop
 slice-aggregate-step-on c = sym (c .before .before .before .before .before .loop .inv .4)
@@ -72,10 +74,14 @@ returns : tie.Need-returns Inv-loop μ-loop
 returns c =
     let a = c .before .before .before .before .before .before .before .before .before .before .before .before .before .before .before .before .before .before .before .before .before .before .before .before .before .before .before .before .before .before .before .args in
     let s = c .before .before .before .before .before .before .before .before .before .before .before .before .before .step-on in
-    let at = c .before .before .before .before .before .before .before .before .before .before .before .before .before .before .before .before .before .before .before .before .before .before .before .before .before .before .loop in
-    ended-as (ap (λ (n : ℕ). 1 ∷ (s .result ∷ ((at .done + 1) ∷ ((at .notes + n) ∷ [])))) (c .before .before .before .notes-of .ensures)) (c .end .ensures)
-    (repeats-stopped (a .table .now) (a .input .now) (lent (a .store .now) (a .state .now) (a .output .now)) (a .count) (at .done) (at .notes)
-    (lent (at .store) (at .state) (at .output)) (at .inv .0) (s .result) _ _ (s .ensures .0) (c .before .before .before .before .before .before .before .before .before .before .before .before .before .before .before .before .before .before .before .before .before .before .before .before .before .loop-test .taken) (c .before .before .if1 .taken))
+    let at = c .before .before .before .before .before .before .before .before .before .before .before .before .before .before .before .before .before .before .before .before .before .before .before .before .before .before .loop in (
+      ended-as (ap (λ (n : ℕ). 1 ∷ (s .result ∷ ((at .done + 1) ∷ ((at .notes + n) ∷ [])))) (c .before .before .before .notes-of .ensures)) (c .end .ensures)
+          (repeats-stopped (a .table .now) (a .input .now) (lent (a .store .now) (a .state .now) (a .output .now)) (a .count) (at .done) (at .notes)
+          (lent (at .store) (at .state) (at .output)) (at .inv .0) (s .result) _ _ (s .ensures .0) (c .before .before .before .before .before .before .before .before .before .before .before .before .before .before .before .before .before .before .before .before .before .before .before .before .before .loop-test .taken) (c .before .before .if1 .taken)),
+      alone-ends (a .table .now) (a .input .now) (lent (a .store .now) (a .state .now) (a .output .now)) (at .done) (at .answer)
+          (lent (at .store) (at .state) (at .output)) (at .inv .5) (s .result) _ _ (s .ensures .0) (a .count) (c .before .before .before .before .before .before .before .before .before .before .before .before .before .before .before .before .before .before .before .before .before .before .before .before .before .loop-test .taken) _
+          (c .end .ensures .0),
+    )
 
 end-requires-2 : tie.Need-end-requires-2 Inv-loop μ-loop
 end-requires-2 c κs = search needs
@@ -90,10 +96,14 @@ returns-2 : tie.Need-returns-2 Inv-loop μ-loop
 returns-2 c =
     let a = c .before .before .before .before .before .before .before .before .before .before .before .before .before .before .before .before .before .before .before .before .before .before .before .before .before .before .before .before .before .before .before .before .args in
     let s = c .before .before .before .before .before .before .before .before .before .before .before .before .before .before .step-on in
-    let at = c .before .before .before .before .before .before .before .before .before .before .before .before .before .before .before .before .before .before .before .before .before .before .before .before .before .before .before .loop in
-    ended-as refl (c .end2 .ensures)
-    (repeats-refused (a .table .now) (a .input .now) (lent (a .store .now) (a .state .now) (a .output .now)) (a .count) (at .done) (at .notes)
-    (lent (at .store) (at .state) (at .output)) (at .inv .0) (s .result) _ _ (s .ensures .0) (c .before .before .before .before .before .before .before .before .before .before .before .before .before .before .before .before .before .before .before .before .before .before .before .before .before .before .loop-test .taken) (c .before .before .before .if1 .left) (c .before .before .if2 .taken))
+    let at = c .before .before .before .before .before .before .before .before .before .before .before .before .before .before .before .before .before .before .before .before .before .before .before .before .before .before .before .loop in (
+      ended-as refl (c .end2 .ensures)
+          (repeats-refused (a .table .now) (a .input .now) (lent (a .store .now) (a .state .now) (a .output .now)) (a .count) (at .done) (at .notes)
+          (lent (at .store) (at .state) (at .output)) (at .inv .0) (s .result) _ _ (s .ensures .0) (c .before .before .before .before .before .before .before .before .before .before .before .before .before .before .before .before .before .before .before .before .before .before .before .before .before .before .loop-test .taken) (c .before .before .before .if1 .left) (c .before .before .if2 .taken)),
+      alone-ends (a .table .now) (a .input .now) (lent (a .store .now) (a .state .now) (a .output .now)) (at .done) (at .answer)
+          (lent (at .store) (at .state) (at .output)) (at .inv .5) (s .result) _ _ (s .ensures .0) (a .count) (c .before .before .before .before .before .before .before .before .before .before .before .before .before .before .before .before .before .before .before .before .before .before .before .before .before .before .loop-test .taken) _
+          (c .end2 .ensures .0),
+    )
 
 add-done : tie.Need-add-done Inv-loop μ-loop
 add-done c = omega (arith, c .before .before .before .before .before .before .before .before .before .before .before .before .before .before .before .before .before .before .before .before .before .before .before .before .loop-test .taken, c .before .before .before .before .before .before .before .before .before .before .before .before .before .before .before .before .before .before .before .before .before .before .before .before .before .before .before .before .before .before .fits .count)
@@ -114,11 +124,15 @@ returns-3 : tie.Need-returns-3 Inv-loop μ-loop
 returns-3 c =
     let a = c .before .before .before .before .before .before .before .before .before .before .before .before .before .before .before .before .before .before .before .before .before .before .before .before .before .before .before .before .before .before .before .before .before .before .before .args in
     let s = c .before .before .before .before .before .before .before .before .before .before .before .before .before .before .before .before .before .step-on in
-    let at = c .before .before .before .before .before .before .before .before .before .before .before .before .before .before .before .before .before .before .before .before .before .before .before .before .before .before .before .before .before .before .loop in
-    ended-as (ap (λ (n : ℕ). 0 ∷ (0 ∷ ((at .done + 1) ∷ ((at .notes + n) ∷ [])))) (c .before .before .before .before .before .before .before .notes-of .ensures)) (c .end3 .ensures)
-    (repeats-finished (a .table .now) (a .input .now) (lent (a .store .now) (a .state .now) (a .output .now)) (a .count) (at .done) (at .notes)
-    (lent (at .store) (at .state) (at .output)) (at .inv .0) (s .result) _ _ (s .ensures .0) (c .before .before .before .before .before .before .before .before .before .before .before .before .before .before .before .before .before .before .before .before .before .before .before .before .before .before .before .before .before .loop-test .taken) (c .before .before .before .before .before .if2 .left)
-    (sym (c .before .before .before .is-finished .ensures) ∙ c .before .before .if3 .taken))
+    let at = c .before .before .before .before .before .before .before .before .before .before .before .before .before .before .before .before .before .before .before .before .before .before .before .before .before .before .before .before .before .before .loop in (
+      ended-as (ap (λ (n : ℕ). 0 ∷ (0 ∷ ((at .done + 1) ∷ ((at .notes + n) ∷ [])))) (c .before .before .before .before .before .before .before .notes-of .ensures)) (c .end3 .ensures)
+          (repeats-finished (a .table .now) (a .input .now) (lent (a .store .now) (a .state .now) (a .output .now)) (a .count) (at .done) (at .notes)
+          (lent (at .store) (at .state) (at .output)) (at .inv .0) (s .result) _ _ (s .ensures .0) (c .before .before .before .before .before .before .before .before .before .before .before .before .before .before .before .before .before .before .before .before .before .before .before .before .before .before .before .before .before .loop-test .taken) (c .before .before .before .before .before .if2 .left)
+          (sym (c .before .before .before .is-finished .ensures) ∙ c .before .before .if3 .taken)),
+      alone-ends (a .table .now) (a .input .now) (lent (a .store .now) (a .state .now) (a .output .now)) (at .done) (at .answer)
+          (lent (at .store) (at .state) (at .output)) (at .inv .5) (s .result) _ _ (s .ensures .0) (a .count) (c .before .before .before .before .before .before .before .before .before .before .before .before .before .before .before .before .before .before .before .before .before .before .before .before .before .before .before .before .before .loop-test .taken) _
+          (omega (arith, c .end3 .ensures .0, c .before .before .before .before .before .if2 .left)),
+    )
 
 loop-less : tie.Need-loop-less Inv-loop μ-loop
 loop-less c = omega (arith, c .before .before .before .before .before .before .before .before .before .before .before .before .before .before .before .before .before .before .before .before .before .before .before .before .before .before .before .loop-test .taken)
@@ -139,6 +153,8 @@ loop-again c =
       s .kept .1 .1 .1 .1 .0 ∙ at .inv .2,
       s .ensures .1,
       s .kept .1 .1 .1 .1 .1 .0 ∙ at .inv .4,
+      alone-more (a .table .now) (a .input .now) b (at .done) (at .answer) (lent (at .store) (at .state) (at .output)) (at .inv .5) (s .result) _ left
+          (s .ensures .0) (c .before .before .before .if2 .left),
     )
 
 end-requires-4 : tie.Need-end-requires-4 Inv-loop μ-loop
@@ -153,10 +169,14 @@ same-length-8 c = c .before .before .before .loop .inv .2
 returns-4 : tie.Need-returns-4 Inv-loop μ-loop
 returns-4 c =
     let a = c .before .before .before .before .before .before .before .before .args in
-    let at = c .before .before .before .loop in
-    ended-as refl (c .end4 .ensures)
-    (repeats-spent (a .table .now) (a .input .now) (lent (a .store .now) (a .state .now) (a .output .now)) (a .count) (at .done) (at .notes)
-    (lent (at .store) (at .state) (at .output)) (at .inv .0) (c .before .before .loop-test .left))
+    let at = c .before .before .before .loop in (
+      ended-as refl (c .end4 .ensures)
+          (repeats-spent (a .table .now) (a .input .now) (lent (a .store .now) (a .state .now) (a .output .now)) (a .count) (at .done) (at .notes)
+          (lent (at .store) (at .state) (at .output)) (at .inv .0) (c .before .before .loop-test .left)),
+      alone-spent (a .table .now) (a .input .now) (lent (a .store .now) (a .state .now) (a .output .now)) (at .done) (at .answer)
+          (lent (at .store) (at .state) (at .output)) (at .inv .5) (a .count) (at .inv .0 .most)
+          (λ below. omega (arith, below, c .before .before .loop-test .left)) _ (c .end4 .ensures .0),
+    )
 
 pub repeat-spec : {M : Type 1} → statement M
 repeat-spec =

@@ -41,9 +41,10 @@ returns-2 c =
 
 repeat-requires : tie.Need-repeat-requires
 repeat-requires c κs =
-    let a = c .before .before .before .before .before .before .before .before .before .before .before .before .before .args in
-    let none : 0 ≡ c .before .before .before .before .before .unfit .result = omega (arith, c .before .before .before .before .if2 .left) in
-    fit-given (a .table .now) (a .input .now) (lent (a .store .now) (a .state .now) (a .output .now)) (none ∙ c .before .before .before .before .before .unfit .ensures .0) (c .before .before .before .before .before .unfit .ensures .1)
+    let a = c .before .before .before .before .before .before .before .before .before .before .before .before .before .before .args in
+    let fit = c .before .before .before .before .before .before .unfit in
+    let none : 0 ≡ fit .result = omega (arith, c .before .before .before .before .before .if2 .left) in
+    fit-given (a .table .now) (a .input .now) (lent (a .store .now) (a .state .now) (a .output .now)) (none ∙ fit .ensures .0) (fit .ensures .1)
 
 same-length-2 : tie.Need-same-length-2
 same-length-2 c = search needs
@@ -52,7 +53,7 @@ same-length-3 : tie.Need-same-length-3
 same-length-3 c = search needs
 
 returns-3 : tie.Need-returns-3
-returns-3 c = c .before .before .before .before .repeat .ensures
+returns-3 c = c .before .before .before .before .repeat .ensures .0
 
 pub strigol-run-spec : {M : Type 1} → statement M
 strigol-run-spec =
