@@ -1,7 +1,7 @@
 -- What holds whichever way a test goes. Assumes nothing.
-use mathlib.Core.Bool.{Bool, true, false, cond, _||_, true≢false}
+use mathlib.Core.Bool.{Bool, true, false, cond, _&&_, _||_, true≢false, and-eq-true-iff}
 use mathlib.Core.Logic.{_⊎_, inl, inr}
-use mathlib.Core.Path.{_≡_, refl}
+use mathlib.Core.Path.{_≡_, refl, sym}
 
 -- what holds of true and of false, where the test comes out so, holds of the test
 pub test-cases : (P : Bool → Type 0) (test : Bool) → (test ≡ true → P true) → (test ≡ false → P false) → P test
@@ -11,6 +11,10 @@ test-cases P false f g = g refl
 -- what holds of each value, where the test chooses it, holds of the one chosen
 pub cond-cases : {A : Type 0} (P : A → Type 0) (test : Bool) {x y : A} → (test ≡ true → P x) → (test ≡ false → P y) → P (cond test x y)
 cond-cases P test {x} {y} = test-cases (λ t. P (cond t x y)) test
+
+-- a conjunction of two true parts is true
+pub both-pass : {a b : Bool} → a ≡ true → b ≡ true → (a && b) ≡ true
+both-pass {a} {b} h g = and-eq-true-iff a b .1 (h, g)
 
 -- a disjunction that is false has two false parts
 pub neither-true : (a b : Bool) → (a || b) ≡ false → (a ≡ false) × (b ≡ false)
@@ -26,3 +30,16 @@ either-true false b h = inr h
 pub true-behind : (a b : Bool) → b ≡ true → (a || b) ≡ true
 true-behind true b h = refl
 true-behind false b h = h
+
+-- two tests that follow from each other are the same
+pub same-truth : (a b : Bool) → (a ≡ true → b ≡ true) → (b ≡ true → a ≡ true) → a ≡ b
+same-truth true b f g = sym (f refl)
+same-truth false true f g = g refl
+same-truth false false f g = refl
+
+-- two disjunctions, pair by pair
+pub or-pairs : (a b c d : Bool) → ((a || b) || (c || d)) ≡ ((a || c) || (b || d))
+or-pairs true b c d = refl
+or-pairs false true true d = refl
+or-pairs false true false d = refl
+or-pairs false false c d = refl

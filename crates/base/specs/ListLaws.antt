@@ -1,18 +1,14 @@
 -- What the tests on lists tell of the lists. Assumes nothing.
-use mathlib.Core.Bool.{Bool, true, false, _&&_, false≢true}
-use mathlib.Core.List.{List, [], _∷_}
+use mathlib.Core.Bool.{Bool, true, false, false≢true, and-eq-true-iff}
+use mathlib.Core.List.{List, [], _∷_, _++_}
 use mathlib.Core.Logic.{_↔_}
 use mathlib.Core.Path.{_≡_, refl, ap₂, subst}
 use Prim.Native.Nat.{ℕ}
 use lib.Dec.{eqb}
 use lib.ListN.{take, length}
 use borrow.Author.Tests.{eqb-true, eq-eqb}
-use Rattle.base.specs.Lists.{same, begins}
-
--- a conjunction that is true has two true parts
-both-true : (a b : Bool) → (a && b) ≡ true → (a ≡ true) × (b ≡ true)
-both-true true b e = (refl, e)
-both-true false b e = absurd (false≢true e)
+use Rattle.base.specs.Choice.{both-pass}
+use Rattle.base.specs.Lists.{same, begins, all}
 
 -- lists that pass the test are equal
 pub same-true : (xs ys : List ℕ) → same xs ys ≡ true → xs ≡ ys
@@ -21,7 +17,7 @@ same-true [] [] e = refl
 same-true [] (y ∷ ys) e = absurd (false≢true e)
 same-true (x ∷ xs) [] e = absurd (false≢true e)
 same-true (x ∷ xs) (y ∷ ys) e =
-    let both = both-true (eqb x y) (same xs ys) e in
+    let both = and-eq-true-iff (eqb x y) (same xs ys) .0 e in
     ap₂ {C = List ℕ} _∷_ (eqb-true x y (both .0)) (same-true xs ys (both .1))
 
 -- a list passes the test with itself
@@ -38,3 +34,11 @@ same-iff xs ys = (same-true xs ys, λ e. subst (λ (zs : List ℕ). same xs zs �
 pub begins-iff : (w ys : List ℕ) → (begins w ys ≡ true) ↔ (take (length w) ys ≡ w)
 unfolding begins
 begins-iff w ys = same-iff (take (length w) ys) w
+
+-- a test that two lists pass is passed by one behind the other
+pub all-append : {A : Type 0} (f : A → Bool) (xs ys : List A) → all f xs ≡ true → all f ys ≡ true → all f (xs ++ ys) ≡ true
+unfolding all
+all-append f [] ys h g = g
+all-append f (x ∷ xs) ys h g =
+    let both = and-eq-true-iff (f x) (all f xs) .0 h in
+    both-pass (both .0) (all-append f xs ys (both .1) g)

@@ -3,22 +3,22 @@ use mathlib.Core.Bool.{true, false}
 use mathlib.Core.List.{List, [], _∷_}
 use mathlib.Core.Path.{_≡_, refl, sym, ap, subst, _∙_}
 use Prim.Native.Nat.{ℕ, _+_}
-use native.Mathlib.Nat.{zero-add}
 use native.Mathlib.Omega.{arith}
-use lib.ListN.{length, drop}
+use lib.ListN.{drop}
 use lib.Seq.{drop-drop}
 use Rattle.base.specs.Edition.{edition1}
 use Rattle.base.specs.Lists.{begins}
 use Rattle.base.specs.Text.{bytes}
 use Rattle.language.specs.Forms.{labelName, branch}
 use Rattle.language.specs.Program as Program
-use Rattle.language.specs.Reading.{label, routine, declaring, naming, purposeNumber, Met, nothing, both}
+use Rattle.language.specs.Reading.{label, routine, declaring, naming, purposeNumber, Met}
 use Rattle.language.specs.Reading.{Read, got, broken, _>>=_, meeting, give, skip}
 use Rattle.language.specs.Words as Words
 use Rattle.language.specs.Words.{nameAs}
 use Rattle.met.specs.Entries.{entry, nameOf, metIn}
 use Rattle.met.specs.EntryLaws.{name-key, used-met, declared-met}
 use Rattle.met.specs.Known.{placesIn}
+use Rattle.met.specs.ReadingLaws.{nothing-met, skip-then, skip-broken}
 use Rattle.met.specs.declared.Cursor.{Cursor}
 use Rattle.numeric.specs.OperandLaws.{name-placed, gets-give, gets-then, gets-skip, skipped, then-broken, chosen}
 use Rattle.numeric.specs.Operands.{Ready, Gets, Names, Skips, moved}
@@ -28,37 +28,6 @@ use Rattle.branches.specs.declared.Branching as BranchingCode
 use Rattle.branches.specs.declared.Branching.{Branching}
 use Rattle.branches.specs.declared.Target as TargetCode
 use Rattle.branches.specs.declared.Target.{Target}
-
--- nothing was met before
-pub nothing-met : (m : Met) → both nothing m ≡ m
-unfolding both nothing
-nothing-met m =
-    λ t.
-    record {
-      declared = m .declared;
-      used = m .used;
-      items = zero-add (m .items) t;
-      rows = m .rows;
-      literals = zero-add (m .literals) t;
-      roles = m .roles;
-    }
-
-pub meeting-nothing : {A : Type 0} (x : Read A) → meeting nothing x ≡ x
-unfolding meeting
-meeting-nothing (got a m rest) = ap (λ (n : Met). got a n rest) (nothing-met m)
-meeting-nothing broken = refl
-
--- behind bytes that stand here, and where they don't
-module _ {A : Type 0} (w bs : List ℕ) (next : Unit {0} × List ℕ → Read A) where
-  pub skip-then : begins w bs ≡ true → (skip w bs >>= next) ≡ next (tt, drop (length w) bs)
-  unfolding skip _>>=_ give
-  skip-then e =
-      ap {B = Read A} (λ y. y >>= next) (chosen {b = true} (give tt (drop (length w) bs)) broken e)
-      ∙ meeting-nothing (next (tt, drop (length w) bs))
-
-  pub skip-broken : begins w bs ≡ false → (skip w bs >>= next) ≡ broken
-  unfolding skip
-  skip-broken e = then-broken next (chosen {b = false} (give tt (drop (length w) bs)) broken e)
 
 -- the answers by their case
 module _ {A : Type 0} {f : A → ℕ} {text keys tags : List ℕ} {c : Cursor} {x : Read A} {r : Target} {k t : List ℕ}

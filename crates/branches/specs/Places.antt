@@ -1,21 +1,20 @@
 -- Labels, routines and numbers found by their keys. Assumes nothing.
-use mathlib.Core.Bool.{Bool, true, false, _||_}
-use mathlib.Core.List.{List, [], _∷_, map}
+use mathlib.Core.Bool.{Bool, true, false, cond}
+use mathlib.Core.List.{List, map}
 use mathlib.Core.Path.{_≡_, refl, sym, ap, ap₂, _∙_}
 use Prim.Native.Nat.{ℕ, zero, suc, _+_, _-_, _≤_, _<_}
+use native.Mathlib.Nat.{add-zero}
 use native.Mathlib.Omega.{arith}
 use lib.Dec.{eqb, ltb}
-use lib.ListN.{length, getD, length-take, length-drop}
-use borrow.Author.Tests.{eqb-true, eq-eqb, ne-eqb, ltb-true, ltb-false, lt-ltb, le-ltb}
+use lib.ListN.{length, take, drop, getD}
+use lib.Seq.{drop-cons}
+use borrow.Author.Tests.{eq-eqb, ne-eqb, lt-ltb, le-ltb}
 use Rattle.base.specs.Choice.{test-cases}
-use Rattle.base.specs.Lists.{same, any}
-use Rattle.base.specs.ListLaws.{same-true, same-refl}
 use Rattle.judgement.specs.Deck.{stepOf, routineNamed}
 use Rattle.judgement.specs.Known.{Routine, isOneOf}
-use Rattle.met.specs.EntryLaws.{key-name}
 use Rattle.met.specs.Entries.{nameOf}
-use Rattle.met.specs.Known.{Counted, numberKeys, keyPlace, labelIn, labelsFrom, routineIn, routinesDown, routinesIn, placesIn}
-use Rattle.packer.specs.Keys.{keyOf}
+use Rattle.met.specs.Known.{numberKeys, keyPlace, labelIn, labelsFrom, labelsIn, routineIn, routinesDown, routinesIn, placesIn}
+use Rattle.met.specs.KnownLaws.{name-same, ltb-suc}
 
 -- whether a name is one of the numbers known
 abbrev pub numberIn : List ℕ → List ℕ → Bool
@@ -26,60 +25,66 @@ abbrev pub routineAt : List ℕ → List ℕ → ℕ → Routine
 routineAt known n zero = record { name = n; entry = 0; exit = 0 }
 routineAt known n (suc i) = routineIn known i
 
+-- what stands in a column of the routines for the i-th, 0 for none
+abbrev pub columnIn : List ℕ → (from i : ℕ) → ℕ
+columnIn known from zero = 0
+columnIn known from (suc i) = getD known (from + i) 0
+
 pub record RoutineFound (known : List ℕ) (key r : ℕ) : Type 0 where
   pub inside : r ≤ getD known 69 0
   pub is : routineNamed (routinesIn known) (nameOf key) ≡ routineAt known (nameOf key) r
 
--- names that keys show are compared by the keys
-pub same-names : (j k : ℕ) → same (nameOf j) (nameOf k) ≡ eqb j k
-same-names j k =
-    test-cases (λ t. same (nameOf j) (nameOf k) ≡ t → t ≡ eqb j k) (same (nameOf j) (nameOf k))
-    (λ _ e. sym (eq-eqb j k (sym (key-name j) ∙ ap keyOf (same-true (nameOf j) (nameOf k) e) ∙ key-name k)))
-    (λ _ e.
-    test-cases (λ t. eqb j k ≡ t → false ≡ t) (eqb j k)
-    (λ _ f. sym e ∙ ap (λ i. same (nameOf j) (nameOf i)) (sym (eqb-true j k f)) ∙ same-refl (nameOf j)) (λ _ _. refl) refl)
-    refl
-
--- labels one by one
+-- the step of a label stands where its key does
 module _ (known : List ℕ) (key : ℕ) where
-  -- the first i of count labels are others
-  pub record LabelsPassed (count i : ℕ) : Type 0 where
-    pub inside : i ≤ count
-    pub is : stepOf (labelsFrom known 0 count) (nameOf key) ≡ stepOf (labelsFrom known i (count - i)) (nameOf key)
+  -- what stands at a place of n from i on, if it is one of them
+  abbrev stepFound : (i n place : ℕ) → ℕ
+  stepFound i n place = cond (ltb place n) (getD known (145 + i + place) 0) 0
 
-  pub labels-none : (count : ℕ) → LabelsPassed count 0
-  labels-none count =
-      let whole : count - 0 ≡ count = omega arith in
-      record { inside = omega arith; is = rw whole }
+  pub label-place : (i n : ℕ) → 80 + i + n ≤ length known
+      → stepOf (labelsFrom known i n) (nameOf key) ≡ stepFound i n (keyPlace key (take n (drop (80 + i) known)))
+  unfolding stepOf labelsFrom labelIn keyPlace
+  label-place i zero h = refl
+  label-place i (suc n) h =
+      let k = getD known (80 + i) 0 in
+      let p = keyPlace key (take n (drop (80 + suc i) known)) in
+      let behind = stepOf (labelsFrom known (suc i) n) (nameOf key) in
+      let next : suc (80 + i) ≡ 80 + suc i = omega arith in
+      let further : 145 + suc i + p ≡ 145 + i + suc p = omega arith in
+      let place : keyPlace key (take (suc n) (drop (80 + i) known)) ≡ elim (eqb key k) [ true ↦ 0 | false ↦ suc p ] =
+      ap (λ (l : List ℕ). keyPlace key (take (suc n) l)) (drop-cons known (80 + i) 0 (omega arith))
+      ∙ ap (λ m. elim (eqb key k) [ true ↦ 0 | false ↦ suc (keyPlace key (take n (drop m known))) ]) next in
+      ap {B = ℕ} (λ t. elim t [ true ↦ getD known (145 + i) 0 | false ↦ behind ]) (name-same key k)
+      ∙ test-cases
+      (λ t. _≡_ {A = ℕ} (elim t [ true ↦ getD known (145 + i) 0 | false ↦ behind ]) (stepFound i (suc n) (elim t [ true ↦ 0 | false ↦ suc p ])))
+      (eqb key k)
+      (λ _. ap₂ (λ (b : Bool) (m : ℕ). cond b (getD known m 0) 0) (sym (lt-ltb 0 (suc n) (omega arith))) (sym (add-zero (145 + i))))
+      (λ _.
+      label-place (suc i) n (omega arith)
+      ∙ ap₂ (λ (b : Bool) (m : ℕ). cond b (getD known m 0) 0) (sym (ltb-suc p n)) further)
+      ∙ sym (ap (stepFound i (suc n)) place)
 
-  module _ (count i : ℕ) (more : i < count) where
-    abbrev behind : ℕ
-    behind = stepOf (labelsFrom known (i + 1) (count - (i + 1))) (nameOf key)
+  -- of all labels: found, or not
+  module _ (size : length known ≡ 326) (few : getD known 68 0 ≤ 65) where
+    abbrev labelled : ℕ
+    labelled = keyPlace key (take (getD known 68 0) (drop 80 known))
 
-    turn : (b : Bool) → eqb key (getD known (80 + i) 0) ≡ b
-        → stepOf (labelsFrom known i (count - i)) (nameOf key) ≡ elim b [ true ↦ getD known (145 + i) 0 | false ↦ behind ]
-    unfolding stepOf labelsFrom labelIn
-    turn b e =
-        let left : count - i ≡ suc (count - (i + 1)) = omega arith in
-        let next : suc i ≡ i + 1 = omega arith in
-        ap (λ m. stepOf (labelsFrom known i m) (nameOf key)) left
-        ∙ ap₂ {C = ℕ}
-        (λ (t : Bool) (m : ℕ). elim t [ true ↦ getD known (145 + i) 0 | false ↦ stepOf (labelsFrom known m (count - (i + 1))) (nameOf key) ])
-        (same-names key (getD known (80 + i) 0) ∙ e) next
+    label-is : placesIn known .label (nameOf key) ≡ stepFound 0 (getD known 68 0) labelled
+    unfolding placesIn labelsIn
+    label-is = label-place 0 (getD known 68 0) (omega arith)
 
-    pub labels-here : LabelsPassed count i → getD known (80 + i) 0 ≡ key
-        → getD known (145 + i) 0 ≡ stepOf (labelsFrom known 0 count) (nameOf key)
-    labels-here p e = sym (p .is ∙ turn true (eq-eqb key (getD known (80 + i) 0) (sym e)))
+    pub label-found : {i : ℕ} → i ≡ labelled → i < getD known 68 0 → getD known (145 + i) 0 ≡ placesIn known .label (nameOf key)
+    label-found {i} e h =
+        sym
+        (label-is
+        ∙ ap (stepFound 0 (getD known 68 0)) (sym e)
+        ∙ ap (λ b. cond b (getD known (145 + i) 0) 0) (lt-ltb i (getD known 68 0) h))
 
-    pub labels-more : LabelsPassed count i → (getD known (80 + i) 0 ≡ key → ⊥) → LabelsPassed count (i + 1)
-    labels-more p f =
-        record { inside = omega arith; is = p .is ∙ turn false (ne-eqb key (getD known (80 + i) 0) (λ e. f (sym e))) }
-
-  pub labels-all : (count i : ℕ) → LabelsPassed count i → count ≤ i → 0 ≡ stepOf (labelsFrom known 0 count) (nameOf key)
-  unfolding stepOf labelsFrom
-  labels-all count i p h =
-      let none : count - i ≡ 0 = omega arith in
-      sym (p .is ∙ ap (λ m. stepOf (labelsFrom known i m) (nameOf key)) none)
+    pub label-none : {i : ℕ} → i ≡ labelled → getD known 68 0 ≤ i → 0 ≡ placesIn known .label (nameOf key)
+    label-none {i} e h =
+        sym
+        (label-is
+        ∙ ap (stepFound 0 (getD known 68 0)) (sym e)
+        ∙ ap (λ b. cond b (getD known (145 + i) 0) 0) (le-ltb i (getD known 68 0) h))
 
 -- routines one by one, the latest first
 module _ (known : List ℕ) (key : ℕ) where
@@ -98,7 +103,7 @@ module _ (known : List ℕ) (key : ℕ) where
   unfolding routineNamed routinesDown routineIn
   turned i b e =
       ap {B = Routine} (λ (t : Bool). elim t [ true ↦ routineIn known i | false ↦ routineNamed (routinesDown known i) (nameOf key) ])
-      (same-names key (getD known (275 + i) 0) ∙ e)
+      (name-same key (getD known (275 + i) 0) ∙ e)
 
   routines-here′ : (i : ℕ) → RoutinesPassed (suc i) → getD known (275 + i) 0 ≡ key → RoutineFound known key (suc i)
   routines-here′ i p e =
@@ -129,46 +134,20 @@ module _ (known : List ℕ) (key : ℕ) where
   routines-all (suc i) h p = absurd (omega arith)
 
   -- what is found, by its number
-  pub entry-none : {r : ℕ} → r ≡ 0 → RoutineFound known key r → 0 ≡ placesIn known .entry (nameOf key)
-  unfolding placesIn
-  entry-none e f = sym (ap (λ (x : Routine). x .entry) (f .is ∙ ap (routineAt known (nameOf key)) e))
-
-  pub entry-found : (r : ℕ) → (r ≡ 0 → ⊥) → RoutineFound known key r → getD known (292 + (r - 1)) 0 ≡ placesIn known .entry (nameOf key)
+  pub entry-found : (r : ℕ) → RoutineFound known key r → columnIn known 292 r ≡ placesIn known .entry (nameOf key)
   unfolding placesIn routineIn
-  entry-found zero h f = absurd (h refl)
-  entry-found (suc i) h f =
-      let same′ : suc i - 1 ≡ i = omega arith in
-      ap (λ j. getD known (292 + j) 0) same′ ∙ sym (ap (λ (x : Routine). x .entry) (f .is))
+  entry-found zero f = sym (ap (λ (x : Routine). x .entry) (f .is))
+  entry-found (suc i) f = sym (ap (λ (x : Routine). x .entry) (f .is))
 
-  pub exit-none : {r : ℕ} → r ≡ 0 → RoutineFound known key r → 0 ≡ placesIn known .exit (nameOf key)
-  unfolding placesIn
-  exit-none e f = sym (ap (λ (x : Routine). x .exit) (f .is ∙ ap (routineAt known (nameOf key)) e))
-
-  pub exit-found : (r : ℕ) → (r ≡ 0 → ⊥) → RoutineFound known key r → getD known (309 + (r - 1)) 0 ≡ placesIn known .exit (nameOf key)
+  pub exit-found : (r : ℕ) → RoutineFound known key r → columnIn known 309 r ≡ placesIn known .exit (nameOf key)
   unfolding placesIn routineIn
-  exit-found zero h f = absurd (h refl)
-  exit-found (suc i) h f =
-      let same′ : suc i - 1 ≡ i = omega arith in
-      ap (λ j. getD known (309 + j) 0) same′ ∙ sym (ap (λ (x : Routine). x .exit) (f .is))
+  exit-found zero f = sym (ap (λ (x : Routine). x .exit) (f .is))
+  exit-found (suc i) f = sym (ap (λ (x : Routine). x .exit) (f .is))
 
-ltb-suc : (a b : ℕ) → ltb (suc a) (suc b) ≡ ltb a b
-ltb-suc a b =
-    test-cases (λ t. ltb a b ≡ t → ltb (suc a) (suc b) ≡ t) (ltb a b) (λ _ e. lt-ltb (suc a) (suc b) (omega (arith, ltb-true a b e)))
-    (λ _ e. le-ltb (suc a) (suc b) (omega (arith, ltb-false a b e))) refl
+-- a column of the routines at a place that is one of theirs, and at none
+pub column-none : (known : List ℕ) (from : ℕ) {i : ℕ} → i ≡ 0 → 0 ≡ columnIn known from i
+column-none known from e = sym (ap (columnIn known from) e)
 
--- a key is among others where its place is
-pub place-among : (key : ℕ) (ks : List ℕ) → ltb (keyPlace key ks) (length ks) ≡ isOneOf (map nameOf ks) (nameOf key)
-unfolding isOneOf any keyPlace
-place-among key [] = refl
-place-among key (k ∷ ks) =
-    test-cases
-    (λ t. eqb key k ≡ t → ltb (elim t [ true ↦ 0 | false ↦ suc (keyPlace key ks) ]) (suc (length ks)) ≡ (t || isOneOf (map nameOf ks) (nameOf key)))
-    (eqb key k) (λ _ _. lt-ltb 0 (suc (length ks)) (omega arith))
-    (λ _ _. ltb-suc (keyPlace key ks) (length ks) ∙ place-among key ks) refl
-    ∙ ap (λ t. t || isOneOf (map nameOf ks) (nameOf key)) (sym (same-names key k))
-
-pub number-among : (known : List ℕ) (key : ℕ) → Counted known → ltb (keyPlace key (numberKeys known)) (getD known 1 0) ≡ numberIn known (nameOf key)
-unfolding numberKeys
-number-among known key counted =
-    let size : length (numberKeys known) ≡ getD known 1 0 = simp (length-take, length-drop) (omega (arith, counted)) in
-    ap (ltb (keyPlace key (numberKeys known))) (sym size) ∙ place-among key (numberKeys known)
+pub column-at : (known : List ℕ) (from i : ℕ) → (i ≡ 0 → ⊥) → getD known (from + (i - 1)) 0 ≡ columnIn known from i
+column-at known from zero h = absurd (h refl)
+column-at known from (suc i) h = let same′ : suc i - 1 ≡ i = omega arith in ap (λ j. getD known (from + j) 0) same′

@@ -1,28 +1,25 @@
 -- How the tests of IF are read, part by part. Assumes nothing.
-use mathlib.Core.Bool.{Bool, true, false, _||_, true≢false}
+use mathlib.Core.Bool.{Bool, true, false, _||_}
 use mathlib.Core.List.{List, [], _∷_}
 use mathlib.Core.Path.{_≡_, refl, sym, ap, ap₂, subst, _∙_}
-use Prim.Native.Nat.{ℕ, suc, _+_, _-_, _^_, _≤_, _<_}
+use Prim.Native.Nat.{ℕ, suc, _+_, _-_, _≤_, _<_}
 use native.Mathlib.Omega.{arith}
-use lib.IntN.{ℤ, pos, negsuc, natAbs}
 use lib.ListN.{length, drop, getD, length-drop}
 use lib.Seq.{drop-drop}
-use borrow.Author.Tests.{ltb-true, le-ltb}
 use Rattle.base.specs.Edition.{edition1}
 use Rattle.base.specs.Lists.{begins}
 use Rattle.base.specs.Text.{bytes}
-use Rattle.calls.specs.Numerals.{bias, biased}
 use Rattle.calls.specs.Splices.{splice-nil}
 use Rattle.calls.specs.Table as Table
 use Rattle.calls.specs.Table.{partCell, operandCell, comparisonNumber, testRow, noCell}
 use Rattle.cards.specs.Bytes.{isDigit}
-use Rattle.convert.specs.Numbers.{limit}
 use Rattle.language.specs.Numeric.{calledOrNumber, comparison, ifOperand, test}
 use Rattle.language.specs.Program as Program
 use Rattle.language.specs.Program.{Comparison, equal, unequal, less, greater, atMost, atLeast, Test, isNull, isNumeric, compares}
 use Rattle.language.specs.Reading.{Met, nothing, Read, got, broken, _>>=_, meeting, give, skip}
 use Rattle.language.specs.Words.{Places, isSign, noRole, stringName, partName}
 use Rattle.met.specs.Entries.{gather, roleOf, metIn}
+use Rattle.met.specs.ReadingLaws.{give-then}
 use Rattle.met.specs.declared.Cursor.{Cursor}
 use Rattle.numeric.specs.OperandLaws.{met-nothing, gets-give, gets-then, gets-skip, skipped, then-broken, chosen, begins-room, ready-moved}
 use Rattle.numeric.specs.OperandLaws.{closed-given, closed-broken, cell-made, place-cell, cell-skip}
@@ -31,24 +28,11 @@ use Rattle.numeric.specs.declared.operands.Cell.{Cell}
 use Rattle.numeric.specs.declared.operands.Operand as OperandCode
 use Rattle.numeric.specs.declared.operands.Operand.{Operand}
 use Rattle.numeric.specs.declared.operands.Place.{Place}
-use Rattle.values.specs.Numbers.{isNegative}
-use Rattle.branches.specs.BranchLaws.{meeting-nothing}
 use Rattle.branches.specs.Rows.{rowMeaning, DraftRead}
 use Rattle.branches.specs.Tests.{SignStands, ComparisonAt, SignedRead, testAlone, testedBy, comparedTo, comparingAt}
 use Rattle.branches.specs.declared.Draft as DraftCode
 use Rattle.branches.specs.declared.Draft.{Draft}
 use Rattle.branches.specs.declared.tests.Sign.{Sign}
-
--- a number as a cell has it
-pub biased-positive : (z : ℤ) {n : ℕ} → isNegative z ≡ false → n ≡ natAbs z → 140_737_488_355_328 + n ≡ biased z
-unfolding isNegative biased bias
-biased-positive (pos m) e h = omega arith
-biased-positive (negsuc m) e h = let z : _≡_ {A = Bool} true false = e in absurd (true≢false z)
-
-pub biased-negative : (z : ℤ) {n : ℕ} → isNegative z ≡ true → natAbs z ≤ limit → n ≡ natAbs z → 140_737_488_355_328 - n ≡ biased z
-unfolding isNegative biased bias
-biased-negative (pos m) e s h = absurd (omega (arith, ltb-true m 0 e))
-biased-negative (negsuc m) e s h = rw (le-ltb (2 ^ 47) (suc m) (omega arith)) (omega arith)
 
 -- a value that is given from a place on
 pub value-got : {A C : Type 0} (f : A → C) (v : A) (w : C) (next : ℕ) {text keys tags : List ℕ} {c : Cursor} {x : Read A} {d : Cursor}
@@ -153,11 +137,6 @@ module _ (text : List ℕ) (at : ℕ) where
                   stands = λ h. absurd (h refl);
                 }
 
--- what follows a value that is given
-given-then : {A B : Type 0} {x : Read A} (v : A) (rest : List ℕ) (next : A × List ℕ → Read B) → x ≡ give v rest → (x >>= next) ≡ next (v, rest)
-unfolding _>>=_ give
-given-then {A} v rest next e = ap (λ (y : Read A). y >>= next) e ∙ meeting-nothing (next (v, rest))
-
 -- behind the left operand
 module _ (p : Places) (a : Program.Operand) where
   pub compared-none : (bs : List ℕ) → comparison bs ≡ broken → comparedTo p a bs ≡ broken
@@ -168,7 +147,9 @@ module _ (p : Places) (a : Program.Operand) where
     compared-is : comparedTo p a (drop (c .at) text)
         ≡ (ifOperand edition1 p (drop (c .at + r .size) text) >>= λ (b, rest). give (compares a (s .which) b) rest)
     unfolding comparedTo
-    compared-is = given-then (s .which) (drop (c .at + r .size) text) _ (s .is)
+    compared-is =
+        let next : Comparison × List ℕ → Read Test = λ (w, rest). ifOperand edition1 p rest >>= λ (b, rest). give (compares a w b) rest in
+        ap (λ (y : Read Comparison). y >>= next) (s .is) ∙ give-then (s .which) (drop (c .at + r .size) text) next
 
     pub compared-broken : ifOperand edition1 p (drop (c .at + r .size) text) ≡ broken → comparedTo p a (drop (c .at) text) ≡ broken
     compared-broken e = compared-is ∙ then-broken _ e

@@ -6,6 +6,9 @@ pub mod tests;
 use met::Cursor;
 use met::KNOWN;
 use met::NAMES;
+use met::tags::LABEL;
+use met::tags::ROUTINE;
+use met::tags::ROUTINE_DECLARED;
 use numeric::operands::Cell;
 use numeric::operands::Name;
 use numeric::operands::read_name;
@@ -15,17 +18,9 @@ use places::next_step;
 use places::routine_entry;
 use places::routine_exit;
 use words::stands_at;
-ghost use Prim.Native.Nat.{_≤_};
 ghost use Rattle.branches.specs.Branches.{LabelRead, EntryRead, ExitRead, FailureRead, TargetsRead, BranchRead};
 ghost use Rattle.met.specs.Known.{Counted};
 ghost use Rattle.numeric.specs.Operands.{Ready};
-
-// the tags of names: the number of their purpose, 8 more if they are declared
-const LABEL: u8 = 1;
-
-const ROUTINE: u8 = 2;
-
-const ROUTINE_DECLARED: u8 = 10;
 
 // a row of the table but for its card: kind, flag, the steps of the branch field, two cells
 pub struct Row {

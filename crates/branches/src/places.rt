@@ -1,43 +1,34 @@
 // The steps that labels and routines lead to, and whether a name is a number's, by the names known.
 // Assumes nothing.
 use met::KNOWN;
-use met::number_place;
+use met::has_key;
+use met::key_place;
+use met::places::ENTRIES;
+use met::places::EXITS;
+use met::places::LABEL_COUNT;
+use met::places::LABEL_KEYS;
+use met::places::LABEL_STEPS;
+use met::places::NEXT;
+use met::places::NUMBER_COUNT;
+use met::places::NUMBER_KEYS;
+use met::places::ROUTINE_COUNT;
+use met::places::ROUTINE_KEYS;
 ghost use mathlib.Core.Path.{_≡_};
-ghost use Rattle.branches.specs.Places.{numberIn, RoutineFound};
+ghost use Prim.Native.Nat.{_+_, _≤_};
+ghost use lib.ListN.{length};
+ghost use Rattle.branches.specs.Places.{numberIn, RoutineFound, columnIn};
 ghost use Rattle.met.specs.Entries.{nameOf};
 ghost use Rattle.met.specs.Known.{Counted, placesIn};
-
-// where the counts and the columns of labels and routines stand among the names known
-const NUMBERS: usize = 1;
-
-const LABELS: usize = 68;
-
-const ROUTINES: usize = 69;
-
-const NEXT: usize = 70;
-
-const LABEL_KEYS_AT: usize = 80;
-
-const LABEL_STEPS_AT: usize = 145;
-
-const ROUTINE_KEYS_AT: usize = 275;
-
-const ENTRIES_AT: usize = 292;
-
-const EXITS_AT: usize = 309;
 
 // the step of a label, 0 for none
 pub fn label_step(known: &[u64; KNOWN], key: u64) -> usize
     requires { ⌜ Counted (now known) ⌝ }
     ensures { λ r. ⌜ r ≡ placesIn (now (known .entry)) .label (nameOf key) ⌝ }
 {
-    let count = known[LABELS] as usize;
-    let mut i: usize = 0;
-    while i < count {
-        if known[LABEL_KEYS_AT + i] == key {
-            return known[LABEL_STEPS_AT + i] as usize;
-        }
-        i += 1;
+    let count = known[LABEL_COUNT] as usize;
+    let i = key_place(known, LABEL_KEYS, count, key);
+    if i < count {
+        return known[LABEL_STEPS + i] as usize;
     }
     0
 }
@@ -47,9 +38,9 @@ fn routine_found(known: &[u64; KNOWN], key: u64) -> usize
     requires { ⌜ Counted (now known) ⌝ }
     ensures { λ r. ⌜ RoutineFound (now (known .entry)) key r ⌝ }
 {
-    let mut i = known[ROUTINES] as usize;
+    let mut i = known[ROUTINE_COUNT] as usize;
     while 0 < i {
-        if known[ROUTINE_KEYS_AT + (i - 1)] == key {
+        if known[ROUTINE_KEYS + (i - 1)] == key {
             return i;
         }
         i -= 1;
@@ -57,16 +48,23 @@ fn routine_found(known: &[u64; KNOWN], key: u64) -> usize
     0
 }
 
+// what stands in a column of the routines for one of them, counted from 1; 0 for none
+fn column_of(known: &[u64; KNOWN], from: usize, i: usize) -> usize
+    requires { ⌜ (length (now known) ≡ 326) × (from + i ≤ 326) ⌝ }
+    ensures { λ r. ⌜ r ≡ columnIn (now (known .entry)) from i ⌝ }
+{
+    if i == 0 {
+        return 0;
+    }
+    known[from + (i - 1)] as usize
+}
+
 // the step behind a routine's ROUTINE, 0 for none
 pub fn routine_entry(known: &[u64; KNOWN], key: u64) -> usize
     requires { ⌜ Counted (now known) ⌝ }
     ensures { λ r. ⌜ r ≡ placesIn (now (known .entry)) .entry (nameOf key) ⌝ }
 {
-    let i = routine_found(known, key);
-    if i == 0 {
-        return 0;
-    }
-    known[ENTRIES_AT + (i - 1)] as usize
+    column_of(known, ENTRIES, routine_found(known, key))
 }
 
 // the step behind a routine's ENDROUTINE, 0 for none
@@ -74,11 +72,7 @@ pub fn routine_exit(known: &[u64; KNOWN], key: u64) -> usize
     requires { ⌜ Counted (now known) ⌝ }
     ensures { λ r. ⌜ r ≡ placesIn (now (known .entry)) .exit (nameOf key) ⌝ }
 {
-    let i = routine_found(known, key);
-    if i == 0 {
-        return 0;
-    }
-    known[EXITS_AT + (i - 1)] as usize
+    column_of(known, EXITS, routine_found(known, key))
 }
 
 // the step behind the statement that is read
@@ -94,5 +88,6 @@ pub fn number_known(known: &[u64; KNOWN], key: u64) -> bool
     requires { ⌜ Counted (now known) ⌝ }
     ensures { λ r. ⌜ r ≡ numberIn (now (known .entry)) (nameOf key) ⌝ }
 {
-    (number_place(known, key) as u64) < known[NUMBERS]
+    let count = known[NUMBER_COUNT] as usize;
+    has_key(known, NUMBER_KEYS, count, key)
 }

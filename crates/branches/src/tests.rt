@@ -2,35 +2,28 @@
 // Assumes nothing.
 use crate::Draft;
 use crate::Row;
-use convert::Int;
-use convert::is_negative;
-use convert::size;
 use met::Cursor;
 use met::KNOWN;
 use met::NAMES;
-use numeric::operands::BIAS;
+use met::tags::STRING;
+use met::with_bias;
 use numeric::operands::Cell;
 use numeric::operands::Operand;
-use numeric::operands::STRING;
 use numeric::operands::placed;
 use numeric::operands::read_called;
 use numeric::operands::read_part;
 use numeric::operands::read_string;
 use numeric::operands::skip;
-use packer::classes::is_digit;
 use words::begins_at;
-use words::byte_at;
+use words::constant_at;
 use words::constants::SignedConstant;
 use words::constants::signed;
-use words::sign_at;
 use words::stands_at;
 ghost use mathlib.Core.List.{List};
 ghost use mathlib.Core.Path.{_≡_};
 ghost use Prim.Native.Nat.{ℕ, _≤_};
 ghost use lib.ListN.{length};
 ghost use Rattle.branches.specs.Tests.{ComparisonAt, SignedRead, IfOperandRead, testedBy, ComparedRead, ComparingRead, TestRead};
-ghost use Rattle.calls.specs.Numerals.{biased};
-ghost use Rattle.convert.specs.Numbers.{InRange};
 ghost use Rattle.met.specs.Known.{Counted};
 ghost use Rattle.numeric.specs.Operands.{Ready, Inside};
 
@@ -65,17 +58,6 @@ fn comparison(text: &[u8], at: usize) -> Sign
     Sign { number: 0, size: 0 }
 }
 
-// a number as a cell has it
-fn value_of(z: Int) -> usize
-    requires { ⌜ InRange z ⌝ }
-    ensures { λ r. ⌜ r ≡ biased (z .value) ⌝ }
-{
-    if is_negative(z) {
-        return BIAS - size(z) as usize;
-    }
-    BIAS + size(z) as usize
-}
-
 // a constant that may have a sign
 fn signed_constant(text: &[u8], c: Cursor) -> Operand
     requires { ⌜ (c .at ≤ length (now text)) × (length (now text) ≤ 32768) ⌝ }
@@ -88,7 +70,7 @@ fn signed_constant(text: &[u8], c: Cursor) -> Operand
             Cell {
                 kind: 4,
                 place: 0,
-                value: value_of(value),
+                value: with_bias(value),
             },
             skip(c, next - at),
         ),
@@ -107,8 +89,7 @@ fn if_operand(
     requires { ⌜ Counted (now known) ⌝ }
     ensures { λ r. ⌜ IfOperandRead (now (text .entry)) (now (known .entry)) (now (keys .entry)) (now (tags .entry)) c r (now (keys .exit)) (now (tags .exit)) ⌝ }
 {
-    let at = c.at;
-    if is_digit(byte_at(text, at)) | sign_at(text, at) {
+    if constant_at(text, c.at) {
         return signed_constant(text, c);
     }
     read_called(text, known, keys, tags, c)

@@ -5,10 +5,10 @@ use mathlib.Core.Option.{Option, none, some}
 use mathlib.Core.Path.{_≡_, refl, sym, _∙_, ap, subst}
 use Prim.Native.Nat.{ℕ, suc, _+_, _^_, _≤_}
 use native.Mathlib.Omega.{arith}
-use lib.Dec.{ltb, eqb}
+use lib.Dec.{ltb}
 use lib.ListN.{length, length-append}
 use borrow.Author.Tests.{ltb-false, lt-ltb, le-leb, ne-eqb}
-use Rattle.base.specs.Choice.{test-cases, neither-true}
+use Rattle.base.specs.Choice.{test-cases, neither-true, both-pass}
 use Rattle.base.specs.Edition.{Edition}
 use Rattle.base.specs.Limits as Limits
 use Rattle.base.specs.Lists.{same, any, all, total}
@@ -32,7 +32,6 @@ use Rattle.calls.specs.Rules.{statementHolds, stepHolds, isFinish, lastF
 use Rattle.calls.specs.Table.{elementsOf, itemsOf, allElements, allItems, allLiterals}
 use Rattle.calls.specs.Yielding.{viewOf, Fit}
 use Rattle.calls.specs.YieldingForms.{FormedOrNone, Distinct, literals-append, statement-yields}
-use Rattle.calls.specs.YieldingWords.{both-pass}
 
 -- names that stand at one place in a list are equal
 index-injective : (ws : List (List ℕ)) (m n : List ℕ) → any (same m) ws ≡ true → any (same n) ws ≡ true → indexOf m ws ≡ indexOf n ws

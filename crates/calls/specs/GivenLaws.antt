@@ -18,8 +18,8 @@ use Rattle.machine.specs.State.{stringAt, numberAt, mostStrings, mostNumbers}
 use Rattle.machine.specs.Step.{mostReturns, turnedDownBy}
 use Rattle.values.specs.Conversion.{longestString}
 use Rattle.values.specs.Numbers.{isInRange}
-use Rattle.calls.specs.BufferLaws.{Good, good-short, count-strings}
-use Rattle.calls.specs.Buffers.{storeSize, storeKeeps, cellsKeep, stateSize, numbersAt, returnsIn, numbersIn, stateKeeps, stateIn}
+use Rattle.calls.specs.BufferLaws.{keeps-good, good-short, count-strings}
+use Rattle.calls.specs.Buffers.{storeKeeps, stateSize, numbersAt, returnsIn, numbersIn, stateKeeps, stateIn}
 use Rattle.calls.specs.Calls.{Buffers, givenIn, outOfRange, stepRefusal}
 use Rattle.calls.specs.Holding.{Holding, all-reverse}
 use Rattle.calls.specs.Invariant.{Sound, unread-any}
@@ -62,13 +62,6 @@ state-in-range e steps input output state h =
       written = leb-true _ _ (five .1);
     }
 
--- the test of a store tells that it is good
-pub good-store : (store : List ℕ) → storeKeeps store ≡ true → Good store
-unfolding storeKeeps storeSize
-good-store store h =
-    let size = and-eq-true-iff (leb 32832 (length store)) (cellsKeep store 0 mostStrings) .0 h .0 in
-    record { size = leb-true 32832 (length store) size; keeps = h }
-
 -- where all pass a test, and what is read behind the last does, each place does
 all-at : {A : Type 0} (f : A → Bool) (l : List A) (d : A) → f d ≡ true → all f l ≡ true → (i : ℕ) → f (getD l i d) ≡ true
 unfolding all
@@ -100,7 +93,7 @@ module _ (e : Edition) (p : Program) (input : List ℕ) (b : Buffers) (size : le
       let zero-held = le-leb 0 (e .limit) (omega arith) in
       record {
         strings = count-strings (b .store);
-        short = good-short (b .store) (good-store (b .store) good);
+        short = good-short (b .store) (keeps-good (b .store) good);
         numbers = length-map numbers unbiased ∙ length-take-le 32 (drop 21 (b .state)) enough;
         held = λ i. leb-true _ _ (all-at (isInRange e) (numbersIn (b .state)) (pos 0) zero-held (facts .numbers) i);
       }

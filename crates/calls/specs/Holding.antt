@@ -1,5 +1,5 @@
 -- The buffers that are left of a machine in range hold it. Assumes nothing.
-use mathlib.Core.Bool.{Bool, true, _&&_, and-eq-true-iff}
+use mathlib.Core.Bool.{Bool, true, and-eq-true-iff}
 use mathlib.Core.List.{List, [], _∷_, _++_, map, reverse, reverseAux, append-assoc, reverse-reverse}
 use mathlib.Core.Path.{_≡_, refl, sym, _∙_, ap, ap₂}
 use Prim.Native.Nat.{ℕ, suc, _+_, _-_, _≤_, _<_}
@@ -9,6 +9,7 @@ use lib.IntN.{ℤ, pos, natAbs}
 use lib.ListN.{length, take, drop, getD, length-append, length-drop, length-map, length-reverse}
 use lib.Seq.{take-at, drop-at, length-take-le}
 use borrow.Author.Tests.{le-leb, lt-ltb}
+use Rattle.base.specs.Choice.{both-pass}
 use Rattle.base.specs.Edition.{Edition}
 use Rattle.base.specs.Lists.{all}
 use Rattle.language.specs.Program.{Program}
@@ -65,9 +66,6 @@ all-onto f (x ∷ l) r h g =
 pub all-reverse : {A : Type 0} (f : A → Bool) (l : List A) → all f l ≡ true → all f (reverse l) ≡ true
 unfolding all
 all-reverse f l h = all-onto f l [] h refl
-
-both-true : {a b : Bool} → a ≡ true → b ≡ true → (a && b) ≡ true
-both-true {a} {b} h g = and-eq-true-iff a b .1 (h, g)
 
 -- numbers small enough are read back
 numbers-back : (zs : List ℤ) → ((i : ℕ) → natAbs (getD zs i (pos 0)) < bias) → map unbiased (map biased zs) ≡ zs
@@ -134,11 +132,11 @@ module _ (e : Edition) (limit : e .limit < bias) (p : Program) (lent : ℕ) (inp
         ap (all (isInRange e)) numbers-left
         ∙ all-everywhere (isInRange e) (c .memory .numbers) (pos 0) held in
         let place : length input - length (c .input) ≤ length input = omega arith in
-        both-true (lt-ltb (c .next) steps (s .next))
-        (both-true (le-leb (length (c .returns)) mostReturns (s .count))
-        (both-true returns
-        (both-true numbers
-        (both-true (le-leb (length input - length (c .input)) (length input) place) (le-leb (length (c .output)) lent (s .written))))))
+        both-pass (lt-ltb (c .next) steps (s .next))
+        (both-pass (le-leb (length (c .returns)) mostReturns (s .count))
+        (both-pass returns
+        (both-pass numbers
+        (both-pass (le-leb (length input - length (c .input)) (length input) place) (le-leb (length (c .output)) lent (s .written))))))
 
   -- what is left of the machine holds it
   pub left-holds : (b : Buffers) → length (b .state) ≡ stateSize → length (b .output) ≡ lent → Holding e p lent input c (leftOf input b c)

@@ -11,7 +11,7 @@ use borrow.Author.Tests.{eqb-true, not-true}
 use Rattle.base.specs.Choice.{test-cases, cond-cases}
 use Rattle.base.specs.Lists.{same, begins, all, isNil}
 use Rattle.base.specs.Text.{bytes}
-use Rattle.cards.specs.Bytes.{between, isLetter, isDigit, isBlank, quote}
+use Rattle.cards.specs.Bytes.{between, isLetter, isDigit, isNameByte, isBlank, quote}
 use Rattle.cards.specs.Packing.{
   Place,
   outside,
@@ -28,7 +28,7 @@ use Rattle.cards.specs.Packing.{
 use Rattle.language.specs.Keywords.{Kind, UNKNOWN, keywords, Leading, longest, isReplacement, leading}
 use Rattle.language.specs.Reading.{Read, got, aLiteral}
 use Rattle.language.specs.Strings.{literalAt}
-use Rattle.language.specs.Words.{run, isNameByte, nameLength}
+use Rattle.language.specs.Words.{run, nameLength}
 
 -- the literals of some bytes are whole
 abbrev pub Whole : List ℕ → Type 0

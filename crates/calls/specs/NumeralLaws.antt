@@ -35,10 +35,6 @@ stands-back t {at} xs ys s =
       here = sym (drop-drop (length xs) at t) ∙ rw (s .here, append-assoc xs ys (s .behind)) (drop-append-seam xs (ys ++ s .behind));
     }
 
--- the bytes in the middle of a list stand at the length of what is before them
-pub stands-between : (before bs after : List ℕ) → Stands (before ++ (bs ++ after)) (length before) bs
-stands-between before bs after = record { behind = after; here = drop-append-seam before (bs ++ after) }
-
 -- the first byte that stands at a place is read there
 pub byte-read : (t : List ℕ) (at b : ℕ) (bs : List ℕ) → Stands t at (b ∷ bs) → getD t at 0 ≡ b
 byte-read t at b bs s = ap (λ (n : ℕ). getD t n 0) (sym (add-zero at)) ∙ sym (getD-drop at t 0 0) ∙ rw (s .here)
@@ -67,18 +63,6 @@ pub number-behind : (k : ℕ) (t : List ℕ) (at n : ℕ) (before after : List �
     → numberAt k t (at + length before) ≡ n
 number-behind k t at n before after h s =
     number-read k t (at + length before) n h (stands-front t (inBytes k n) after (stands-back t before (inBytes k n ++ after) s))
-
--- the bytes of a number between others are read as the number
-pub numberAt-inBytes : (k n : ℕ) (before after : List ℕ) → n < 256 ^ k → numberAt k (before ++ (inBytes k n ++ after)) (length before) ≡ n
-numberAt-inBytes k n before after h =
-    number-read k (before ++ (inBytes k n ++ after)) (length before) n h (stands-between before (inBytes k n) after)
-
--- each byte of a number is one
-pub inBytes-small : (k n i : ℕ) → getD (inBytes k n) i 0 < 256
-unfolding inBytes
-inBytes-small zero n i = omega arith
-inBytes-small (suc k) n zero = omega arith
-inBytes-small (suc k) n (suc i) = inBytes-small k (n / 256) i
 
 -- an integer that is small enough is kept in 6 bytes
 pub biased-small : (z : ℤ) → natAbs z < bias → biased z < 2 ^ 48

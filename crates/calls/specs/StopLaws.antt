@@ -15,11 +15,11 @@ use Rattle.machine.specs.State.{Status, stopped, State, withStatus, mostNumbers
 use Rattle.machine.specs.StepEnds.{stopped-step, turned-down-small}
 use Rattle.machine.specs.Step.{mostReturns, turnedDownBy, step}
 use Rattle.scanning.specs.Call.{noAnswer}
-use Rattle.calls.specs.BufferLaws.{good-image}
+use Rattle.calls.specs.BufferLaws.{good-image, keeps-good}
 use Rattle.calls.specs.Buffers.{storeKeeps, stateSize, returnsAt, numbersAt, statusNumber, returnsIn, numbersIn}
 use Rattle.calls.specs.Buffers.{stateKeeps, stateIn, storeLeft, stateLeft, outputLeft}
 use Rattle.calls.specs.Calls.{Buffers, StepCalled, givenIn, outOfRange, stepRefusal, carried, stepCall}
-use Rattle.calls.specs.GivenLaws.{StateInRange, state-in-range, good-store, Unrefused, unrefused}
+use Rattle.calls.specs.GivenLaws.{StateInRange, state-in-range, Unrefused, unrefused}
 use Rattle.calls.specs.Holding.{leftOf}
 use Rattle.calls.specs.NumeralLaws.{biased-unbiased}
 use Rattle.calls.specs.Numerals.{biased, unbiased}
@@ -89,7 +89,7 @@ pub left-same : (e : Edition) (steps : ℕ) (input : List ℕ) (b : Buffers) (x 
 unfolding storeLeft withStatus stateIn held
 left-same e steps input b x size good range =
     let facts = state-in-range e steps (length input) (length (b .output)) (b .state) range in
-    let stores = good-image (b .store) (good-store (b .store) good) in
+    let stores = good-image (b .store) (keeps-good (b .store) good) in
     let states = state-same e steps (b .store) (b .state) input (b .output) size facts x in
     let outputs = output-same e steps (b .store) (b .state) input (b .output) size facts x in
     λ i. record { store = stores i; state = states i; output = outputs i }

@@ -90,7 +90,7 @@ length-itemRows [] = refl
 length-itemRows (x ∷ xs) = simp (length-append, length-cellBytes, length-itemRows xs) (omega arith)
 
 -- the bytes of the header
-length-header : (p : Program) → length (header p) ≡ 14
+pub length-header : (p : Program) → length (header p) ≡ 14
 unfolding header inBytes
 length-header p = refl
 

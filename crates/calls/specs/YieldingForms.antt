@@ -9,7 +9,7 @@ use native.Mathlib.Omega.{arith}
 use lib.Dec.{ltb, eqb}
 use lib.ListN.{length, drop, length-append, length-map}
 use borrow.Author.Tests.{lt-ltb}
-use Rattle.base.specs.Choice.{test-cases, neither-true}
+use Rattle.base.specs.Choice.{test-cases, neither-true, both-pass}
 use Rattle.base.specs.Edition.{Edition}
 use Rattle.base.specs.Lists.{same, all, begins, total}
 use Rattle.base.specs.Text.{bytes}
@@ -58,7 +58,7 @@ use Rattle.calls.specs.Yielding.{View, viewOf, noView, join, Fit, Yields
 use Rattle.calls.specs.Yielding.{yields-map, yields-next, yields-after, yields-give, yields-if, yields-skip, yields-finished}
 use Rattle.calls.specs.YieldingNumeric.{yields-numericExpression}
 use Rattle.calls.specs.YieldingStrings.{ElementRow, Inner, Apart, yields-listOf, yields-stringExpression, yields-pattern}
-use Rattle.calls.specs.YieldingWords.{both-pass, yields-naming, yields-declaring, yields-numberName, yields-partName, yields-part}
+use Rattle.calls.specs.YieldingWords.{yields-naming, yields-declaring, yields-numberName, yields-partName, yields-part}
 use Rattle.calls.specs.YieldingWords.{yields-test}
 
 -- a statement, met with its elements, items and literal bytes

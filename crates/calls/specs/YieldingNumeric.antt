@@ -1,6 +1,6 @@
 -- What a numeric expression yields: as many items as were met, all in range, that add one number and never keep more than 64 waiting.
 -- Assumes nothing.
-use mathlib.Core.Bool.{Bool, true, _||_, and-eq-true-iff}
+use mathlib.Core.Bool.{true, _||_}
 use mathlib.Core.List.{List, [], _∷_, _++_, append-assoc, append-nil}
 use mathlib.Core.Path.{_≡_, refl, sym, _∙_, ap, subst}
 use Prim.Native.Nat.{ℕ, zero, suc, _+_, _*_, _-_, _≤_}
@@ -8,6 +8,8 @@ use native.Mathlib.Omega.{arith}
 use lib.Dec.{ltb}
 use lib.ListN.{length, drop, length-append}
 use borrow.Author.Tests.{ltb-true, lt-ltb, le-leb}
+use Rattle.base.specs.Choice.{both-pass}
+use Rattle.base.specs.ListLaws.{all-append}
 use Rattle.base.specs.Edition.{Edition}
 use Rattle.base.specs.Lists.{all, begins, total}
 use Rattle.base.specs.Text.{bytes}
@@ -23,15 +25,7 @@ use Rattle.calls.specs.Literals.{Whole, whole-behind}
 use Rattle.calls.specs.Rules.{mostWaiting, balanced, itemHolds}
 use Rattle.calls.specs.Yielding.{View, view, viewOf, join, Yields, yields, breaks}
 use Rattle.calls.specs.Yielding.{yields-map, yields-next, yields-after, yields-give, yields-if, yields-skip}
-use Rattle.calls.specs.YieldingWords.{both-pass, yields-plainFactor}
-
--- what passes a test in two lists passes it in one behind the other
-pub all-append : {A : Type 0} (f : A → Bool) (xs ys : List A) → all f xs ≡ true → all f ys ≡ true → all f (xs ++ ys) ≡ true
-unfolding all
-all-append f [] ys h g = g
-all-append f (x ∷ xs) ys h g =
-    let parts = and-eq-true-iff (f x) (all f xs) .0 h in
-    both-pass (parts .0) (all-append f xs ys (parts .1) g)
+use Rattle.calls.specs.YieldingWords.{yields-plainFactor}
 
 -- Items at this depth of parentheses that add one number to those known, where there is room for c more besides two for each depth
 -- further in.

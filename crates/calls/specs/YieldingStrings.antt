@@ -9,6 +9,7 @@ use lib.Dec.{leb, ltb, eqb}
 use lib.IntN.{pos}
 use lib.ListN.{length, drop, getD, length-append}
 use borrow.Author.Tests.{le-leb}
+use Rattle.base.specs.Choice.{both-pass}
 use Rattle.base.specs.Edition.{Edition}
 use Rattle.base.specs.Limits as Limits
 use Rattle.base.specs.Lists.{all, begins, total, isNil}
@@ -27,7 +28,7 @@ use Rattle.calls.specs.Rules.{signedLengthHolds, elementHolds, patternHo
 use Rattle.calls.specs.Table.{literalIn, allLiterals}
 use Rattle.calls.specs.Yielding.{View, view, viewOf, noView, join, Yields, yields}
 use Rattle.calls.specs.Yielding.{yields-next, yields-after, yields-give, yields-if, yields-skip}
-use Rattle.calls.specs.YieldingWords.{both-pass, string-below, yields-signed, yields-numberName, yields-bound}
+use Rattle.calls.specs.YieldingWords.{string-below, yields-signed, yields-numberName, yields-bound}
 use Rattle.calls.specs.YieldingWords.{yields-stringName, yields-partName}
 
 -- Rows of what is read one by one: what holds of none, of one more and of a row that may be so long holds of those read.

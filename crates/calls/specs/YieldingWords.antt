@@ -1,14 +1,14 @@
 -- What names, constants, lengths, parts and operands yield: they hold where the names met are known. Assumes nothing.
-use mathlib.Core.Bool.{Bool, true, cond, not, _&&_, _||_, and-eq-true-iff}
+use mathlib.Core.Bool.{true, cond, not, _&&_, _||_, and-eq-true-iff}
 use mathlib.Core.List.{List, [], append-nil}
-use mathlib.Core.Path.{_≡_, refl, sym, _∙_, ap, subst}
-use Prim.Native.Nat.{ℕ, zero, suc}
+use mathlib.Core.Path.{_≡_, refl, _∙_, ap}
+use Prim.Native.Nat.{ℕ}
 use native.Mathlib.Omega.{arith}
 use lib.Dec.{leb, ltb}
-use lib.IntN.{pos, negℤ, natAbs}
+use lib.IntN.{pos, negℤ}
 use lib.ListN.{take, drop, getD}
 use borrow.Author.Tests.{lt-ltb, le-ltb}
-use Rattle.base.specs.Choice.{cond-cases}
+use Rattle.base.specs.Choice.{cond-cases, both-pass}
 use Rattle.base.specs.Edition.{Edition}
 use Rattle.base.specs.Lists.{all, begins, total}
 use Rattle.base.specs.Text.{bytes}
@@ -22,20 +22,12 @@ use Rattle.language.specs.Program.{constant, lengthOf, numberOf, isNull, isNume
 use Rattle.language.specs.Reading.{Purpose, number, string, Naming, Role, declaring, naming}
 use Rattle.language.specs.Words.{Places, run, decimalFrom, nameLength, name, nameAs, unsigned, signed, isSign, noRole, numberName, bound}
 use Rattle.language.specs.Words.{partOf, stringName, partName}
+use Rattle.values.specs.Laws.{abs-negative}
 use Rattle.values.specs.Numbers.{isNegative, isInRange}
 use Rattle.calls.specs.Literals.{Whole, whole-behind, whole-name, whole-digits}
 use Rattle.calls.specs.Rules.{placeOf, lengthHolds, partHolds, operandHolds, testHolds}
 use Rattle.calls.specs.Yielding.{view, viewOf, noView, join, Yields, yields, breaks, Plainly}
 use Rattle.calls.specs.Yielding.{yields-map, yields-next, yields-after, yields-give, yields-if, yields-skip}
-
--- two tests that pass
-pub both-pass : {a b : Bool} → a ≡ true → b ≡ true → (a && b) ≡ true
-both-pass {a} {b} h g = and-eq-true-iff a b .1 (h, g)
-
--- a number and its negative are equally far from 0
-abs-negative : (n : ℕ) → natAbs (negℤ (pos n)) ≡ n
-abs-negative zero = refl
-abs-negative (suc n) = refl
 
 module _ {K : Naming → Type 0} where
   -- a name

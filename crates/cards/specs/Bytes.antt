@@ -1,6 +1,6 @@
 -- Document 01, "Cards": the class of a byte, and the bytes that the definitions name. Assumes nothing.
-use mathlib.Core.Bool.{Bool, true, false, cond, not, _&&_}
-use mathlib.Core.List.{List, [], _∷_}
+use mathlib.Core.Bool.{Bool, true, false, cond, _&&_, _||_}
+use mathlib.Core.List.{List, []}
 use Prim.Native.Nat.{ℕ}
 use lib.Dec.{leb, eqb}
 use Rattle.base.specs.Lists.{among}
@@ -21,6 +21,10 @@ isLetter b = between 65 90 b
 
 unfoldable pub isDigit : ℕ → Bool
 isDigit b = between 48 57 b
+
+-- a byte that may stand in a name
+unfoldable pub isNameByte : ℕ → Bool
+isNameByte b = isLetter b || isDigit b
 
 unfoldable pub isBlank : ℕ → Bool
 isBlank b = eqb b 32

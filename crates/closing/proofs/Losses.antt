@@ -9,27 +9,16 @@ use lib.Dec.{eqb}
 use lib.ListN.{getD}
 use borrow.Author.Tests.{eq-eqb, ne-eqb, eqb-true}
 use Rattle.base.specs.Choice.{test-cases}
-use Rattle.base.specs.ListLaws.{same-true, same-refl}
 use Rattle.base.specs.Lists.{any, same}
 use Rattle.judgement.specs.Deck.{is11}
 use Rattle.judgement.specs.Known.{Label, Routine, Use}
 use Rattle.met.specs.Entries.{nameOf}
-use Rattle.met.specs.EntryLaws.{key-name}
 use Rattle.met.specs.Holding.{usesFrom}
 use Rattle.met.specs.Known.{labelIn, labelsFrom, labelsIn, routineIn, routinesDown, routinesIn, labelCountAt, routineCountAt, routineKeysAt, usesAt}
-use Rattle.packer.specs.Keys.{keyOf}
-use Rattle.closing.specs.Below.{below, below-same, below-from, below-start, below-either, same-truth}
+use Rattle.met.specs.KnownLaws.{name-same, routines-have}
+use Rattle.closing.specs.Below.{below, below-same, below-from, below-start, below-either}
 use Rattle.closing.specs.Held.{heldIn}
-use Rattle.closing.specs.Lost.{labelAt, hasLabel, routineAt, hasRoutine, isLost}
-
--- names are compared by their keys
-pub same-names : (a b : ℕ) → same (nameOf a) (nameOf b) ≡ eqb a b
-same-names a b =
-    same-truth (same (nameOf a) (nameOf b)) (eqb a b)
-    (λ e.
-    let equal : a ≡ b = sym (key-name a) ∙ ap keyOf (same-true (nameOf a) (nameOf b) e) ∙ key-name b in
-    eq-eqb a b equal)
-    (λ e. ap (λ k. same (nameOf a) (nameOf k)) (sym (eqb-true a b e)) ∙ same-refl (nameOf a))
+use Rattle.closing.specs.Lost.{labelAt, hasLabel, hasRoutine, isLost}
 
 -- some label, routine or use passes a test
 labels-from : (g : Label → Bool) (known : List ℕ) (i n : ℕ) → any g (labelsFrom known i n) ≡ below (λ j. g (labelIn known (i + j))) n
@@ -80,13 +69,11 @@ module _ (known : List ℕ) where
   label-declared key scope =
       any-labels (λ (l : Label). same (nameOf key) (l .name) && same (nameOf scope) (l .scope)) known (getD known labelCountAt 0)
       ∙ below-same _ (labelAt known key scope) (getD known labelCountAt 0)
-      (λ i _. ap₂ {C = Bool} _&&_ (same-names key (getD known (80 + i) 0)) (same-names scope (getD known (210 + i) 0)))
+      (λ i _. ap₂ {C = Bool} _&&_ (name-same key (getD known (80 + i) 0)) (name-same scope (getD known (210 + i) 0)))
 
-  pub routine-declared : (key : ℕ) → any (λ (r : Routine). same (nameOf key) (r .name)) (routinesIn known) ≡ hasRoutine known key
-  unfolding routinesIn hasRoutine routineAt
-  routine-declared key =
-      any-routines (same (nameOf key)) known (getD known routineCountAt 0)
-      ∙ below-same _ (routineAt known key) (getD known routineCountAt 0) (λ i _. same-names key (getD known (routineKeysAt + i) 0))
+  routine-declared : (key : ℕ) → any (λ (r : Routine). same (nameOf key) (r .name)) (routinesIn known) ≡ hasRoutine known key
+  unfolding routinesIn
+  routine-declared key = routines-have known key (getD known routineCountAt 0)
 
 chosen : (p : ℕ) (x y : Bool) → ((eqb p 1 && x) || (eqb p 2 && y)) ≡ cond (eqb p 1) x (cond (eqb p 2) y false)
 chosen p x y =

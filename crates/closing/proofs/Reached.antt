@@ -1,23 +1,25 @@
 -- Laws of the routines reached by going on: by membership alone, by places, and so 12.
 -- Assumes nothing.
 use mathlib.Core.Bool.{Bool, true, false, cond, not, _&&_, _||_, false≢true, or-assoc, or-comm, or-false, and-eq-true-iff, Bool·not-not}
-use mathlib.Core.List.{List, [], _∷_, _++_, map}
+use mathlib.Core.List.{List, [], _∷_, map}
 use mathlib.Core.Logic.{inl, inr}
 use mathlib.Core.Path.{_≡_, refl, sym, ap, ap₂, _∙_}
 use Prim.Native.Nat.{ℕ, zero, suc, _+_, _<_}
 use lib.Dec.{eqb}
 use lib.ListN.{length, getD}
-use Rattle.base.specs.Choice.{test-cases, either-true, neither-true, true-behind}
+use Rattle.base.specs.Choice.{test-cases, either-true, neither-true, true-behind, same-truth}
 use Rattle.base.specs.ListLaws.{same-true, same-refl}
 use Rattle.base.specs.Lists.{any, keep, same}
 use Rattle.judgement.specs.Deck.{is11, is12, executedBy, executedByAll, reached, withNew}
 use Rattle.judgement.specs.Known.{Label, Routine, Use, isOneOf}
+use Rattle.judgement.specs.Names.{any-append}
 use Rattle.met.specs.Entries.{nameOf}
 use Rattle.met.specs.Holding.{usesFrom}
 use Rattle.met.specs.Known.{labelsIn, routinesDown, routinesIn, routineCountAt, routineKeysAt, usesAt}
-use Rattle.closing.proofs.Losses.{same-names, any-routines, any-uses}
+use Rattle.met.specs.KnownLaws.{name-same, length-routines}
+use Rattle.closing.proofs.Losses.{any-routines, any-uses}
 use Rattle.closing.proofs.Turns.{gone-same}
-use Rattle.closing.specs.Below.{below, below-same, below-find, below-found, same-truth}
+use Rattle.closing.specs.Below.{below, below-same, below-find, below-found}
 use Rattle.closing.specs.Held.{heldIn}
 use Rattle.closing.specs.Pairs.{pairIn, NotedAll, byUse, usePairs}
 use Rattle.closing.specs.Rounds.{goOn, goneOn}
@@ -51,11 +53,6 @@ any-found f (y ∷ ys) x e h =
       | inl s ↦ ap (λ t. t || any f ys) (ap f (sym (same-true x y s)) ∙ h)
       | inr s ↦ true-behind (f y) (any f ys) (any-found f ys x s h)
     ]
-
-any-append : {A : Type 0} (f : A → Bool) (xs ys : List A) → any f (xs ++ ys) ≡ (any f xs || any f ys)
-unfolding any
-any-append f [] ys = refl
-any-append f (x ∷ xs) ys = ap (λ t. f x || t) (any-append f xs ys) ∙ sym (or-assoc (f x) (any f xs) (any f ys))
 
 kept-one : (r y : List ℕ) (us : List Use) →
     any (same y) (map (λ (u : Use). u .name) (keep (λ u. same r (u .scope)) us)) ≡ any (λ u. same r (u .scope) && same y (u .name)) us
@@ -173,11 +170,6 @@ module _ (count : ℕ) (name : ℕ → List ℕ) where
         reached-placed n xs′ (next-placed xs placed) j
         ∙ ap (λ (m : ℕ → Bool). goneOn n between count m j) (λ t i. turn i t)
 
-length-routines : (known : List ℕ) (n : ℕ) → length (routinesDown known n) ≡ n
-unfolding routinesDown
-length-routines known zero = refl
-length-routines known (suc n) = ap suc (length-routines known n)
-
 -- 12, place by place
 abbrev pub backAt : (pairs : List Bool) → (count i : ℕ) → Bool
 backAt pairs count i = goneOn count (pairIn pairs) count (pairIn pairs i) i
@@ -196,8 +188,8 @@ module _ (known keys scopes purposes : List ℕ) where
       ∙ below-same _ _ (getD known usesAt 0)
       (λ u _.
       ap₂ {C = Bool} (λ x y. eqb (getD purposes u 0) 2 && (x && y))
-      (same-names (getD known (routineKeysAt + i) 0) (getD scopes u 0))
-      (same-names (getD known (routineKeysAt + j) 0) (getD keys u 0)))
+      (name-same (getD known (routineKeysAt + i) 0) (getD scopes u 0))
+      (name-same (getD known (routineKeysAt + j) 0) (getD keys u 0)))
 
   all-placed : is11 (heldIn known keys scopes purposes) ≡ false → AllPlaced (getD known routineCountAt 0) name used
   unfolding is11 heldIn routinesIn

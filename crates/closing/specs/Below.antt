@@ -8,7 +8,7 @@ use native.Mathlib.Numerals.{add-one}
 use native.Mathlib.Omega.{arith}
 use lib.Dec.{eqb}
 use borrow.Author.Tests.{eq-eqb, eqb-true, eqb-false}
-use Rattle.base.specs.Choice.{test-cases, either-true, true-behind}
+use Rattle.base.specs.Choice.{test-cases, either-true, true-behind, same-truth, or-pairs}
 
 unfoldable pub below : (ℕ → Bool) → ℕ → Bool
 below f zero = false
@@ -36,14 +36,7 @@ below-same f g (suc n) e = ap₂ {C = Bool} _||_ (below-same f g n (λ i h. e i 
 pub below-either : (f g : ℕ → Bool) (n : ℕ) → (below f n || below g n) ≡ below (λ i. f i || g i) n
 unfolding below
 below-either f g zero = refl
-below-either f g (suc n) = swapped (below f n) (f n) (below g n) (g n) ∙ ap (λ t. t || (f n || g n)) (below-either f g n)
-  where
-    swapped : (a b c d : Bool) → ((a || b) || (c || d)) ≡ ((a || c) || (b || d))
-    swapped true b c d = refl
-    swapped false true true d = refl
-    swapped false true false d = refl
-    swapped false false true d = refl
-    swapped false false false d = refl
+below-either f g (suc n) = or-pairs (below f n) (f n) (below g n) (g n) ∙ ap (λ t. t || (f n || g n)) (below-either f g n)
 
 -- the first number apart
 below-first : (f : ℕ → Bool) (n : ℕ) → (f 0 || below (λ j. f (suc j)) n) ≡ below f (suc n)
@@ -83,12 +76,6 @@ below-found f (suc n) i h e =
     test-cases (λ _. (below f n || f n) ≡ true) (eqb i n)
     (λ t. true-behind (below f n) (f n) (ap f (sym (eqb-true i n t)) ∙ e))
     (λ t. let other = eqb-false i n t in ap (λ b. b || f n) (below-found f n i (omega arith) e))
-
--- two tests that follow from each other
-pub same-truth : (a b : Bool) → (a ≡ true → b ≡ true) → (b ≡ true → a ≡ true) → a ≡ b
-same-truth true b f g = sym (f refl)
-same-truth false true f g = g refl
-same-truth false false f g = refl
 
 -- the test of one number
 pub below-at : (f : ℕ → Bool) (n b : ℕ) → b < n → below (λ t. eqb b t && f t) n ≡ f b

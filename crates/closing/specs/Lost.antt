@@ -4,7 +4,7 @@ use mathlib.Core.List.{List}
 use Prim.Native.Nat.{ℕ, _+_}
 use lib.Dec.{eqb}
 use lib.ListN.{getD}
-use Rattle.met.specs.Known.{labelCountAt, routineCountAt, labelKeysAt, labelScopesAt, routineKeysAt}
+use Rattle.met.specs.Known.{labelCountAt, routineCountAt, labelKeysAt, labelScopesAt, routineKeysAt, keysHave}
 use Rattle.closing.specs.Below.{below}
 
 -- label i has this key and stands in this scope
@@ -14,12 +14,8 @@ labelAt known key scope i = eqb key (getD known (labelKeysAt + i) 0) && eqb scop
 unfoldable pub hasLabel : (known : List ℕ) → (key scope : ℕ) → Bool
 hasLabel known key scope = below (labelAt known key scope) (getD known labelCountAt 0)
 
--- routine i has this key
-unfoldable pub routineAt : (known : List ℕ) → (key i : ℕ) → Bool
-routineAt known key i = eqb key (getD known (routineKeysAt + i) 0)
-
-unfoldable pub hasRoutine : (known : List ℕ) → (key : ℕ) → Bool
-hasRoutine known key = below (routineAt known key) (getD known routineCountAt 0)
+abbrev pub hasRoutine : (known : List ℕ) → (key : ℕ) → Bool
+hasRoutine known = keysHave known routineKeysAt (getD known routineCountAt 0)
 
 -- a label (1) that its scope does not have, a routine (2) that is not declared
 unfoldable pub isLost : (known : List ℕ) → (key scope purpose : ℕ) → Bool

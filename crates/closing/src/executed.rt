@@ -1,10 +1,10 @@
 // Which routine executes which, by their places: place i executes place j where pair 17 × i + j is true.
 // Assumes nothing.
-use crate::defined::ROUTINE;
-use crate::defined::ROUTINE_KEYS_AT;
-use crate::defined::USES_AT;
 use met::KNOWN;
 use met::NAMES;
+use met::places::ROUTINE_KEYS;
+use met::places::USE_COUNT;
+use met::tags::ROUTINE;
 ghost use Prim.Native.Nat.{_<_, _≤_};
 ghost use Rattle.closing.specs.Held.{Closable};
 ghost use Rattle.closing.specs.Pairs.{Pairing, Paired, inRow, byUse, NotedAll};
@@ -23,7 +23,7 @@ fn note_row(known: &[u64; KNOWN], count: usize, pairs: &mut [bool; PAIRS], i: us
     let mut j: usize = 0;
     while j < count {
         let p = PLACES * i + j;
-        pairs[p] = pairs[p] | (known[ROUTINE_KEYS_AT + j] == key);
+        pairs[p] = pairs[p] | (known[ROUTINE_KEYS + j] == key);
         j += 1;
     }
 }
@@ -35,7 +35,7 @@ fn note_use(known: &[u64; KNOWN], count: usize, pairs: &mut [bool; PAIRS], scope
 {
     let mut i: usize = 0;
     while i < count {
-        if known[ROUTINE_KEYS_AT + i] == scope {
+        if known[ROUTINE_KEYS + i] == scope {
             note_row(known, count, pairs, i, key);
         }
         i += 1;
@@ -54,7 +54,7 @@ pub fn executed_pairs(
     requires { ⌜ count ≤ 17 ⌝ }
     ensures { λ r. ⌜ NotedAll (now (known .entry)) count (now (use_keys .entry)) (now (use_scopes .entry)) (now (use_purposes .entry)) r ⌝ }
 {
-    let uses = known[USES_AT] as usize;
+    let uses = known[USE_COUNT] as usize;
     let mut pairs = [false; PAIRS];
     let mut u: usize = 0;
     while u < uses {

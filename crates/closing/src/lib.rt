@@ -8,6 +8,8 @@ use defined::is_lost;
 use executed::executed_pairs;
 use met::KNOWN;
 use met::NAMES;
+use met::places::ROUTINE_COUNT;
+use met::places::USE_COUNT;
 use rounds::comes_back;
 ghost use mathlib.Core.Bool.{false};
 ghost use mathlib.Core.Path.{_≡_};
@@ -26,7 +28,7 @@ pub fn undefined_or_crossing(
         ⌜ r
         ≡ is11 (heldIn (now (known .entry)) (now (use_keys .entry)) (now (use_scopes .entry)) (now (use_purposes .entry))) ⌝ }
 {
-    let count = known[defined::USES_AT] as usize;
+    let count = known[USE_COUNT] as usize;
     let mut found = false;
     let mut i: usize = 0;
     while i < count {
@@ -49,7 +51,7 @@ pub fn executes_itself(
         → r
         ≡ is12 (heldIn (now (known .entry)) (now (use_keys .entry)) (now (use_scopes .entry)) (now (use_purposes .entry)))) ⌝ }
 {
-    let count = known[defined::ROUTINE_COUNT_AT] as usize;
+    let count = known[ROUTINE_COUNT] as usize;
     let executed = executed_pairs(known, count, use_keys, use_scopes, use_purposes);
     let mut found = false;
     let mut i: usize = 0;

@@ -49,6 +49,7 @@ unfolding
     Rattle.cards.specs.Bytes.marks
     Rattle.cards.specs.Bytes.isLetter
     Rattle.cards.specs.Bytes.isDigit
+    Rattle.cards.specs.Bytes.isNameByte
     Rattle.cards.specs.Bytes.isBlank
     Rattle.cards.specs.Bytes.classOf
     Rattle.cards.specs.Bytes.isRefused
@@ -154,7 +155,6 @@ unfolding
     Rattle.language.specs.Strings.patternElement
     Rattle.language.specs.Strings.pattern
     Rattle.language.specs.Words.run
-    Rattle.language.specs.Words.isNameByte
     Rattle.language.specs.Words.nameLength
     Rattle.language.specs.Words.name
     Rattle.language.specs.Words.nameAs

@@ -15,7 +15,7 @@ use Rattle.base.specs.Edition.{edition1}
 use Rattle.base.specs.Limits as Limits
 use Rattle.base.specs.Lists.{all, any, begins, total}
 use Rattle.base.specs.Text.{bytes}
-use Rattle.branches.specs.BranchLaws.{skip-then, skip-broken, name-met, name-as-broken}
+use Rattle.branches.specs.BranchLaws.{name-met, name-as-broken}
 use Rattle.branches.specs.Places.{numberIn}
 use Rattle.branches.specs.declared.Row.{Row}
 use Rattle.calls.specs.Table as Table
@@ -34,6 +34,7 @@ use Rattle.met.specs.Entries.{entry, nameOf, metIn}
 use Rattle.met.specs.EntryLaws.{met-both, name-key, declared-met}
 use Rattle.met.specs.Items.{withItems}
 use Rattle.met.specs.Known.{placesIn}
+use Rattle.met.specs.ReadingLaws.{give-then, skip-then, skip-broken}
 use Rattle.met.specs.declared.Cursor.{Cursor}
 use Rattle.numeric.specs.OperandLaws.{noting-more, met-nothing, then-broken, chosen, begins-room, ready-moved, skipped}
 use Rattle.numeric.specs.Operands.{Ready, Gets, Names, Skips, moved, meaning}
@@ -48,7 +49,7 @@ use Rattle.words.specs.Places.{NameAt}
 use Rattle.words.specs.declared.keywords.Keyword.{Keyword}
 use Rattle.forms.specs.Contracts.{itemsIn, elementsIn, Formed, FormRead}
 use Rattle.forms.specs.Ends.{unsteppedAt}
-use Rattle.forms.specs.FormLaws.{bind-assoc, bind-same, give-then, drop-nothing, step-here, step-not, no-step-here, no-step-not, formed-elements}
+use Rattle.forms.specs.FormLaws.{bind-assoc, bind-same, drop-nothing, step-here, step-not, no-step-here, no-step-not, formed-elements}
 use Rattle.forms.specs.Rows.{rangeIn}
 use Rattle.forms.specs.Steps.{FormAt, BehindUnit, stringSet, assignedTo, numberSet, numbersLeft}
 use Rattle.forms.specs.declared.Form as FormCode

@@ -1,6 +1,6 @@
 -- What the readers of statements do: the row made, the names noted, the items and elements written. Assumes nothing.
 use mathlib.Core.Bool.{Bool, true, _||_}
-use mathlib.Core.List.{List, [], map}
+use mathlib.Core.List.{List, []}
 use mathlib.Core.Option.{Option, none, some}
 use mathlib.Core.Path.{_≡_}
 use Prim.Native.Nat.{ℕ, _+_, _≤_}
@@ -9,19 +9,19 @@ use lib.ListN.{length}
 use Rattle.base.specs.Edition.{edition1}
 use Rattle.base.specs.Limits as Limits
 use Rattle.base.specs.Lists.{all, any, total}
+use Rattle.branches.specs.Places.{numberIn}
 use Rattle.branches.specs.Rows.{rowMeaning}
 use Rattle.branches.specs.declared.Row.{Row}
 use Rattle.calls.specs.Table.{rowOf, itemsOf, elementsOf, allLiterals}
 use Rattle.cards.specs.Packing.{packed, literalsWhole}
-use Rattle.judgement.specs.Known.{isOneOf}
 use Rattle.judgement.specs.Refusals.{readStatement}
 use Rattle.language.specs.Forms.{statementForm}
 use Rattle.language.specs.Program.{Item, PatternElement, Statement}
 use Rattle.language.specs.Reading.{Read, got, broken}
 use Rattle.met.specs.Elements.{withElements}
-use Rattle.met.specs.Entries.{Entry, nameOf, metIn}
+use Rattle.met.specs.Entries.{Entry, metIn}
 use Rattle.met.specs.Items.{withItems}
-use Rattle.met.specs.Known.{numberKeys, placesIn}
+use Rattle.met.specs.Known.{placesIn}
 use Rattle.met.specs.declared.Cursor.{Cursor}
 use Rattle.numeric.specs.Operands.{Noting}
 use Rattle.packer.specs.Keys.{keyOf, isKeyByte}
@@ -84,10 +84,6 @@ FormAnswer most table keys tags c x (FormCode.the-variants.Step row d) table′ 
 pub record FormRead (most : ℕ) (table keys tags : List ℕ) (c : Cursor) (x : Read (Option Statement)) (r : Form)
     (table′ keys′ tags′ : List ℕ) : Type 0 where
   pub answer : FormAnswer most table keys tags c x r table′ keys′ tags′
-
--- whether a name is one of the numbers known
-abbrev pub numberIn : List ℕ → List ℕ → Bool
-numberIn known = isOneOf (map nameOf (numberKeys known))
 
 -- the statement that a text is: no more names than bytes
 abbrev pub StatementFormRead : (text known table keys tags : List ℕ) (c : Cursor) → Form → (table′ keys′ tags′ : List ℕ) → Type 0

@@ -10,7 +10,6 @@ use lib.Dec.{ltb}
 use lib.ListN.{length, drop, length-append, length-drop}
 use borrow.Author.Tests.{ltb-true, ltb-false}
 use Rattle.base.specs.Lists.{total}
-use Rattle.branches.specs.BranchLaws.{meeting-nothing}
 use Rattle.branches.specs.Rows.{rowMeaning}
 use Rattle.branches.specs.declared.Draft as DraftCode
 use Rattle.branches.specs.declared.Draft.{Draft}
@@ -25,6 +24,7 @@ use Rattle.met.specs.Elements.{withElements}
 use Rattle.met.specs.Entries.{metIn}
 use Rattle.met.specs.Items.{withItems}
 use Rattle.met.specs.declared.Cursor.{Cursor}
+use Rattle.met.specs.ReadingLaws.{give-then}
 use Rattle.numeric.specs.OperandLaws.{then-broken}
 use Rattle.numeric.specs.Operands.{Ready, Skips}
 use Rattle.strings.specs.ElementLaws.{elements-none, elements-give, elements-then, elements-broken, elements-skip}
@@ -68,10 +68,6 @@ pub bind-same : {A B : Type 0} (x : Read A) (f g : A × List ℕ → Read B) →
 unfolding _>>=_
 bind-same (got a m rest) f g h = ap (meeting m) (h a rest)
 bind-same broken f g h = refl
-
-pub give-then : {A B : Type 0} (a : A) (bs : List ℕ) (next : A × List ℕ → Read B) → (give a bs >>= next) ≡ next (a, bs)
-unfolding give _>>=_
-give-then a bs next = meeting-nothing (next (a, bs))
 
 -- ---- a form so far
 pub record Going {A S : Type 0} (form : Read S) (left : A → List ℕ → Read S) (mk : A → Table.Row) (es : A → List PatternElement)

@@ -13,11 +13,10 @@ use Rattle.base.specs.Choice.{test-cases}
 use Rattle.base.specs.Edition.{edition1}
 use Rattle.base.specs.Limits as Limits
 use Rattle.base.specs.Lists.{all, any}
-use Rattle.branches.specs.BranchLaws.{meeting-nothing}
 use Rattle.branches.specs.Places.{numberIn}
 use Rattle.calls.specs.Splices.{length-splice}
 use Rattle.calls.specs.Table.{allLiterals, rowOf}
-use Rattle.cards.specs.Bytes.{between, isLetter, isDigit}
+use Rattle.cards.specs.Bytes.{between, isLetter, isDigit, isNameByte}
 use Rattle.cards.specs.Packing.{packed, literalsWhole}
 use Rattle.judgement.specs.Refusals.{labelForm, labelled, readStatement}
 use Rattle.language.specs.Forms.{formOf, statementForm}
@@ -25,12 +24,14 @@ use Rattle.language.specs.Keywords as Keywords
 use Rattle.language.specs.Keywords.{leading}
 use Rattle.language.specs.Program.{Statement}
 use Rattle.language.specs.Reading.{label, declaring, purposeNumber, Met, nothing, Read, got, broken, meeting}
-use Rattle.language.specs.Words.{run, isNameByte, nameLength}
+use Rattle.language.specs.Fuel.{run-within}
+use Rattle.language.specs.Words.{run, nameLength}
 use Rattle.met.specs.Contracts.{Noted}
 use Rattle.met.specs.Elements.{withElements}
 use Rattle.met.specs.Entries.{entry, nameFrom, nameOf, metIn}
 use Rattle.met.specs.EntryLaws.{met-both, name-key, declared-met}
 use Rattle.met.specs.Items.{withItems}
+use Rattle.met.specs.ReadingLaws.{meeting-nothing}
 use Rattle.met.specs.Known.{placesIn}
 use Rattle.met.specs.declared.Cursor.{Cursor}
 use Rattle.numeric.specs.KindLaws.{ready-on}
@@ -121,13 +122,6 @@ run-whole f (b ∷ bs) =
     test-cases (λ t. f b ≡ t → eqb (elim t [ true ↦ suc (run f bs) | false ↦ 0 ]) (suc (length bs)) ≡ (t && all f bs)) (f b)
     (λ _ _. eqb-suc (run f bs) (length bs) ∙ run-whole f bs) (λ _ _. ne-eqb 0 (suc (length bs)) (λ h. omega arith)) refl
 
-run-short : (f : ℕ → Bool) (bs : List ℕ) → run f bs ≤ length bs
-unfolding run
-run-short f [] = omega arith
-run-short f (b ∷ bs) =
-    test-cases (λ t. elim t [ true ↦ suc (run f bs) | false ↦ 0 ] ≤ suc (length bs)) (f b)
-    (λ _. let rest = run-short f bs in omega arith) (λ _. omega arith)
-
 label-name : (b : ℕ) (bs : List ℕ) → length (b ∷ bs) ≤ 8
     → eqb (nameLength (b ∷ bs)) (length (b ∷ bs)) ≡ (isLetter b && all isNameByte bs)
 unfolding nameLength run isNameByte
@@ -142,7 +136,7 @@ label-name b bs h =
     ≡ (t && all isNameByte bs))
     (isLetter b)
     (λ _ e.
-    let few : suc (run isNameByte bs) ≤ 8 = omega (arith, run-short isNameByte bs) in
+    let few : suc (run isNameByte bs) ≤ 8 = omega (arith, run-within isNameByte bs) in
     ap (λ t. eqb (cond t (suc (run isNameByte bs)) 0) (suc (length bs))) (le-leb (suc (run isNameByte bs)) 8 few)
     ∙ eqb-suc (run isNameByte bs) (length bs)
     ∙ run-whole isNameByte bs)

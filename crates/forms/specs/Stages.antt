@@ -20,7 +20,7 @@ use Rattle.language.specs.Numeric.{test}
 use Rattle.language.specs.Program.{PatternElement, value}
 use Rattle.language.specs.Reading.{routine, declaring, naming, Read, broken}
 use Rattle.language.specs.Strings.{stringExpression, pattern}
-use Rattle.language.specs.Words.{nameAs, numberName, partName}
+use Rattle.language.specs.Words.{nameAs, partName}
 use Rattle.met.specs.Entries.{roleOf}
 use Rattle.met.specs.Known.{placesIn}
 use Rattle.met.specs.declared.Cursor.{Cursor}
@@ -88,9 +88,6 @@ EntryStage text known = NamesStage (nameAs (naming routine [])) (λ n. withSteps
 
 abbrev pub ExitStage : (text known keys tags : List ℕ) (r q : Draft) (keys′ tags′ : List ℕ) → Type 0
 ExitStage text known = NamesStage (nameAs (declaring routine)) (λ n. withSteps (placesIn known .exit n) 0) text
-
-abbrev pub NumberStage : (text known keys tags : List ℕ) (r q : Draft) (keys′ tags′ : List ℕ) → Type 0
-NumberStage text known = NamesStage (numberName edition1 (placesIn known)) (λ i. withLeft (Table.cell 5 i 0)) text
 
 abbrev pub PartStage : (text known keys tags : List ℕ) (tag : ℕ) (r q : Draft) (keys′ tags′ : List ℕ) → Type 0
 PartStage text known keys tags tag =

@@ -8,6 +8,7 @@ use met::Cursor;
 use met::KNOWN;
 use met::NAMES;
 use met::note_name;
+use met::tags::LABEL_DECLARED;
 use numeric::operands::skip;
 use packer::classes::is_letter;
 use packer::classes::is_letter_or_digit;
@@ -31,9 +32,6 @@ ghost use lib.ListN.{length};
 ghost use Rattle.forms.specs.Contracts.{Starts, StatementFormRead, Wording, StatementRead};
 ghost use Rattle.forms.specs.Labels.{nameShown};
 ghost use Rattle.met.specs.Known.{Counted};
-
-// the tag of a label that is declared
-const LABEL_DECLARED: u8 = 9;
 
 // the form is broken; or the statement is no step, or a step with its row, read up to this cursor
 pub enum Form {

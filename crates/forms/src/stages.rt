@@ -16,8 +16,6 @@ use met::NAMES;
 use numeric::Outcome;
 use numeric::operands::Cell;
 use numeric::operands::Operand;
-use numeric::operands::Place;
-use numeric::operands::read_number;
 use numeric::operands::read_part;
 use numeric::operands::skip;
 use strings::pattern;
@@ -27,7 +25,7 @@ ghost use mathlib.Core.Path.{_≡_};
 ghost use Prim.Native.Nat.{_≤_, _<_};
 ghost use lib.ListN.{length};
 ghost use Rattle.forms.specs.Rows.{begunAs, stepsIn, leftIn, rightIn, rangeIn};
-ghost use Rattle.forms.specs.Stages.{Inward, markedBy, Standing, LabelStage, EntryStage, ExitStage, NumberStage, PartStage};
+ghost use Rattle.forms.specs.Stages.{Inward, markedBy, Standing, LabelStage, EntryStage, ExitStage, PartStage};
 ghost use Rattle.forms.specs.Stages.{TestStage, BranchStage, BranchIfAnyStage, StringsStage, PatternStage, Following, ReplacedStage};
 ghost use Rattle.met.specs.Known.{Counted};
 ghost use Rattle.numeric.specs.Operands.{StringTag};
@@ -187,37 +185,6 @@ pub fn to_exit(
         Draft::Got(row, c) => match read_exit(text, known, keys, tags, c) {
             Target::Broken => Draft::Broken,
             Target::Got(step, d) => Draft::Got(with_steps(row, step, 0), d),
-        },
-    }
-}
-
-// a number's name
-pub fn left_number(
-    text: &[u8],
-    known: &[u64; KNOWN],
-    keys: &mut [u64; NAMES],
-    tags: &mut [u8; NAMES],
-    r: Draft,
-) -> Draft
-    requires { ⌜ Standing (now text) (now keys) (now tags) r ⌝ }
-    requires { ⌜ Counted (now known) ⌝ }
-    ensures { λ q. ⌜ NumberStage (now (text .entry)) (now (known .entry)) (now (keys .entry)) (now (tags .entry)) r q (now (keys .exit)) (now (tags .exit)) ⌝ }
-{
-    match r {
-        Draft::Broken => Draft::Broken,
-        Draft::Got(row, c) => match read_number(text, known, keys, tags, c) {
-            Place::Broken => Draft::Broken,
-            Place::Got(place, d) => Draft::Got(
-                with_left(
-                    row,
-                    Cell {
-                        kind: 5,
-                        place,
-                        value: 0,
-                    },
-                ),
-                d,
-            ),
         },
     }
 }

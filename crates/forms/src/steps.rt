@@ -20,13 +20,15 @@ use branches::places::number_known;
 use met::Cursor;
 use met::KNOWN;
 use met::NAMES;
+use met::tags::NUMBER_DECLARED;
+use met::tags::PROGRAM_DECLARED;
+use met::tags::REFERENCE;
+use met::tags::STRING;
 use numeric::Outcome;
 use numeric::expression;
 use numeric::operands::Cell;
 use numeric::operands::Name;
 use numeric::operands::Place;
-use numeric::operands::REFERENCE;
-use numeric::operands::STRING;
 use numeric::operands::read_name;
 use numeric::operands::read_number;
 use numeric::operands::skip;
@@ -36,18 +38,13 @@ use words::names::name_length;
 use words::stands_at;
 ghost use mathlib.Core.Path.{_≡_};
 ghost use Prim.Native.Nat.{_≤_, _<_};
-ghost use lib.ListN.{length, drop};
+ghost use lib.ListN.{length};
 ghost use Rattle.forms.specs.Ends.{endedBy, unsteppedAt};
 ghost use Rattle.forms.specs.Rows.{begunAs};
 ghost use Rattle.forms.specs.Steps.{GotoRead, RoutineRead, ExecuteRead, IfRead, InputRead, OutputRead, StringSetRead, ScanRead};
 ghost use Rattle.forms.specs.Steps.{AssignedRead, NumberSetRead, SetsNumber, ReplacementRead, ProgramRead, NumbersRead, MoreNumbersRead, BehindUnit};
 ghost use Rattle.met.specs.Known.{Counted};
 ghost use Rattle.numeric.specs.Operands.{Ready};
-
-// the tags of names that are declared
-const PROGRAM_DECLARED: u8 = 8;
-
-const NUMBER_DECLARED: u8 = 11;
 
 // a row at the end of the text is a step
 fn ended(text: &[u8], r: Draft) -> Form

@@ -26,18 +26,18 @@ pub record Ready (a : Arrays) (keys tags : List ℕ) (c : Cursor) : Type 0 where
   pub held : Holds a (namesRoom - c .names) (knownIn a)
 
 -- the cursor's counts are those of the deck behind a statement with so many items, such rows and so many literal bytes
-pub record Behind (k : Known) (c : Cursor) (items : ℕ) (rows : List ℕ) (literals : ℕ) : Type 0 where
+pub record Tallied (k : Known) (c : Cursor) (items : ℕ) (rows : List ℕ) (literals : ℕ) : Type 0 where
   pub itemCount : c .items ≡ k .items + items
   pub elementCount : c .elements ≡ k .elements + total (λ n. n) rows
   pub literalCount : c .literals ≡ k .literals + literals
   pub longestRow : ltb Limits.row (c .longest) ≡ any (ltb Limits.row) rows
 
 -- the number, and what the arrays hold where it is 0
-pub record Judged (a : Arrays) (keys tags : List ℕ) (c : Cursor) (kind : Kind) (a′ : Arrays) (r : ℕ) : Type 0 where
-  pub number : (taken : ℕ) (k : Known) → Holds a taken k → (items : ℕ) (rows : List ℕ) (literals : ℕ) → Behind k c items rows literals
+pub record StatementJudged (a : Arrays) (keys tags : List ℕ) (c : Cursor) (kind : Kind) (a′ : Arrays) (r : ℕ) : Type 0 where
+  pub number : (taken : ℕ) (k : Known) → Holds a taken k → (items : ℕ) (rows : List ℕ) (literals : ℕ) → Tallied k c items rows literals
       → r ≡ metNumber k (kindOf kind) (metIn (entriesFrom keys tags 0 (c .names)) items rows literals)
   pub learnt : r ≡ 0 → (taken : ℕ) (k : Known) → Holds a taken k → (items : ℕ) (rows : List ℕ) (literals : ℕ)
-      → Behind k c items rows literals → (taken′ : ℕ) → taken + c .names ≤ taken′
+      → Tallied k c items rows literals → (taken′ : ℕ) → taken + c .names ≤ taken′
       → Holds a′ taken′ (learn k (kindOf kind) (metIn (entriesFrom keys tags 0 (c .names)) items rows literals))
 
 -- 4, of what any arrays with this known hold

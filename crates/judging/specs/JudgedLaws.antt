@@ -20,8 +20,8 @@ use Rattle.language.specs.Reading.{label, routine, number, string, samePurpose,
 use Rattle.met.specs.Entries.{Entry, nameOf, nameFrom, gather, declaredBy, usedBy, rolesBy, metIn}
 use Rattle.met.specs.Holding.{Arrays, Holds, namesFrom, namesIn, usesIn}
 use Rattle.met.specs.Known.{stringKeys, numberKeys, labelsIn, routinesIn}
+use Rattle.met.specs.KnownLaws.{name-same, length-routines}
 use Rattle.met.specs.declared.Cursor.{Cursor}
-use Rattle.naming.specs.ArrayLaws.{name-same}
 use Rattle.naming.specs.Arrays.{entriesFrom, arrays}
 use Rattle.naming.specs.Declaring.{declaredIn, undeclaredIn}
 use Rattle.naming.specs.JudgedLaws.{length-entries}
@@ -29,11 +29,10 @@ use Rattle.naming.specs.Judged.{namesOf, namesNumber, NamesJudged}
 use Rattle.naming.specs.declared.Verdict.{Verdict}
 use Rattle.judging.specs.Cells.{cells, cells-part, length-cells, cut-whole}
 use Rattle.judging.specs.Counts.{stepsBehind, endedBehind, isOver}
-use Rattle.judging.specs.Judged.{Behind}
+use Rattle.judging.specs.Judged.{Tallied}
 use Rattle.judging.specs.LabelLaws.{length-labels}
 use Rattle.judging.specs.Labels.{labelsBy}
 use Rattle.judging.specs.Learning.{wrongIn, Learnt}
-use Rattle.judging.specs.RoutineLaws.{length-routines}
 use Rattle.judging.specs.Routines.{routineNames, Opens, routinesBehind, scopeBehind}
 use Rattle.judging.specs.Uses.{usesBy}
 use Rattle.judging.specs.declared.routines.Opened.{Opened}
@@ -168,7 +167,7 @@ module _ (a : Arrays) (taken : ℕ) (k : Known) (h : Holds a taken k) (kind : Ke
 
 -- behind a statement that is learnt
 module _ (a : Arrays) (taken : ℕ) (k : Known) (h : Holds a taken k) (kind : Keywords.Kind) (keys tags : List ℕ) (c : Cursor)
-    (items : ℕ) (rows : List ℕ) (literals : ℕ) (counts : Behind k c items rows literals) (nameKeys′ namePurposes′ : List ℕ) (v : Verdict)
+    (items : ℕ) (rows : List ℕ) (literals : ℕ) (counts : Tallied k c items rows literals) (nameKeys′ namePurposes′ : List ℕ) (v : Verdict)
     (names : NamesJudged (a .known) (a .nameKeys) (a .namePurposes) keys tags (c .names) nameKeys′ namePurposes′ v) (zero-is : v .number ≡ 0)
     (known′ useKeys′ useScopes′ usePurposes′ : List ℕ)
     (l : Learnt (a .known) nameKeys′ namePurposes′ (a .useKeys) (a .useScopes) (a .usePurposes) (entriesFrom keys tags 0 (c .names)) c

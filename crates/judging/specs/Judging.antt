@@ -25,7 +25,7 @@ use Rattle.words.specs.Kinds.{kindOf}
 use Rattle.words.specs.declared.keywords.Kind.{Kind}
 use Rattle.judging.specs.Cells.{cells, cells-part, length-cells}
 use Rattle.judging.specs.Counts.{isOver}
-use Rattle.judging.specs.Judged.{Ready, Behind, Judged, Misplaced}
+use Rattle.judging.specs.Judged.{Ready, Tallied, StatementJudged, Misplaced}
 use Rattle.judging.specs.JudgedLaws.{misplaced, number-some, number-nine, number-rest, over-is, learnt-holds}
 use Rattle.judging.specs.Learning.{wrongIn, Learnable, Learnt}
 
@@ -160,7 +160,7 @@ module _ (a : Arrays) (keys tags : List ℕ) (c : Cursor) (ready : Ready a keys 
     unfolding namesIn
     number-is = names .number
 
-    pub judged-names : (a′ : Arrays) → (v .number ≡ 0 → ⊥) → Judged a keys tags c kind a′ (v .number)
+    pub judged-names : (a′ : Arrays) → (v .number ≡ 0 → ⊥) → StatementJudged a keys tags c kind a′ (v .number)
     judged-names a′ f =
         record {
           number = λ taken k h items rows literals b. number-some a taken k h (kindOf kind) es items rows literals (v .number) number-is f;
@@ -168,7 +168,7 @@ module _ (a : Arrays) (keys tags : List ℕ) (c : Cursor) (ready : Ready a keys 
         }
 
     module _ (z : v .number ≡ 0) (n : ℕ) (is : n ≡ kindNumber (kindOf kind)) where
-      pub judged-nine : (a′ : Arrays) → wrongIn n (getD known 74 0) ≡ true → Judged a keys tags c kind a′ 9
+      pub judged-nine : (a′ : Arrays) → wrongIn n (getD known 74 0) ≡ true → StatementJudged a keys tags c kind a′ 9
       judged-nine a′ w =
           record {
             number = λ taken k h items rows literals b.
@@ -191,19 +191,19 @@ module _ (a : Arrays) (keys tags : List ℕ) (c : Cursor) (ready : Ready a keys 
             is l
 
         ten : (t : Bool) → isOver known′ (c .longest) ≡ t → (taken : ℕ) (k : Known) → Holds a taken k → (items : ℕ) (rows : List ℕ) (literals : ℕ)
-            → Behind k c items rows literals → cond t 10 0 ≡ metNumber k (kindOf kind) (metIn es items rows literals)
+            → Tallied k c items rows literals → cond t 10 0 ≡ metNumber k (kindOf kind) (metIn es items rows literals)
         ten t e taken k h items rows literals b =
             ap (λ x. cond x 10 0)
             (sym e ∙ over-is a taken k h (kindOf kind) keys tags c items rows literals b nameKeys′ namePurposes′ v names z known′ useKeys′ useScopes′
             usePurposes′ learnt′)
             ∙ number-rest a taken k h (kindOf kind) es items rows literals (v .number) number-is z right
 
-        pub judged-over : (a′ : Arrays) → isOver known′ (c .longest) ≡ true → Judged a keys tags c kind a′ 10
+        pub judged-over : (a′ : Arrays) → isOver known′ (c .longest) ≡ true → StatementJudged a keys tags c kind a′ 10
         judged-over a′ e =
             record { number = ten true e; learnt = λ f taken k h items rows literals b taken′ room. absurd (omega arith) }
 
         pub judged-zero : isOver known′ (c .longest) ≡ false
-            → Judged a keys tags c kind (arrays known′ nameKeys′ namePurposes′ useKeys′ useScopes′ usePurposes′) 0
+            → StatementJudged a keys tags c kind (arrays known′ nameKeys′ namePurposes′ useKeys′ useScopes′ usePurposes′) 0
         judged-zero e =
             record {
               number = ten false e;

@@ -14,7 +14,7 @@ use Rattle.language.specs.Reading.{Purpose, number, string}
 use Rattle.met.specs.Entries.{nameOf}
 use Rattle.met.specs.Holding.{namingIn, namesFrom}
 use Rattle.naming.specs.ArrayLaws.{names-last}
-use Rattle.naming.specs.Names.{naming}
+use Rattle.naming.specs.Names.{keyNaming}
 use Rattle.judging.specs.Cells.{cells, cells-kept, cells-more, length-cells, cut-more, cut-full}
 use Rattle.judging.specs.Listing.{pushed, listed, Shows, Listed}
 use Rattle.judging.specs.NamesFor.{names-append, number-one, string-one}
@@ -84,13 +84,13 @@ module _ (keys purposes : List ℕ) (i : ℕ) where
   abbrev p : ℕ
   p = getD purposes i 0
 
-  names-next : (q : Purpose) → namesFor q (namesFrom keys purposes 0 (i + 1)) ≡ namesFor q (namesFrom keys purposes 0 i) ++ namesFor q (naming key p ∷ [])
+  names-next : (q : Purpose) → namesFor q (namesFrom keys purposes 0 (i + 1)) ≡ namesFor q (namesFrom keys purposes 0 i) ++ namesFor q (keyNaming key p ∷ [])
   unfolding namingIn
   names-next q =
       let next : i + 1 ≡ suc i = omega arith in
       ap (λ n. namesFor q (namesFrom keys purposes 0 n)) next
       ∙ ap (namesFor q) (names-last keys purposes i)
-      ∙ names-append q (namesFrom keys purposes 0 i) (naming key p ∷ [])
+      ∙ names-append q (namesFrom keys purposes 0 i) (keyNaming key p ∷ [])
 
   numbers-next : namesFor number (namesFrom keys purposes 0 (i + 1)) ≡ namesFor number (namesFrom keys purposes 0 i) ++ cond (eqb p 3) (nameOf key ∷ []) []
   numbers-next = names-next number ∙ ap (λ (l : List (List ℕ)). namesFor number (namesFrom keys purposes 0 i) ++ l) (number-one key p)

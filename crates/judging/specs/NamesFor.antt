@@ -12,7 +12,7 @@ use Rattle.judgement.specs.Known.{namesFor}
 use Rattle.language.specs.Reading.{Purpose, label, routine, number, string, purposeNumber, samePurpose, Naming}
 use Rattle.met.specs.Entries.{entry, nameOf, purposeOf, namingOf, isDeclared, declaredBy, usedBy}
 use Rattle.naming.specs.DeclaringLaws.{purpose-string}
-use Rattle.naming.specs.Names.{naming}
+use Rattle.naming.specs.Names.{keyNaming}
 
 keep-append : (f : Naming → Bool) (xs ys : List Naming) → keep f (xs ++ ys) ≡ keep f xs ++ keep f ys
 unfolding keep
@@ -80,11 +80,11 @@ string-is (suc (suc (suc (suc p)))) a b =
     ap (λ x. cond (samePurpose string x) a b) (purpose-string q (omega arith)) ∙ sym (ap (λ t. cond t b a) (le-ltb q 4 (omega arith)))
 
 -- a name behind others, by its number
-pub number-one : (key p : ℕ) → namesFor number (naming key p ∷ []) ≡ cond (eqb p 3) (nameOf key ∷ []) []
-number-one key p = names-one number (naming key p) ∙ ap (λ t. cond t (nameOf key ∷ []) []) (number-is p)
+pub number-one : (key p : ℕ) → namesFor number (keyNaming key p ∷ []) ≡ cond (eqb p 3) (nameOf key ∷ []) []
+number-one key p = names-one number (keyNaming key p) ∙ ap (λ t. cond t (nameOf key ∷ []) []) (number-is p)
 
-pub string-one : (key p : ℕ) → namesFor string (naming key p ∷ []) ≡ cond (ltb p 4) [] (nameOf key ∷ [])
-string-one key p = names-one string (naming key p) ∙ string-is p (nameOf key ∷ []) []
+pub string-one : (key p : ℕ) → namesFor string (keyNaming key p ∷ []) ≡ cond (ltb p 4) [] (nameOf key ∷ [])
+string-one key p = names-one string (keyNaming key p) ∙ string-is p (nameOf key ∷ []) []
 
 -- an entry, by its tag: q is the purpose's number, of a label or routine
 module _ (p : Purpose) (q : ℕ) (is : (n : ℕ) → samePurpose p (purposeOf n) ≡ eqb n q) (small : q < 8) (key tag : ℕ) where
@@ -94,11 +94,11 @@ module _ (p : Purpose) (q : ℕ) (is : (n : ℕ) → samePurpose p (purposeOf n)
   declared-tag : namesFor p (declaredBy (entry key tag)) ≡ cond (eqb (tag % 16) (8 + q)) one []
   unfolding declaredBy isDeclared namingOf entry namesFor keep
   declared-tag =
-      test-cases (λ t. eqb (tag / 8 % 2) 1 ≡ t → namesFor p (cond t (naming key (tag % 8) ∷ []) []) ≡ cond (eqb (tag % 16) (8 + q)) one [])
+      test-cases (λ t. eqb (tag / 8 % 2) 1 ≡ t → namesFor p (cond t (keyNaming key (tag % 8) ∷ []) []) ≡ cond (eqb (tag % 16) (8 + q)) one [])
       (eqb (tag / 8 % 2) 1)
       (λ _ d.
       let odd = eqb-true (tag / 8 % 2) 1 d in
-      names-one p (naming key (tag % 8))
+      names-one p (keyNaming key (tag % 8))
       ∙ ap (λ t. cond t one []) (is (tag % 8)
       ∙ test-cases (λ t. eqb (tag % 8) q ≡ t → t ≡ eqb (tag % 16) (8 + q)) (eqb (tag % 8) q)
       (λ _ e. let low = eqb-true (tag % 8) q e in sym (eq-eqb (tag % 16) (8 + q) (omega arith)))
@@ -110,13 +110,13 @@ module _ (p : Purpose) (q : ℕ) (is : (n : ℕ) → samePurpose p (purposeOf n)
   used-tag : namesFor p (usedBy (entry key tag)) ≡ cond (eqb (tag % 16) q) one []
   unfolding usedBy isDeclared namingOf entry namesFor keep
   used-tag =
-      test-cases (λ t. eqb (tag / 8 % 2) 1 ≡ t → namesFor p (cond t [] (naming key (tag % 8) ∷ [])) ≡ cond (eqb (tag % 16) q) one [])
+      test-cases (λ t. eqb (tag / 8 % 2) 1 ≡ t → namesFor p (cond t [] (keyNaming key (tag % 8) ∷ [])) ≡ cond (eqb (tag % 16) q) one [])
       (eqb (tag / 8 % 2) 1)
       (λ _ d. let odd = eqb-true (tag / 8 % 2) 1 d in sym (ap (λ t. cond t one []) (ne-eqb (tag % 16) q (λ z. omega arith))))
       (λ _ d.
       let even = eqb-false (tag / 8 % 2) 1 d in
       let zeroth : tag / 8 % 2 ≡ 0 = omega arith in
-      names-one p (naming key (tag % 8))
+      names-one p (keyNaming key (tag % 8))
       ∙ ap (λ t. cond t one []) (is (tag % 8)
       ∙ test-cases (λ t. eqb (tag % 8) q ≡ t → t ≡ eqb (tag % 16) q) (eqb (tag % 8) q)
       (λ _ e. let low = eqb-true (tag % 8) q e in sym (eq-eqb (tag % 16) q (omega arith)))

@@ -31,11 +31,6 @@ pub routine-kept : (l m : List ℕ) (i : ℕ) → getD m (275 + i) 0 ≡ getD l 
 unfolding routineIn
 routine-kept l m i d e f = λ t. record { name = nameOf (d t); entry = e t; exit = f t }
 
-pub length-routines : (l : List ℕ) (n : ℕ) → length (routinesDown l n) ≡ n
-unfolding routinesDown
-length-routines l zero = refl
-length-routines l (suc n) = ap suc (length-routines l n)
-
 -- what is behind opening, closing or neither
 module _ (known : List ℕ) (size : length known ≡ 326) (few : getD known 69 0 ≤ 16) (o : Opened) (kind : ℕ) where
   abbrev n : ℕ

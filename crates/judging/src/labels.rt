@@ -2,12 +2,13 @@
 // Assumes nothing.
 use met::KNOWN;
 use met::NAMES;
-use naming::places::LABEL_COUNT;
-use naming::places::LABEL_KEYS;
-use naming::places::LABEL_SCOPES;
-use naming::places::LABEL_STEPS;
-use naming::places::SCOPE;
-use naming::places::STEPS;
+use met::places::LABEL_COUNT;
+use met::places::LABEL_KEYS;
+use met::places::LABEL_SCOPES;
+use met::places::LABEL_STEPS;
+use met::places::SCOPE;
+use met::places::STEPS;
+use met::tags::LABEL_DECLARED;
 ghost use mathlib.Core.Path.{_≡_};
 ghost use Prim.Native.Nat.{_≤_};
 ghost use lib.ListN.{length, getD};
@@ -17,9 +18,6 @@ ghost use Rattle.naming.specs.Names.{Sized};
 
 // how many are noted
 const MOST: usize = 65;
-
-// the lower part of the tag of a label that is declared
-const DECLARED_LABEL: u8 = 9;
 
 // notes a label, unless there are as many as can be noted
 fn put_label(known: &mut [u64; KNOWN], key: u64)
@@ -42,7 +40,7 @@ fn list_label(known: &mut [u64; KNOWN], key: u64, tag: u8)
     requires { ⌜ length (now known) ≡ 326 ⌝ }
     ensures { λ _. ⌜ now (known .exit) ≡ labelledBy (now (known .entry)) key tag ⌝ }
 {
-    if tag % 16 == DECLARED_LABEL {
+    if tag % 16 == LABEL_DECLARED {
         put_label(known, key);
     }
 }

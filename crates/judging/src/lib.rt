@@ -17,11 +17,11 @@ use listing::list_names;
 use met::Cursor;
 use met::KNOWN;
 use met::NAMES;
+use met::places::ENDED;
+use met::places::SCOPE;
+use met::places::STATEMENTS;
+use met::places::USE_COUNT;
 use naming::judge_names;
-use naming::places::ENDED;
-use naming::places::SCOPE;
-use naming::places::STATEMENTS;
-use naming::places::USE_COUNT;
 use routines::first_routine;
 use routines::learn_routine;
 use routines::scope_behind;
@@ -29,7 +29,7 @@ use uses::note_uses;
 use words::keywords::Kind;
 ghost use mathlib.Core.Path.{_≡_};
 ghost use lib.ListN.{length};
-ghost use Rattle.judging.specs.Judged.{Ready, Judged, Misplaced};
+ghost use Rattle.judging.specs.Judged.{Ready, StatementJudged, Misplaced};
 ghost use Rattle.judging.specs.Learning.{Learnable, Learnt};
 ghost use Rattle.naming.specs.Arrays.{arrays, entriesFrom};
 
@@ -100,7 +100,7 @@ pub fn judge_statement(
     kind: Kind,
 ) -> u32
     requires { ⌜ Ready (arrays (now known) (now «name_keys») (now «name_purposes») (now «use_keys») (now «use_scopes») (now «use_purposes»)) (now keys) (now tags) c ⌝ }
-    ensures { λ r. ⌜ Judged (arrays (now (known .entry)) (now («name_keys» .entry)) (now («name_purposes» .entry)) (now («use_keys» .entry)) (now («use_scopes» .entry)) (now («use_purposes» .entry))) (now (keys .entry)) (now (tags .entry)) c kind (arrays (now (known .exit)) (now («name_keys» .exit)) (now («name_purposes» .exit)) (now («use_keys» .exit)) (now («use_scopes» .exit)) (now («use_purposes» .exit))) r ⌝ }
+    ensures { λ r. ⌜ StatementJudged (arrays (now (known .entry)) (now («name_keys» .entry)) (now («name_purposes» .entry)) (now («use_keys» .entry)) (now («use_scopes» .entry)) (now («use_purposes» .entry))) (now (keys .entry)) (now (tags .entry)) c kind (arrays (now (known .exit)) (now («name_keys» .exit)) (now («name_purposes» .exit)) (now («use_keys» .exit)) (now («use_scopes» .exit)) (now («use_purposes» .exit))) r ⌝ }
 {
     let names = judge_names(known, name_keys, name_purposes, keys, tags, c.names);
     if names.number != 0 {

@@ -2,11 +2,13 @@
 // Assumes nothing.
 use met::KNOWN;
 use met::NAMES;
-use naming::places::NAME_COUNT;
-use naming::places::NUMBER_COUNT;
-use naming::places::NUMBER_KEYS;
-use naming::places::STRING_COUNT;
-use naming::places::STRING_KEYS;
+use met::places::NAME_COUNT;
+use met::places::NUMBER_COUNT;
+use met::places::NUMBER_KEYS;
+use met::places::STRING_COUNT;
+use met::places::STRING_KEYS;
+use met::tags::NUMBER;
+use met::tags::STRING;
 ghost use mathlib.Core.Path.{_≡_};
 ghost use Prim.Native.Nat.{_+_, _≤_, _<_};
 ghost use lib.ListN.{length, getD};
@@ -14,10 +16,6 @@ ghost use Rattle.judging.specs.Listing.{pushed, listed, Listing, Listed}
 
 // how many of each are noted
 const MOST: u64 = 33;
-
-const NUMBER: u8 = 3;
-
-const STRING: u8 = 4;
 
 // notes a key behind so many from a place on, unless there are as many as can be noted
 fn push(known: &mut [u64; KNOWN], count_at: usize, from: usize, key: u64)

@@ -3,20 +3,18 @@
 use crate::kinds::ENDROUTINE;
 use met::KNOWN;
 use met::NAMES;
-use naming::places::ENTRIES;
-use naming::places::EXITS;
-use naming::places::ROUTINE_COUNT;
-use naming::places::ROUTINE_KEYS;
-use naming::places::STEPS;
+use met::places::ENTRIES;
+use met::places::EXITS;
+use met::places::ROUTINE_COUNT;
+use met::places::ROUTINE_KEYS;
+use met::places::STEPS;
+use met::tags::ROUTINE_DECLARED;
 ghost use mathlib.Core.Path.{_≡_};
 ghost use Prim.Native.Nat.{_≤_};
 ghost use lib.ListN.{length, getD};
 ghost use Rattle.judging.specs.Routines.{routineNames, opening, closing, scopeBehind, Opens, Routed};
 ghost use Rattle.naming.specs.Arrays.{entriesFrom};
 ghost use Rattle.naming.specs.Names.{Sized};
-
-// the lower part of the tag of a routine that is declared
-const DECLARED_ROUTINE: u8 = 10;
 
 // the routine that a statement declares, if any
 pub struct Opened {
@@ -31,7 +29,7 @@ pub fn first_routine(keys: &[u64; NAMES], tags: &[u8; NAMES], met: usize) -> Ope
 {
     let mut i: usize = 0;
     while i < met {
-        if tags[i] % 16 == DECLARED_ROUTINE {
+        if tags[i] % 16 == ROUTINE_DECLARED {
             return Opened {
                 found: true,
                 key: keys[i],

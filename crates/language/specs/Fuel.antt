@@ -12,13 +12,12 @@ use Rattle.base.specs.Choice.{test-cases, cond-cases}
 use Rattle.base.specs.Edition.{Edition}
 use Rattle.base.specs.Lists.{begins, same}
 use Rattle.base.specs.Text.{bytes}
-use Rattle.cards.specs.Bytes.{isLetter, isDigit}
+use Rattle.cards.specs.Bytes.{isLetter, isDigit, isNameByte}
 use Rattle.language.specs.Program.{Item, operand, operator}
 use Rattle.language.specs.Reading.{Role, Met, naming, number, string, anItem, Read, got, broken, _>>=_, meeting, give, skip}
 use Rattle.language.specs.Words.{
   Places,
   run,
-  isNameByte,
   nameLength,
   name,
   nameAs,
@@ -48,9 +47,6 @@ module _ {A : Type 0} where
   pub agree-same : {n : ℕ} {x y : Read A} → Agree n x y → x ≡ y
   agree-same (both h) = refl
   agree-same neither = refl
-
-  pub agree-fewer : {n : ℕ} {a : A} {m : Met} {rest : List ℕ} → Leaves n (got a m rest) → length rest < n
-  agree-fewer (both h) = h
 
   agree-wider : {n k : ℕ} {x y : Read A} → n ≤ k → Agree n x y → Agree k x y
   agree-wider {k} le (both {rest} h) = let l : length rest < k = omega arith in both l

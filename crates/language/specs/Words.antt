@@ -1,28 +1,16 @@
 -- Document 01, "Statements": names and constants, and the names' places in a program. Assumes nothing.
 use mathlib.Core.Bool.{Bool, true, false, cond, _&&_, _||_}
-use mathlib.Core.List.{List, [], _∷_, _++_}
+use mathlib.Core.List.{List, [], _∷_}
 use Prim.Native.Nat.{ℕ, suc, _+_, _*_, _-_}
 use lib.Dec.{leb}
 use lib.IntN.{ℤ, pos, negℤ}
-use lib.ListN.{length, take, drop, getD}
+use lib.ListN.{take, drop, getD}
 use Rattle.base.specs.Edition.{Edition}
 use Rattle.base.specs.Lists.{begins}
 use Rattle.base.specs.Text.{bytes}
-use Rattle.cards.specs.Bytes.{isLetter, isDigit}
+use Rattle.cards.specs.Bytes.{isLetter, isDigit, isNameByte}
 use Rattle.language.specs.Program.{Length, constantly, numbered, Part, whole, first}
-use Rattle.language.specs.Reading.{
-  Purpose,
-  number,
-  string,
-  Role,
-  Met,
-  naming,
-  Read,
-  got,
-  broken,
-  _>>=_,
-  give,
-}
+use Rattle.language.specs.Reading.{number, string, Role, Met, naming, Read, got, broken, give, _>>=_}
 
 -- the places that names have in the program, and the step behind the one that is read
 pub record Places : Type 0 where
@@ -38,9 +26,6 @@ pub record Places : Type 0 where
 unfoldable pub run : (ℕ → Bool) → List ℕ → ℕ
 run f [] = 0
 run f (b ∷ bs) = elim (f b) [ true ↦ suc (run f bs) | false ↦ 0 ]
-
-unfoldable pub isNameByte : ℕ → Bool
-isNameByte b = isLetter b || isDigit b
 
 -- S1 "Name: a letter, then up to 7 letters or digits."; how many bytes of one stand in front, 0 for none. A longer one is none.
 unfoldable pub nameLength : List ℕ → ℕ

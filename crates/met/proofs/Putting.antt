@@ -1,55 +1,60 @@
 -- A number in bytes written one by one, a cell written in its parts, and literal bytes.
 -- Assumes nothing.
-use mathlib.Core.List.{List, [], _∷_, _++_}
+use mathlib.Core.Bool.{true, false, true≢false}
+use mathlib.Core.List.{List, [], _∷_}
 use mathlib.Core.Path.{_≡_, refl, sym, ap, ap₂, _∙_}
-use Prim.Native.Nat.{ℕ, suc, _+_, _*_, _-_, _/_, _%_, _≤_, _<_}
+use Prim.Native.Nat.{ℕ, suc, _+_, _*_, _-_, _/_, _%_, _^_, _≤_, _<_}
 use native.Mathlib.Nat.{add-zero}
 use native.Mathlib.Omega.{arith}
+use lib.IntN.{ℤ, pos, negsuc, natAbs}
 use lib.ListN.{length, take, getD, set, length-set}
 use lib.Seq.{length-take-le, take-suc, take-all}
 use native.Mathlib.Numerals.{add-one}
-use Rattle.calls.specs.Numerals.{inBytes}
-use Rattle.calls.specs.Splices.{splice, set-splice, splice-behind, splice-nil, length-splice}
-use borrow.Author.Tests.{lt-ltb, le-ltb}
-use Rattle.calls.specs.Table.{Cell, cell, cellBytes, itemsAt, elementsAt, literalsAt}
+use Rattle.calls.specs.Numerals.{inBytes, bias, biased}
+use Rattle.calls.specs.Splices.{splice, set-splice, splice-behind, splice-nil}
+use borrow.Author.Tests.{ltb-true, lt-ltb, le-ltb}
+use Rattle.calls.specs.Table.{Cell, cell, cellBytes, literalsAt}
+use Rattle.met.specs.Cells.{withCell}
 use Rattle.met.specs.Contracts.{named, Noted}
-use Rattle.met.specs.Elements.{withElement, withLiterals, literals-append}
-use Rattle.met.specs.Items.{withItem}
+use Rattle.met.specs.Elements.{withLiterals, literals-append}
 use Rattle.met.specs.declared.Cursor.{Cursor}
+use Rattle.values.specs.Numbers.{isNegative}
 
 -- a byte, and then bytes behind it
 pub set-then : (t : List ℕ) (a b : ℕ) (w : List ℕ) → a < length t → splice (set t a b) (a + 1) w ≡ splice t a (b ∷ w)
 set-then t a b w h = rw (set-splice t a b h) (splice-behind t a (b ∷ []) w (omega arith))
 
--- i of the six bytes are written
-pub record Putting (t₀ : List ℕ) (at number : ℕ) (t : List ℕ) (n i : ℕ) : Type 0 where
-  pub inside : i ≤ 6
-  pub size : length t ≡ length t₀
-  pub leads : splice t (at + i) (inBytes (6 - i) n) ≡ splice t₀ at (inBytes 6 number)
+-- i of a number's bytes are written
+pub record Putting (t₀ : List ℕ) (at size number : ℕ) (t : List ℕ) (n i : ℕ) : Type 0 where
+  pub inside : i ≤ size
+  pub same : length t ≡ length t₀
+  pub leads : splice t (at + i) (inBytes (size - i) n) ≡ splice t₀ at (inBytes size number)
 
-module _ (t₀ : List ℕ) (at number : ℕ) where
-  pub putting-none : Putting t₀ at number t₀ number 0
-  putting-none = record { inside = omega arith; size = refl; leads = ap (λ n. splice t₀ n (inBytes 6 number)) (add-zero at) }
+module _ (t₀ : List ℕ) (at size number : ℕ) where
+  pub putting-none : Putting t₀ at size number t₀ number 0
+  putting-none =
+      let whole : size - 0 ≡ size = omega arith in
+      record { inside = omega arith; same = refl; leads = ap₂ (λ n k. splice t₀ n (inBytes k number)) (add-zero at) whole }
 
-  module _ (t : List ℕ) (n i : ℕ) (p : Putting t₀ at number t n i) where
-    pub putting-more : at + 6 ≤ length t₀ → i < 6 → Putting t₀ at number (set t (at + i) (n % 256)) (n / 256) (i + 1)
+  module _ (t : List ℕ) (n i : ℕ) (p : Putting t₀ at size number t n i) where
+    pub putting-more : at + size ≤ length t₀ → i < size → Putting t₀ at size number (set t (at + i) (n % 256)) (n / 256) (i + 1)
     unfolding inBytes
     putting-more room h =
-        let left : 6 - i ≡ suc (6 - (i + 1)) = omega arith in
+        let left : size - i ≡ suc (size - (i + 1)) = omega arith in
         let next : at + (i + 1) ≡ at + i + 1 = omega arith in
         record {
           inside = omega arith;
-          size = length-set t (at + i) (n % 256) ∙ p .size;
+          same = length-set t (at + i) (n % 256) ∙ p .same;
           leads =
-              rw next (set-then t (at + i) (n % 256) (inBytes (6 - (i + 1)) (n / 256)) (omega (arith, p .size)))
+              rw next (set-then t (at + i) (n % 256) (inBytes (size - (i + 1)) (n / 256)) (omega (arith, p .same)))
               ∙ ap (λ k. splice t (at + i) (inBytes k n)) (sym left)
               ∙ p .leads;
         }
 
-    pub putting-all : 6 ≤ i → t ≡ splice t₀ at (inBytes 6 number)
+    pub putting-all : size ≤ i → t ≡ splice t₀ at (inBytes size number)
     unfolding inBytes
     putting-all h =
-        let none : 6 - i ≡ 0 = omega arith in
+        let none : size - i ≡ 0 = omega arith in
         sym (splice-nil t (at + i)) ∙ ap (λ k. splice t (at + i) (inBytes k n)) (sym none) ∙ p .leads
 
 -- a cell's kind, its place, and its value
@@ -62,25 +67,15 @@ cell-put t at kind place value h =
     ∙ set-then (set t at kind) (at + 1) place (inBytes 6 value) (omega arith)
     ∙ set-then t at kind (place ∷ inBytes 6 value) (omega arith)
 
--- an item row, and a row behind the last one
-module _ (t : List ℕ) (k : ℕ) (c : Cell) where
-  pub item-inside : k < 1024 → splice t (14400 + 8 * k) (cellBytes c) ≡ withItem t k c
-  unfolding withItem itemsAt
-  item-inside h = rw (lt-ltb k 1024 h)
+-- a cell of a region, and one behind the last
+module _ (t : List ℕ) (from most k : ℕ) (c : Cell) where
+  pub cell-inside : k < most → splice t (from + 8 * k) (cellBytes c) ≡ withCell t from most k c
+  unfolding withCell
+  cell-inside h = rw (lt-ltb k most h)
 
-  pub item-behind : 1024 ≤ k → t ≡ withItem t k c
-  unfolding withItem
-  item-behind h = rw (le-ltb k 1024 h)
-
--- an element row, and a row behind the last one
-module _ (t : List ℕ) (k : ℕ) (c : Cell) where
-  pub element-inside : k < 1024 → splice t (6208 + 8 * k) (cellBytes c) ≡ withElement t k c
-  unfolding withElement elementsAt
-  element-inside h = rw (lt-ltb k 1024 h)
-
-  pub element-behind : 1024 ≤ k → t ≡ withElement t k c
-  unfolding withElement
-  element-behind h = rw (le-ltb k 1024 h)
+  pub cell-behind : most ≤ k → t ≡ withCell t from most k c
+  unfolding withCell
+  cell-behind h = rw (le-ltb k most h)
 
 -- a literal byte, and one behind the last one
 module _ (t : List ℕ) (l b : ℕ) where
@@ -126,3 +121,14 @@ pub noted : (keys tags : List ℕ) (c : Cursor) (key tag : ℕ) → c .names < l
     → Noted keys tags c key tag (set keys (c .names) key) (set tags (c .names) tag) (named c)
 noted keys tags c key tag h g =
     record { keyed = set-splice keys (c .names) key h; tagged = set-splice tags (c .names) tag g; goes = refl }
+
+-- a constant as its cell has it
+pub biased-above : (z : ℤ) → isNegative z ≡ false → 2 ^ 47 + natAbs z ≡ biased z
+unfolding biased bias isNegative
+biased-above (pos n) e = omega arith
+biased-above (negsuc n) e = absurd (true≢false e)
+
+pub biased-below : (z : ℤ) → isNegative z ≡ true → natAbs z ≤ 8_388_607 → 2 ^ 47 - natAbs z ≡ biased z
+unfolding biased bias isNegative
+biased-below (pos n) e h = absurd (omega (arith, ltb-true n 0 e))
+biased-below (negsuc n) e h = rw (le-ltb (2 ^ 47) (suc n) (omega arith)) (omega arith)

@@ -14,11 +14,13 @@ use Rattle.base.specs.Limits as Limits
 use Rattle.calls.specs.CellLaws.{length-cellBytes}
 use Rattle.calls.specs.Splices.{splice, splice-nil, splice-behind, splice-before, splice-same-behind, splice-same-before, length-splice}
 use Rattle.calls.specs.Table.{Cell, cellBytes, patternCell, literalIn, allLiterals, elementRows, elementsAt, literalsAt}
+use Rattle.calls.specs.TableLaws.{length-elementRows}
 use Rattle.language.specs.Program.{PatternElement}
+use Rattle.met.specs.Cells.{withCell}
 
 -- a cell as element k of all elements
 unfoldable pub withElement : List ℕ → ℕ → Cell → List ℕ
-withElement t k c = cond (ltb k Limits.elements) (splice t (elementsAt + 8 * k) (cellBytes c)) t
+withElement t = withCell t elementsAt Limits.elements
 
 -- bytes from literal byte l of all literal bytes on
 unfoldable pub withLiterals : List ℕ → ℕ → List ℕ → List ℕ
@@ -90,16 +92,11 @@ splice-swap t a b v w h g =
     ∙ sym (splice-behind t a (v ++ mid) w (omega arith))
     ∙ ap₂ (λ (l : List ℕ) (j : ℕ). splice l j w) (splice-same-behind t a v mid there) end
 
-size-rows : (l : ℕ) (xs : List PatternElement) → length (elementRows l xs) ≡ 8 * length xs
-unfolding elementRows
-size-rows l [] = refl
-size-rows l (x ∷ xs) = simp (length-append, length-cellBytes, size-rows (l + length (literalIn x)) xs) (omega arith)
-
 -- where all have rows and room, the elements' rows and their literal bytes are written over what was there
 pub elements-rows : (t : List ℕ) (k l : ℕ) (es : List PatternElement) → k + length es ≤ Limits.elements
     → l + length (allLiterals es) ≤ Limits.literals → 28_672 ≤ length t
     → withElements t k l es ≡ splice (splice t (elementsAt + 8 * k) (elementRows l es)) (literalsAt + l) (allLiterals es)
-unfolding withElements withElement elementRows allLiterals elementsAt literalsAt
+unfolding withElements withElement withCell elementRows allLiterals elementsAt literalsAt
 elements-rows t k l [] h m g =
     sym (splice-nil (splice t (6208 + 8 * k) []) (22_592 + l) ∙ splice-nil t (6208 + 8 * k))
 elements-rows t k l (x ∷ xs) h m g =
@@ -113,7 +110,7 @@ elements-rows t k l (x ∷ xs) h m g =
     let more = elementRows (l + length w) xs in
     let lits = allLiterals xs in
     let count = length-append w lits in
-    let rest = size-rows (l + length w) xs in
+    let rest = length-elementRows (l + length w) xs in
     let u = splice t at bytes in
     let long = length-splice t at bytes (omega arith) in
     let v = splice t at (bytes ++ more) in

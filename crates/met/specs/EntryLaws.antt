@@ -19,10 +19,6 @@ use Rattle.language.specs.Reading.{
   number,
   string,
   purposeNumber,
-  reference,
-  sought,
-  filler,
-  Met,
   both,
   declaring,
   naming,
@@ -155,19 +151,6 @@ module _ (n : List ℕ) (a : all isKeyByte n ≡ true) where
   declared-met routine = rw (name-key n a)
   declared-met number = rw (name-key n a)
   declared-met string = rw (name-key n a)
-
-  -- a string in a SCAN: the reference, sought, a filler
-  pub reference-met : metIn (entry (keyOf n) 20 ∷ []) 0 [] 0 ≡ naming string (reference n ∷ []) n
-  unfolding metIn gather declaredBy usedBy rolesBy isDeclared namingOf purposeOf roleOf entry naming
-  reference-met = rw (name-key n a)
-
-  pub sought-met : metIn (entry (keyOf n) 36 ∷ []) 0 [] 0 ≡ naming string (sought n ∷ []) n
-  unfolding metIn gather declaredBy usedBy rolesBy isDeclared namingOf purposeOf roleOf entry naming
-  sought-met = rw (name-key n a)
-
-  pub filler-met : metIn (entry (keyOf n) 52 ∷ []) 0 [] 0 ≡ naming string (filler n ∷ []) n
-  unfolding metIn gather declaredBy usedBy rolesBy isDeclared namingOf purposeOf roleOf entry naming
-  filler-met = rw (name-key n a)
 
   -- a string by the number of its role
   pub role-met : (tag : ℕ) → tag % 16 ≡ 4 → metIn (entry (keyOf n) tag ∷ []) 0 [] 0 ≡ naming string (roleOf (tag / 16) n) n

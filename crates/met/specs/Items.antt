@@ -1,11 +1,9 @@
 -- The item rows of a table as they are written one by one; behind the last row nothing is written. Assumes nothing.
-use mathlib.Core.Bool.{cond}
 use mathlib.Core.List.{List, [], _∷_, _++_}
 use mathlib.Core.Path.{_≡_, sym, ap, _∙_}
 use Prim.Native.Nat.{ℕ, suc, _+_, _*_, _≤_}
 use native.Mathlib.Omega.{arith}
 use native.Mathlib.Nat.{add-zero}
-use lib.Dec.{ltb}
 use lib.ListN.{length}
 use borrow.Author.Tests.{lt-ltb}
 use Rattle.base.specs.Limits as Limits
@@ -13,10 +11,11 @@ use Rattle.calls.specs.CellLaws.{length-cellBytes}
 use Rattle.calls.specs.Splices.{splice, splice-nil, splice-behind, length-splice}
 use Rattle.calls.specs.Table.{Cell, cellBytes, itemCell, itemRows, itemsAt}
 use Rattle.language.specs.Program.{Item}
+use Rattle.met.specs.Cells.{withCell}
 
 -- a cell as item k of all items
 unfoldable pub withItem : List ℕ → ℕ → Cell → List ℕ
-withItem t k c = cond (ltb k Limits.items) (splice t (itemsAt + 8 * k) (cellBytes c)) t
+withItem t = withCell t itemsAt Limits.items
 
 -- items from item k on
 unfoldable pub withItems : List ℕ → ℕ → List Item → List ℕ
@@ -31,16 +30,10 @@ items-append t k (i ∷ is) js =
     items-append (withItem t k (itemCell i)) (suc k) is js
     ∙ ap (λ n. withItems (withItems (withItem t k (itemCell i)) (suc k) is) n js) (omega arith)
 
--- one more item
-pub items-one : (t : List ℕ) (k : ℕ) (is : List Item) (j : Item)
-    → withItems t k (is ++ (j ∷ [])) ≡ withItem (withItems t k is) (k + length is) (itemCell j)
-unfolding withItems
-items-one t k is j = items-append t k is (j ∷ [])
-
 -- where all have rows, the items' rows are written over what was there
 pub items-rows : (t : List ℕ) (k : ℕ) (is : List Item) → k + length is ≤ Limits.items → 28_672 ≤ length t
     → withItems t k is ≡ splice t (itemsAt + 8 * k) (itemRows is)
-unfolding withItems withItem itemRows itemsAt
+unfolding withItems withItem withCell itemRows itemsAt
 items-rows t k [] h g = sym (splice-nil t (14_400 + 8 * k))
 items-rows t k (i ∷ is) h g =
     let bytes = cellBytes (itemCell i) in

@@ -1,6 +1,6 @@
 -- What is known behind some statements of a deck, in one array of numbers: counts first, then the keys of strings and numbers, and the
 -- labels and routines declared, each a key and its steps. Assumes nothing.
-use mathlib.Core.Bool.{true, false}
+use mathlib.Core.Bool.{Bool, true, false, _||_}
 use mathlib.Core.List.{List, [], _∷_, map}
 use mathlib.Core.Path.{_≡_}
 use Prim.Native.Nat.{ℕ, zero, suc, _+_, _≤_}
@@ -106,6 +106,11 @@ numberKeys known = take (getD known 1 0) (drop numbersAt known)
 unfoldable pub keyPlace : ℕ → List ℕ → ℕ
 keyPlace k [] = 0
 keyPlace k (j ∷ js) = elim (eqb k j) [ true ↦ 0 | false ↦ suc (keyPlace k js) ]
+
+-- a key is among n from a place on
+unfoldable pub keysHave : List ℕ → (from n key : ℕ) → Bool
+keysHave known from zero key = false
+keysHave known from (suc n) key = eqb key (getD known (from + n) 0) || keysHave known from n key
 
 -- label i, and the labels from i on
 unfoldable pub labelIn : List ℕ → ℕ → Label

@@ -1,26 +1,32 @@
 // What readers leave behind while they read a statement: the names met, the rows of items and elements with their literal bytes, and places
 // by names known.
 // Assumes nothing.
+pub mod places;
+pub mod tags;
+
+use convert::Int;
+use places::NUMBER_COUNT;
+use places::NUMBER_KEYS;
+use places::STRING_COUNT;
+use places::STRING_KEYS;
 ghost use mathlib.Core.List.{[], _∷_};
 ghost use mathlib.Core.Path.{_≡_};
 ghost use Prim.Native.Nat.{_+_, _*_, _≤_, _<_};
 ghost use lib.ListN.{length, take, drop};
-ghost use Rattle.calls.specs.Numerals.{inBytes};
+ghost use Rattle.calls.specs.Numerals.{inBytes, biased};
 ghost use Rattle.calls.specs.Splices.{splice};
 ghost use Rattle.calls.specs.Table.{cell, cellBytes};
+ghost use Rattle.convert.specs.Numbers.{InRange};
+ghost use Rattle.met.specs.Cells.{withCell};
 ghost use Rattle.met.specs.Contracts.{Notable, Noted};
 ghost use Rattle.met.specs.Elements.{withElement, withLiterals};
 ghost use Rattle.met.specs.Items.{withItem};
-ghost use Rattle.met.specs.Known.{Counted, keyPlace, stringKeys, numberKeys};
+ghost use Rattle.met.specs.Known.{Counted, keyPlace, keysHave, stringKeys, numberKeys};
 
 // how many names fit: one for each byte of a text, and the label
 pub const NAMES: usize = 32800;
 
-// where the keys of strings and of numbers stand among the names known, behind the two counts
-const STRINGS_AT: usize = 2;
-
-const NUMBERS_AT: usize = 35;
-
+// how many numbers the array of what is known has
 pub const KNOWN: usize = 326;
 
 // the item rows of a table
@@ -36,6 +42,9 @@ const ELEMENTS: usize = 1024;
 const LITERALS_AT: usize = 22592;
 
 const LITERALS: usize = 4096;
+
+// what a constant has added in its cell
+pub const BIAS: usize = 140_737_488_355_328;
 
 // where a reader is in the text; how many names, items, elements and literal bytes are written; the longest row of elements so far
 pub struct Cursor {
@@ -71,14 +80,27 @@ pub fn note_name(
     }
 }
 
-// writes a number into its six bytes at a place, low byte first
-fn put_number(table: &mut [u8], at: usize, number: usize)
-    requires { ⌜ at + 6 ≤ length (now table) ⌝ }
-    ensures { λ _. ⌜ now (table .exit) ≡ splice (now (table .entry)) at (inBytes 6 number) ⌝ }
+// a constant as its cell has it
+pub fn with_bias(z: Int) -> usize
+    requires { ⌜ InRange z ⌝ }
+    ensures { λ r. ⌜ r ≡ biased (z .value) ⌝ }
+{
+    let size = convert::size(z) as usize;
+    if convert::is_negative(z) {
+        BIAS - size
+    } else {
+        BIAS + size
+    }
+}
+
+// writes a number into its so many bytes at a place, low byte first
+pub fn put_number(table: &mut [u8], at: usize, size: usize, number: usize)
+    requires { ⌜ at + size ≤ length (now table) ⌝ }
+    ensures { λ _. ⌜ now (table .exit) ≡ splice (now (table .entry)) at (inBytes size number) ⌝ }
 {
     let mut n = number;
     let mut i = 0;
-    while i < 6 {
+    while i < size {
         table[at + i] = (n % 256) as u8;
         n = n / 256;
         i += 1;
@@ -92,7 +114,17 @@ pub fn put_cell(table: &mut [u8], at: usize, kind: u8, place: u8, value: usize)
 {
     table[at] = kind;
     table[at + 1] = place;
-    put_number(table, at + 2, value);
+    put_number(table, at + 2, 6, value);
+}
+
+// writes cell k of a region with so many cells; of those behind the last one nothing
+fn put_in(table: &mut [u8], from: usize, most: usize, k: usize, kind: u8, place: u8, value: usize)
+    requires { ⌜ from + 8 * most ≤ length (now table) ⌝ }
+    ensures { λ _. ⌜ now (table .exit) ≡ withCell (now (table .entry)) from most k (cell kind place value) ⌝ }
+{
+    if k < most {
+        put_cell(table, from + 8 * k, kind, place, value);
+    }
 }
 
 // writes item k; of those behind the last row nothing
@@ -100,9 +132,7 @@ pub fn put_item(table: &mut [u8], k: usize, kind: u8, place: u8, value: usize)
     requires { ⌜ 28672 ≤ length (now table) ⌝ }
     ensures { λ _. ⌜ now (table .exit) ≡ withItem (now (table .entry)) k (cell kind place value) ⌝ }
 {
-    if k < ITEMS {
-        put_cell(table, ITEMS_AT + 8 * k, kind, place, value);
-    }
+    put_in(table, ITEMS_AT, ITEMS, k, kind, place, value);
 }
 
 // writes element k; of those behind the last row nothing
@@ -110,9 +140,7 @@ pub fn put_element(table: &mut [u8], k: usize, kind: u8, place: u8, value: usize
     requires { ⌜ 28672 ≤ length (now table) ⌝ }
     ensures { λ _. ⌜ now (table .exit) ≡ withElement (now (table .entry)) k (cell kind place value) ⌝ }
 {
-    if k < ELEMENTS {
-        put_cell(table, ELEMENTS_AT + 8 * k, kind, place, value);
-    }
+    put_in(table, ELEMENTS_AT, ELEMENTS, k, kind, place, value);
 }
 
 // writes literal byte l; of those behind the last one nothing
@@ -139,7 +167,7 @@ pub fn put_literals(table: &mut [u8], l: usize, bytes: &[u8])
 }
 
 // the place of a key among so many from a place on
-fn key_place(known: &[u64; KNOWN], from: usize, count: usize, key: u64) -> usize
+pub fn key_place(known: &[u64; KNOWN], from: usize, count: usize, key: u64) -> usize
     requires { ⌜ (length (now known) ≡ 326) × (from + count ≤ 326) ⌝ }
     ensures { λ r. ⌜ (r ≡ keyPlace key (take count (drop from (now (known .entry))))) × (r ≤ count) ⌝ }
 {
@@ -153,13 +181,21 @@ fn key_place(known: &[u64; KNOWN], from: usize, count: usize, key: u64) -> usize
     i
 }
 
+// whether a key stands among n from a place on
+pub fn has_key(known: &[u64; KNOWN], from: usize, n: usize, key: u64) -> bool
+    requires { ⌜ (length (now known) ≡ 326) × (from + n ≤ 326) ⌝ }
+    ensures { λ r. ⌜ r ≡ keysHave (now (known .entry)) from n key ⌝ }
+{
+    key_place(known, from, n, key) < n
+}
+
 // the place of a string's name
 pub fn string_place(known: &[u64; KNOWN], key: u64) -> u8
     requires { ⌜ Counted (now known) ⌝ }
     ensures { λ r. ⌜ r ≡ keyPlace key (stringKeys (now (known .entry))) ⌝ }
 {
-    let count = known[0] as usize;
-    key_place(known, STRINGS_AT, count, key) as u8
+    let count = known[STRING_COUNT] as usize;
+    key_place(known, STRING_KEYS, count, key) as u8
 }
 
 // the place of a number's name
@@ -167,6 +203,6 @@ pub fn number_place(known: &[u64; KNOWN], key: u64) -> u8
     requires { ⌜ Counted (now known) ⌝ }
     ensures { λ r. ⌜ r ≡ keyPlace key (numberKeys (now (known .entry))) ⌝ }
 {
-    let count = known[1] as usize;
-    key_place(known, NUMBERS_AT, count, key) as u8
+    let count = known[NUMBER_COUNT] as usize;
+    key_place(known, NUMBER_KEYS, count, key) as u8
 }

@@ -1,37 +1,22 @@
 -- Names and entries in their arrays one by one, and keys among others. Assumes nothing.
-use mathlib.Core.Bool.{Bool, false, _||_, or-comm, or-false}
-use mathlib.Core.List.{List, [], _∷_, _++_, map, map-append}
+use mathlib.Core.Bool.{Bool, _||_, or-comm, or-false}
+use mathlib.Core.List.{List, [], _∷_, _++_}
 use mathlib.Core.Path.{_≡_, refl, sym, _∙_, ap, ap₂}
 use Prim.Native.Nat.{ℕ, zero, suc, _+_, _-_, _≤_, _<_}
 use native.Mathlib.Nat.{add-zero}
 use native.Mathlib.Omega.{arith}
 use lib.Dec.{eqb}
-use lib.ListN.{length, take, drop, getD, length-drop}
-use lib.Seq.{take-suc, getD-drop}
-use borrow.Author.Tests.{eqb-true, eqb-false}
-use Rattle.base.specs.Choice.{test-cases}
+use lib.ListN.{getD}
 use Rattle.base.specs.Lists.{same, any}
-use Rattle.base.specs.ListLaws.{same-true, same-refl}
-use Rattle.judgement.specs.Known.{Label, Routine, isOneOf}
+use Rattle.judgement.specs.Known.{Label}
 use Rattle.judgement.specs.Names.{any-append}
 use Rattle.language.specs.Reading.{Naming}
 use Rattle.met.specs.Entries.{Entry, entry, nameOf}
-use Rattle.met.specs.EntryLaws.{key-name}
 use Rattle.met.specs.Holding.{namingIn, namesFrom}
-use Rattle.met.specs.Known.{labelIn, labelsFrom, routineIn, routinesDown}
-use Rattle.packer.specs.Keys.{keyOf}
-use Rattle.naming.specs.Arrays.{entriesFrom, entriesLeft, keysHave}
-use Rattle.naming.specs.Names.{naming}
-
--- names are the same exactly where their keys are
-pub name-same : (j k : ℕ) → same (nameOf j) (nameOf k) ≡ eqb j k
-name-same j k =
-    test-cases (λ t. eqb j k ≡ t → same (nameOf j) (nameOf k) ≡ t) (eqb j k)
-    (λ _ e. ap (λ i. same (nameOf j) (nameOf i)) (sym (eqb-true j k e)) ∙ same-refl (nameOf j))
-    (λ _ e.
-    test-cases (λ t. same (nameOf j) (nameOf k) ≡ t → t ≡ false) (same (nameOf j) (nameOf k))
-    (λ _ f. absurd (eqb-false j k e (sym (key-name j) ∙ ap keyOf (same-true (nameOf j) (nameOf k) f) ∙ key-name k))) (λ _ _. refl) refl)
-    refl
+use Rattle.met.specs.Known.{keysHave, labelIn, labelsFrom}
+use Rattle.met.specs.KnownLaws.{name-same}
+use Rattle.naming.specs.Arrays.{entriesFrom, entriesLeft}
+use Rattle.naming.specs.Names.{keyNaming}
 
 -- the first of the entries left
 pub entries-turn : (keys tags : List ℕ) (met i : ℕ) → i < met
@@ -89,13 +74,8 @@ names-kept keys purposes keys′ purposes′ i (suc n) f g =
     let rest =
     names-kept keys purposes keys′ purposes′ (suc i) n (λ j h. f j (omega arith)) (λ j h. g j (omega arith))
     in
-    ap₂ {C = List Naming} (λ k (ns : List Naming). naming k (getD purposes′ i 0) ∷ ns) (f i (omega arith)) rest
-    ∙ ap (λ p. naming (getD keys i 0) p ∷ namesFrom keys purposes (suc i) n) (g i (omega arith))
-
-pub length-names : (keys purposes : List ℕ) (i n : ℕ) → length (namesFrom keys purposes i n) ≡ n
-unfolding namesFrom
-length-names keys purposes i zero = refl
-length-names keys purposes i (suc n) = ap suc (length-names keys purposes (suc i) n)
+    ap₂ {C = List Naming} (λ k (ns : List Naming). keyNaming k (getD purposes′ i 0) ∷ ns) (f i (omega arith)) rest
+    ∙ ap (λ p. keyNaming (getD keys i 0) p ∷ namesFrom keys purposes (suc i) n) (g i (omega arith))
 
 -- one more label behind n
 pub labels-more : (known : List ℕ) (i n : ℕ) → labelsFrom known i (suc n) ≡ labelsFrom known i n ++ (labelIn known (i + n) ∷ [])
@@ -123,32 +103,13 @@ entries-last keys tags n =
     let at : 0 + n ≡ n = omega arith in
     entries-more keys tags 0 n ∙ ap (λ j. entriesFrom keys tags 0 n ++ (entry (getD keys j 0) (getD tags j 0) ∷ [])) at
 
--- a name is among the labels, routines and numbers known by its key
-module _ (known : List ℕ) (key : ℕ) where
-  pub labels-have : (n : ℕ) → any (λ (l : Label). same (nameOf key) (l .name)) (labelsFrom known 0 n) ≡ keysHave known 80 n key
-  unfolding any keysHave labelsFrom labelIn
-  labels-have zero = refl
-  labels-have (suc n) =
-      let test : Label → Bool = λ l. same (nameOf key) (l .name) in
-      ap (any test) (labels-last known n)
-      ∙ any-append test (labelsFrom known 0 n) (labelIn known n ∷ [])
-      ∙ ap₂ {C = Bool} _||_ (labels-have n) (or-false (same (nameOf key) (nameOf (getD known (80 + n) 0))) ∙ name-same key (getD known (80 + n) 0))
-      ∙ or-comm (keysHave known 80 n key) (eqb key (getD known (80 + n) 0))
-
-  pub routines-have : (n : ℕ) → any (λ (r : Routine). same (nameOf key) (r .name)) (routinesDown known n) ≡ keysHave known 275 n key
-  unfolding any keysHave routinesDown routineIn
-  routines-have zero = refl
-  routines-have (suc n) = ap₂ {C = Bool} _||_ (name-same key (getD known (275 + n) 0)) (routines-have n)
-
-  pub keys-have : (from n : ℕ) → from + n ≤ length known → isOneOf (map nameOf (take n (drop from known))) (nameOf key) ≡ keysHave known from n key
-  unfolding any keysHave isOneOf
-  keys-have from zero h = refl
-  keys-have from (suc n) h =
-      let at = getD (drop from known) n 0 in
-      let room : n < length (drop from known) = omega (arith, length-drop from known) in
-      ap (λ (l : List ℕ). any (same (nameOf key)) (map nameOf l)) (take-suc (drop from known) n 0 room)
-      ∙ ap (any (same (nameOf key))) (map-append nameOf (take n (drop from known)) (at ∷ []))
-      ∙ any-append (same (nameOf key)) (map nameOf (take n (drop from known))) (nameOf at ∷ [])
-      ∙ ap₂ {C = Bool} _||_ (keys-have from n (omega arith)) (or-false (same (nameOf key) (nameOf at)) ∙ name-same key at)
-      ∙ ap (λ j. keysHave known from n key || eqb key j) (getD-drop from known n 0)
-      ∙ or-comm (keysHave known from n key) (eqb key (getD known (from + n) 0))
+-- a name is among the labels known by its key
+pub labels-have : (known : List ℕ) (key n : ℕ) → any (λ (l : Label). same (nameOf key) (l .name)) (labelsFrom known 0 n) ≡ keysHave known 80 n key
+unfolding any keysHave labelsFrom labelIn
+labels-have known key zero = refl
+labels-have known key (suc n) =
+    let test : Label → Bool = λ l. same (nameOf key) (l .name) in
+    ap (any test) (labels-last known n)
+    ∙ any-append test (labelsFrom known 0 n) (labelIn known n ∷ [])
+    ∙ ap₂ {C = Bool} _||_ (labels-have known key n) (or-false (same (nameOf key) (nameOf (getD known (80 + n) 0))) ∙ name-same key (getD known (80 + n) 0))
+    ∙ or-comm (keysHave known 80 n key) (eqb key (getD known (80 + n) 0))

@@ -1,7 +1,6 @@
 -- What the arrays show: all that is known, and the names met by a statement. Assumes nothing.
-use mathlib.Core.Bool.{Bool, false, _||_}
 use mathlib.Core.List.{List, [], _∷_}
-use Prim.Native.Nat.{ℕ, zero, suc, _+_, _-_}
+use Prim.Native.Nat.{ℕ, zero, suc, _-_}
 use lib.Dec.{eqb}
 use lib.ListN.{getD}
 use Rattle.judgement.specs.Known.{Known}
@@ -47,8 +46,3 @@ entriesFrom keys tags i (suc n) = entry (getD keys i 0) (getD tags i 0) ∷ entr
 -- the names met from place i on, of so many
 abbrev pub entriesLeft : (keys tags : List ℕ) → (met i : ℕ) → List Entry
 entriesLeft keys tags met i = entriesFrom keys tags i (met - i)
-
--- a key is among n from a place on
-unfoldable pub keysHave : List ℕ → (from n key : ℕ) → Bool
-keysHave known from zero key = false
-keysHave known from (suc n) key = eqb key (getD known (from + n) 0) || keysHave known from n key

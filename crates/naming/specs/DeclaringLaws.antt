@@ -12,11 +12,12 @@ use Rattle.base.specs.Lists.{same, any}
 use Rattle.judgement.specs.Known.{sameNaming}
 use Rattle.language.specs.Reading.{label, routine, number, string, purposeNumber, samePurpose, Naming}
 use Rattle.met.specs.Entries.{entry, nameOf, purposeOf, namingOf, isDeclared, gather, declaredBy, usedBy}
-use Rattle.met.specs.Known.{Counted, labelsIn, routinesIn, numberKeys}
-use Rattle.naming.specs.ArrayLaws.{name-same, labels-have, routines-have, keys-have}
-use Rattle.naming.specs.Arrays.{entriesLeft, keysHave}
+use Rattle.met.specs.Known.{Counted, labelsIn, routinesIn, numberKeys, keysHave}
+use Rattle.met.specs.KnownLaws.{name-same, routines-have, keys-have}
+use Rattle.naming.specs.ArrayLaws.{labels-have}
+use Rattle.naming.specs.Arrays.{entriesLeft}
 use Rattle.naming.specs.Declaring.{declaredIn, undeclaredIn, againAt}
-use Rattle.naming.specs.Names.{naming}
+use Rattle.naming.specs.Names.{keyNaming}
 
 -- the number of a purpose: all from 4 on are strings
 pub purpose-string : (p : ℕ) → 4 ≤ p → purposeOf p ≡ string
@@ -69,12 +70,12 @@ purpose-number (suc (suc (suc (suc p)))) =
 
 -- an entry declares a name
 module _ (key p k tag : ℕ) where
-  declares-is : any (sameNaming (naming key p)) (declaredBy (entry k tag))
+  declares-is : any (sameNaming (keyNaming key p)) (declaredBy (entry k tag))
       ≡ (eqb (tag / 8 % 2) 1 && (eqb key k && eqb (purposeNumber (purposeOf p)) (purposeNumber (purposeOf (tag % 8)))))
   unfolding any sameNaming declaredBy isDeclared namingOf entry samePurpose
   declares-is =
       let purposes = eqb (purposeNumber (purposeOf p)) (purposeNumber (purposeOf (tag % 8))) in
-      test-cases (λ t. any (sameNaming (naming key p)) (cond t (naming k (tag % 8) ∷ []) []) ≡ (t && (eqb key k && purposes)))
+      test-cases (λ t. any (sameNaming (keyNaming key p)) (cond t (keyNaming k (tag % 8) ∷ []) []) ≡ (t && (eqb key k && purposes)))
       (eqb (tag / 8 % 2) 1)
       (λ _.
       or-false (purposes && same (nameOf key) (nameOf k))
@@ -83,20 +84,20 @@ module _ (key p k tag : ℕ) where
       (λ _. refl)
 
   pub declares-same : tag / 8 % 2 ≡ 1 → k ≡ key → (q r : ℕ) → q ≡ purposeNumber (purposeOf p) → r ≡ purposeNumber (purposeOf (tag % 8))
-      → eqb q r ≡ any (sameNaming (naming key p)) (declaredBy (entry k tag))
+      → eqb q r ≡ any (sameNaming (keyNaming key p)) (declaredBy (entry k tag))
   declares-same d e q r f g =
       ap₂ {C = Bool} eqb f g
       ∙ sym (declares-is ∙ rw (eq-eqb (tag / 8 % 2) 1 d, eq-eqb key k (sym e)))
 
-  pub declares-other : tag / 8 % 2 ≡ 1 → (k ≡ key → ⊥) → false ≡ any (sameNaming (naming key p)) (declaredBy (entry k tag))
+  pub declares-other : tag / 8 % 2 ≡ 1 → (k ≡ key → ⊥) → false ≡ any (sameNaming (keyNaming key p)) (declaredBy (entry k tag))
   declares-other d e = sym (declares-is ∙ rw (eq-eqb (tag / 8 % 2) 1 d, ne-eqb key k (λ f. e (sym f))))
 
-  pub declares-none : (tag / 8 % 2 ≡ 1 → ⊥) → false ≡ any (sameNaming (naming key p)) (declaredBy (entry k tag))
+  pub declares-none : (tag / 8 % 2 ≡ 1 → ⊥) → false ≡ any (sameNaming (keyNaming key p)) (declaredBy (entry k tag))
   declares-none d = sym (declares-is ∙ rw (ne-eqb (tag / 8 % 2) 1 d))
 
 -- a name is declared before
 module _ (known : List ℕ) (counted : Counted known) (key p : ℕ) where
-  declared-is : declaredIn known (naming key p)
+  declared-is : declaredIn known (keyNaming key p)
       ≡ ((eqb p 1 && keysHave known 80 (getD known 68 0) key)
       || ((eqb p 2 && keysHave known 275 (getD known 69 0) key) || (eqb p 3 && keysHave known 35 (getD known 1 0) key)))
   unfolding declaredIn labelsIn routinesIn numberKeys
@@ -106,18 +107,18 @@ module _ (known : List ℕ) (counted : Counted known) (key p : ℕ) where
       (ap₂ {C = Bool} _||_ (ap₂ {C = Bool} _&&_ (purpose-routine p) (routines-have known key (getD known 69 0)))
       (ap₂ {C = Bool} _&&_ (purpose-number p) (keys-have known key 35 (getD known 1 0) (omega (arith, counted .size, counted .numbers)))))
 
-  pub declared-label : p ≡ 1 → keysHave known 80 (getD known 68 0) key ≡ declaredIn known (naming key p)
+  pub declared-label : p ≡ 1 → keysHave known 80 (getD known 68 0) key ≡ declaredIn known (keyNaming key p)
   declared-label e =
       sym (declared-is ∙ rw (eq-eqb p 1 e, ne-eqb p 2 (λ f. omega arith), ne-eqb p 3 (λ f. omega arith)) (or-false (keysHave known 80 (getD known 68 0) key)))
 
-  pub declared-routine : p ≡ 2 → keysHave known 275 (getD known 69 0) key ≡ declaredIn known (naming key p)
+  pub declared-routine : p ≡ 2 → keysHave known 275 (getD known 69 0) key ≡ declaredIn known (keyNaming key p)
   declared-routine e =
       sym (declared-is ∙ rw (eq-eqb p 2 e, ne-eqb p 1 (λ f. omega arith), ne-eqb p 3 (λ f. omega arith)) (or-false (keysHave known 275 (getD known 69 0) key)))
 
-  pub declared-number : p ≡ 3 → keysHave known 35 (getD known 1 0) key ≡ declaredIn known (naming key p)
+  pub declared-number : p ≡ 3 → keysHave known 35 (getD known 1 0) key ≡ declaredIn known (keyNaming key p)
   declared-number e = sym (declared-is ∙ rw (eq-eqb p 3 e, ne-eqb p 1 (λ f. omega arith), ne-eqb p 2 (λ f. omega arith)))
 
-  pub declared-none : (p ≡ 1 → ⊥) → (p ≡ 2 → ⊥) → (p ≡ 3 → ⊥) → false ≡ declaredIn known (naming key p)
+  pub declared-none : (p ≡ 1 → ⊥) → (p ≡ 2 → ⊥) → (p ≡ 3 → ⊥) → false ≡ declaredIn known (keyNaming key p)
   declared-none e f g = sym (declared-is ∙ rw (ne-eqb p 1 e, ne-eqb p 2 f, ne-eqb p 3 g))
 
 -- an entry uses a number that is not declared
@@ -127,10 +128,10 @@ module _ (known : List ℕ) (counted : Counted known) (key tag : ℕ) where
   unfolding any undeclaredIn usedBy isDeclared namingOf entry numberKeys
   lacks-is =
       test-cases
-      (λ t. any (undeclaredIn known) (cond t [] (naming key (tag % 8) ∷ [])) ≡ (not t && (eqb (tag % 8) 3 && not (keysHave known 35 (getD known 1 0) key))))
+      (λ t. any (undeclaredIn known) (cond t [] (keyNaming key (tag % 8) ∷ [])) ≡ (not t && (eqb (tag % 8) 3 && not (keysHave known 35 (getD known 1 0) key))))
       (eqb (tag / 8 % 2) 1) (λ _. refl)
       (λ _.
-      or-false (undeclaredIn known (naming key (tag % 8)))
+      or-false (undeclaredIn known (keyNaming key (tag % 8)))
       ∙ ap₂ {C = Bool} (λ a b. a && not b) (purpose-number (tag % 8))
       (keys-have known key 35 (getD known 1 0) (omega (arith, counted .size, counted .numbers))))
 
@@ -146,7 +147,7 @@ module _ (known : List ℕ) (counted : Counted known) (key tag : ℕ) where
 -- an entry declares a name again
 module _ (f : Naming → Bool) (keys tags : List ℕ) (met i : ℕ) where
   abbrev name : Naming
-  name = naming (getD keys i 0) (getD tags i 0 % 8)
+  name = keyNaming (getD keys i 0) (getD tags i 0 % 8)
 
   abbrev behind : Bool
   behind = any (sameNaming name) (gather declaredBy (entriesLeft keys tags met (i + 1)))

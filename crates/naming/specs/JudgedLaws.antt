@@ -7,7 +7,7 @@ use native.Mathlib.Omega.{arith}
 use lib.Dec.{eqb}
 use lib.ListN.{length, getD, length-append}
 use borrow.Author.Tests.{eqb-true, eqb-false, eq-eqb, ne-eqb}
-use Rattle.base.specs.Choice.{test-cases}
+use Rattle.base.specs.Choice.{test-cases, or-pairs}
 use Rattle.base.specs.Lists.{any}
 use Rattle.judgement.specs.Known.{sameNaming}
 use Rattle.judgement.specs.Refusals.{hasOther, hasTwice, clashes}
@@ -82,18 +82,12 @@ module _ (nameKeys namePurposes keys tags : List ℕ) (count met : ℕ) where
         room = omega (arith, s .room, m .few, length-entries keys tags 0 met);
       }
 
-shuffle : (a b c d : Bool) → ((a || c) || (b || d)) ≡ ((a || b) || (c || d))
-shuffle true b c d = refl
-shuffle false true true d = refl
-shuffle false true false d = refl
-shuffle false false c d = refl
-
 -- names declared before or twice
 again-is : (f : Naming → Bool) (ns : List Naming) → again f ns ≡ (any f ns || hasTwice ns)
 unfolding again any hasTwice
 again-is f [] = refl
 again-is f (n ∷ ns) =
-    ap (λ b. (f n || any (sameNaming n) ns) || b) (again-is f ns) ∙ shuffle (f n) (any f ns) (any (sameNaming n) ns) (hasTwice ns)
+    ap (λ b. (f n || any (sameNaming n) ns) || b) (again-is f ns) ∙ or-pairs (f n) (any (sameNaming n) ns) (any f ns) (hasTwice ns)
 
 -- the first of the numbers
 module _ (known : List ℕ) (clash : Bool) (es : List Entry) where

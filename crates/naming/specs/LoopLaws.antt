@@ -2,7 +2,7 @@
 use mathlib.Core.Bool.{Bool, false, cond, _||_}
 use mathlib.Core.List.{List, [], _∷_, _++_}
 use mathlib.Core.Path.{_≡_, refl, sym, _∙_, ap}
-use Prim.Native.Nat.{ℕ, suc, _+_, _-_, _≤_, _<_}
+use Prim.Native.Nat.{ℕ, _+_, _-_, _≤_, _<_}
 use native.Mathlib.Omega.{arith}
 use lib.Dec.{eqb}
 use lib.ListN.{getD}
@@ -14,14 +14,15 @@ use Rattle.judgement.specs.Names.{any-append}
 use Rattle.language.specs.Reading.{purposeNumber, samePurpose, Naming}
 use Rattle.met.specs.Entries.{Entry, entry, purposeOf, namingOf, isDeclared, gather, declaredBy}
 use Rattle.met.specs.Holding.{namingIn, namesFrom}
-use Rattle.naming.specs.ArrayLaws.{name-same, names-turn, names-none, entries-turn, entries-none}
-use Rattle.naming.specs.Arrays.{entriesFrom, entriesLeft, keysHave}
+use Rattle.met.specs.KnownLaws.{name-same}
+use Rattle.naming.specs.ArrayLaws.{names-turn, names-none, entries-turn, entries-none}
+use Rattle.naming.specs.Arrays.{entriesFrom, entriesLeft}
 use Rattle.naming.specs.Declaring.{again, againAt}
-use Rattle.naming.specs.Names.{naming, standing}
+use Rattle.naming.specs.Names.{keyNaming, standing}
 
 -- a name among those from a place on
 abbrev pub standsFrom : (keys purposes : List ℕ) (n key p : ℕ) → ℕ → ℕ
-standsFrom keys purposes n key p i = standing (namesFrom keys purposes i (n - i)) (naming key p)
+standsFrom keys purposes n key p i = standing (namesFrom keys purposes i (n - i)) (keyNaming key p)
 
 module _ (keys purposes : List ℕ) (n key p i : ℕ) where
   module _ (h : i < n) where
@@ -31,7 +32,7 @@ module _ (keys purposes : List ℕ) (n key p i : ℕ) where
         (standsFrom keys purposes n key p (i + 1))
     unfolding standing namingIn samePurpose
     standing-turn =
-        ap (λ l. standing l (naming key p)) (names-turn keys purposes n i h)
+        ap (λ l. standing l (keyNaming key p)) (names-turn keys purposes n i h)
         ∙ ap
         (λ b.
         cond b (cond (eqb (purposeNumber (purposeOf p)) (purposeNumber (purposeOf (getD purposes i 0)))) 1 2)
@@ -51,20 +52,12 @@ module _ (keys purposes : List ℕ) (n key p i : ℕ) where
 
   pub standing-end : n ≤ i → standsFrom keys purposes n key p i ≡ 0
   unfolding standing
-  standing-end h = ap (λ l. standing l (naming key p)) (names-none keys purposes n i h)
+  standing-end h = ap (λ l. standing l (keyNaming key p)) (names-none keys purposes n i h)
 
-pub standing-whole : (keys purposes : List ℕ) (n key p : ℕ) → standsFrom keys purposes n key p 0 ≡ standing (namesFrom keys purposes 0 n) (naming key p)
+pub standing-whole : (keys purposes : List ℕ) (n key p : ℕ) → standsFrom keys purposes n key p 0 ≡ standing (namesFrom keys purposes 0 n) (keyNaming key p)
 standing-whole keys purposes n key p =
     let all : n - 0 ≡ n = omega arith in
-    ap (λ m. standing (namesFrom keys purposes 0 m) (naming key p)) all
-
--- a key among those up to a place
-pub keys-turn : (known : List ℕ) (from key i : ℕ) → 0 < i
-    → keysHave known from i key ≡ (eqb key (getD known (from + (i - 1)) 0) || keysHave known from (i - 1) key)
-unfolding keysHave
-keys-turn known from key i h =
-    let is : i ≡ suc (i - 1) = omega arith in
-    ap (λ m. keysHave known from m key) is
+    ap (λ m. standing (namesFrom keys purposes 0 m) (keyNaming key p)) all
 
 -- a test of each entry left, one by one
 module _ {A : Type 0} (f : A → Bool) (g : Entry → List A) (keys tags : List ℕ) (met : ℕ) where

@@ -18,7 +18,7 @@ use Rattle.met.specs.Holding.{namingIn, namesFrom}
 use Rattle.naming.specs.ArrayLaws.{names-last, names-kept, entries-last, entries-turn}
 use Rattle.naming.specs.Arrays.{entriesFrom, entriesLeft}
 use Rattle.naming.specs.NameLaws.{meets-append, conflicts-append}
-use Rattle.naming.specs.Names.{naming, standing, meet, meets, conflicts, chosenBy, Sized, Meets}
+use Rattle.naming.specs.Names.{keyNaming, standing, meet, meets, conflicts, chosenBy, Sized, Meets}
 use Rattle.naming.specs.declared.names.Names.{Names}
 
 -- there are three ways to stand
@@ -71,7 +71,7 @@ module _ (keys purposes : List ℕ) (b : Names) (key p : ℕ) (sized : Sized key
   abbrev known : List Naming
   known = namesFrom keys purposes 0 (b .count)
 
-  pub meets-known : standing known (naming key p) ≡ 1 → Meets keys purposes b (naming key p ∷ []) keys purposes b
+  pub meets-known : standing known (keyNaming key p) ≡ 1 → Meets keys purposes b (keyNaming key p ∷ []) keys purposes b
   unfolding meets meet conflicts
   meets-known e =
       record {
@@ -85,8 +85,8 @@ module _ (keys purposes : List ℕ) (b : Names) (key p : ℕ) (sized : Sized key
         purposesKept = λ i h. refl;
       }
 
-  pub meets-other : standing known (naming key p) ≡ 2
-      → Meets keys purposes b (naming key p ∷ []) keys purposes (record { count = b .count; clash = true })
+  pub meets-other : standing known (keyNaming key p) ≡ 2
+      → Meets keys purposes b (keyNaming key p ∷ []) keys purposes (record { count = b .count; clash = true })
   unfolding meets meet conflicts
   meets-other e =
       record {
@@ -100,7 +100,7 @@ module _ (keys purposes : List ℕ) (b : Names) (key p : ℕ) (sized : Sized key
         purposesKept = λ i h. refl;
       }
 
-  last : namesFrom (set keys (b .count) key) (set purposes (b .count) p) 0 (b .count + 1) ≡ known ++ (naming key p ∷ [])
+  last : namesFrom (set keys (b .count) key) (set purposes (b .count) p) 0 (b .count + 1) ≡ known ++ (keyNaming key p ∷ [])
   unfolding namingIn
   last =
       let n = b .count in
@@ -115,17 +115,17 @@ module _ (keys purposes : List ℕ) (b : Names) (key p : ℕ) (sized : Sized key
       let inside′ = getD-set-same purposes n p 0 (omega (arith, sized .othersSize, sized .room)) in
       ap (namesFrom keys′ purposes′ 0) next
       ∙ names-last keys′ purposes′ n
-      ∙ ap (λ (l : List Naming). l ++ (naming (getD keys′ n 0) (getD purposes′ n 0) ∷ [])) kept
-      ∙ ap₂ {C = List Naming} (λ k q. known ++ (naming k q ∷ [])) inside inside′
+      ∙ ap (λ (l : List Naming). l ++ (keyNaming (getD keys′ n 0) (getD purposes′ n 0) ∷ [])) kept
+      ∙ ap₂ {C = List Naming} (λ k q. known ++ (keyNaming k q ∷ [])) inside inside′
 
-  pub meets-new : (standing known (naming key p) ≡ 1 → ⊥) → (standing known (naming key p) ≡ 2 → ⊥)
-      → Meets keys purposes b (naming key p ∷ []) (set keys (b .count) key) (set purposes (b .count) p)
+  pub meets-new : (standing known (keyNaming key p) ≡ 1 → ⊥) → (standing known (keyNaming key p) ≡ 2 → ⊥)
+      → Meets keys purposes b (keyNaming key p ∷ []) (set keys (b .count) key) (set purposes (b .count) p)
       (record { count = b .count + 1; clash = b .clash })
   unfolding meets meet conflicts
   meets-new f g =
       let n = b .count in
-      let e : standing known (naming key p) ≡ 0 =
-      ⊎-elim (λ z. z) (⊎-elim (λ z. absurd (f z)) (λ z. absurd (g z))) (standing-few known (naming key p))
+      let e : standing known (keyNaming key p) ≡ 0 =
+      ⊎-elim (λ z. z) (⊎-elim (λ z. absurd (f z)) (λ z. absurd (g z))) (standing-few known (keyNaming key p))
       in
       record {
         keysSize = length-set keys n key ∙ sized .keysSize;
@@ -188,11 +188,11 @@ module _ (keys₀ purposes₀ keys tags : List ℕ) (met wanted : ℕ) (before :
         record { keysSize = m .so .keysSize; othersSize = m .so .purposesSize; room = omega (arith, m .room, left) }
 
     pub meeting-one : getD tags i 0 / 8 % 2 ≡ wanted → (keys″ purposes″ : List ℕ) (r′ : Names)
-        → Meets keys′ purposes′ r (naming (getD keys i 0) (getD tags i 0 % 8) ∷ []) keys″ purposes″ r′
+        → Meets keys′ purposes′ r (keyNaming (getD keys i 0) (getD tags i 0 % 8) ∷ []) keys″ purposes″ r′
         → Meeting keys₀ purposes₀ keys tags met wanted before keys″ purposes″ r′ (i + 1)
     unfolding chosenBy here entry namingOf
     meeting-one e keys″ purposes″ r′ n =
-        let it : f here ≡ naming (getD keys i 0) (getD tags i 0 % 8) ∷ [] = rw (eq-eqb (getD tags i 0 / 8 % 2) wanted e) in
+        let it : f here ≡ keyNaming (getD keys i 0) (getD tags i 0 % 8) ∷ [] = rw (eq-eqb (getD tags i 0 / 8 % 2) wanted e) in
         let one = ap length it in
         let xs = gather f (entriesFrom keys tags 0 i) in
         record {

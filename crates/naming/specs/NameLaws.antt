@@ -6,7 +6,7 @@ use mathlib.Core.Path.{_≡_, refl, sym, _∙_, ap, ap₂, subst}
 use Prim.Native.Nat.{ℕ}
 use lib.Dec.{eqb}
 use borrow.Author.Tests.{eqb-true, eq-eqb}
-use Rattle.base.specs.Choice.{test-cases, cond-cases, neither-true, either-true}
+use Rattle.base.specs.Choice.{test-cases, cond-cases, neither-true, either-true, same-truth, or-pairs}
 use Rattle.base.specs.Lists.{same, any}
 use Rattle.base.specs.ListLaws.{same-true, same-refl}
 use Rattle.judgement.specs.Known.{sameNaming, withNames}
@@ -16,18 +16,12 @@ use Rattle.language.specs.Laws.{same-purpose-refl}
 use Rattle.language.specs.Reading.{purposeNumber, samePurpose, Naming}
 use Rattle.naming.specs.Names.{standing, meet, meets, conflicts}
 
--- two truth values that follow from each other are equal
-both-ways : (a b : Bool) → (a ≡ true → b ≡ true) → (b ≡ true → a ≡ true) → a ≡ b
-both-ways true b f g = sym (f refl)
-both-ways false true f g = g refl
-both-ways false false f g = refl
-
 pub eqb-sym : (a b : ℕ) → eqb a b ≡ eqb b a
-eqb-sym a b = both-ways (eqb a b) (eqb b a) (λ e. eq-eqb b a (sym (eqb-true a b e))) (λ e. eq-eqb a b (sym (eqb-true b a e)))
+eqb-sym a b = same-truth (eqb a b) (eqb b a) (λ e. eq-eqb b a (sym (eqb-true a b e))) (λ e. eq-eqb a b (sym (eqb-true b a e)))
 
 same-sym : (xs ys : List ℕ) → same xs ys ≡ same ys xs
 same-sym xs ys =
-    both-ways (same xs ys) (same ys xs)
+    same-truth (same xs ys) (same ys xs)
     (λ e. subst (λ (z : List ℕ). same z xs ≡ true) (same-true xs ys e) (same-refl xs))
     (λ e. subst (λ (z : List ℕ). same z ys ≡ true) (same-true ys xs e) (same-refl ys))
 
@@ -57,19 +51,13 @@ unfolding any
 any-cong f g [] h = refl
 any-cong f g (x ∷ xs) h = ap₂ {C = Bool} _||_ (h x) (any-cong f g xs h)
 
-middle : (a b c d : Bool) → ((a || b) || (c || d)) ≡ ((a || c) || (b || d))
-middle true b c d = refl
-middle false true true d = refl
-middle false true false d = refl
-middle false false c d = refl
-
 -- names that have another purpose in two lists have one in either
 other-append : (ns ms xs : List Naming) → any (hasOther (ns ++ ms)) xs ≡ (any (hasOther ns) xs || any (hasOther ms) xs)
 unfolding any hasOther
 other-append ns ms [] = refl
 other-append ns ms (x ∷ xs) =
     ap₂ {C = Bool} _||_ (any-append (other x) ns ms) (other-append ns ms xs)
-    ∙ middle (hasOther ns x) (hasOther ms x) (any (hasOther ns) xs) (any (hasOther ms) xs)
+    ∙ or-pairs (hasOther ns x) (hasOther ms x) (any (hasOther ns) xs) (any (hasOther ms) xs)
 
 -- the names that x gives another purpose are those that give x one
 other-one : (x : Naming) (xs : List Naming) → any (hasOther (x ∷ [])) xs ≡ hasOther xs x

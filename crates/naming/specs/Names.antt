@@ -13,8 +13,8 @@ use Rattle.met.specs.Holding.{namesFrom}
 use Rattle.naming.specs.declared.names.Names.{Names}
 
 -- a name by key and purpose's number
-abbrev pub naming : (key purpose : ℕ) → Naming
-naming key p = record { purpose = purposeOf p; name = nameOf key }
+abbrev pub keyNaming : (key purpose : ℕ) → Naming
+keyNaming key p = record { purpose = purposeOf p; name = nameOf key }
 
 -- how a name stands among others: 0 not at all, 1 with its purpose, 2 with another, by the first that has the name
 unfoldable pub standing : List Naming → Naming → ℕ

@@ -13,7 +13,8 @@ use Rattle.judgement.specs.Known.{isOneOf}
 use Rattle.judgement.specs.Refusals.{clashes}
 use Rattle.language.specs.Reading.{Role}
 use Rattle.met.specs.Entries.{entry, nameOf, nameFrom, roleOf, gather, rolesBy}
-use Rattle.naming.specs.ArrayLaws.{name-same, entries-turn, entries-none}
+use Rattle.met.specs.KnownLaws.{name-same}
+use Rattle.naming.specs.ArrayLaws.{entries-turn, entries-none}
 use Rattle.naming.specs.Arrays.{entriesFrom, entriesLeft}
 use Rattle.naming.specs.NameLaws.{eqb-sym}
 use Rattle.naming.specs.Roles.{fillersBefore, fillersHave, clashAt, searchedBehind}

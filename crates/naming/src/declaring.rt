@@ -1,44 +1,29 @@
 // 6 and 7 of declarations: names declared twice, and numbers used that are not declared.
 // Assumes nothing.
 use crate::names::purpose;
-use crate::places::LABEL_COUNT;
-use crate::places::LABEL_KEYS;
-use crate::places::NUMBER_COUNT;
-use crate::places::NUMBER_KEYS;
-use crate::places::ROUTINE_COUNT;
-use crate::places::ROUTINE_KEYS;
 use met::KNOWN;
 use met::NAMES;
+use met::has_key;
+use met::places::LABEL_COUNT;
+use met::places::LABEL_KEYS;
+use met::places::NUMBER_COUNT;
+use met::places::NUMBER_KEYS;
+use met::places::ROUTINE_COUNT;
+use met::places::ROUTINE_KEYS;
 ghost use mathlib.Core.Path.{_≡_};
 ghost use Prim.Native.Nat.{_+_, _≤_, _<_};
-ghost use lib.ListN.{length};
 ghost use Rattle.base.specs.Lists.{any};
 ghost use Rattle.judgement.specs.Known.{sameNaming};
 ghost use Rattle.met.specs.Known.{Counted};
 ghost use Rattle.met.specs.Entries.{entry, gather, declaredBy, usedBy};
-ghost use Rattle.naming.specs.Arrays.{entriesFrom, entriesLeft, keysHave};
-ghost use Rattle.naming.specs.Names.{naming, Sized};
+ghost use Rattle.naming.specs.Arrays.{entriesFrom, entriesLeft};
+ghost use Rattle.naming.specs.Names.{keyNaming, Sized};
 ghost use Rattle.naming.specs.Declaring.{declaredIn, undeclaredIn, again, againAt};
-
-// whether a key stands among n from a place on
-fn has_key(known: &[u64; KNOWN], from: usize, n: usize, key: u64) -> bool
-    requires { ⌜ (length (now known) ≡ 326) × (from + n ≤ 326) ⌝ }
-    ensures { λ r. ⌜ r ≡ keysHave (now (known .entry)) from n key ⌝ }
-{
-    let mut i = n;
-    while i > 0 {
-        i -= 1;
-        if known[from + i] == key {
-            return true;
-        }
-    }
-    false
-}
 
 // whether a name is declared with a purpose before
 fn is_declared(known: &[u64; KNOWN], key: u64, p: u8) -> bool
     requires { ⌜ Counted (now known) ⌝ }
-    ensures { λ r. ⌜ r ≡ declaredIn (now (known .entry)) (naming key p) ⌝ }
+    ensures { λ r. ⌜ r ≡ declaredIn (now (known .entry)) (keyNaming key p) ⌝ }
 {
     if p == 1 {
         let n = known[LABEL_COUNT] as usize;
@@ -57,7 +42,7 @@ fn is_declared(known: &[u64; KNOWN], key: u64, p: u8) -> bool
 
 // whether an entry declares this name with this purpose
 fn declares(key: u64, p: u8, k: u64, tag: u8) -> bool
-    ensures { λ r. ⌜ r ≡ any (sameNaming (naming key p)) (declaredBy (entry k tag)) ⌝ }
+    ensures { λ r. ⌜ r ≡ any (sameNaming (keyNaming key p)) (declaredBy (entry k tag)) ⌝ }
 {
     if tag / 8 % 2 == 1 {
         if k == key {
@@ -77,7 +62,7 @@ fn is_declared_from(
     p: u8,
 ) -> bool
     requires { ⌜ Sized (now keys) (now tags) met × (from ≤ met) ⌝ }
-    ensures { λ r. ⌜ r ≡ any (sameNaming (naming key p)) (gather declaredBy (entriesLeft (now (keys .entry)) (now (tags .entry)) met from)) ⌝ }
+    ensures { λ r. ⌜ r ≡ any (sameNaming (keyNaming key p)) (gather declaredBy (entriesLeft (now (keys .entry)) (now (tags .entry)) met from)) ⌝ }
 {
     let mut i = from;
     while i < met {

@@ -2,16 +2,15 @@
 // Assumes nothing.
 pub mod declaring;
 pub mod names;
-pub mod places;
 pub mod roles;
 
 use declaring::is_twice;
 use declaring::is_undeclared;
 use met::KNOWN;
 use met::NAMES;
+use met::places::NAME_COUNT;
 use names::Names;
 use names::meet_names;
-use places::NAME_COUNT;
 use roles::has_clash;
 ghost use mathlib.Core.Path.{_≡_};
 ghost use Rattle.met.specs.Known.{Counted};

@@ -8,7 +8,7 @@ ghost use lib.ListN.{length};
 ghost use Rattle.language.specs.Reading.{purposeNumber};
 ghost use Rattle.met.specs.Entries.{purposeOf, gather};
 ghost use Rattle.met.specs.Holding.{namesFrom};
-ghost use Rattle.naming.specs.Names.{naming, standing, chosenBy, Sized, Meets};
+ghost use Rattle.naming.specs.Names.{keyNaming, standing, chosenBy, Sized, Meets};
 ghost use Rattle.naming.specs.Arrays.{entriesFrom};
 
 // how many names are known, and whether one met has another purpose
@@ -27,7 +27,7 @@ pub fn purpose(p: u8) -> u8
 // how a name stands among the first n: 0 not at all, 1 with this purpose, 2 with another
 fn standing(name_keys: &[u64; NAMES], name_purposes: &[u8; NAMES], n: usize, key: u64, p: u8) -> u8
     requires { ⌜ Sized (now «name_keys») (now «name_purposes») n ⌝ }
-    ensures { λ r. ⌜ r ≡ standing (namesFrom (now («name_keys» .entry)) (now («name_purposes» .entry)) 0 n) (naming key p) ⌝ }
+    ensures { λ r. ⌜ r ≡ standing (namesFrom (now («name_keys» .entry)) (now («name_purposes» .entry)) 0 n) (keyNaming key p) ⌝ }
 {
     let mut i: usize = 0;
     while i < n {
@@ -51,7 +51,7 @@ fn meet_name(
     p: u8,
 ) -> Names
     requires { ⌜ Sized (now «name_keys») (now «name_purposes») (known .count + 1) ⌝ }
-    ensures { λ r. ⌜ Meets (now («name_keys» .entry)) (now («name_purposes» .entry)) known (naming key p ∷ []) (now («name_keys» .exit)) (now («name_purposes» .exit)) r ⌝ }
+    ensures { λ r. ⌜ Meets (now («name_keys» .entry)) (now («name_purposes» .entry)) known (keyNaming key p ∷ []) (now («name_keys» .exit)) (now («name_purposes» .exit)) r ⌝ }
 {
     let n = known.count;
     let stands = standing(name_keys, name_purposes, n, key, p);

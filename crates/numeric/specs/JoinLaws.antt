@@ -17,11 +17,12 @@ use Rattle.language.specs.Words.{Places}
 use Rattle.met.specs.Entries.{gather, metIn}
 use Rattle.met.specs.EntryLaws.{met-both}
 use Rattle.met.specs.Items.{withItems, items-append}
+use Rattle.met.specs.ReadingLaws.{meeting-nothing}
 use Rattle.met.specs.declared.Cursor.{Cursor}
 use Rattle.numeric.specs.Joins.{waited, Joins, WaitedRead, Joining}
 use Rattle.numeric.specs.Kinds.{SignAt, OperatorAt, SumAt, ProductAt, Puts}
 use Rattle.numeric.specs.KindLaws.{items-case, items-none, ready-on}
-use Rattle.numeric.specs.OperandLaws.{noting-more, nothing-met, chosen}
+use Rattle.numeric.specs.OperandLaws.{noting-more, chosen}
 use Rattle.numeric.specs.Operands.{moved, Ready}
 use Rattle.numeric.specs.Reads.{GetsItems, ItemsRead, waiting}
 use Rattle.numeric.specs.declared.Outcome as OutcomeCode
@@ -256,9 +257,8 @@ expression-joined p depth {text} {table} {keys} {tags} c {r = r} {t} {k} {g} s s
 
 -- nothing was met before what is read
 none-met : {A : Type 0} (x : Read A) → x ≡ meeting (metIn [] 0 [] 0) x
-unfolding meeting metIn gather nothing
-none-met (got a m rest) = ap (λ (n : Met). got a n rest) (sym (nothing-met m))
-none-met broken = refl
+unfolding metIn gather nothing
+none-met x = sym (meeting-nothing x)
 
 -- nothing waits for the first form
 first-waits : (more : More) (x : Read (List Item))

@@ -4,7 +4,7 @@ use mathlib.Core.Bool.{Bool, true, false}
 use mathlib.Core.List.{List, [], _∷_, _++_, append-nil, map, map-append}
 use mathlib.Core.Path.{_≡_, refl, sym, ap, ap₂, subst, _∙_}
 use Prim.Native.Nat.{ℕ, _+_, _-_, _/_, _^_, _≤_, _<_}
-use native.Mathlib.Nat.{add-zero, zero-add}
+use native.Mathlib.Nat.{add-zero}
 use native.Mathlib.Omega.{arith}
 use lib.IntN.{pos}
 use lib.ListN.{length, take, drop, getD, length-append, length-map, length-take, length-drop}
@@ -28,6 +28,7 @@ use Rattle.met.specs.Contracts.{Noted}
 use Rattle.met.specs.Entries.{Entry, entry, roleOf, gather, metIn}
 use Rattle.met.specs.EntryLaws.{met-both, used-met, role-met, string-placed, number-placed}
 use Rattle.met.specs.Known.{stringKeys, numberKeys, keyPlace, placesIn}
+use Rattle.met.specs.ReadingLaws.{nothing-met}
 use Rattle.met.specs.declared.Cursor.{Cursor}
 use Rattle.packer.specs.Keys.{keyOf, isKeyByte}
 use Rattle.words.specs.Laws.{name-is, name-keys}
@@ -161,20 +162,6 @@ skipped c n e =
             literals = ap (λ (z : Cursor). z .literals) e;
             longest = ap (λ (z : Cursor). z .longest) e;
           };
-    }
-
--- nothing was met before
-pub nothing-met : (m : Met) → both nothing m ≡ m
-unfolding both nothing
-nothing-met m =
-    λ t.
-    record {
-      declared = m .declared;
-      used = m .used;
-      items = zero-add (m .items) t;
-      rows = m .rows;
-      literals = zero-add (m .literals) t;
-      roles = m .roles;
     }
 
 -- the name at the cursor, noted

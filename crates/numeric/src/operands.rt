@@ -1,11 +1,14 @@
 // Operands: names, constants, LENGTH and NUMBER, each read as a cell of the table.
 // Assumes nothing.
+use met::BIAS;
 use met::Cursor;
 use met::KNOWN;
 use met::NAMES;
 use met::note_name;
 use met::number_place;
 use met::string_place;
+use met::tags::NUMBER;
+use met::tags::STRING;
 use packer::classes::is_digit;
 use words::begins_at;
 use words::byte_at;
@@ -20,21 +23,6 @@ ghost use Prim.Native.Nat.{ℕ, _+_, _≤_, _<_};
 ghost use Rattle.numeric.specs.Operands.{Ready, moved, StringTag, NameRead, NumberRead, StringRead, ConstantRead, BoundRead, PartRead, Inside, closedBy, placedIn, CalledRead, PlainRead};
 ghost use lib.ListN.{length};
 ghost use Rattle.met.specs.Known.{Counted};
-
-// what a constant has added in its cell
-pub const BIAS: usize = 140_737_488_355_328;
-
-// the tags of names used: the number of their purpose
-const NUMBER: u8 = 3;
-
-pub const STRING: u8 = 4;
-
-// and 16 times the number of the role that a string has in a SCAN
-pub const REFERENCE: u8 = 20;
-
-pub const SOUGHT: u8 = 36;
-
-pub const FILLER: u8 = 52;
 
 // a name by its key, with the cursor behind it
 pub enum Name {

@@ -12,18 +12,6 @@ pub or-second : (a b r s : Bool) → r ≡ a → r ≡ false → s ≡ b → s �
 or-second true b r s e f g = absurd (false≢true (sym f ∙ e))
 or-second false b r s e f g = g
 
-pub and-true : (a : Bool) → (a && true) ≡ a
-and-true true = refl
-and-true false = refl
-
-pub and-false : (a : Bool) → (a && false) ≡ false
-and-false true = refl
-and-false false = refl
-
-pub and-assoc : (a b c : Bool) → (a && (b && c)) ≡ ((a && b) && c)
-and-assoc true b c = refl
-and-assoc false b c = refl
-
 -- a flag that gathers what is refused, one byte further
 pub flag-more : (bad refused rest : Bool) → (not (bad || refused) && rest) ≡ (not bad && (not refused && rest))
 flag-more true refused rest = refl

@@ -1,6 +1,6 @@
 -- Laws of joined lines: the definition goes from the right, the code from the left, and both make up the same entries.
 -- Assumes nothing.
-use mathlib.Core.Bool.{Bool, true, false, cond, not, _&&_, _||_, false≢true}
+use mathlib.Core.Bool.{Bool, true, false, cond, not, _&&_, _||_, false≢true, and-eq-true-iff, and-assoc, and-false, and-true}
 use mathlib.Core.List.{List, [], _∷_, _++_, append-assoc}
 use mathlib.Core.Path.{_≡_, refl, ap, sym, subst, _∙_}
 use Prim.Native.Nat.{ℕ, suc, _+_}
@@ -23,8 +23,6 @@ use Rattle.cards.specs.Cards.{
   joined,
   entriesFrom,
 }
-use Rattle.packer.proofs.Bools.{and-assoc, and-false, and-true}
-use Rattle.packer.specs.KeyLaws.{both}
 use Rattle.packer.specs.Joins.{Part, addLine, breakOff, joinLine, before, told, nothingOf}
 use Rattle.packer.specs.Lines.{isSkipped, joins}
 
@@ -49,7 +47,7 @@ module _ (n m : ℕ) (s₁ s₂ : Bool) (label l raw t : List ℕ) where
   unfolding before
   before-before [] = ap (λ b. statement n b label (raw ++ t) ∷ []) (and-false s₁)
   before-before (skipped c s ∷ rest) = ap (λ b. statement n b label (raw ++ t) ∷ (skipped c s ∷ rest)) (and-false s₁)
-  before-before (statement c s l′ text ∷ rest) = rw (and-assoc s₁ s₂ s, append-assoc raw t text)
+  before-before (statement c s l′ text ∷ rest) = rw (← and-assoc s₁ s₂ s, append-assoc raw t text)
 
   -- lines put before the entries that a line begins
   before-entry : (skip blank over : Bool) → (blank ≡ true → over ≡ false) → (rest : List Entry) →
@@ -202,7 +200,7 @@ entry-sound m n sound l t label raw false false [] others e = absurd (false≢tr
 entry-sound m n sound l t label raw false false (skipped c s ∷ rest) others e = absurd (false≢true (cc))
 entry-sound m n sound l t label raw false false (statement c s l′ t′ ∷ rest) others e =
     let sounds : (sound && s) ≡ true = cc in
-    both sound s sounds .0
+    and-eq-true-iff sound s .0 sounds .0
 
 pub first-sound : (n : ℕ) (line : List ℕ) (ls : List (List ℕ)) (label raw : List ℕ) (rest : List Entry) → isSkipped line ≡ false →
     entriesFrom edition1 n (line ∷ ls) ≡ statement n true label raw ∷ rest → soundLine line ≡ true

@@ -1,6 +1,6 @@
 -- Laws of packing: one byte more, one part more, and the literals of a whole text.
 -- Assumes nothing.
-use mathlib.Core.Bool.{Bool, true, false, not, _&&_, false≢true}
+use mathlib.Core.Bool.{Bool, true, false, not, _&&_, false≢true, and-eq-true-iff, and-assoc, and-true}
 use mathlib.Core.List.{List, [], _∷_, _++_, append-nil}
 use mathlib.Core.Path.{_≡_, refl, ap, sym, _∙_}
 use Prim.Native.Nat.{ℕ, suc, _+_, _≤_, _<_}
@@ -15,8 +15,6 @@ use borrow.Author.Tests.{eqb-true, eqb-false, eq-eqb, ne-eqb, not-false, not-tru
 use Rattle.base.specs.Choice.{test-cases}
 use Rattle.cards.specs.Bytes.{isBlank, quote}
 use Rattle.cards.specs.Packing.{Place, outside, opened, doubled, inside, placeAfter, isDropped, packFrom, literalsFrom}
-use Rattle.packer.proofs.Bools.{and-assoc, and-true}
-use Rattle.packer.specs.KeyLaws.{both}
 use Rattle.packer.specs.declared.packed.Packing.{Packing}
 use Rattle.packer.specs.declared.packed.Place as Code
 use Rattle.packer.specs.declared.packed.Place.the-variants.{Outside}
@@ -86,7 +84,7 @@ outside-only inside e = absurd (false≢true e)
 pub steps-outside : (s : Packing) (b : ℕ) (flag : Bool) → flag ≡ isOutside (placeOf (s .place)) → (flag && not (eqb b 34)) ≡ true →
     Steps s b (record { place = Outside; whole = s .whole; length = s .length + boolByte (not (eqb b 32)) })
 steps-outside s b flag e taken =
-    let parts = both flag (not (eqb b 34)) taken in
+    let parts = and-eq-true-iff flag (not (eqb b 34)) .0 taken in
     let at : placeOf (s .place) ≡ outside = outside-only _ (sym e ∙ parts .0) in
     record {
       place = after-other outside b (eqb-false b 34 (not-true (eqb b 34) (parts .1))) ∙ ap (λ p. placeAfter p b) (sym at);
@@ -160,7 +158,7 @@ module _ (part text : List ℕ) (s₀ : Packing) (text′ : List ℕ) (s : Packi
         place = rw (st .place) (place-more part i (placeOf (s .place)) hp ∙ g .place);
         whole =
             rw (st .whole, st .place)
-            (sym (and-assoc (s .whole) _ _) ∙ ap (λ t. s .whole && t) (unbroken-more part i (placeOf (s .place)) hp) ∙ g .whole);
+            (and-assoc (s .whole) _ _ ∙ ap (λ t. s .whole && t) (unbroken-more part i (placeOf (s .place)) hp) ∙ g .whole);
       }
 
   pub going-done : length part ≤ i → Packs part text s₀ text′ s
@@ -201,7 +199,7 @@ pub unbroken-parts : (place : Place) (xs ys : List ℕ) →
 unfolding unbroken placeBehind
 unbroken-parts place [] ys = refl
 unbroken-parts place (b ∷ bs) ys =
-    ap (λ t. staysWhole place b && t) (unbroken-parts (placeAfter place b) bs ys) ∙ and-assoc (staysWhole place b) _ _
+    ap (λ t. staysWhole place b && t) (unbroken-parts (placeAfter place b) bs ys) ∙ sym (and-assoc (staysWhole place b) _ _)
 
 -- literals are whole if none is broken and the text ends outside of one
 pub literals-end : (place : Place) (xs : List ℕ) → literalsFrom place xs ≡ (unbroken place xs && isOutside (placeBehind place xs))

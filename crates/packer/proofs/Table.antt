@@ -1,6 +1,6 @@
 -- The class table, and the rules of bytes, proved at all 256 bytes by tests that antt computes.
 -- Assumes nothing.
-use mathlib.Core.Bool.{Bool, true, false, not, _&&_, _||_}
+use mathlib.Core.Bool.{Bool, true, false, not, _&&_, _||_, and-eq-true-iff}
 use mathlib.Core.List.{List, [], _∷_}
 use mathlib.Core.Path.{_≡_, refl, ap, subst, sym, _∙_}
 use Prim.Native.Nat.{ℕ, zero, suc, _+_, _<_}
@@ -12,9 +12,8 @@ use borrow.Author.Tests.{eqb-true, eqb-false}
 use Rattle.base.specs.Choice.{test-cases}
 use Rattle.base.specs.Lists.{among}
 use Rattle.base.specs.Text.{bytes}
-use Rattle.cards.specs.Bytes.{between, marks, isLetter, isDigit, isBlank, classOf, isRefused}
-use Rattle.packer.specs.KeyLaws.{both}
-use Rattle.packer.specs.Classes.{classNumber, isLetterOrDigit}
+use Rattle.cards.specs.Bytes.{between, marks, isLetter, isDigit, isNameByte, isBlank, classOf, isRefused}
+use Rattle.packer.specs.Classes.{classNumber}
 
 -- the test f passes at each number below n
 unfoldable pub every : (ℕ → Bool) → ℕ → Bool
@@ -25,7 +24,7 @@ at-each : (f : ℕ → Bool) (n : ℕ) → every f n ≡ true → (k : ℕ) → 
 unfolding every
 at-each f zero t k h = absurd (not-suc-le-zero h)
 at-each f (suc n) t k h =
-    let parts = both (f n) (every f n) t in
+    let parts = and-eq-true-iff (f n) (every f n) .0 t in
     test-cases (λ _. f k ≡ true) (eqb k n)
     (λ e. subst (λ (m : ℕ). f m ≡ true) (sym (eqb-true k n e)) (parts .0))
     (λ e. at-each f n (parts .1) k (omega (arith, eqb-false k n e)))
@@ -67,9 +66,9 @@ module _ (b : ℕ) (byte : b < 256) where
   unfolding every agree between marks isLetter isDigit isBlank classOf classNumber among bytes
   digit-class = agreed _ _ (at-each (λ k. agree (eqb (classNumber (classOf k)) 1) (isDigit k)) 256 refl b byte)
 
-  pub name-class : leb (classNumber (classOf b)) 1 ≡ isLetterOrDigit b
-  unfolding every agree between marks isLetter isDigit isBlank classOf classNumber among bytes isLetterOrDigit
-  name-class = agreed _ _ (at-each (λ k. agree (leb (classNumber (classOf k)) 1) (isLetterOrDigit k)) 256 refl b byte)
+  pub name-class : leb (classNumber (classOf b)) 1 ≡ isNameByte b
+  unfolding every agree between marks isLetter isDigit isBlank classOf classNumber among bytes isNameByte
+  name-class = agreed _ _ (at-each (λ k. agree (leb (classNumber (classOf k)) 1) (isNameByte k)) 256 refl b byte)
 
   pub refused-range : (ltb b 32 || ltb 126 b) ≡ isRefused (classOf b)
   unfolding every agree between marks isLetter isDigit isBlank classOf isRefused among bytes

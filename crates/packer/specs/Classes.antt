@@ -1,7 +1,6 @@
 -- The numbers of the classes of bytes in the class table. Assumes nothing.
-use mathlib.Core.Bool.{Bool, _||_}
 use Prim.Native.Nat.{ℕ}
-use Rattle.cards.specs.Bytes.{Class, letter, digit, blank, mark, other, refused, isLetter, isDigit}
+use Rattle.cards.specs.Bytes.{Class, letter, digit, blank, mark, other, refused}
 
 unfoldable pub classNumber : Class → ℕ
 classNumber letter = 0
@@ -10,7 +9,3 @@ classNumber blank = 2
 classNumber mark = 3
 classNumber other = 4
 classNumber refused = 5
-
--- a byte that may stand in a name
-unfoldable pub isLetterOrDigit : ℕ → Bool
-isLetterOrDigit b = isLetter b || isDigit b

@@ -1,8 +1,8 @@
--- What keys tell of names: equal keys are equal names, and the label of a sound line has a key that shows it. Assumes nothing.
-use mathlib.Core.Bool.{Bool, true, false, cond, not, _&&_, _||_, false≢true}
+-- Bytes that a key shows: those of names, and those of the label of a sound line. Assumes nothing.
+use mathlib.Core.Bool.{Bool, true, false, cond, not, _&&_, _||_, false≢true, and-eq-true-iff}
 use mathlib.Core.List.{List, [], _∷_}
-use mathlib.Core.Path.{_≡_, refl, ap, ap₂, sym, _∙_}
-use Prim.Native.Nat.{ℕ, suc, _≤_, _<_, _/_, _%_}
+use mathlib.Core.Path.{_≡_, refl, ap, ap₂, _∙_}
+use Prim.Native.Nat.{ℕ, suc, _≤_}
 use native.Mathlib.Omega.{arith}
 use lib.Dec.{eqb, leb}
 use lib.ListN.{length, take}
@@ -23,63 +23,22 @@ use Rattle.cards.specs.Bytes.{
   isBlank,
   isDigit,
   isLetter,
+  isNameByte,
   isRefused,
   marks,
 }
 use Rattle.cards.specs.Cards.{labelOf, soundLine, withoutBlanks}
-use Rattle.packer.specs.Classes.{isLetterOrDigit}
-use Rattle.packer.specs.Keys.{isKeyByte, keyOf}
-
--- a conjunction that is true has two true parts
-pub both : (a b : Bool) → (a && b) ≡ true → (a ≡ true) × (b ≡ true)
-both true b e = (refl, e)
-both false b e = absurd (false≢true e)
+use Rattle.packer.specs.Keys.{isKeyByte}
 
 within : (low high b : ℕ) → between low high b ≡ true → (low ≤ b) × (b ≤ high)
 unfolding between
 within low high b e =
-    let parts = both (leb low b) (leb b high) e in
+    let parts = and-eq-true-iff (leb low b) (leb b high) .0 e in
     (leb-true low b (parts .0), leb-true b high (parts .1))
 
 key-byte : (b : ℕ) → 1 ≤ b → b ≤ 255 → isKeyByte b ≡ true
 unfolding isKeyByte between
 key-byte b low high = ap₂ {C = Bool} _&&_ (le-leb 1 b low) (le-leb b 255 high)
-
-key-range : (b : ℕ) → isKeyByte b ≡ true → (1 ≤ b) × (b ≤ 255)
-unfolding isKeyByte
-key-range b e = within 1 255 b e
-
--- the first byte of a key, and the key of those behind it
-module _ (b : ℕ) (bs : List ℕ) (byte : b < 256) where
-  pub key-first : keyOf (b ∷ bs) % 256 ≡ b
-  unfolding keyOf
-  key-first = omega arith
-
-  pub key-rest : keyOf (b ∷ bs) / 256 ≡ keyOf bs
-  unfolding keyOf
-  key-rest = omega arith
-
--- only the empty name has the key 0
-pub key-none : (xs : List ℕ) → all isKeyByte xs ≡ true → keyOf xs ≡ 0 → xs ≡ []
-unfolding all keyOf
-key-none [] a e = refl
-key-none (b ∷ bs) a e =
-    let range = key-range b (both (isKeyByte b) (all isKeyByte bs) a .0) in
-    absurd (omega arith)
-
--- equal keys are equal names
-pub key-same : (xs ys : List ℕ) → all isKeyByte xs ≡ true → all isKeyByte ys ≡ true → keyOf xs ≡ keyOf ys → xs ≡ ys
-unfolding all keyOf
-key-same [] ys a b e = sym (key-none ys b (sym e))
-key-same (x ∷ xs) [] a b e = key-none (x ∷ xs) a e
-key-same (x ∷ xs) (y ∷ ys) a b e =
-    let left = both (isKeyByte x) (all isKeyByte xs) a in
-    let right = both (isKeyByte y) (all isKeyByte ys) b in
-    let x-range = key-range x (left .0) in
-    let y-range = key-range y (right .0) in
-    let first : x ≡ y = omega arith in
-    let rest : keyOf xs ≡ keyOf ys = omega arith in
-    ap₂ {C = List ℕ} _∷_ first (key-same xs ys (left .1) (right .1) rest)
 
 -- what holds of all bytes holds of some of them
 module _ (f : ℕ → Bool) where
@@ -88,14 +47,14 @@ module _ (f : ℕ → Bool) where
   all-take Prim.Native.Nat.zero xs a = refl
   all-take (suc n) [] a = refl
   all-take (suc n) (x ∷ xs) a =
-      let parts = both (f x) (all f xs) a in
+      let parts = and-eq-true-iff (f x) (all f xs) .0 a in
       ap₂ {C = Bool} _&&_ (parts .0) (all-take n xs (parts .1))
 
   all-keep : (g : ℕ → Bool) (xs : List ℕ) → all f xs ≡ true → all f (keep g xs) ≡ true
   unfolding all keep
   all-keep g [] a = refl
   all-keep g (x ∷ xs) a =
-      let parts = both (f x) (all f xs) a in
+      let parts = and-eq-true-iff (f x) (all f xs) .0 a in
       let rest = all-keep g xs (parts .1) in
       test-cases (λ t. all f (elim t [ true ↦ x ∷ keep g xs | false ↦ keep g xs ]) ≡ true) (g x)
       (λ _. ap₂ {C = Bool} _&&_ (parts .0) rest) (λ _. rest)
@@ -104,7 +63,7 @@ module _ (f : ℕ → Bool) where
   unfolding all among
   all-among b [] a = λ e. absurd (false≢true e)
   all-among b (x ∷ xs) a =
-      let parts = both (f x) (all f xs) a in
+      let parts = and-eq-true-iff (f x) (all f xs) .0 a in
       test-cases (λ t. (t || among b xs) ≡ true → f b ≡ true) (eqb b x)
       (λ same _. ap f (eqb-true b x same) ∙ parts .0)
       (λ _ e. all-among b xs (parts .1) e)
@@ -113,25 +72,25 @@ module _ (f : ℕ → Bool) where
   unfolding all
   all-more g h [] a = refl
   all-more g h (x ∷ xs) a =
-      let parts = both (f x) (all f xs) a in
+      let parts = and-eq-true-iff (f x) (all f xs) .0 a in
       ap₂ {C = Bool} _&&_ (h x (parts .0)) (all-more g h xs (parts .1))
 
-name-byte : (b : ℕ) → isLetterOrDigit b ≡ true → (48 ≤ b) × (b ≤ 90)
-unfolding isLetterOrDigit isLetter isDigit
+name-byte : (b : ℕ) → isNameByte b ≡ true → (48 ≤ b) × (b ≤ 90)
+unfolding isNameByte isLetter isDigit
 name-byte b =
     test-cases (λ t. (t || between 48 57 b) ≡ true → (48 ≤ b) × (b ≤ 90)) (between 65 90 b)
     (λ e _. let range = within 65 90 b e in (omega arith, omega arith))
     (λ _ e. let range = within 48 57 b e in (omega arith, omega arith))
 
 -- a name of letters and digits has no blank, and its key shows it
-pub name-bytes : (xs : List ℕ) → all isLetterOrDigit xs ≡ true → all isKeyByte xs ≡ true
-name-bytes = all-more isLetterOrDigit isKeyByte (λ b e. let range = name-byte b e in key-byte b (omega arith) (omega arith))
+pub name-bytes : (xs : List ℕ) → all isNameByte xs ≡ true → all isKeyByte xs ≡ true
+name-bytes = all-more isNameByte isKeyByte (λ b e. let range = name-byte b e in key-byte b (omega arith) (omega arith))
 
-pub name-whole : (xs : List ℕ) → all isLetterOrDigit xs ≡ true → withoutBlanks xs ≡ xs
+pub name-whole : (xs : List ℕ) → all isNameByte xs ≡ true → withoutBlanks xs ≡ xs
 unfolding withoutBlanks keep all isBlank
 name-whole [] a = refl
 name-whole (x ∷ xs) a =
-    let parts = both (isLetterOrDigit x) (all isLetterOrDigit xs) a in
+    let parts = and-eq-true-iff (isNameByte x) (all isNameByte xs) .0 a in
     let range = name-byte x (parts .0) in
     ap {B = List ℕ} (λ t. elim (not t) [ true ↦ x ∷ withoutBlanks xs | false ↦ withoutBlanks xs ]) (ne-eqb x 32 (λ e. omega arith))
     ∙ ap (λ (l : List ℕ). x ∷ l) (name-whole xs (parts .1))
@@ -167,4 +126,4 @@ sound-label line e =
     all-keep isKeyByte (λ b. not (isBlank b)) (take 8 (take 72 line))
     (all-take isKeyByte 8 (take 72 line)
     (all-take isKeyByte 72 line
-    (all-more (λ b. not (isRefused (classOf b))) isKeyByte data-byte line (both (leb (length line) 80) _ e .1))))
+    (all-more (λ b. not (isRefused (classOf b))) isKeyByte data-byte line (and-eq-true-iff (leb (length line) 80) _ .0 e .1))))

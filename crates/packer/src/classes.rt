@@ -1,8 +1,8 @@
 // The class of a byte, by a table of 256 entries, and the tests that readers make by it.
 // Assumes nothing.
 ghost use mathlib.Core.Path.{_≡_};
-ghost use Rattle.cards.specs.Bytes.{classOf, isBlank, isDigit, isLetter, isRefused};
-ghost use Rattle.packer.specs.Classes.{classNumber, isLetterOrDigit};
+ghost use Rattle.cards.specs.Bytes.{classOf, isDigit, isLetter, isNameByte, isRefused};
+ghost use Rattle.packer.specs.Classes.{classNumber};
 
 // the numbers of the classes that the tests below name
 const LETTER: u8 = 0;
@@ -307,15 +307,9 @@ pub fn is_digit(b: u8) -> bool
 
 // whether a byte may stand in a name
 pub fn is_letter_or_digit(b: u8) -> bool
-    ensures { λ r. ⌜ r ≡ isLetterOrDigit b ⌝ }
+    ensures { λ r. ⌜ r ≡ isNameByte b ⌝ }
 {
     class_of(b) <= DIGIT
-}
-
-pub fn is_blank(b: u8) -> bool
-    ensures { λ r. ⌜ r ≡ isBlank b ⌝ }
-{
-    b == b' '
 }
 
 // by its range, so that the bytes of a line can be tested together

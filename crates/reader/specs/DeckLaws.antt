@@ -1,8 +1,8 @@
 -- How the whole deck is judged, entry after entry. Assumes nothing.
-use mathlib.Core.Bool.{Bool, true, false, cond, true≢false, false≢true}
-use mathlib.Core.List.{List, [], _∷_}
+use mathlib.Core.Bool.{Bool, cond}
+use mathlib.Core.List.{List}
 use mathlib.Core.Path.{_≡_, refl, sym, ap, ap₂, subst, _∙_}
-use Prim.Native.Nat.{ℕ, suc, _+_, _≤_, _<_}
+use Prim.Native.Nat.{ℕ, _+_, _≤_, _<_}
 use native.Mathlib.Omega.{arith}
 use lib.Dec.{eqb}
 use lib.ListN.{length, drop, getD, drop-of-length-le}
@@ -19,8 +19,8 @@ use Rattle.judgement.specs.Rules as Rules
 use Rattle.judgement.specs.Rules.{judging}
 use Rattle.met.specs.Holding.{Arrays, Holds}
 use Rattle.met.specs.Known.{endedAt}
-use Rattle.reader.specs.Judging.{Held, EntryJudged, Going, Passed, endedIn, closedBy, StatementsJudged, DeckJudged}
-use Rattle.reader.specs.declared.judge.Judged.{Judged}
+use Rattle.reader.specs.Judging.{Held, EntryJudged, Passed, endedIn, closedBy, StatementsJudged, DeckJudged}
+use Rattle.reader.specs.declared.judge.EntryVerdict.{EntryVerdict}
 use Rattle.reader.specs.declared.judge.Verdict.{Verdict}
 
 -- the deck is judged as its entries from here on are, from what the arrays hold; so many lines are behind
@@ -42,7 +42,7 @@ judging-none h = record { known = nothingKnown; holds = h; same = refl; inside =
 
 module _ {deck : List ℕ} {a : Arrays} {from card : ℕ} (j : Judging deck a from card) where
   -- behind an entry that passes
-  pub judging-more : {r : Judged} {a′ : Arrays} → EntryJudged deck from a r a′ → r .number ≡ 0 → Judging deck a′ (r .next) (card + r .lines)
+  pub judging-more : {r : EntryVerdict} {a′ : Arrays} → EntryJudged deck from a r a′ → r .number ≡ 0 → Judging deck a′ (r .next) (card + r .lines)
   judging-more {r} e z =
       let g = e .goes z card (j .known) (j .holds) in
       record {
@@ -54,7 +54,7 @@ module _ {deck : List ℕ} {a : Arrays} {from card : ℕ} (j : Judging deck a fr
       }
 
   -- at an entry that is refused
-  pub judging-refused : {r : Judged} {a′ b : Arrays} → EntryJudged deck from a r a′ → (r .number ≡ 0 → ⊥) → from < length deck
+  pub judging-refused : {r : EntryVerdict} {a′ b : Arrays} → EntryJudged deck from a r a′ → (r .number ≡ 0 → ⊥) → from < length deck
       → StatementsJudged deck (record { number = r .number; card = card }) b
   judging-refused {r} e z h =
       record {

@@ -1,8 +1,8 @@
 -- How an entry of the deck is judged from its number. Assumes nothing.
-use mathlib.Core.Bool.{Bool, true, false, cond, not, true≢false, false≢true}
-use mathlib.Core.List.{List, [], _∷_}
-use mathlib.Core.Path.{_≡_, refl, sym, ap, ap₂, subst, _∙_}
-use Prim.Native.Nat.{ℕ, suc, _+_, _≤_, _<_}
+use mathlib.Core.Bool.{true, false, cond, true≢false}
+use mathlib.Core.List.{List, _∷_}
+use mathlib.Core.Path.{_≡_, refl, sym, ap, subst, _∙_}
+use Prim.Native.Nat.{ℕ, _+_, _≤_}
 use native.Mathlib.Omega.{arith}
 use lib.Dec.{eqb}
 use lib.ListN.{length, take, drop}
@@ -10,7 +10,6 @@ use lib.Seq.{length-take-le}
 use borrow.Author.Tests.{ne-eqb, eq-eqb}
 use Rattle.base.specs.Choice.{test-cases}
 use Rattle.base.specs.Edition.{edition1}
-use Rattle.base.specs.Lists.{all}
 use Rattle.cards.specs.Cards as Cards
 use Rattle.cards.specs.Cards.{Entry, skipped, statement, entriesFrom}
 use Rattle.cards.specs.Packing.{packed}
@@ -25,7 +24,6 @@ use Rattle.packer.specs.Gathering.{Gathers, entryOf}
 use Rattle.packer.specs.declared.Gathered.{Gathered}
 use Rattle.naming.specs.HoldLaws.{held-shown, shown-held}
 use Rattle.reader.specs.Judging.{Held, Worded, Readied, Entered, Numbered, EntryNumbered, Going, EntryJudged}
-use Rattle.reader.specs.declared.judge.Judged.{Judged}
 
 -- a sound statement as the code has it
 pub wording : {text : List ℕ} {e : Gathered} {label raw : List ℕ} → Worded text e label raw → e .sound ≡ true

@@ -1,20 +1,19 @@
 -- How a statement's number comes about from what its readers and judges say. Assumes nothing.
-use mathlib.Core.Bool.{Bool, true, false, cond, not, _||_}
-use mathlib.Core.List.{List, [], _∷_, map}
+use mathlib.Core.Bool.{Bool, true, false, cond}
+use mathlib.Core.List.{List}
 use mathlib.Core.Option.{Option, none}
 use mathlib.Core.Path.{_≡_, refl, sym, ap, ap₂, subst, _∙_}
-use Prim.Native.Nat.{ℕ, suc, _+_, _≤_, _<_}
+use Prim.Native.Nat.{ℕ, _+_, _≤_}
 use native.Mathlib.Omega.{arith}
 use native.Mathlib.Nat.{zero-add}
-use lib.Dec.{eqb, ltb}
-use lib.ListN.{length, take, drop, getD}
+use lib.ListN.{length}
 use Rattle.base.specs.Edition.{edition1}
 use Rattle.base.specs.Limits as Limits
-use Rattle.base.specs.Lists.{any, total}
+use Rattle.branches.specs.Places.{numberIn}
 use Rattle.calls.specs.Table.{allLiterals}
-use Rattle.cards.specs.Packing.{packed, literalsWhole}
+use Rattle.cards.specs.Packing.{packed}
 use Rattle.branches.specs.declared.Row.{Row}
-use Rattle.forms.specs.Contracts.{Starts, Formed, Stepped, FormAnswer, FormRead, Wording, numberIn, itemsIn, elementsIn}
+use Rattle.forms.specs.Contracts.{Starts, Formed, Stepped, FormAnswer, FormRead, itemsIn, elementsIn}
 use Rattle.forms.specs.declared.Form as FormCode
 use Rattle.forms.specs.declared.Form.{Form}
 use Rattle.judgement.specs.Deck.{metBy, unplaced}
@@ -22,14 +21,14 @@ use Rattle.judgement.specs.Known.{Known, numbers, isOneOf, learn}
 use Rattle.judgement.specs.Placed.{number-anywhere, met-anywhere}
 use Rattle.judgement.specs.Refusals.{readStatement, statementNumber, formNumber, metNumber, isMisplaced}
 use Rattle.judging.specs.Callers.{ready}
-use Rattle.judging.specs.Judged.{Judged, Behind, Ready}
+use Rattle.judging.specs.Judged.{StatementJudged, Tallied, Ready}
 use Rattle.language.specs.Keywords as Keywords
 use Rattle.language.specs.Keywords.{leading}
 use Rattle.language.specs.Program.{Statement}
 use Rattle.language.specs.Reading.{Read, got, broken, Met}
 use Rattle.met.specs.Entries.{metIn}
 use Rattle.met.specs.Holding.{Arrays, Holds}
-use Rattle.met.specs.Known.{placesIn, itemsAt, elementsAt, literalsAt}
+use Rattle.met.specs.Known.{placesIn}
 use Rattle.met.specs.declared.Cursor.{Cursor}
 use Rattle.naming.specs.Arrays.{entriesFrom}
 use Rattle.naming.specs.HoldLaws.{entries-noted}
@@ -84,7 +83,7 @@ module _ (label raw : List ℕ) (a : Arrays) (taken : ℕ) (k : Known) (h : Hold
   -- the cursor behind a statement counts what the deck has behind it
   pub behind : {v : Option Statement} {most : ℕ} {table keys tags table′ keys′ tags′ : List ℕ} {x : Read (Option Statement)} {d : Cursor}
       → (f : Formed v most table keys tags (startAt (a .known)) x table′ keys′ tags′ d)
-      → Behind k d (length (itemsIn v)) (f .rows) (length (allLiterals (elementsIn v)))
+      → Tallied k d (length (itemsIn v)) (f .rows) (length (allLiterals (elementsIn v)))
   behind {v} f =
       record {
         itemCount = f .items ∙ ap (λ (n : ℕ). n + length (itemsIn v)) (h .items);
@@ -162,7 +161,7 @@ module _ (a : Arrays) (kind : Kind) (label raw text : List ℕ) (leads : kindOf 
     pub formed-numbered : {v : Option Statement} {table keys tags table′ keys′ tags′ : List ℕ} {c d : Cursor} {a′ : Arrays} {r : ℕ}
         → c ≡ startAt (a .known)
         → Formed v (length text + 1) table keys tags c (readStatement edition1 (numberIn (a .known)) (placesIn (a .known)) label raw) table′ keys′ tags′ d
-        → Judged a keys′ tags′ d kind a′ r
+        → StatementJudged a keys′ tags′ d kind a′ r
         → Numbered label raw true a r a′
     formed-numbered {v} {table} {keys} {tags} {table′} {keys′} {tags′} {c} {d} {a′} {r} start g j = from
       where

@@ -22,7 +22,7 @@ use Rattle.met.specs.declared.Cursor.{Cursor}
 use Rattle.forms.specs.Contracts.{Wording}
 use Rattle.packer.specs.Keys.{keyOf, isKeyByte}
 use Rattle.packer.specs.declared.Gathered.{Gathered}
-use Rattle.reader.specs.declared.judge.Judged.{Judged}
+use Rattle.reader.specs.declared.judge.EntryVerdict.{EntryVerdict}
 use Rattle.reader.specs.declared.judge.Verdict.{Verdict}
 
 -- the arrays hold what is known of a deck of which so many bytes are taken
@@ -103,7 +103,7 @@ pub record Going (deck : List ℕ) (from card : ℕ) (k : Known) (lines next : �
   pub rest : judgeFrom edition1 k (entriesFrom edition1 card (Cards.lines (drop from deck)))
       ≡ judgeFrom edition1 known (entriesFrom edition1 (card + lines) (Cards.lines (drop next deck)))
 
-pub record EntryJudged (deck : List ℕ) (from : ℕ) (a : Arrays) (r : Judged) (a′ : Arrays) : Type 0 where
+pub record EntryJudged (deck : List ℕ) (from : ℕ) (a : Arrays) (r : EntryVerdict) (a′ : Arrays) : Type 0 where
   pub refuses : (r .number ≡ 0 → ⊥) → (card : ℕ) (k : Known) → Holds a from k
       → judgeFrom edition1 k (entriesFrom edition1 card (Cards.lines (drop from deck))) ≡ Deck.Judged.refused (r .number) card
   pub goes : r .number ≡ 0 → (card : ℕ) (k : Known) → Holds a from k → Going deck from card k (r .lines) (r .next) a′

@@ -2,7 +2,7 @@
 use mathlib.Core.Bool.{cond}
 use mathlib.Core.List.{List, [], _∷_, _++_}
 use mathlib.Core.Path.{_≡_, refl, sym, ap, _∙_}
-use Prim.Native.Nat.{ℕ, _+_, _*_, _/_, _%_, _≤_, _<_}
+use Prim.Native.Nat.{ℕ, _+_, _*_, _≤_, _<_}
 use native.Mathlib.Omega.{arith}
 use lib.ListN.{length, set, length-set}
 use borrow.Author.Tests.{lt-ltb, le-ltb}
@@ -24,11 +24,6 @@ two-set t at a b h =
 
 pub length-two : (t : List ℕ) (at a next b : ℕ) → length (set (set t at a) next b) ≡ length t
 length-two t at a next b = length-set (set t at a) next b ∙ length-set t at a
-
--- a number in two bytes
-pub number-set : (t : List ℕ) (at n : ℕ) → at + 2 ≤ length t → set (set t at (n % 256)) (at + 1) (n / 256 % 256) ≡ splice t at (inBytes 2 n)
-unfolding inBytes
-number-set t at n h = two-set t at (n % 256) (n / 256 % 256) h
 
 -- one part behind others
 join : (t v : List ℕ) {t′ t″ : List ℕ} (at p : ℕ) (w : List ℕ) → at ≤ length t → t′ ≡ splice t at v → p ≡ at + length v → t″ ≡ splice t′ p w

@@ -1,16 +1,17 @@
 -- What the second pass does: each statement of an accepted deck is read again and its step written. Assumes nothing.
-use mathlib.Core.Bool.{Bool, true, false}
-use mathlib.Core.List.{List, [], _∷_}
+use mathlib.Core.Bool.{true, false}
+use mathlib.Core.List.{List}
 use mathlib.Core.Option.{Option, none, some}
 use mathlib.Core.Path.{_≡_}
 use Prim.Native.Nat.{ℕ, _+_, _≤_, _<_}
 use lib.ListN.{length, take, drop, set}
 use Rattle.base.specs.Edition.{edition1}
+use Rattle.branches.specs.Places.{numberIn}
 use Rattle.calls.specs.TableLaws.{InRange}
-use Rattle.calls.specs.Table.{allElements, allItems, allLiterals, elementsOf, itemsOf}
+use Rattle.calls.specs.Table.{allElements, allItems, allLiterals}
 use Rattle.cards.specs.Cards as Cards
 use Rattle.cards.specs.Cards.{Entry, entriesFrom, entries}
-use Rattle.forms.specs.Contracts.{Wording, numberIn, itemsIn, elementsIn}
+use Rattle.forms.specs.Contracts.{Wording, itemsIn, elementsIn}
 use Rattle.judgement.specs.Deck.{stepsFrom, programOf}
 use Rattle.judgement.specs.Known.{Known, nothingKnown}
 use Rattle.judgement.specs.Placed.Again.{Again}
@@ -89,7 +90,7 @@ abbrev pub stepsAt : List ℕ → Known → Progress → List Step
 stepsAt deck whole p = stepsFrom edition1 whole (p .steps) (entriesAt deck p)
 
 -- what is written from p on is the same as what is written from r on, and no more and no less is counted
-pub record Onward (deck : List ℕ) (whole : Known) (p : Progress) (t : List ℕ) (r : Progress) (t′ : List ℕ) : Type 0 where
+pub record Continues (deck : List ℕ) (whole : Known) (p : Progress) (t : List ℕ) (r : Progress) (t′ : List ℕ) : Type 0 where
   pub table : withSteps t (p .steps) (p .elements) (p .items) (p .literals) (stepsAt deck whole p)
       ≡ withSteps t′ (r .steps) (r .elements) (r .items) (r .literals) (stepsAt deck whole r)
   pub steps : p .steps + length (stepsAt deck whole p) ≡ r .steps + length (stepsAt deck whole r)
@@ -106,7 +107,7 @@ pub record Resumes (deck : List ℕ) (whole : Known) (p : Progress) : Type 0 whe
 
 -- an entry is written
 pub record EntryWritten (deck : List ℕ) (whole : Known) (p : Progress) (t : List ℕ) (r : Progress) (t′ : List ℕ) : Type 0 where
-  pub onward : Onward deck whole p t r t′
+  pub onward : Continues deck whole p t r t′
   pub again : Resumes deck whole r
   pub further : p .from < r .from
   pub inside : r .from ≤ length deck + 1
@@ -125,7 +126,7 @@ withKnown a known =
     }
 
 -- behind an entry: the arrays hold the same still
-pub record Behind (deck : List ℕ) (whole : Known) (a : Arrays) (taken : ℕ) (p : Progress) (t : List ℕ) (r : Progress)
+pub record StillHeld (deck : List ℕ) (whole : Known) (a : Arrays) (taken : ℕ) (p : Progress) (t : List ℕ) (r : Progress)
     (known′ keys′ tags′ t′ : List ℕ) : Type 0 where
   pub entry : EntryWritten deck whole p t r t′
   pub holds : Holds (withKnown a known′) taken whole
@@ -136,7 +137,7 @@ pub record Behind (deck : List ℕ) (whole : Known) (a : Arrays) (taken : ℕ) (
 pub record StepWritten (deck known : List ℕ) (p : Progress) (t : List ℕ) (r : Progress) (known′ text′ keys′ tags′ t′ : List ℕ) : Type 0 where
   pub textSize : length text′ ≡ 32_768
   pub written : (a : Arrays) → a .known ≡ known → (taken : ℕ) (whole : Known) → Holds a taken whole → Resumes deck whole p
-      → Behind deck whole a taken p t r known′ keys′ tags′ t′
+      → StillHeld deck whole a taken p t r known′ keys′ tags′ t′
 
 -- a deck that was accepted, with all its names known
 pub record Whole (deck known : List ℕ) : Type 0 where

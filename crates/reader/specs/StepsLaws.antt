@@ -1,5 +1,5 @@
 -- How the steps of a deck come to be written one after the other. Assumes nothing.
-use mathlib.Core.Bool.{Bool, true, false, cond, true≢false}
+use mathlib.Core.Bool.{Bool, true, false, cond}
 use mathlib.Core.List.{List, [], _∷_, _++_, map}
 use mathlib.Core.Option.{Option, none, some}
 use mathlib.Core.Path.{_≡_, refl, sym, ap, subst, _∙_}
@@ -11,6 +11,7 @@ use lib.ListN.{length, take, drop, getD, set, length-append, length-set, drop-of
 use lib.Seq.{getD-set-other, getD-set-same, take-set-le, drop-set-add}
 use Rattle.base.specs.Choice.{test-cases}
 use Rattle.base.specs.Edition.{edition1}
+use Rattle.branches.specs.Places.{numberIn}
 use Rattle.calls.specs.Table.{allElements, allItems, allLiterals, elementsOf, itemsOf}
 use Rattle.cards.specs.Cards as Cards
 use Rattle.calls.specs.TableLaws.{InRange}
@@ -18,23 +19,23 @@ use Rattle.calls.specs.YieldingForms.{literals-append}
 use Rattle.cards.specs.Cards.{Entry, skipped, statement, entriesFrom, entries}
 use Rattle.cards.specs.Packing.{packed}
 use Rattle.closing.specs.HeldLaws.{held-places}
-use Rattle.forms.specs.Contracts.{Wording, numberIn, itemsIn, elementsIn}
+use Rattle.forms.specs.Contracts.{Wording, itemsIn, elementsIn}
 use Rattle.judgement.specs.Deck.{stepsFrom, stepRead, placesOf, programOf}
 use Rattle.judgement.specs.Known.{Known, nothingKnown, numbers, isOneOf, isStep, learn}
 use Rattle.judgement.specs.Placed.Again.{Again, past, reads, IsStep}
 use Rattle.judgement.specs.Refusals.{readStatement}
 use Rattle.language.specs.Keywords.{leading}
 use Rattle.language.specs.Program.{Statement, Step}
-use Rattle.language.specs.Reading.{Met, got, Read}
+use Rattle.language.specs.Reading.{Met, got}
 use Rattle.met.specs.Entries.{nameOf}
 use Rattle.met.specs.Holding.{Arrays, Holds, namesIn, namesFrom, usesIn, usesFrom}
 use Rattle.met.specs.Known.{Counted, placesIn, nextAt, stringKeys, numberKeys, labelIn, labelsFrom, labelsIn, routineIn, routinesDown, routinesIn}
 use Rattle.packer.specs.Gathering.{Gathers, entryOf}
 use Rattle.packer.specs.declared.Gathered.{Gathered}
 use Rattle.reader.specs.EntryLaws.{gathered-worded, wording}
-use Rattle.reader.specs.Steps.{Written, Onward, Resumes, EntryWritten, entriesAt, stepsAt, stepCount, PackedWritten, passedBy, GatheredWritten}
-use Rattle.reader.specs.Steps.{withKnown, Behind, StepWritten, Whole, StepsWritten, Small}
-use Rattle.reader.specs.Writing.{withStep, withSteps}
+use Rattle.reader.specs.Steps.{Written, Continues, Resumes, EntryWritten, entriesAt, stepsAt, stepCount, PackedWritten, passedBy, GatheredWritten}
+use Rattle.reader.specs.Steps.{withKnown, StillHeld, StepWritten, Whole, StepsWritten, Small}
+use Rattle.reader.specs.Writing.{withSteps}
 use Rattle.reader.specs.declared.steps.Progress.{Progress}
 
 -- a statement read again
@@ -70,7 +71,7 @@ learnt-steps k raw m v i = counted (isStep (leading (packed raw) .kind)) v i
 
 module _ {deck : List ℕ} {whole : Known} {e : Gathered} {p : Progress} {t : List ℕ} {r : Progress} {t′ : List ℕ} where
   -- a statement that is no step
-  onward-none : Written none e p t r t′ → stepsAt deck whole p ≡ stepsAt deck whole r → Onward deck whole p t r t′
+  onward-none : Written none e p t r t′ → stepsAt deck whole p ≡ stepsAt deck whole r → Continues deck whole p t r t′
   unfolding elementsIn itemsIn allLiterals
   onward-none w q =
       let a : r .steps ≡ p .steps = omega (arith, w .steps) in
@@ -87,7 +88,7 @@ module _ {deck : List ℕ} {whole : Known} {e : Gathered} {p : Progress} {t : Li
 
   -- a step
   onward-some : (s : Statement) → Written (some s) e p t r t′
-      → stepsAt deck whole p ≡ record { card = p .card; statement = s } ∷ stepsAt deck whole r → Onward deck whole p t r t′
+      → stepsAt deck whole p ≡ record { card = p .card; statement = s } ∷ stepsAt deck whole r → Continues deck whole p t r t′
   unfolding elementsIn itemsIn allElements allItems withSteps
   onward-some s w q =
       let a : r .steps ≡ suc (p .steps) = omega (arith, w .steps) in
@@ -110,7 +111,7 @@ module _ {deck : List ℕ} {whole : Known} {e : Gathered} {p : Progress} {t : Li
 -- a comment or blank line
 onward-skip : {deck : List ℕ} {whole : Known} {p : Progress} {t : List ℕ} {r : Progress} {t′ : List ℕ} → t′ ≡ t → r .steps ≡ p .steps
     → r .elements ≡ p .elements → r .items ≡ p .items → r .literals ≡ p .literals → stepsAt deck whole p ≡ stepsAt deck whole r
-    → Onward deck whole p t r t′
+    → Continues deck whole p t r t′
 onward-skip z a b c d q =
     record { table = rw (q, z, a, b, c, d); steps = rw (q, a); elements = rw (q, b); items = rw (q, c); literals = rw (q, d) }
 
@@ -213,7 +214,7 @@ module _ {deck text : List ℕ} {e : Gathered} {p : Progress} (g : Gathers deck 
           entries : entriesAt deck r ≡ rest
           entries = rw (w .from, w .card)
 
-          onward : (v : Option Statement) → v ≡ reread .value → Written v e p t r t′ → Onward deck whole p t r t′
+          onward : (v : Option Statement) → v ≡ reread .value → Written v e p t r t′ → Continues deck whole p t r t′
           onward none q w =
               onward-none w
               (ap (stepsFrom edition1 whole (p .steps)) here
@@ -361,9 +362,9 @@ gathered-steps {deck} {text} {known} {keys} {tags} {e} {p} {t} {r} {known′} {k
     record { textSize = g .size; written = λ a q taken whole h again. each a q taken whole h again }
   where
     each : (a : Arrays) → a .known ≡ known → (taken : ℕ) (whole : Known) → Holds a taken whole → Resumes deck whole p
-        → Behind deck whole a taken p t r known′ keys′ tags′ t′
+        → StillHeld deck whole a taken p t r known′ keys′ tags′ t′
     each a q taken whole h again =
-        test-cases (λ s. e .skipped ≡ s → Behind deck whole a taken p t r known′ keys′ tags′ t′) (e .skipped)
+        test-cases (λ s. e .skipped ≡ s → StillHeld deck whole a taken p t r known′ keys′ tags′ t′) (e .skipped)
         (λ _ s.
         let x = w .skips s in
         record {

@@ -7,11 +7,10 @@ use Prim.Native.Nat.{ℕ, suc, _+_, _*_, _-_, _≤_, _<_}
 use native.Mathlib.Nat.{add-zero, zero-add}
 use native.Mathlib.Omega.{arith}
 use lib.Dec.{ltb}
-use lib.ListN.{length, drop, replicate, length-append, length-replicate, replicate-append-replicate}
+use lib.ListN.{length, replicate, length-append, length-replicate, replicate-append-replicate}
 use borrow.Author.Tests.{lt-ltb}
-use Rattle.base.specs.Edition.{Edition, edition1}
+use Rattle.base.specs.Edition.{edition1}
 use Rattle.base.specs.Limits as Limits
-use Rattle.calls.specs.NumeralLaws.{length-inBytes}
 use Rattle.calls.specs.Numerals.{inBytes}
 use Rattle.calls.specs.RowLaws.{length-rowBytes}
 use Rattle.calls.specs.Rules.{isProgram}
@@ -41,7 +40,7 @@ use Rattle.calls.specs.Table.{
   itemCell,
   patternCell,
 }
-use Rattle.calls.specs.TableLaws.{InRange, in-range, length-filledTo, length-stepRows, length-elementRows, length-itemRows}
+use Rattle.calls.specs.TableLaws.{in-range, length-filledTo, length-stepRows, length-elementRows, length-itemRows, length-header}
 use Rattle.calls.specs.YieldingForms.{literals-append}
 use Rattle.language.specs.Program.{Item, PatternElement, Statement, Step, Program}
 use Rattle.met.specs.Elements.{withElements, elements-rows}
@@ -402,10 +401,6 @@ zeros-written r =
     (cut 6144 22464 r
     ∙ ap (λ (z : List ℕ). replicate 6144 0 ++ z)
     (cut 8192 14272 r ∙ ap (λ (z : List ℕ). replicate 8192 0 ++ z) (cut 8192 6080 r)))
-
-length-header : (p : Program) → length (header p) ≡ 14
-unfolding header
-length-header p = simp (length-append, length-inBytes) refl
 
 -- nothing filled up is zeros
 nothing-filled : (n : ℕ) → filledTo n [] ≡ replicate n 0

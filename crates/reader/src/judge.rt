@@ -9,6 +9,10 @@ use judging::judge_statement;
 use met::Cursor;
 use met::KNOWN;
 use met::NAMES;
+use met::places::ELEMENTS;
+use met::places::ENDED;
+use met::places::ITEMS;
+use met::places::LITERALS;
 use packer::Gathered;
 use packer::gather;
 use words::keywords::leading;
@@ -16,17 +20,17 @@ ghost use mathlib.Core.Bool.{true};
 ghost use mathlib.Core.List.{List};
 ghost use mathlib.Core.Path.{_≡_};
 ghost use Prim.Native.Nat.{ℕ, _≤_, _<_, _+_};
-ghost use lib.ListN.{length, take};
+ghost use lib.ListN.{length};
 ghost use Rattle.closing.specs.Held.{Closable, heldIn};
 ghost use Rattle.forms.specs.Contracts.{Wording};
 ghost use Rattle.judgement.specs.Known.{nothingKnown};
 ghost use Rattle.met.specs.Holding.{Holds};
 ghost use Rattle.met.specs.Known.{Counted};
 ghost use Rattle.naming.specs.Arrays.{arrays};
-ghost use Rattle.reader.specs.Judging.{Held, Lent, Stays, startAt, Worded, Readied, Entered, Numbered, EntryNumbered, EntryJudged, endedIn, closedBy, StatementsJudged, DeckJudged};
+ghost use Rattle.reader.specs.Judging.{Held, Lent, Stays, startAt, Readied, Entered, Numbered, EntryNumbered, EntryJudged, endedIn, closedBy, StatementsJudged, DeckJudged};
 
 // what judging an entry of the deck comes to: its number, 0 if it passes, how many lines it has and where the next entry starts
-pub struct Judged {
+pub struct EntryVerdict {
     pub number: u32,
     pub lines: usize,
     pub next: usize,
@@ -37,15 +41,6 @@ pub struct Verdict {
     pub number: u32,
     pub card: usize,
 }
-
-// where the counts of the deck so far stand
-const ELEMENTS: usize = 75;
-
-const ITEMS: usize = 76;
-
-const LITERALS: usize = 77;
-
-const ENDED: usize = 73;
 
 // the cursor before a statement
 pub fn start(known: &[u64; KNOWN]) -> Cursor
@@ -169,7 +164,7 @@ fn judge_entry(
     keys: &mut [u64; NAMES],
     tags: &mut [u8; NAMES],
     table: &mut [u8],
-) -> Judged
+) -> EntryVerdict
     requires { ⌜ Held (arrays (now known) (now «name_keys») (now «name_purposes») (now «use_keys») (now «use_scopes») (now «use_purposes»)) from ⌝ }
     requires { ⌜ (from < length (now deck)) × (length (now deck) ≤ 32768) × (length (now text) ≡ 32768) ⌝ }
     requires { ⌜ Lent (now keys) (now tags) (now table) ⌝ }
@@ -190,7 +185,7 @@ fn judge_entry(
         tags,
         table,
     );
-    Judged {
+    EntryVerdict {
         number,
         lines: e.lines,
         next: e.next,

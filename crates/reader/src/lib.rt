@@ -9,6 +9,8 @@ use judge::Verdict;
 use judge::judge_deck;
 use met::KNOWN;
 use met::NAMES;
+use met::places::NUMBER_COUNT;
+use met::places::STRING_COUNT;
 use steps::write_steps;
 use table::put_header;
 ghost use mathlib.Core.Path.{_≡_};
@@ -41,8 +43,8 @@ fn write_table(
     put_header(
         table,
         p.steps,
-        known[0] as usize,
-        known[1] as usize,
+        known[STRING_COUNT] as usize,
+        known[NUMBER_COUNT] as usize,
         p.elements,
         p.items,
         p.literals,

@@ -6,20 +6,16 @@ use forms::read_statement;
 use met::Cursor;
 use met::KNOWN;
 use met::NAMES;
+use met::places::NEXT;
 use packer::Gathered;
 use packer::gather;
-ghost use mathlib.Core.List.{List};
 ghost use mathlib.Core.Path.{_≡_};
-ghost use Prim.Native.Nat.{ℕ, _+_, _≤_, _<_};
-ghost use lib.ListN.{length, take};
-ghost use Rattle.judgement.specs.Known.{Known};
+ghost use Prim.Native.Nat.{_+_, _≤_, _<_};
+ghost use lib.ListN.{length};
 ghost use Rattle.met.specs.Known.{Counted};
 ghost use Rattle.reader.specs.Judging.{Lent};
 ghost use Rattle.reader.specs.Steps.{Small, passedBy, PackedWritten, GatheredWritten, StepWritten, Whole};
 ghost use Rattle.reader.specs.StepsLaws.{DeckWritten};
-
-// where the step behind the one that is read stands among what is known
-const NEXT: usize = 70;
 
 // where the second pass is: the next line and its card; how many steps, elements, items and literal bytes are written
 pub struct Progress {

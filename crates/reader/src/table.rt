@@ -2,12 +2,12 @@
 // Assumes nothing.
 use branches::Row;
 use met::put_cell;
+use met::put_number;
 use numeric::operands::Cell;
 ghost use mathlib.Core.Path.{_≡_};
 ghost use Prim.Native.Nat.{_+_, _≤_};
 ghost use lib.ListN.{length};
 ghost use Rattle.branches.specs.Rows.{rowMeaning};
-ghost use Rattle.calls.specs.Numerals.{inBytes};
 ghost use Rattle.calls.specs.Splices.{splice};
 ghost use Rattle.calls.specs.Table.{cellBytes};
 ghost use Rattle.numeric.specs.Operands.{meaning};
@@ -17,15 +17,6 @@ ghost use Rattle.reader.specs.Writing.{withRow, withHeader};
 const STEPS: usize = 256;
 
 const STEPS_AT: usize = 64;
-
-// writes a number into its two bytes at a place, low byte first
-fn put_number(table: &mut [u8], at: usize, number: usize)
-    requires { ⌜ at + 2 ≤ length (now table) ⌝ }
-    ensures { λ _. ⌜ now (table .exit) ≡ splice (now (table .entry)) at (inBytes 2 number) ⌝ }
-{
-    table[at] = (number % 256) as u8;
-    table[at + 1] = (number / 256 % 256) as u8;
-}
 
 // writes the cells of a row at a place
 fn put_cells(table: &mut [u8], at: usize, left: Cell, right: Cell)
@@ -45,9 +36,9 @@ pub fn put_row(table: &mut [u8], k: usize, card: usize, row: Row)
         let at = STEPS_AT + 24 * k;
         table[at] = row.kind;
         table[at + 1] = row.flag;
-        put_number(table, at + 2, card);
-        put_number(table, at + 4, row.success);
-        put_number(table, at + 6, row.failure);
+        put_number(table, at + 2, 2, card);
+        put_number(table, at + 4, 2, row.success);
+        put_number(table, at + 6, 2, row.failure);
         put_cells(table, at + 8, row.left, row.right);
     }
 }
@@ -67,10 +58,10 @@ pub fn put_header(
 {
     table[0] = 1;
     table[1] = 0;
-    put_number(table, 2, steps);
-    put_number(table, 4, strings);
-    put_number(table, 6, numbers);
-    put_number(table, 8, elements);
-    put_number(table, 10, items);
-    put_number(table, 12, literals);
+    put_number(table, 2, 2, steps);
+    put_number(table, 4, 2, strings);
+    put_number(table, 6, 2, numbers);
+    put_number(table, 8, 2, elements);
+    put_number(table, 10, 2, items);
+    put_number(table, 12, 2, literals);
 }

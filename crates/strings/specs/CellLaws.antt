@@ -1,14 +1,11 @@
 -- How STRING calls and fillers are put together from names, constants and marks. Assumes nothing.
-use mathlib.Core.Bool.{Bool, true, false, true≢false, _||_}
+use mathlib.Core.Bool.{Bool, true, false, _||_}
 use mathlib.Core.List.{List, [], _∷_}
 use mathlib.Core.Path.{_≡_, refl, sym, ap, subst, _∙_}
-use Prim.Native.Nat.{ℕ, suc, _+_, _-_, _^_, _≤_}
-use native.Mathlib.Nat.{zero-add}
-use native.Mathlib.Omega.{arith}
-use lib.IntN.{ℤ, pos, negsuc, natAbs}
-use lib.ListN.{length, drop, getD}
+use Prim.Native.Nat.{ℕ, _+_, _-_}
+use lib.IntN.{ℤ, pos}
+use lib.ListN.{drop, getD}
 use lib.Seq.{drop-drop}
-use borrow.Author.Tests.{ltb-true, le-ltb}
 use Rattle.base.specs.Edition.{edition1}
 use Rattle.base.specs.Lists.{begins}
 use Rattle.base.specs.Text.{bytes}
@@ -18,10 +15,11 @@ use Rattle.calls.specs.Table.{lengthCell, elementCell, patternCell, literalIn}
 use Rattle.cards.specs.Bytes.{isDigit}
 use Rattle.language.specs.Program as Program
 use Rattle.language.specs.Program.{Part, Length, constantly, numbered, Element, PatternElement, freeFiller, fixedFiller}
-use Rattle.language.specs.Reading.{Role, Met, nothing, both, Read, got, broken, _>>=_, meeting, give, skip}
+use Rattle.language.specs.Reading.{Role, Met, Read, got, broken, _>>=_, meeting, give, skip}
 use Rattle.language.specs.Strings.{textCall, fillerAt}
 use Rattle.language.specs.Words.{Places, signed, isSign, numberName, bound, stringName, partName}
 use Rattle.met.specs.Entries.{roleOf, metIn}
+use Rattle.met.specs.ReadingLaws.{give-then, skip-then, skip-broken}
 use Rattle.met.specs.declared.Cursor.{Cursor}
 use Rattle.numeric.specs.OperandLaws.{gets-then, then-broken, chosen, skipped, cell-skip, closed-cell}
 use Rattle.numeric.specs.Operands.{moved, Ready, Gets, CellRead, PlaceRead, meaning, closedBy}
@@ -29,50 +27,7 @@ use Rattle.numeric.specs.declared.operands.Operand as OperandCode
 use Rattle.numeric.specs.declared.operands.Operand.{Operand}
 use Rattle.numeric.specs.declared.operands.Place as PlaceCode
 use Rattle.numeric.specs.declared.operands.Place.{Place}
-use Rattle.values.specs.Numbers.{isNegative}
 use Rattle.strings.specs.Cells.{bareCell, valuedIn, numberEnd, numberFollows, constantCall, numberOrEnd, numberCall, Standing}
-
--- a constant as its cell has it
-pub biased-above : (z : ℤ) → isNegative z ≡ false → 2 ^ 47 + natAbs z ≡ biased z
-unfolding biased bias isNegative
-biased-above (pos n) e = omega arith
-biased-above (negsuc n) e = absurd (true≢false e)
-
-pub biased-below : (z : ℤ) → isNegative z ≡ true → natAbs z ≤ 8_388_607 → 2 ^ 47 - natAbs z ≡ biased z
-unfolding biased bias isNegative
-biased-below (pos n) e h = absurd (omega (arith, ltb-true n 0 e))
-biased-below (negsuc n) e h = rw (le-ltb (2 ^ 47) (suc n) (omega arith)) (omega arith)
-
--- nothing was met before what is read
-pub meeting-nothing : {A : Type 0} (x : Read A) → meeting nothing x ≡ x
-unfolding meeting both nothing
-meeting-nothing (got a m rest) =
-    λ t.
-    got a
-    (record {
-      declared = m .declared;
-      used = m .used;
-      items = zero-add (m .items) t;
-      rows = m .rows;
-      literals = zero-add (m .literals) t;
-      roles = m .roles;
-    })
-    rest
-meeting-nothing broken = refl
-
--- what comes behind a value that took no bytes, behind a mark that stands, and behind one that doesn't
-pub given-then : {A B : Type 0} (a : A) (rest : List ℕ) (next : A × List ℕ → Read B) → (give a rest >>= next) ≡ next (a, rest)
-unfolding _>>=_ give
-given-then a rest next = meeting-nothing (next (a, rest))
-
-module _ {B : Type 0} (w bs : List ℕ) (next : Unit {0} × List ℕ → Read B) where
-  pub skip-here : begins w bs ≡ true → (skip w bs >>= next) ≡ next (tt, drop (length w) bs)
-  unfolding skip
-  skip-here e = ap (λ (y : Read (Unit {0})). y >>= next) (chosen _ _ e) ∙ given-then tt (drop (length w) bs) next
-
-  pub skip-not : begins w bs ≡ false → (skip w bs >>= next) ≡ broken
-  unfolding skip
-  skip-not e = then-broken next (chosen _ _ e)
 
 -- a cell read behind another reading
 module _ {A B C : Type 0} {f : A → C} {v : C} {text keys tags : List ℕ} {c : Cursor} {x : Read A} {k t : List ℕ} {d : Cursor}
@@ -134,7 +89,7 @@ module _ (p : Places) {text keys tags : List ℕ} {c : Cursor} where
       let from : drop (d .at) text ≡ drop 1 (drop (c .at) text) =
       ap (λ (z : Cursor). drop (z .at) text) s ∙ sym (drop-drop 1 (c .at) text) in
       subst (λ y. CellRead bareCell text keys tags c y q k t)
-      (ap (numberEnd p n) from ∙ sym (skip-here (44 ∷ []) (drop (c .at) text) (λ (_, rest). numberEnd p n rest) e))
+      (ap (numberEnd p n) from ∙ sym (skip-then (44 ∷ []) (drop (c .at) text) (λ (_, rest). numberEnd p n rest) e))
       (cell-skip 1 q (skipped c 1 s) (a n same))
 
   -- STRING with a constant
@@ -147,13 +102,13 @@ module _ (p : Places) {text keys tags : List ℕ} {c : Cursor} where
       ap (λ (w : Cursor). drop (w .at) text) s ∙ ap (λ j. drop j text) place in
       subst (λ y. CellRead bareCell text keys tags c y q k t)
       (ap (numberFollows p (constantly z)) from
-      ∙ sym (given-then z (drop next text) (λ (n, rest). numberFollows p (constantly n) rest))
+      ∙ sym (give-then z (drop next text) (λ (n, rest). numberFollows p (constantly n) rest))
       ∙ ap (λ (y : Read ℤ). y >>= λ (n, rest). numberFollows p (constantly n) rest) (sym is))
       (cell-skip n q (skipped c n s) a)
 
 pub number-alone : (p : Places) (bs : List ℕ) → begins (44 ∷ []) bs ≡ false → (n : Length) → numberFollows p n bs ≡ broken
 unfolding bytes
-number-alone p bs e n = skip-not (44 ∷ []) bs (λ (_, rest). numberEnd p n rest) e
+number-alone p bs e n = skip-broken (44 ∷ []) bs (λ (_, rest). numberEnd p n rest) e
 
 -- a kind of its own for each n
 pub standing-constant : (z : ℤ) {v : ℕ} → v ≡ biased z → Standing (constantly z) 17 v

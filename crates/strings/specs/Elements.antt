@@ -196,9 +196,9 @@ abbrev pub MoreRead : (text known table keys tags : List ℕ) (c : Cursor) (b : 
 MoreRead text known table keys tags c b = Follows (shown b) (readOne b (placesIn known)) text table keys tags c
 
 -- an outcome behind an element
-abbrev pub Behind : ℕ → Outcome → Type 0
-Behind from (OutcomeCode.the-variants.Got d) = from ≤ d .elements
-Behind from OutcomeCode.the-variants.Broken = Unit {0}
+abbrev pub PastElements : ℕ → Outcome → Type 0
+PastElements from (OutcomeCode.the-variants.Got d) = from ≤ d .elements
+PastElements from OutcomeCode.the-variants.Broken = Unit {0}
 
 -- the cursor with a longest row
 abbrev pub longer : Cursor → ℕ → Cursor

@@ -1,6 +1,6 @@
 -- Literals, elements and rows of them: how each is read and written. Assumes nothing.
 use mathlib.Core.Bool.{Bool, true, false, cond, not, _||_, or-false}
-use mathlib.Core.List.{List, [], _∷_, _++_, map, append-nil}
+use mathlib.Core.List.{List, [], _∷_, _++_, map, append-nil, map-id}
 use mathlib.Core.Path.{_≡_, refl, sym, ap, ap₂, subst, _∙_}
 use Prim.Native.Nat.{ℕ, zero, suc, _+_, _*_, _-_, _^_, _≤_, _<_}
 use native.Mathlib.Nat.{add-zero}
@@ -39,7 +39,7 @@ use Rattle.strings.specs.CellLaws.{Bare, Always, always-got, text-bare, 
 use Rattle.strings.specs.Cells.{bareCell}
 use Rattle.strings.specs.ElementLaws.{elements-none, elements-give, elements-then, elements-broken, elements-skip}
 use Rattle.strings.specs.Elements.{GetsElements, rowsOf, GetsRow, RowRead, Roomy, written, celled, Spelt, LiteralRead}
-use Rattle.strings.specs.Elements.{GetsOne, OneAnswer, ReadsOne, ElementRead, PatternElementRead, OneRead, ReadsMany, Follows, Behind, longer, ended}
+use Rattle.strings.specs.Elements.{GetsOne, OneAnswer, ReadsOne, ElementRead, PatternElementRead, OneRead, ReadsMany, Follows, PastElements, longer, ended}
 
 -- the outcome by its case
 module _ {A : Type 0} {f : A → PatternElement} {text table keys tags : List ℕ} {c : Cursor} {x : Read A} {r : Outcome} {t k g : List ℕ}
@@ -518,7 +518,7 @@ module _ {A : Type 0} (f : A → PatternElement) (one : List ℕ → Read A) {te
 
   -- up to more elements the code counts on
   pub row-behind : {t k g : List ℕ} {d : Cursor} → GetsOne f text table keys tags c (one (drop (c .at) text)) t k g d → (r : Outcome)
-      {t₂ k₂ g₂ : List ℕ} → Follows f one text t k g d r t₂ k₂ g₂ → Behind (c .elements) r
+      {t₂ k₂ g₂ : List ℕ} → Follows f one text t k g d r t₂ k₂ g₂ → PastElements (c .elements) r
   row-behind {d = d} a (OutcomeCode.the-variants.Got z) m =
       let q = m (length text) (omega arith) .answer in
       omega (arith, a .gets .goes .elements, q .gets .goes .elements)
@@ -546,33 +546,13 @@ row-nothing {A} f one {text} {table} {keys} {tags} {c} ready e =
     }
 
 -- the end of a row, as the code has it
-module _ (from : ℕ) {r : Outcome} {d : Cursor} (e : r ≡ OutcomeCode.the-variants.Got d) where
-  pub ended-longer : ltb (d .longest) (d .elements - from) ≡ true
-      → OutcomeCode.the-variants.Got (longer d (d .elements - from)) ≡ ended from r
-  ended-longer h =
-      ap {B = Outcome}
-      (λ b.
-      elim b [
-        | true ↦ OutcomeCode.the-variants.Got (longer d (d .elements - from))
-        | false ↦ OutcomeCode.the-variants.Got d
-      ])
-      (sym h)
-      ∙ ap (ended from) (sym e)
-
-  pub ended-same : ltb (d .longest) (d .elements - from) ≡ false → OutcomeCode.the-variants.Got d ≡ ended from r
-  ended-same h =
-      ap {B = Outcome}
-      (λ b.
-      elim b [
-        | true ↦ OutcomeCode.the-variants.Got (longer d (d .elements - from))
-        | false ↦ OutcomeCode.the-variants.Got d
-      ])
-      (sym h)
-      ∙ ap (ended from) (sym e)
-
-map-same : {A : Type 0} (xs : List A) → map (λ x. x) xs ≡ xs
-map-same [] = refl
-map-same (x ∷ xs) = ap (λ l. x ∷ l) (map-same xs)
+pub ended-by : (from : ℕ) (b : Bool) {r : Outcome} {d : Cursor} → r ≡ OutcomeCode.the-variants.Got d → ltb (d .longest) (d .elements - from) ≡ b
+    → elim b [ true ↦ OutcomeCode.the-variants.Got (longer d (d .elements - from)) | false ↦ OutcomeCode.the-variants.Got d ] ≡ ended from r
+ended-by from b {r} {d} e h =
+    ap {B = Outcome}
+    (λ t. elim t [ true ↦ OutcomeCode.the-variants.Got (longer d (d .elements - from)) | false ↦ OutcomeCode.the-variants.Got d ])
+    (sym h)
+    ∙ ap (ended from) (sym e)
 
 -- the elements of a pattern are its values
 pub pattern-row : {text table keys tags : List ℕ} {c : Cursor} {x : Read (List PatternElement)} (r : Outcome) {t k g : List ℕ}
@@ -585,7 +565,7 @@ pattern-row {text} {table} {keys} {tags} {c} {x} (OutcomeCode.the-variants.Got d
             values = q .values;
             gets =
                 subst (λ es. GetsElements text table keys tags c x (q .values) es (rowsOf (length (q .values))) t k g d)
-                (map-same (q .values)) (q .gets);
+                (map-id (q .values)) (q .gets);
             size = q .size;
           };
     }

@@ -1,12 +1,12 @@
 // STRING calls and fillers, each read as a cell of the table.
 // Assumes nothing.
-use convert::Int;
+use met::BIAS;
 use met::Cursor;
 use met::KNOWN;
 use met::NAMES;
-use numeric::operands::BIAS;
+use met::tags::FILLER;
+use met::with_bias;
 use numeric::operands::Cell;
-use numeric::operands::FILLER;
 use numeric::operands::Operand;
 use numeric::operands::Place;
 use numeric::operands::closed;
@@ -14,15 +14,11 @@ use numeric::operands::read_bound;
 use numeric::operands::read_number;
 use numeric::operands::read_string;
 use numeric::operands::skip;
-use packer::classes::is_digit;
-use words::byte_at;
+use words::constant_at;
 use words::constants::SignedConstant;
 use words::constants::signed;
-use words::sign_at;
 use words::stands_at;
 ghost use mathlib.Core.Path.{_≡_};
-ghost use Rattle.calls.specs.Numerals.{biased};
-ghost use Rattle.convert.specs.Numbers.{InRange};
 ghost use Rattle.met.specs.Known.{Counted};
 ghost use Rattle.numeric.specs.Operands.{Ready};
 ghost use Rattle.strings.specs.Cells.{valuedIn, NumberEnds, NumberFollows, ConstantCalled, NumberCalled, TextCalled, FillerRead};
@@ -34,19 +30,6 @@ const TEXT: u8 = 17;
 const FREE: u8 = 19;
 
 const FIXED: u8 = 20;
-
-// a constant as its cell has it
-fn bias(z: Int) -> usize
-    requires { ⌜ InRange z ⌝ }
-    ensures { λ r. ⌜ r ≡ biased (z .value) ⌝ }
-{
-    let size = convert::size(z) as usize;
-    if convert::is_negative(z) {
-        BIAS - size
-    } else {
-        BIAS + size
-    }
-}
 
 // a place, in a cell of a kind and a value
 fn valued(kind: u8, value: usize, p: Place) -> Operand
@@ -120,7 +103,7 @@ fn constant_call(
             tags,
             skip(c, next - at),
             TEXT,
-            bias(value),
+            with_bias(value),
         ),
     }
 }
@@ -178,8 +161,7 @@ pub fn text_call(
     requires { ⌜ Counted (now known) ⌝ }
     ensures { λ r. ⌜ TextCalled (now (text .entry)) (now (known .entry)) (now (keys .entry)) (now (tags .entry)) c r (now (keys .exit)) (now (tags .exit)) ⌝ }
 {
-    let at = c.at;
-    if is_digit(byte_at(text, at)) | sign_at(text, at) {
+    if constant_at(text, c.at) {
         return constant_call(text, known, keys, tags, c);
     }
     number_call(text, known, keys, tags, c)

@@ -11,11 +11,11 @@ use met::Cursor;
 use met::KNOWN;
 use met::NAMES;
 use met::put_element;
+use met::tags::SOUGHT;
+use met::tags::STRING;
 use numeric::Outcome;
 use numeric::operands::Cell;
 use numeric::operands::Operand;
-use numeric::operands::SOUGHT;
-use numeric::operands::STRING;
 use numeric::operands::read_part;
 use numeric::operands::skip;
 use words::begins_at;
@@ -27,7 +27,7 @@ ghost use Rattle.language.specs.Strings.{nothingHere};
 ghost use Rattle.met.specs.Elements.{withElement};
 ghost use Rattle.met.specs.Known.{Counted};
 ghost use Rattle.numeric.specs.Operands.{Ready, StringTag, meaning};
-ghost use Rattle.strings.specs.Elements.{oneMore, Roomy, written, celled, ElementRead, PatternElementRead, OneRead, MoreRead, Behind, ended, RowsRead};
+ghost use Rattle.strings.specs.Elements.{oneMore, Roomy, written, celled, ElementRead, PatternElementRead, OneRead, MoreRead, PastElements, ended, RowsRead};
 ghost use Rattle.strings.specs.Elements.{StringExpressionRead, PatternRead};
 
 // writes a cell as the next element
@@ -160,7 +160,7 @@ fn nothing_here(text: &[u8], at: usize) -> bool
 
 // the end of a row that started with this element: the longest row so far may be this one
 fn row_end(from: usize, r: Outcome) -> Outcome
-    requires { ⌜ Behind from r ⌝ }
+    requires { ⌜ PastElements from r ⌝ }
     ensures { λ q. ⌜ q ≡ ended from r ⌝ }
 {
     match r {

@@ -6,12 +6,13 @@ use Prim.Native.Nat.{ℕ, zero, suc, _+_, _*_, _-_, _/_, _%_, _^_, _≤_, _<_}
 use native.Mathlib.Nat.{pow-suc}
 use native.Mathlib.Omega.{arith}
 use lib.Dec.{leb, ltb, eqb, leb·suc-zero}
-use lib.IntN.{ℤ, pos, negsuc, natAbs}
+use lib.IntN.{ℤ, pos, negsuc, negℤ, natAbs}
 use lib.ListN.{length, take, getD, replicate, length-append, length-replicate}
 use lib.Seq.{length-take-le}
 use borrow.Author.Tests.{ltb-true, ltb-false, leb-true, leb-false, eqb-true, le-leb, ne-eqb, lt-ltb, le-ltb}
 use Rattle.base.specs.Choice.{test-cases, cond-cases}
 use Rattle.base.specs.Edition.{Edition}
+use Rattle.base.specs.ListLaws.{all-append}
 use Rattle.base.specs.Lists.{same, begins, all, isNil}
 use Rattle.base.specs.Text.{bytes}
 use Rattle.values.specs.Conversion.{isDigitOrBlank, isSigned, unsignedPart, isNumeric, digitOf, decimal, signedBy}
@@ -91,14 +92,6 @@ decimal-append : (v : ℕ) (s t : List ℕ) → decimal v (s ++ t) ≡ decimal (
 unfolding decimal
 decimal-append v [] t = refl
 decimal-append v (b ∷ s) t = decimal-append (v * 10 + digitOf b) s t
-
--- a test that two lists pass is passed by one behind the other
-all-append : (f : ℕ → Bool) (s t : List ℕ) → all f s ≡ true → all f t ≡ true → all f (s ++ t) ≡ true
-unfolding all
-all-append f [] t h g = g
-all-append f (b ∷ s) t h g =
-    let both = and-eq-true-iff (f b) (all f s) .0 h in
-    and-eq-true-iff (f b) (all f (s ++ t)) .1 (both .0, all-append f s t (both .1) g)
 
 -- with something behind it a list is not empty
 append-not-nil : (s t : List ℕ) → isNil t ≡ false → isNil (s ++ t) ≡ false
@@ -253,3 +246,8 @@ text-length n m s k q nonzero = sized (text-way n m) q
         let t = signOf m ++ digits (natAbs m) in
         let long : length (take (natAbs n) t) ≡ natAbs n = length-take-le (natAbs n) t (simp length-append (omega arith)) in
         cc
+
+-- a number and its negative are equally far from 0
+pub abs-negative : (n : ℕ) → natAbs (negℤ (pos n)) ≡ n
+abs-negative zero = refl
+abs-negative (suc n) = refl

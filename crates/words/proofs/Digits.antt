@@ -11,7 +11,7 @@ use lib.Seq.{length-take-le, drop-cons, getD-take, getD-drop}
 use borrow.Author.Tests.{leb-true}
 use Rattle.cards.specs.Bytes.{isDigit, between}
 use Rattle.language.specs.Words.{run, decimalFrom}
-use Rattle.words.proofs.Runs.{run-passes}
+use Rattle.words.specs.Runs.{run-passes}
 
 -- n bytes of a text from a place on
 module _ (text : List ℕ) (at n : ℕ) (inside : at + n ≤ length text) where

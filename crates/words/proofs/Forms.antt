@@ -1,7 +1,7 @@
 -- Names, constants and kinds of statements by the tests that the code makes. Assumes nothing.
 use mathlib.Core.Bool.{true, false}
 use mathlib.Core.List.{List, [], _∷_}
-use mathlib.Core.Path.{_≡_, refl, ap, _∙_}
+use mathlib.Core.Path.{_≡_, ap, _∙_}
 use Prim.Native.Nat.{ℕ, _+_, _-_, _≤_, _<_}
 use lib.ListN.{length, take, drop, getD}
 use lib.Seq.{drop-drop}
@@ -9,12 +9,11 @@ use borrow.Author.Tests.{le-leb, lt-leb, lt-ltb, le-ltb}
 use Rattle.base.specs.Edition.{edition1}
 use Rattle.base.specs.Lists.{begins}
 use Rattle.base.specs.Text.{bytes}
-use Rattle.cards.specs.Bytes.{isLetter, isDigit}
+use Rattle.cards.specs.Bytes.{isLetter, isDigit, isNameByte}
 use Rattle.convert.specs.Numbers.{limit, Capped}
 use Rattle.language.specs.Keywords.{Kind, Leading, REPLACEMENT, UNKNOWN, longest, keywords, leading, boundLength, isReplacement}
 use Rattle.language.specs.Reading.{broken, give}
-use Rattle.language.specs.Words.{run, isNameByte, nameLength, decimalFrom, unsigned}
-use Rattle.words.specs.Kinds.{words1, words2, words3}
+use Rattle.language.specs.Words.{run, nameLength, decimalFrom, unsigned}
 
 -- names, constants and replacements in front of the bytes
 module _ (bs : List ℕ) where
@@ -80,7 +79,7 @@ module _ (bs : List ℕ) where
           unfolding isReplacement bytes
           bound-replaces h = rw (isReplacement, ← name, le-leb 1 n some, other, dollar, drop-drop 1 n bs, ← bound, le-leb 1 m h, drop-drop)
 
--- the longest keyword: one more, five after each other, all
+-- the longest keyword: one more, and those behind it
 module _ (w : List ℕ) (k : Kind) (bs : List ℕ) (best : Leading) where
   pub longest-other : begins w bs ≡ false → best ≡ longest ((w, k) ∷ []) bs best
   unfolding longest
@@ -94,18 +93,10 @@ module _ (w : List ℕ) (k : Kind) (bs : List ℕ) (best : Leading) where
   unfolding longest
   longest-old e h = rw (longest, e, le-ltb (best .size) (length w) h)
 
-pub longest-five : (a b c d e : List ℕ × Kind) (bs : List ℕ) (r : Leading) {s t u v w : Leading} → s ≡ longest (a ∷ []) bs r
-    → t ≡ longest (b ∷ []) bs s → u ≡ longest (c ∷ []) bs t → v ≡ longest (d ∷ []) bs u → w ≡ longest (e ∷ []) bs v
-    → w ≡ longest (a ∷ b ∷ c ∷ d ∷ e ∷ []) bs r
+pub longest-then : (a : List ℕ × Kind) (ks : List (List ℕ × Kind)) (bs : List ℕ) (r : Leading) {s t : Leading} → s ≡ longest (a ∷ []) bs r
+    → t ≡ longest ks bs s → t ≡ longest (a ∷ ks) bs r
 unfolding longest
-longest-five a b c d e bs r f g h i j =
-    j
-    ∙ ap (longest (e ∷ []) bs)
-    (i ∙ ap (longest (d ∷ []) bs) (h ∙ ap (longest (c ∷ []) bs) (g ∙ ap (longest (b ∷ []) bs) f)))
-
-pub longest-all : (bs : List ℕ) (r : Leading) → longest words3 bs (longest words2 bs (longest words1 bs r)) ≡ longest keywords bs r
-unfolding longest words1 words2 words3 keywords
-longest-all bs r = refl
+longest-then a ks bs r e f = f ∙ ap (longest ks bs) e
 
 pub leading-replacement : (bs : List ℕ) → isReplacement bs ≡ true → record { kind = REPLACEMENT; size = 0 } ≡ leading bs
 unfolding leading

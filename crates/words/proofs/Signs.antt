@@ -2,7 +2,7 @@
 use mathlib.Core.Bool.{true, false}
 use mathlib.Core.List.{List, [], _∷_}
 use mathlib.Core.Path.{_≡_, refl, sym, ap, _∙_}
-use Prim.Native.Nat.{ℕ, zero, suc, _+_, _≤_}
+use Prim.Native.Nat.{ℕ, _+_, _≤_}
 use native.Mathlib.Omega.{arith}
 use lib.IntN.{ℤ, pos, negℤ, natAbs}
 use lib.ListN.{drop}
@@ -37,10 +37,6 @@ signed-is f c v next r e h =
 -- the sign leaves the size
 pub plus-size : (v : ℕ) → natAbs (pos v) ≡ v
 plus-size v = refl
-
-pub minus-size : (v : ℕ) → natAbs (negℤ (pos v)) ≡ v
-minus-size zero = refl
-minus-size (suc v) = refl
 
 -- what is read with a sign
 abbrev with : (ℕ → ℤ) → Read ℕ → Read ℤ

@@ -1,5 +1,5 @@
 -- A word stands at a place of a text, told byte by byte. Assumes nothing.
-use mathlib.Core.Bool.{Bool, true, false, _&&_, false≢true}
+use mathlib.Core.Bool.{true, false, _&&_, false≢true, and-true}
 use mathlib.Core.List.{List, [], _∷_}
 use mathlib.Core.Path.{_≡_, refl, _∙_}
 use Prim.Native.Nat.{ℕ, _+_, _≤_, _<_}
@@ -25,11 +25,6 @@ begins-none w ws = refl
 begins-empty : (bs : List ℕ) → begins [] bs ≡ true
 unfolding begins same
 begins-empty bs = refl
-
--- a test that is true changes nothing behind another
-and-true : (b : Bool) → (b && true) ≡ b
-and-true true = refl
-and-true false = refl
 
 module _ (text : List ℕ) where
   -- a word of one byte

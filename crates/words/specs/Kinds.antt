@@ -1,10 +1,6 @@
 -- The code's kinds of statements, as document 01 has them. Assumes nothing.
-use mathlib.Core.List.{List}
-use Prim.Native.Nat.{ℕ}
-use lib.ListN.{take, drop}
 use Rattle.language.specs.Keywords as Keywords
 use Rattle.language.specs.Keywords.{
-  keywords,
   NUMBER,
   PROGRAM,
   END,
@@ -48,13 +44,3 @@ kindOf Code.the-variants.Unknown = Keywords.UNKNOWN
 -- a keyword of the code with its kind and size
 abbrev pub leads : Keyword → Keywords.Leading
 leads k = record { kind = kindOf (k .kind); size = k .size }
-
--- the keywords, five by five
-unfoldable pub words1 : List (List ℕ × Keywords.Kind)
-words1 = take 5 keywords
-
-unfoldable pub words2 : List (List ℕ × Keywords.Kind)
-words2 = take 5 (drop 5 keywords)
-
-unfoldable pub words3 : List (List ℕ × Keywords.Kind)
-words3 = drop 10 keywords

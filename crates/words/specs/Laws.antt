@@ -1,25 +1,23 @@
 -- What the answers of the code tell: the name that so many bytes are, names and their keys, and a constant once its case is known.
 -- Assumes nothing.
-use mathlib.Core.Bool.{Bool, true, false, _&&_, and-eq-true-iff, true≢false}
+use mathlib.Core.Bool.{Bool, true, false, _&&_, and-eq-true-iff}
 use mathlib.Core.List.{List, [], _∷_}
 use mathlib.Core.Path.{_≡_, refl, sym, ap, subst, _∙_}
 use Prim.Native.Nat.{ℕ, suc, _≤_, _<_}
 use native.Mathlib.Omega.{arith}
-use lib.Dec.{leb, eqb}
+use lib.Dec.{leb}
 use lib.ListN.{length, take, drop, getD}
-use borrow.Author.Tests.{leb-true, le-leb, lt-leb, eq-eqb, ne-eqb}
+use borrow.Author.Tests.{leb-true, le-leb, lt-leb}
 use Rattle.base.specs.Choice.{test-cases, cond-cases}
 use Rattle.base.specs.Edition.{edition1}
-use Rattle.base.specs.Lists.{all, same}
-use Rattle.base.specs.ListLaws.{same-true, same-refl}
-use Rattle.cards.specs.Bytes.{isLetter}
+use Rattle.base.specs.Lists.{all}
+use Rattle.cards.specs.Bytes.{isLetter, isNameByte}
 use Rattle.convert.specs.Numbers.{limit, InRange}
 use Rattle.convert.specs.declared.Int.{Int}
 use Rattle.language.specs.Reading.{broken, give}
-use Rattle.language.specs.Words.{run, isNameByte, nameLength, name, unsigned, signed}
-use Rattle.packer.specs.Classes.{isLetterOrDigit}
-use Rattle.packer.specs.KeyLaws.{key-same, name-bytes}
-use Rattle.packer.specs.Keys.{keyOf, isKeyByte}
+use Rattle.language.specs.Words.{run, nameLength, name, unsigned, signed}
+use Rattle.packer.specs.KeyLaws.{name-bytes}
+use Rattle.packer.specs.Keys.{isKeyByte}
 use Rattle.words.specs.Constants.{InLimit, Ends, constantRead, Reads, SignedInRange, SignedEnds, signedRead, ReadsSigned}
 use Rattle.words.specs.declared.constants.Constant as Plain
 use Rattle.words.specs.declared.constants.Constant.{Constant}
@@ -52,22 +50,15 @@ run-all f (b ∷ bs) =
     (λ _ e. and-eq-true-iff (f b) (all f (take (run f bs) bs)) .1 (e, run-all f bs)) (λ _ e. refl) refl
 
 -- a name is letters and digits
-pub name-letters : (bs : List ℕ) → all isLetterOrDigit (take (nameLength bs) bs) ≡ true
-unfolding nameLength isNameByte isLetterOrDigit all
+pub name-letters : (bs : List ℕ) → all isNameByte (take (nameLength bs) bs) ≡ true
+unfolding nameLength all
 name-letters bs =
-    cond-cases (λ n. all isLetterOrDigit (take n bs) ≡ true) (isLetter (getD bs 0 0) && leb (run isNameByte bs) 8)
+    cond-cases (λ n. all isNameByte (take n bs) ≡ true) (isLetter (getD bs 0 0) && leb (run isNameByte bs) 8)
     (λ _. run-all isNameByte bs) (λ _. refl)
 
 -- so that its key shows it
 pub name-keys : (bs : List ℕ) → all isKeyByte (take (nameLength bs) bs) ≡ true
 name-keys bs = name-bytes (take (nameLength bs) bs) (name-letters bs)
-
--- and names are compared by their keys
-pub same-keys : (a b : List ℕ) → all isKeyByte a ≡ true → all isKeyByte b ≡ true → same a b ≡ eqb (keyOf a) (keyOf b)
-same-keys a b ha hb =
-    test-cases (λ t. same a b ≡ t → t ≡ eqb (keyOf a) (keyOf b)) (same a b)
-    (λ _ e. sym (eq-eqb (keyOf a) (keyOf b) (ap keyOf (same-true a b e))))
-    (λ _ e. sym (ne-eqb (keyOf a) (keyOf b) (λ k. true≢false (sym (same-refl a) ∙ ap (same a) (key-same a b ha hb k) ∙ e)))) refl
 
 -- the constant at a place
 module _ {text : List ℕ} {at : ℕ} {r : Constant} (a : Reads text at r) where

@@ -6,8 +6,8 @@ use crate::names::name_length;
 use crate::stands_at;
 ghost use mathlib.Core.List.{[], _∷_};
 ghost use mathlib.Core.Path.{_≡_};
-ghost use Rattle.language.specs.Keywords.{isReplacement, leading, longest};
-ghost use Rattle.words.specs.Kinds.{kindOf, leads, words1, words2, words3};
+ghost use Rattle.language.specs.Keywords.{isReplacement, leading, longest, keywords};
+ghost use Rattle.words.specs.Kinds.{kindOf, leads};
 
 pub enum Kind {
     Replacement,
@@ -72,37 +72,25 @@ fn longer(text: &[u8], word: &[u8], kind: Kind, best: Keyword) -> Keyword
     best
 }
 
-// the first five keywords
-fn longer1(text: &[u8], best: Keyword) -> Keyword
-    ensures { λ r. ⌜ leads r ≡ longest words1 (now (text .entry)) (leads best) ⌝ }
+// the longest keyword that begins the statement, and is longer than the best one so far, else that one
+fn longest(text: &[u8], best: Keyword) -> Keyword
+    ensures { λ r. ⌜ leads r ≡ longest keywords (now (text .entry)) (leads best) ⌝ }
 {
     let number = longer(text, b"NUMBER", Kind::Number, best);
     let program = longer(text, b"PROGRAM", Kind::Program, number);
     let end = longer(text, b"END", Kind::End, program);
     let goto = longer(text, b"GOTO", Kind::Goto, end);
-    longer(text, b"EXIT", Kind::Exit, goto)
-}
-
-// the next five
-fn longer2(text: &[u8], best: Keyword) -> Keyword
-    ensures { λ r. ⌜ leads r ≡ longest words2 (now (text .entry)) (leads best) ⌝ }
-{
-    let test = longer(text, b"IF", Kind::If, best);
+    let exit = longer(text, b"EXIT", Kind::Exit, goto);
+    let test = longer(text, b"IF", Kind::If, exit);
     let scan = longer(text, b"SCAN", Kind::Scan, test);
     let backscan = longer(text, b"BACKSCAN", Kind::Backscan, scan);
     let read = longer(text, b"READ", Kind::Read, backscan);
-    longer(text, b"WRITE", Kind::Write, read)
-}
-
-// the last five
-fn longer3(text: &[u8], best: Keyword) -> Keyword
-    ensures { λ r. ⌜ leads r ≡ longest words3 (now (text .entry)) (leads best) ⌝ }
-{
-    let print = longer(text, b"PRINT", Kind::Print, best);
+    let write = longer(text, b"WRITE", Kind::Write, read);
+    let print = longer(text, b"PRINT", Kind::Print, write);
     let routine = longer(text, b"ROUTINE", Kind::Routine, print);
     let execute = longer(text, b"EXECUTE", Kind::Execute, routine);
-    let end = longer(text, b"ENDROUTINE", Kind::EndRoutine, execute);
-    longer(text, b"RETURN", Kind::Return, end)
+    let end_routine = longer(text, b"ENDROUTINE", Kind::EndRoutine, execute);
+    longer(text, b"RETURN", Kind::Return, end_routine)
 }
 
 // the kind of a statement, with how many bytes its keyword has
@@ -119,5 +107,5 @@ pub fn leading(text: &[u8]) -> Keyword
         kind: Kind::Unknown,
         size: 0,
     };
-    longer3(text, longer2(text, longer1(text, none)))
+    longest(text, none)
 }

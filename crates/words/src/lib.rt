@@ -4,10 +4,13 @@ pub mod constants;
 pub mod keywords;
 pub mod names;
 
+use packer::classes::is_digit;
+ghost use mathlib.Core.Bool.{_||_};
 ghost use mathlib.Core.List.{[], _∷_};
 ghost use mathlib.Core.Path.{_≡_};
 ghost use lib.ListN.{drop, getD};
 ghost use Rattle.base.specs.Lists.{begins};
+ghost use Rattle.cards.specs.Bytes.{isDigit};
 ghost use Rattle.language.specs.Words.{isSign};
 
 // the byte at a place, 0 behind the end
@@ -33,6 +36,13 @@ pub fn sign_at(text: &[u8], at: usize) -> bool
     ensures { λ r. ⌜ r ≡ isSign (drop at (now (text .entry))) ⌝ }
 {
     stands_at(text, at, b'+') | stands_at(text, at, b'-')
+}
+
+// whether a constant that may have a sign starts at a place
+pub fn constant_at(text: &[u8], at: usize) -> bool
+    ensures { λ r. ⌜ r ≡ (isDigit (getD (drop at (now (text .entry))) 0 0) || isSign (drop at (now (text .entry)))) ⌝ }
+{
+    is_digit(byte_at(text, at)) | sign_at(text, at)
 }
 
 // whether a word stands at a place

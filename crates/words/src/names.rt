@@ -5,9 +5,9 @@ use packer::classes;
 use packer::keys;
 ghost use mathlib.Core.Path.{_≡_};
 ghost use lib.ListN.{take, drop};
-ghost use Rattle.cards.specs.Bytes.{isDigit};
+ghost use Rattle.cards.specs.Bytes.{isDigit, isNameByte};
 ghost use Rattle.language.specs.Keywords.{boundLength};
-ghost use Rattle.language.specs.Words.{run, isNameByte};
+ghost use Rattle.language.specs.Words.{run};
 ghost use Rattle.packer.specs.Keys.{keyOf};
 ghost use Rattle.words.specs.Places.{Counts, NameAt, Named};
 

@@ -4,8 +4,6 @@ use mathlib.Core.Path.{sym, _∙_}
 use native.Mathlib.Omega.{arith}
 use borrow.Author.Needs.{needs}
 use borrow.Author.Tests.{not-true, not-false}
-use Rattle.language.specs.Words.{isNameByte}
-use Rattle.packer.specs.Classes.{isLetterOrDigit}
 use Rattle.forms.specs.Labels.{Looked, looked-start, looked-more, looked-not, looked-all, shown-not}
 use Rattle.forms.proofs.is_name.Statement.{statement}
 use Rattle.forms.proofs.is_name.Tie as tie
@@ -35,14 +33,12 @@ is-letter-or-digit-requires : tie.Need-is-letter-or-digit-requires Inv-loop μ-l
 is-letter-or-digit-requires c κs = search needs
 
 returns-2 : tie.Need-returns-2 Inv-loop μ-loop
-unfolding isLetterOrDigit isNameByte
 returns-2 c = looked-not (c .before .before .before .before .before .before .args .key) (c .before .before .before .loop .rest) (c .before .before .before .loop .inv) (c .before .before .loop-test .taken) (sym (c .before .is-letter-or-digit .ensures) ∙ not-true _ (c .if2 .taken))
 
 loop-less : tie.Need-loop-less Inv-loop μ-loop
 loop-less c = omega arith
 
 loop-again : tie.Need-loop-again Inv-loop μ-loop
-unfolding isLetterOrDigit isNameByte
 loop-again c = looked-more (c .before .before .before .before .before .before .args .key) (c .before .before .before .loop .rest) (c .before .before .before .loop .inv) (c .before .before .loop-test .taken) (sym (c .before .is-letter-or-digit .ensures) ∙ not-false _ (c .if2 .left))
 
 returns-3 : tie.Need-returns-3 Inv-loop μ-loop

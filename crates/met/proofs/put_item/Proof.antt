@@ -1,32 +1,20 @@
--- `met::put_item` writes a cell where it has a row.
+-- `met::put_item` writes a cell into the region of items.
 -- Assumes nothing.
-use mathlib.Core.Path.{_∙_}
-use Rattle.met.proofs.Putting.{item-inside, item-behind}
+use Rattle.calls.specs.Table.{itemsAt}
+use Rattle.met.specs.Items.{withItem}
 use borrow.Author.Needs.{needs}
-use native.Mathlib.Omega.{arith}
 use Rattle.met.proofs.put_item.Statement.{statement}
 use Rattle.met.proofs.put_item.Tie as tie
 
-mul-put-cell : tie.Need-mul-put-cell
-mul-put-cell c = search needs
-
-add-put-cell : tie.Need-add-put-cell
-add-put-cell c = search needs
-
-put-cell-requires : tie.Need-put-cell-requires
-put-cell-requires c κs = search needs
+put-in-requires : tie.Need-put-in-requires
+put-in-requires c κs = search needs
 
 same-length : tie.Need-same-length
 same-length c = search needs
 
 returns : tie.Need-returns
-returns c =
-    let a = c .before .before .before .before .before .before .args in
-    c .before .before .put-cell .ensures ∙ item-inside (a .table .now) (a .k) _ (omega arith)
-
-returns-2 : tie.Need-returns-2
-returns-2 c = item-behind (c .before .before .args .table .now) (c .before .before .args .k) _ (omega arith)
+unfolding withItem itemsAt
+returns c = c .before .before .put-in .ensures
 
 pub put-item-spec : {M : Type 1} → statement M
-put-item-spec =
-    tie.close (tie.spec mul-put-cell add-put-cell put-cell-requires same-length returns returns-2)
+put-item-spec = tie.close (tie.spec put-in-requires same-length returns)

@@ -1,4 +1,4 @@
--- `met::put_number` writes the six bytes. The invariant: what is left leads to the same.
+-- `met::put_number` writes its bytes one by one. The invariant: what is left leads to the same.
 -- Assumes nothing.
 use Prim.Native.Nat.{_-_}
 use Rattle.met.proofs.Putting.{Putting, putting-none, putting-more, putting-all}
@@ -7,13 +7,13 @@ use Rattle.met.proofs.put_number.Statement.{statement}
 use Rattle.met.proofs.put_number.Tie as tie
 
 abbrev Inv-loop : tie.InvT-loop
-Inv-loop table₀ at number n₀ i₀ table n i = Putting table₀ at number table n i
+Inv-loop table₀ at size number n₀ i₀ table n i = Putting table₀ at size number table n i
 
 abbrev μ-loop : tie.MeasureT-loop
-μ-loop table₀ at number n₀ i₀ table n i = 6 - i
+μ-loop table₀ at size number n₀ i₀ table n i = size - i
 
 loop-holds : tie.Need-loop-holds Inv-loop μ-loop
-loop-holds c = let a = c .args in putting-none (a .table .now) (a .at) (a .number)
+loop-holds c = let a = c .args in putting-none (a .table .now) (a .at) (a .size) (a .number)
 
 cast-table : tie.Need-cast-table Inv-loop μ-loop
 cast-table c = omega arith
@@ -34,16 +34,16 @@ loop-again : tie.Need-loop-again Inv-loop μ-loop
 loop-again c =
     let a = c .before .before .args in
     let l = c .before .loop in
-    putting-more (a .table .now) (a .at) (a .number) (l .table) (l .n) (l .i) (l .inv) (omega arith) (omega arith)
+    putting-more (a .table .now) (a .at) (a .size) (a .number) (l .table) (l .n) (l .i) (l .inv) (omega arith) (omega arith)
 
 same-length : tie.Need-same-length Inv-loop μ-loop
-same-length c = c .before .loop .inv .size
+same-length c = c .before .loop .inv .same
 
 returns : tie.Need-returns Inv-loop μ-loop
 returns c =
     let a = c .before .before .args in
     let l = c .before .loop in
-    putting-all (a .table .now) (a .at) (a .number) (l .table) (l .n) (l .i) (l .inv) (omega arith)
+    putting-all (a .table .now) (a .at) (a .size) (a .number) (l .table) (l .n) (l .i) (l .inv) (omega arith)
 
 pub put-number-spec : {M : Type 1} → statement M
 put-number-spec =

@@ -2,8 +2,9 @@
 -- Assumes nothing.
 use mathlib.Core.Path.{subst}
 use borrow.Author.Tests.{lt-ltb, le-ltb}
-use Rattle.strings.specs.Elements.{Behind}
-use Rattle.strings.specs.RowLaws.{ended-longer, ended-same}
+use Rattle.strings.specs.Elements.{PastElements}
+use Rattle.strings.specs.RowLaws.{ended-by}
+use mathlib.Core.Bool.{true, false}
 use borrow.Author.Needs.{needs}
 use Rattle.strings.proofs.row_end.Statement.{statement}
 use Rattle.strings.proofs.row_end.Tie as tie
@@ -17,12 +18,12 @@ enum-known-r c = search needs
 sub-count : tie.Need-sub-count
 sub-count c =
     let p = c .before .before .before .before in
-    subst (Behind (p .args .from)) (c .before .before .r .given .1) (p .pre)
+    subst (PastElements (p .args .from)) (c .before .before .r .given .1) (p .pre)
 
 returns : tie.Need-returns
 returns c =
     let a = c .before .before .before .before .before .before .args in
-    ended-longer (a .from) (c .before .before .before .before .r .given .1) (lt-ltb _ _ (c .if1 .taken))
+    ended-by (a .from) true (c .before .before .before .before .r .given .1) (lt-ltb _ _ (c .if1 .taken))
 
 returns-2 : tie.Need-returns-2
 returns-2 c = search needs
@@ -30,7 +31,7 @@ returns-2 c = search needs
 returns-3 : tie.Need-returns-3
 returns-3 c =
     let a = c .before .before .before .before .before .before .args in
-    ended-same (a .from) (c .before .before .before .before .r .given .1) (le-ltb _ _ (c .if1 .left))
+    ended-by (a .from) false (c .before .before .before .before .r .given .1) (le-ltb _ _ (c .if1 .left))
 
 pub row-end-spec : {M : Type 1} → statement M
 row-end-spec = tie.close (tie.spec enum-told enum-known-r sub-count returns returns-2 returns-3)

@@ -1,28 +1,24 @@
 -- `branches::places::number_known` looks a name up among the numbers.
 -- Assumes nothing.
-use mathlib.Core.Path.{ap, _∙_}
-use lib.Dec.{ltb}
-use lib.ListN.{getD}
-use Rattle.branches.specs.Places.{number-among}
+use mathlib.Core.Path.{sym, _∙_}
+use native.Mathlib.Omega.{arith}
+use Rattle.met.specs.Known.{numberKeys}
+use Rattle.met.specs.KnownLaws.{keys-have}
 use borrow.Author.Needs.{needs}
 use Rattle.branches.proofs.places.number_known.Statement.{statement}
 use Rattle.branches.proofs.places.number_known.Tie as tie
 
-number-place-requires : tie.Need-number-place-requires
-number-place-requires c κs = search needs
+element-copy-out-count : tie.Need-element-copy-out-count
+element-copy-out-count c = search needs
 
-cast-result : tie.Need-cast-result
-cast-result c = search needs
-
-element-copy-out-result : tie.Need-element-copy-out-result
-element-copy-out-result c = search needs
+has-key-requires : tie.Need-has-key-requires
+has-key-requires c κs = search needs
 
 returns : tie.Need-returns
+unfolding numberKeys
 returns c =
     let p = c .before .before in
-    ap (λ n. ltb n (getD (p .args .known .now) 1 0)) (c .before .number-place .ensures)
-    ∙ number-among (p .args .known .now) (p .args .key) (p .pre)
+    c .has-key .ensures ∙ sym (keys-have (p .args .known .now) (p .args .key) 35 _ (omega (arith, p .pre)))
 
 pub number-known-spec : {M : Type 1} → statement M
-number-known-spec =
-    tie.close (tie.spec number-place-requires cast-result element-copy-out-result returns)
+number-known-spec = tie.close (tie.spec element-copy-out-count has-key-requires returns)

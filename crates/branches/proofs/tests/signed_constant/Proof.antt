@@ -19,8 +19,8 @@ enum-told c = search needs
 enum-known-value : tie.Need-enum-known-value
 enum-known-value c = search needs
 
-value-of-requires : tie.Need-value-of-requires
-value-of-requires c κs = signed-range (c .before .before .before .signed .ensures) (c .before .value .given .1)
+with-bias-requires : tie.Need-with-bias-requires
+with-bias-requires c κs = signed-range (c .before .before .before .signed .ensures) (c .before .value .given .1)
 
 sub-skip : tie.Need-sub-skip
 sub-skip c = omega (arith, signed-ends (c .before .before .before .before .signed .ensures) (c .before .before .value .given .1))
@@ -39,8 +39,8 @@ returns-2 c =
     λ keys tags ready.
     record {
       answer =
-          value-got (λ i. Table.cell 4 0 (biased i)) z (Table.cell 4 0 (c .before .value-of .result)) (c .before .before .before .value .given .0 .1 .0) ready (signed-is u e)
-          (signed-ends u e .0) (signed-ends u e .1) (ap (Table.cell 4 0) (sym (c .before .value-of .ensures))) (c .skip .ensures);
+          value-got (λ i. Table.cell 4 0 (biased i)) z (Table.cell 4 0 (c .before .with-bias .result)) (c .before .before .before .value .given .0 .1 .0) ready (signed-is u e)
+          (signed-ends u e .0) (signed-ends u e .1) (ap (Table.cell 4 0) (sym (c .before .with-bias .ensures))) (c .skip .ensures);
     }
 
 pub signed-constant-spec : {M : Type 1} → statement M
@@ -50,7 +50,7 @@ signed-constant-spec =
     signed-requires
     enum-told
     enum-known-value
-    value-of-requires
+    with-bias-requires
     sub-skip
     skip-requires
     returns

@@ -15,14 +15,18 @@ returns c =
     let a = c .before .before .args in
     ap not (c .has-label .ensures) ∙ lost-label (a .known .now) (a .key) (a .scope) (a .purpose) (c .before .if1 .taken)
 
-has-routine-requires : tie.Need-has-routine-requires
-has-routine-requires c κs = search needs
+element-copy-out-count : tie.Need-element-copy-out-count
+element-copy-out-count c = search needs
+
+has-key-requires : tie.Need-has-key-requires
+has-key-requires c κs = search needs
 
 returns-2 : tie.Need-returns-2
 returns-2 c =
-    let a = c .before .before .before .args in
-    ap not (c .has-routine .ensures)
-    ∙ lost-routine (a .known .now) (a .key) (a .scope) (a .purpose) (c .before .before .if1 .left) (c .before .if2 .taken)
+    let p = c .before .before .before .before in
+    let a = p .args in
+    ap not (c .has-key .ensures)
+    ∙ lost-routine (a .known .now) (a .key) (a .scope) (a .purpose) (c .before .before .before .if1 .left) (c .before .before .if2 .taken)
 
 returns-3 : tie.Need-returns-3
 returns-3 c =
@@ -31,4 +35,4 @@ returns-3 c =
 
 pub is-lost-spec : {M : Type 1} → statement M
 is-lost-spec =
-    tie.close (tie.spec has-label-requires returns has-routine-requires returns-2 returns-3)
+    tie.close (tie.spec has-label-requires returns element-copy-out-count has-key-requires returns-2 returns-3)

@@ -5,7 +5,7 @@ use Prim.Native.Nat.{_+_, _-_}
 use Rattle.judgement.specs.Known.{sameNaming}
 use Rattle.met.specs.Entries.{declaredBy}
 use Rattle.naming.specs.LoopLaws.{anyFrom, any-turn, any-end}
-use Rattle.naming.specs.Names.{naming}
+use Rattle.naming.specs.Names.{keyNaming}
 use Rattle.naming.specs.Passing.{Passing, passing-start, passing-here, passing-on}
 use native.Mathlib.Omega.{arith}
 use borrow.Author.Needs.{needs}
@@ -13,7 +13,7 @@ use Rattle.naming.proofs.declaring.is_declared_from.Statement.{statemen
 use Rattle.naming.proofs.declaring.is_declared_from.Tie as tie
 
 abbrev Inv-loop : tie.InvT-loop
-Inv-loop keys tags from met key p i₀ i = Passing (anyFrom (sameNaming (naming key p)) declaredBy keys tags met) from met i
+Inv-loop keys tags from met key p i₀ i = Passing (anyFrom (sameNaming (keyNaming key p)) declaredBy keys tags met) from met i
 
 abbrev μ-loop : tie.MeasureT-loop
 μ-loop keys tags from met key p i₀ i = met - i
@@ -21,7 +21,7 @@ abbrev μ-loop : tie.MeasureT-loop
 loop-holds : tie.Need-loop-holds Inv-loop μ-loop
 loop-holds c =
     let a = c .args in
-    passing-start (anyFrom (sameNaming (naming (a .key) (a .p))) declaredBy (a .keys .now) (a .tags .now) (a .met)) (a .from) (a .met) (omega arith)
+    passing-start (anyFrom (sameNaming (keyNaming (a .key) (a .p))) declaredBy (a .keys .now) (a .tags .now) (a .met)) (a .from) (a .met) (omega arith)
 
 mul-declares : tie.Need-mul-declares Inv-loop μ-loop
 mul-declares c = omega arith
@@ -39,8 +39,8 @@ returns : tie.Need-returns Inv-loop μ-loop
 returns c =
     let a = c .before .before .before .before .before .before .args in
     let l = c .before .before .before .before .before .loop in
-    passing-here (anyFrom (sameNaming (naming (a .key) (a .p))) declaredBy (a .keys .now) (a .tags .now) (a .met)) (a .from) (a .met) (l .i) _ _ (l .inv)
-    (any-turn (sameNaming (naming (a .key) (a .p))) declaredBy (a .keys .now) (a .tags .now) (a .met) (l .i) (omega arith)) (sym (c .before .declares .ensures) ∙ c .if1 .taken)
+    passing-here (anyFrom (sameNaming (keyNaming (a .key) (a .p))) declaredBy (a .keys .now) (a .tags .now) (a .met)) (a .from) (a .met) (l .i) _ _ (l .inv)
+    (any-turn (sameNaming (keyNaming (a .key) (a .p))) declaredBy (a .keys .now) (a .tags .now) (a .met) (l .i) (omega arith)) (sym (c .before .declares .ensures) ∙ c .if1 .taken)
 
 add-i : tie.Need-add-i Inv-loop μ-loop
 add-i c = omega arith
@@ -52,14 +52,14 @@ loop-again : tie.Need-loop-again Inv-loop μ-loop
 loop-again c =
     let a = c .before .before .before .before .before .before .args in
     let l = c .before .before .before .before .before .loop in
-    passing-on (anyFrom (sameNaming (naming (a .key) (a .p))) declaredBy (a .keys .now) (a .tags .now) (a .met)) (a .from) (a .met) (l .i) _ (l .i + 1) (omega arith) (l .inv)
-    (any-turn (sameNaming (naming (a .key) (a .p))) declaredBy (a .keys .now) (a .tags .now) (a .met) (l .i) (omega arith)) (sym (c .before .declares .ensures) ∙ c .if1 .left)
+    passing-on (anyFrom (sameNaming (keyNaming (a .key) (a .p))) declaredBy (a .keys .now) (a .tags .now) (a .met)) (a .from) (a .met) (l .i) _ (l .i + 1) (omega arith) (l .inv)
+    (any-turn (sameNaming (keyNaming (a .key) (a .p))) declaredBy (a .keys .now) (a .tags .now) (a .met) (l .i) (omega arith)) (sym (c .before .declares .ensures) ∙ c .if1 .left)
 
 returns-2 : tie.Need-returns-2 Inv-loop μ-loop
 returns-2 c =
     let a = c .before .before .args in
     let l = c .before .loop in
-    sym (any-end (sameNaming (naming (a .key) (a .p))) declaredBy (a .keys .now) (a .tags .now) (a .met) (l .i) (omega arith)) ∙ l .inv .leads
+    sym (any-end (sameNaming (keyNaming (a .key) (a .p))) declaredBy (a .keys .now) (a .tags .now) (a .met) (l .i) (omega arith)) ∙ l .inv .leads
 
 pub is-declared-from-spec : {M : Type 1} → statement M
 is-declared-from-spec =

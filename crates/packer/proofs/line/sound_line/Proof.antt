@@ -4,12 +4,12 @@ use Prim.Native.Nat.{_+_, _-_, _≤_}
 use Rattle.base.specs.Lists.{all}
 use Rattle.cards.specs.Bytes.{classOf, isRefused}
 use Rattle.cards.specs.Cards.{soundLine}
-use Rattle.packer.proofs.Bools.{and-true, flag-more}
+use Rattle.packer.proofs.Bools.{flag-more}
 use Rattle.packer.proofs.Lines.{all-cons, all-none}
 use borrow.Author.Needs.{needs}
 use borrow.Author.Tests.{le-leb, lt-leb}
 use lib.ListN.{length, drop}
-use mathlib.Core.Bool.{not, _&&_}
+use mathlib.Core.Bool.{not, _&&_, and-true}
 use mathlib.Core.Path.{_≡_, refl, ap, sym, _∙_}
 use native.Mathlib.Omega.{arith}
 use Rattle.packer.proofs.line.sound_line.Statement.{statement}

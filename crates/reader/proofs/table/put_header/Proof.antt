@@ -9,7 +9,6 @@ use Rattle.reader.proofs.table.put_header.Statement.{statement}
 use Rattle.reader.proofs.table.put_header.Tie as tie
 use Rattle.reader.proofs.table.put_header.Reads as reads
 use Rattle.reader.proofs.table.put_header.Lts as lts
-use Rattle.reader.proofs.table.put_number.Reads as put-number-reads
 
 slice-write-table : tie.Need-slice-write-table
 slice-write-table c = search needs

@@ -11,7 +11,6 @@ use Rattle.reader.proofs.table.put_row.Tie as tie
 use Rattle.reader.proofs.table.put_row.Reads as reads
 use Rattle.reader.proofs.table.put_row.Lts as lts
 use Rattle.reader.proofs.table.put_cells.Reads as put-cells-reads
-use Rattle.reader.proofs.table.put_number.Reads as put-number-reads
 
 mul-at : tie.Need-mul-at
 mul-at c = search needs

@@ -29,8 +29,8 @@ sub-skip c = omega (arith, signed-ends (c .before .before .before .before .befor
 skip-requires : tie.Need-skip-requires
 skip-requires c κs = omega (arith, signed-ends (c .before .before .before .before .before .signed .ensures) (c .before .before .before .value .given .1))
 
-bias-requires : tie.Need-bias-requires
-bias-requires c κs = signed-range (c .before .before .before .before .before .before .signed .ensures) (c .before .before .before .before .value .given .1)
+with-bias-requires : tie.Need-with-bias-requires
+with-bias-requires c κs = signed-range (c .before .before .before .before .before .before .signed .ensures) (c .before .before .before .before .value .given .1)
 
 number-behind-requires : tie.Need-number-behind-requires
 number-behind-requires c κs =
@@ -54,7 +54,7 @@ returns-2 c =
     let ends = signed-ends s (e .1) in
     constant-called (placesIn (a .known .now)) (c .number-behind .result) (e .0 .0 .value) (e .0 .1 .0 - a .c .at) (e .0 .1 .0)
     (c .before .before .skip .ensures) (omega (arith, ends)) (signed-is s (e .1))
-    (c .number-behind .ensures (constantly (e .0 .0 .value)) (standing-constant (e .0 .0 .value) (c .before .bias .ensures)))
+    (c .number-behind .ensures (constantly (e .0 .0 .value)) (standing-constant (e .0 .0 .value) (c .before .with-bias .ensures)))
 
 pub constant-call-spec : {M : Type 1} → statement M
 constant-call-spec =
@@ -65,7 +65,7 @@ constant-call-spec =
     enum-known-value
     sub-skip
     skip-requires
-    bias-requires
+    with-bias-requires
     number-behind-requires
     returns
     returns-2)

@@ -6,7 +6,8 @@ use Prim.Native.Nat.{_+_}
 use native.Mathlib.Omega.{arith}
 use lib.IntN.{pos, negℤ}
 use Rattle.words.specs.Constants.{ReadsSigned}
-use Rattle.words.proofs.Signs.{plus-size, minus-size, reads-signed, signed-minus, signed-plus, signed-none}
+use Rattle.values.specs.Laws.{abs-negative}
+use Rattle.words.proofs.Signs.{plus-size, reads-signed, signed-minus, signed-plus, signed-none}
 use Rattle.words.proofs.Starts.{one-within}
 use Rattle.words.proofs.constants.signed.Statement.{statement}
 use Rattle.words.proofs.constants.signed.Tie as tie
@@ -30,7 +31,7 @@ returns c =
     let a = c .before .before .before .before .before .args in
     let u = c .before .unsigned in
     subst (ReadsSigned (a .text .now) (a .at)) (sym (c .minus .ensures))
-    (reads-signed (a .text .now) (a .at) (λ v. negℤ (pos v)) minus-size (a .at + 1) (omega arith) (u .result) (u .ensures)
+    (reads-signed (a .text .now) (a .at) (λ v. negℤ (pos v)) abs-negative (a .at + 1) (omega arith) (u .result) (u .ensures)
     (signed-minus (a .text .now) (a .at) (sym (c .before .before .before .stands-at .ensures) ∙ c .before .before .if1 .taken)))
 
 stands-at-requires-2 : tie.Need-stands-at-requires-2

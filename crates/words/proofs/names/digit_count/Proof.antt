@@ -7,7 +7,7 @@ use Prim.Native.Nat.{_-_}
 use native.Mathlib.Omega.{arith}
 use lib.ListN.{length}
 use Rattle.cards.specs.Bytes.{isDigit}
-use Rattle.words.proofs.Runs.{Counting, count-more, count-stop, count-end}
+use Rattle.words.specs.Runs.{Counting, count-more, count-stop, count-end}
 use Rattle.words.proofs.names.digit_count.Statement.{statement}
 use Rattle.words.proofs.names.digit_count.Tie as tie
 

@@ -6,9 +6,8 @@ use mathlib.Core.Path.{sym, _∙_}
 use Prim.Native.Nat.{_-_}
 use native.Mathlib.Omega.{arith}
 use lib.ListN.{length}
-use Rattle.language.specs.Words.{isNameByte}
-use Rattle.packer.specs.Classes.{isLetterOrDigit}
-use Rattle.words.proofs.Runs.{Counting, count-more, count-stop, count-end}
+use Rattle.cards.specs.Bytes.{isNameByte}
+use Rattle.words.specs.Runs.{Counting, count-more, count-stop, count-end}
 use Rattle.words.proofs.names.name_bytes.Statement.{statement}
 use Rattle.words.proofs.names.name_bytes.Tie as tie
 
@@ -31,7 +30,6 @@ sub-result : tie.Need-sub-result Inv-loop μ-loop
 sub-result c = search needs
 
 returns : tie.Need-returns Inv-loop μ-loop
-unfolding isNameByte isLetterOrDigit
 returns c =
     let a = c .before .before .before .before .before .before .args in
     let l = c .before .before .before .before .loop in
@@ -45,7 +43,6 @@ loop-less : tie.Need-loop-less Inv-loop μ-loop
 loop-less c = search needs
 
 loop-again : tie.Need-loop-again Inv-loop μ-loop
-unfolding isNameByte isLetterOrDigit
 loop-again c =
     let a = c .before .before .before .before .before .before .args in
     let l = c .before .before .before .before .loop in

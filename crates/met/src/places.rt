@@ -1,4 +1,4 @@
-// Where the numbers of what is known stand in their array, as met/specs/Known has them.
+// Where the numbers of what is known stand in their array, as met/Known has them.
 // Assumes nothing.
 pub const STRING_COUNT: usize = 0;
 
@@ -11,6 +11,8 @@ pub const NUMBER_KEYS: usize = 35;
 pub const LABEL_COUNT: usize = 68;
 
 pub const ROUTINE_COUNT: usize = 69;
+
+pub const NEXT: usize = 70;
 
 pub const STATEMENTS: usize = 71;
 

@@ -1,11 +1,11 @@
--- `strings::cells::bias` adds what a constant has added in its cell.
+-- `met::with_bias` adds what a constant has added in its cell.
 -- Assumes nothing.
 use mathlib.Core.Path.{sym, ap, _∙_}
 use Prim.Native.Nat.{_+_, _-_, _^_}
-use Rattle.strings.specs.CellLaws.{biased-above, biased-below}
+use Rattle.met.proofs.Putting.{biased-above, biased-below}
 use borrow.Author.Needs.{needs}
-use Rattle.strings.proofs.cells.bias.Statement.{statement}
-use Rattle.strings.proofs.cells.bias.Tie as tie
+use Rattle.met.proofs.with_bias.Statement.{statement}
+use Rattle.met.proofs.with_bias.Tie as tie
 
 size-requires : tie.Need-size-requires
 size-requires c κs = search needs
@@ -31,6 +31,6 @@ returns-2 c =
     ap (λ n. 2 ^ 47 + n) (c .before .before .size .ensures)
     ∙ biased-above z (sym (c .before .is-negative .ensures) ∙ c .if1 .left)
 
-pub bias-spec : {M : Type 1} → statement M
-bias-spec =
+pub with-bias-spec : {M : Type 1} → statement M
+with-bias-spec =
     tie.close (tie.spec size-requires is-negative-requires sub-result add-result returns returns-2)

@@ -1,0 +1,76 @@
+-- Names and keys among those known: a key is found where its name is. Assumes nothing.
+use mathlib.Core.Bool.{Bool, true, false, _||_, or-comm, or-false}
+use mathlib.Core.List.{List, [], _∷_, map, map-append}
+use mathlib.Core.Path.{_≡_, refl, sym, ap, ap₂, _∙_}
+use Prim.Native.Nat.{ℕ, zero, suc, _+_, _≤_, _<_}
+use native.Mathlib.Omega.{arith}
+use lib.Dec.{eqb, ltb}
+use lib.ListN.{length, take, drop, getD, length-drop}
+use lib.Seq.{length-take-le, take-suc, getD-drop}
+use borrow.Author.Tests.{eqb-true, eqb-false, ltb-true, ltb-false, lt-ltb, le-ltb}
+use Rattle.base.specs.Choice.{test-cases}
+use Rattle.base.specs.Lists.{same, any}
+use Rattle.base.specs.ListLaws.{same-true, same-refl}
+use Rattle.judgement.specs.Known.{Routine, isOneOf}
+use Rattle.judgement.specs.Names.{any-append}
+use Rattle.packer.specs.Keys.{keyOf}
+use Rattle.met.specs.Entries.{nameOf}
+use Rattle.met.specs.EntryLaws.{key-name}
+use Rattle.met.specs.Known.{keyPlace, keysHave, routineIn, routinesDown}
+
+-- names are the same exactly where their keys are
+pub name-same : (j k : ℕ) → same (nameOf j) (nameOf k) ≡ eqb j k
+name-same j k =
+    test-cases (λ t. eqb j k ≡ t → same (nameOf j) (nameOf k) ≡ t) (eqb j k)
+    (λ _ e. ap (λ i. same (nameOf j) (nameOf i)) (sym (eqb-true j k e)) ∙ same-refl (nameOf j))
+    (λ _ e.
+    test-cases (λ t. same (nameOf j) (nameOf k) ≡ t → t ≡ false) (same (nameOf j) (nameOf k))
+    (λ _ f. absurd (eqb-false j k e (sym (key-name j) ∙ ap keyOf (same-true (nameOf j) (nameOf k) f) ∙ key-name k))) (λ _ _. refl) refl)
+    refl
+
+pub length-routines : (known : List ℕ) (n : ℕ) → length (routinesDown known n) ≡ n
+unfolding routinesDown
+length-routines known zero = refl
+length-routines known (suc n) = ap suc (length-routines known n)
+
+pub ltb-suc : (a b : ℕ) → ltb (suc a) (suc b) ≡ ltb a b
+ltb-suc a b =
+    test-cases (λ t. ltb a b ≡ t → ltb (suc a) (suc b) ≡ t) (ltb a b) (λ _ e. lt-ltb (suc a) (suc b) (omega (arith, ltb-true a b e)))
+    (λ _ e. le-ltb (suc a) (suc b) (omega (arith, ltb-false a b e))) refl
+
+-- a key is among others where its place is
+place-among : (key : ℕ) (ks : List ℕ) → ltb (keyPlace key ks) (length ks) ≡ isOneOf (map nameOf ks) (nameOf key)
+unfolding isOneOf any keyPlace
+place-among key [] = refl
+place-among key (k ∷ ks) =
+    test-cases
+    (λ t. eqb key k ≡ t → ltb (elim t [ true ↦ 0 | false ↦ suc (keyPlace key ks) ]) (suc (length ks)) ≡ (t || isOneOf (map nameOf ks) (nameOf key)))
+    (eqb key k) (λ _ _. lt-ltb 0 (suc (length ks)) (omega arith))
+    (λ _ _. ltb-suc (keyPlace key ks) (length ks) ∙ place-among key ks) refl
+    ∙ ap (λ t. t || isOneOf (map nameOf ks) (nameOf key)) (sym (name-same key k))
+
+module _ (known : List ℕ) (key : ℕ) where
+  -- a name is among routines, and among names known by their keys, where its key is
+  pub routines-have : (n : ℕ) → any (λ (r : Routine). same (nameOf key) (r .name)) (routinesDown known n) ≡ keysHave known 275 n key
+  unfolding any keysHave routinesDown routineIn
+  routines-have zero = refl
+  routines-have (suc n) = ap₂ {C = Bool} _||_ (name-same key (getD known (275 + n) 0)) (routines-have n)
+
+  pub keys-have : (from n : ℕ) → from + n ≤ length known → isOneOf (map nameOf (take n (drop from known))) (nameOf key) ≡ keysHave known from n key
+  unfolding any keysHave isOneOf
+  keys-have from zero h = refl
+  keys-have from (suc n) h =
+      let at = getD (drop from known) n 0 in
+      let room : n < length (drop from known) = omega (arith, length-drop from known) in
+      ap (λ (l : List ℕ). any (same (nameOf key)) (map nameOf l)) (take-suc (drop from known) n 0 room)
+      ∙ ap (any (same (nameOf key))) (map-append nameOf (take n (drop from known)) (at ∷ []))
+      ∙ any-append (same (nameOf key)) (map nameOf (take n (drop from known))) (nameOf at ∷ [])
+      ∙ ap₂ {C = Bool} _||_ (keys-have from n (omega arith)) (or-false (same (nameOf key) (nameOf at)) ∙ name-same key at)
+      ∙ ap (λ j. keysHave known from n key || eqb key j) (getD-drop from known n 0)
+      ∙ or-comm (keysHave known from n key) (eqb key (getD known (from + n) 0))
+
+  -- and there its place is one of theirs
+  pub place-inside : (from n : ℕ) → from + n ≤ length known → ltb (keyPlace key (take n (drop from known))) n ≡ keysHave known from n key
+  place-inside from n h =
+      let size : length (take n (drop from known)) ≡ n = length-take-le n (drop from known) (simp length-drop (omega arith)) in
+      ap (ltb (keyPlace key (take n (drop from known)))) (sym size) ∙ place-among key (take n (drop from known)) ∙ keys-have from n h

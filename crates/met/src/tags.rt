@@ -1,0 +1,24 @@
+// The tags of names met, as met/Entries has them: the number of a purpose, 8 more where the name is declared, and 16 times the number of the
+// role that a string has in a SCAN.
+// Assumes nothing.
+pub const LABEL: u8 = 1;
+
+pub const ROUTINE: u8 = 2;
+
+pub const NUMBER: u8 = 3;
+
+pub const STRING: u8 = 4;
+
+pub const PROGRAM_DECLARED: u8 = 8;
+
+pub const LABEL_DECLARED: u8 = 9;
+
+pub const ROUTINE_DECLARED: u8 = 10;
+
+pub const NUMBER_DECLARED: u8 = 11;
+
+pub const REFERENCE: u8 = 20;
+
+pub const SOUGHT: u8 = 36;
+
+pub const FILLER: u8 = 52;
