@@ -1,12 +1,12 @@
 -- Roles one by one. Assumes nothing.
-use mathlib.Core.Bool.{Bool, false, cond, _&&_, _||_}
+use mathlib.Core.Bool.{Bool, true, false, cond, _&&_, _||_, and-false}
 use mathlib.Core.List.{List, [], _∷_, _++_}
-use mathlib.Core.Path.{_≡_, refl, _∙_, ap, ap₂}
+use mathlib.Core.Path.{_≡_, refl, sym, _∙_, ap, ap₂, subst}
 use Prim.Native.Nat.{ℕ, zero, suc, _+_, _-_, _/_, _≤_, _<_}
 use native.Mathlib.Omega.{arith}
 use lib.Dec.{eqb}
 use lib.ListN.{getD}
-use borrow.Author.Tests.{eq-eqb, ne-eqb}
+use borrow.Author.Tests.{eq-eqb, ne-eqb, eqb-true, eqb-false}
 use Rattle.base.specs.Choice.{test-cases}
 use Rattle.base.specs.Lists.{same, any}
 use Rattle.judgement.specs.Known.{isOneOf}
@@ -17,7 +17,7 @@ use Rattle.met.specs.KnownLaws.{name-same}
 use Rattle.naming.specs.ArrayLaws.{entries-turn, entries-none}
 use Rattle.naming.specs.Arrays.{entriesFrom, entriesLeft}
 use Rattle.naming.specs.NameLaws.{eqb-sym}
-use Rattle.naming.specs.Roles.{fillersBefore, fillersHave, clashAt, searchedBehind}
+use Rattle.naming.specs.Roles.{roleBy, fillersBefore, fillersHave, Unclashed, clashAt, searchedBehind}
 
 -- a name is among the fillers by its key
 fillers-have : (keys tags : List ℕ) (n key : ℕ) → isOneOf (fillersBefore keys tags n) (nameOf key) ≡ fillersHave keys tags n key
@@ -84,6 +84,37 @@ fillers-turn keys tags key i h =
     let is : i ≡ suc (i - 1) = omega arith in
     ap (λ m. fillersHave keys tags m key) is
 
+-- the role that a key finds: a filler with the key, none, or a string with the key
+module _ (k tag key : ℕ) where
+  pub by-filler : roleBy k tag key ≡ 3 → (eqb (tag / 16) 3 && eqb k key) ≡ true
+  unfolding roleBy
+  by-filler =
+      test-cases (λ t. cond t (tag / 16) 0 ≡ 3 → (eqb (tag / 16) 3 && t) ≡ true) (eqb k key)
+      (λ _ e. rw (eq-eqb (tag / 16) 3 e)) (λ _ e. absurd (omega (arith, e)))
+
+  pub by-other : (roleBy k tag key ≡ 3 → ⊥) → (eqb (tag / 16) 3 && eqb k key) ≡ false
+  unfolding roleBy
+  by-other =
+      test-cases (λ t. (cond t (tag / 16) 0 ≡ 3 → ⊥) → (eqb (tag / 16) 3 && t) ≡ false) (eqb k key)
+      (λ _ f. rw (ne-eqb (tag / 16) 3 f)) (λ _ f. and-false (eqb (tag / 16) 3))
+
+  pub by-sought : roleBy k tag key ≡ 2 → (tag / 16 ≡ 2) × (k ≡ key)
+  unfolding roleBy
+  by-sought =
+      test-cases (λ t. (eqb k key ≡ t) → cond t (tag / 16) 0 ≡ 2 → (tag / 16 ≡ 2) × (k ≡ key)) (eqb k key)
+      (λ _ same e. (e, eqb-true k key same)) (λ _ same e. absurd (omega (arith, e))) refl
+
+-- at a string with the key there is no filler with it before, where no string clashes
+pub sought-none : (keys tags : List ℕ) (n i key : ℕ) → Unclashed keys tags n → 0 < i → i ≤ n
+    → roleBy (getD keys (i - 1) 0) (getD tags (i - 1) 0) key ≡ 2 → fillersHave keys tags i key ≡ false
+sought-none keys tags n i key clear some most e =
+    let here = by-sought (getD keys (i - 1) 0) (getD tags (i - 1) 0) key e in
+    let other = by-other (getD keys (i - 1) 0) (getD tags (i - 1) 0) key (λ f. omega (arith, e, f)) in
+    fillers-turn keys tags key i some
+    ∙ ap (λ t. t || fillersHave keys tags (i - 1) key) other
+    ∙ ap (fillersHave keys tags (i - 1)) (sym (here .1))
+    ∙ clear (i - 1) (omega arith) (here .0)
+
 -- a role at a place: sought, a filler, neither
 module _ (keys tags : List ℕ) (i searched : ℕ) where
   pub clash-sought : getD tags i 0 / 16 ≡ 2 → fillersHave keys tags i (getD keys i 0) ≡ clashAt keys tags i searched
@@ -97,3 +128,14 @@ module _ (keys tags : List ℕ) (i searched : ℕ) where
   pub clash-none : (getD tags i 0 / 16 ≡ 2 → ⊥) → (getD tags i 0 / 16 ≡ 3 → ⊥) → false ≡ clashAt keys tags i searched
   unfolding clashAt
   clash-none e f = rw (ne-eqb (getD tags i 0 / 16) 2 e, ne-eqb (getD tags i 0 / 16) 3 f)
+
+-- one role more that doesn't clash
+pub unclashed-more : (keys tags : List ℕ) (i searched : ℕ) → Unclashed keys tags i → clashAt keys tags i searched ≡ false
+    → Unclashed keys tags (i + 1)
+unclashed-more keys tags i searched clear none j h role =
+    let Free : ℕ → Type 0 = λ n. getD tags n 0 / 16 ≡ 2 → fillersHave keys tags n (getD keys n 0) ≡ false in
+    test-cases (λ t. eqb j i ≡ t → fillersHave keys tags j (getD keys j 0) ≡ false) (eqb j i)
+    (λ _ e. subst Free (sym (eqb-true j i e)) (λ r. clash-sought keys tags i searched r ∙ none) role)
+    (λ _ e.
+    let other : j ≡ i → ⊥ = eqb-false j i e in
+    clear j (omega (arith, h, other)) role) refl

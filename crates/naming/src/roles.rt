@@ -1,37 +1,36 @@
 // 8 of a SCAN: the reference is also a filler, or a pattern string has the name of a filler left of it.
 // Assumes nothing.
 use met::NAMES;
-ghost use mathlib.Core.Bool.{_&&_};
-ghost use lib.Dec.{eqb};
 ghost use mathlib.Core.Path.{_≡_};
 ghost use mathlib.Core.List.{[]};
-ghost use Prim.Native.Nat.{_+_, _/_};
+ghost use Prim.Native.Nat.{_+_};
 ghost use Rattle.judgement.specs.Refusals.{clashes};
 ghost use Rattle.met.specs.Entries.{gather, rolesBy};
 ghost use Rattle.naming.specs.Arrays.{entriesFrom};
 ghost use Rattle.naming.specs.Names.{Sized};
-ghost use Rattle.naming.specs.Roles.{fillersHave, clashAt, searchedBehind};
+ghost use Rattle.naming.specs.Roles.{roleBy, fillersHave, Unclashed, clashAt, searchedBehind};
 
-// whether a name met is a filler with this key
-fn fills(k: u64, tag: u8, key: u64) -> bool
-    ensures { λ r. ⌜ r ≡ (eqb (tag / 16) 3 && eqb k key) ⌝ }
+// the role of a name met, if it has this key, else 0
+fn role_by(k: u64, tag: u8, key: u64) -> u8
+    ensures { λ r. ⌜ r ≡ roleBy k tag key ⌝ }
 {
-    if tag / 16 == 3 {
-        return k == key;
-    }
-    false
+    if k == key { tag / 16 } else { 0 }
 }
 
-// whether a filler before place n has this key
+// whether a filler before place n has this key, where no string before n clashes: the latest string or filler with the key tells
 fn is_filler_before(keys: &[u64; NAMES], tags: &[u8; NAMES], n: usize, key: u64) -> bool
-    requires { ⌜ Sized (now keys) (now tags) n ⌝ }
+    requires { ⌜ Sized (now keys) (now tags) n × Unclashed (now keys) (now tags) n ⌝ }
     ensures { λ r. ⌜ r ≡ fillersHave (now (keys .entry)) (now (tags .entry)) n key ⌝ }
 {
     let mut i = n;
     while i > 0 {
         i -= 1;
-        if fills(keys[i], tags[i], key) {
+        let role = role_by(keys[i], tags[i], key);
+        if role == 3 {
             return true;
+        }
+        if role == 2 {
+            return false;
         }
     }
     false
@@ -39,7 +38,7 @@ fn is_filler_before(keys: &[u64; NAMES], tags: &[u8; NAMES], n: usize, key: u64)
 
 // whether the role at a place clashes with those before it, with this key of the reference
 fn clashes_at(keys: &[u64; NAMES], tags: &[u8; NAMES], i: usize, searched: u64) -> bool
-    requires { ⌜ Sized (now keys) (now tags) (i + 1) ⌝ }
+    requires { ⌜ Sized (now keys) (now tags) (i + 1) × Unclashed (now keys) (now tags) i ⌝ }
     ensures { λ r. ⌜ r ≡ clashAt (now (keys .entry)) (now (tags .entry)) i searched ⌝ }
 {
     let role = tags[i] / 16;

@@ -4,21 +4,22 @@ use mathlib.Core.Bool.{_||_}
 use mathlib.Core.Path.{_≡_, refl, sym, _∙_, ap}
 use Prim.Native.Nat.{_+_, _-_, _≤_}
 use lib.ListN.{getD}
-use Rattle.naming.specs.RoleLaws.{clashFrom, clash-turn, clash-end, clash-whole}
-use Rattle.naming.specs.Roles.{searchedBehind}
+use Rattle.naming.specs.RoleLaws.{clashFrom, clash-turn, clash-end, clash-whole, unclashed-more}
+use Rattle.naming.specs.Roles.{Unclashed, searchedBehind}
 use native.Mathlib.Omega.{arith}
 use borrow.Author.Needs.{needs}
 use Rattle.naming.proofs.roles.has_clash.Statement.{statement}
 use Rattle.naming.proofs.roles.has_clash.Tie as tie
 
 abbrev Inv-loop : tie.InvT-loop
-Inv-loop keys tags met searched₀ i₀ searched i = (i ≤ met) × (clashFrom keys tags met searched i ≡ clashFrom keys tags met 0 0)
+Inv-loop keys tags met searched₀ i₀ searched i =
+    (i ≤ met) × (clashFrom keys tags met searched i ≡ clashFrom keys tags met 0 0) × Unclashed keys tags i
 
 abbrev μ-loop : tie.MeasureT-loop
 μ-loop keys tags met searched₀ i₀ searched i = met - i
 
 loop-holds : tie.Need-loop-holds Inv-loop μ-loop
-loop-holds c = (omega arith, refl)
+loop-holds c = (omega arith, refl, λ j h role. absurd (omega (arith, h)))
 
 clashes-at-requires : tie.Need-clashes-at-requires Inv-loop μ-loop
 clashes-at-requires c κs = search needs
@@ -57,8 +58,12 @@ loop-again c =
     let on =
     clash-turn (a .keys .now) (a .tags .now) (a .met) (l .searched) (l .i) (omega arith)
     ∙ ap (λ b. b || behind) (sym (c .before .before .before .before .clashes-at .ensures) ∙ c .before .before .before .if1 .left)
-    in
-    (omega arith, ap (λ s. clashFrom (a .keys .now) (a .tags .now) (a .met) s (l .i + 1)) (c .searched-behind .ensures) ∙ sym on ∙ l .inv .1)
+    in (
+      omega arith,
+      ap (λ s. clashFrom (a .keys .now) (a .tags .now) (a .met) s (l .i + 1)) (c .searched-behind .ensures) ∙ sym on ∙ l .inv .1,
+      unclashed-more (a .keys .now) (a .tags .now) (l .i) (l .searched) (l .inv .2)
+          (sym (c .before .before .before .before .clashes-at .ensures) ∙ c .before .before .before .if1 .left),
+    )
 
 returns-2 : tie.Need-returns-2 Inv-loop μ-loop
 returns-2 c =

@@ -2,8 +2,9 @@
 -- Assumes nothing.
 use mathlib.Core.Path.{_≡_, sym, _∙_, ap}
 use Prim.Native.Nat.{_-_}
+use lib.ListN.{getD}
 use Rattle.naming.specs.Roles.{fillersHave}
-use Rattle.naming.specs.RoleLaws.{fillers-turn}
+use Rattle.naming.specs.RoleLaws.{fillers-turn, by-filler, by-other, sought-none}
 use Rattle.naming.specs.Passing.{Passing, passing-start, passing-here, passing-on}
 use native.Mathlib.Omega.{arith}
 use borrow.Author.Needs.{needs}
@@ -24,38 +25,58 @@ loop-holds c =
 sub-i : tie.Need-sub-i Inv-loop μ-loop
 sub-i c = omega arith
 
-mul-fills : tie.Need-mul-fills Inv-loop μ-loop
-mul-fills c = omega arith
+mul-role-by : tie.Need-mul-role-by Inv-loop μ-loop
+mul-role-by c = omega arith
 
-element-copy-out-fills : tie.Need-element-copy-out-fills Inv-loop μ-loop
-element-copy-out-fills c = omega arith
+element-copy-out-role-by : tie.Need-element-copy-out-role-by Inv-loop μ-loop
+element-copy-out-role-by c = omega arith
 
-element-copy-out-fills-2 : tie.Need-element-copy-out-fills-2 Inv-loop μ-loop
-element-copy-out-fills-2 c = omega arith
+element-copy-out-role-by-2 : tie.Need-element-copy-out-role-by-2 Inv-loop μ-loop
+element-copy-out-role-by-2 c = omega arith
 
-fills-requires : tie.Need-fills-requires Inv-loop μ-loop
-fills-requires c κs = search needs
+role-by-requires : tie.Need-role-by-requires Inv-loop μ-loop
+role-by-requires c κs = search needs
 
 returns : tie.Need-returns Inv-loop μ-loop
 returns c =
     let a = c .before .before .before .before .before .before .args in
     let l = c .before .before .before .before .before .loop in
-    passing-here (λ j. fillersHave (a .keys .now) (a .tags .now) j (a .key)) (a .n) (a .n) (l .i) _ _ (l .inv) (fillers-turn (a .keys .now) (a .tags .now) (a .key) (l .i) (omega arith))
-    (sym (c .before .fills .ensures) ∙ c .if1 .taken)
+    let keys = a .keys .now in
+    let tags = a .tags .now in
+    let k = getD keys (l .i - 1) 0 in
+    let tag = getD tags (l .i - 1) 0 in
+    passing-here (λ j. fillersHave keys tags j (a .key)) (a .n) (a .n) (l .i) _ _ (l .inv) (fillers-turn keys tags (a .key) (l .i) (omega arith))
+    (by-filler k tag (a .key) (sym (c .before .role-by .ensures) ∙ c .if1 .taken))
+
+returns-2 : tie.Need-returns-2 Inv-loop μ-loop
+returns-2 c =
+    let a = c .before .before .before .before .before .before .before .args in
+    let l = c .before .before .before .before .before .before .loop in
+    let keys = a .keys .now in
+    let tags = a .tags .now in
+    let k = getD keys (l .i - 1) 0 in
+    let tag = getD tags (l .i - 1) 0 in
+    let role = sym (c .before .before .role-by .ensures) ∙ c .if2 .taken in
+    sym (sought-none keys tags (a .n) (l .i) (a .key) (c .before .before .before .before .before .before .before .pre .1) (omega arith) (l .inv .inside) role) ∙ l .inv .leads
 
 loop-less : tie.Need-loop-less Inv-loop μ-loop
 loop-less c = omega arith
 
 loop-again : tie.Need-loop-again Inv-loop μ-loop
 loop-again c =
-    let a = c .before .before .before .before .before .before .args in
-    let l = c .before .before .before .before .before .loop in
-    passing-on (λ j. fillersHave (a .keys .now) (a .tags .now) j (a .key)) (a .n) (a .n) (l .i) _ (l .i - 1) (omega arith) (l .inv)
-    (fillers-turn (a .keys .now) (a .tags .now) (a .key) (l .i) (omega arith)) (sym (c .before .fills .ensures) ∙ c .if1 .left)
+    let a = c .before .before .before .before .before .before .before .args in
+    let l = c .before .before .before .before .before .before .loop in
+    let keys = a .keys .now in
+    let tags = a .tags .now in
+    let k = getD keys (l .i - 1) 0 in
+    let tag = getD tags (l .i - 1) 0 in
+    passing-on (λ j. fillersHave keys tags j (a .key)) (a .n) (a .n) (l .i) _ (l .i - 1) (omega arith) (l .inv)
+    (fillers-turn keys tags (a .key) (l .i) (omega arith))
+    (by-other k tag (a .key) (λ e. c .before .if1 .left (c .before .before .role-by .ensures ∙ e)))
 
-returns-2 : tie.Need-returns-2 Inv-loop μ-loop
+returns-3 : tie.Need-returns-3 Inv-loop μ-loop
 unfolding fillersHave
-returns-2 c =
+returns-3 c =
     let a = c .before .before .args in
     let l = c .before .loop in
     let none : l .i ≡ 0 = omega arith in
@@ -69,11 +90,12 @@ is-filler-before-spec =
     μ-loop
     loop-holds
     sub-i
-    mul-fills
-    element-copy-out-fills
-    element-copy-out-fills-2
-    fills-requires
+    mul-role-by
+    element-copy-out-role-by
+    element-copy-out-role-by-2
+    role-by-requires
     returns
+    returns-2
     loop-less
     loop-again
-    returns-2)
+    returns-3)
