@@ -12,7 +12,10 @@ test-cases P false f g = g refl
 pub cond-cases : {A : Type 0} (P : A → Type 0) (test : Bool) {x y : A} → (test ≡ true → P x) → (test ≡ false → P y) → P (cond test x y)
 cond-cases P test {x} {y} = test-cases (λ t. P (cond t x y)) test
 
--- a conjunction of two true parts is true
+-- a conjunction that is true has two true parts, and one of two true parts is true
+pub both-true : (a b : Bool) → (a && b) ≡ true → (a ≡ true) × (b ≡ true)
+both-true a b h = and-eq-true-iff a b .0 h
+
 pub both-pass : {a b : Bool} → a ≡ true → b ≡ true → (a && b) ≡ true
 both-pass {a} {b} h g = and-eq-true-iff a b .1 (h, g)
 

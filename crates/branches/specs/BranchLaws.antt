@@ -1,17 +1,18 @@
 -- How labels, routines and branch fields are read, part by part. Assumes nothing.
 use mathlib.Core.Bool.{true, false}
 use mathlib.Core.List.{List, [], _∷_}
+use mathlib.Core.Logic.{⊎-elim}
 use mathlib.Core.Path.{_≡_, refl, sym, ap, subst, _∙_}
 use Prim.Native.Nat.{ℕ, _+_}
 use native.Mathlib.Omega.{arith}
 use lib.ListN.{drop}
 use lib.Seq.{drop-drop}
 use Rattle.base.specs.Edition.{edition1}
-use Rattle.base.specs.Lists.{begins}
+use Rattle.base.specs.Lists.{begins, all}
 use Rattle.base.specs.Text.{bytes}
 use Rattle.language.specs.Forms.{labelName, branch}
 use Rattle.language.specs.Program as Program
-use Rattle.language.specs.Reading.{label, routine, declaring, naming, purposeNumber, Met}
+use Rattle.language.specs.Reading.{label, routine, purposeNumber, Met}
 use Rattle.language.specs.Reading.{Read, got, broken, _>>=_, meeting, give, skip}
 use Rattle.language.specs.Words as Words
 use Rattle.language.specs.Words.{nameAs}
@@ -20,23 +21,25 @@ use Rattle.met.specs.EntryLaws.{name-key, used-met, declared-met}
 use Rattle.met.specs.Known.{placesIn}
 use Rattle.met.specs.ReadingLaws.{nothing-met, skip-then, skip-broken}
 use Rattle.met.specs.declared.Cursor.{Cursor}
-use Rattle.numeric.specs.OperandLaws.{name-placed, gets-give, gets-then, gets-skip, skipped, then-broken, chosen}
+use Rattle.numeric.specs.OperandLaws.{met-nothing, name-placed, gets-give, gets-then, gets-skip, skipped, then-broken, chosen}
 use Rattle.numeric.specs.Operands.{Ready, Gets, Names, Skips, moved}
-use Rattle.branches.specs.Branches.{TargetAnswer, TargetRead, branchOf, BranchAnswer, BranchingRead, labelIn, failingTo, targets}
-use Rattle.branches.specs.Places.{numberIn}
+use Rattle.packer.specs.Keys.{keyOf, isKeyByte}
+use Rattle.branches.specs.Branches.{TargetTag, metAs, targetIn, TargetAnswer, TargetRead}
+use Rattle.branches.specs.Branches.{branchOf, BranchAnswer, BranchingRead, labelIn, failingTo, targets}
+use Rattle.branches.specs.Places.{numberIn, stepTo}
 use Rattle.branches.specs.declared.Branching as BranchingCode
 use Rattle.branches.specs.declared.Branching.{Branching}
 use Rattle.branches.specs.declared.Target as TargetCode
 use Rattle.branches.specs.declared.Target.{Target}
 
 -- the answers by their case
-module _ {A : Type 0} {f : A → ℕ} {text keys tags : List ℕ} {c : Cursor} {x : Read A} {r : Target} {k t : List ℕ}
-    (a : TargetRead f text keys tags c x r k t) where
-  pub target-case : {step : ℕ} {d : Cursor} → r ≡ TargetCode.the-variants.Got step d → Gets f step text keys tags c x k t d
-  target-case e = subst (λ z. TargetAnswer f text keys tags c x z k t) e (a .answer)
+module _ {text known keys tags : List ℕ} {c : Cursor} {tag : ℕ} {r : Target} {k t : List ℕ} (a : TargetRead text known keys tags c tag r k t) where
+  pub target-case : {step : ℕ} {d : Cursor} → r ≡ TargetCode.the-variants.Got step d
+      → Gets (λ n. n) step text keys tags c (targetIn known tag (drop (c .at) text)) k t d
+  target-case e = subst (λ z. TargetAnswer text keys tags c (targetIn known tag (drop (c .at) text)) z k t) e (a .answer)
 
-  pub target-none : r ≡ TargetCode.the-variants.Broken → x ≡ broken
-  target-none e = subst (λ z. TargetAnswer f text keys tags c x z k t) e (a .answer)
+  pub target-none : r ≡ TargetCode.the-variants.Broken → targetIn known tag (drop (c .at) text) ≡ broken
+  target-none e = subst (λ z. TargetAnswer text keys tags c (targetIn known tag (drop (c .at) text)) z k t) e (a .answer)
 
 module _ {text keys tags : List ℕ} {c : Cursor} {x : Read Program.Branch} {r : Branching} {k t : List ℕ}
     (a : BranchingRead text keys tags c x r k t) where
@@ -75,34 +78,40 @@ pub name-as-broken : (meets : List ℕ → Met) (bs : List ℕ) → Words.name b
 unfolding nameAs
 name-as-broken meets bs e = then-broken _ e
 
-module _ (known : List ℕ) {text keys tags : List ℕ} {c : Cursor} {key step : ℕ} {k t : List ℕ} {d : Cursor} where
-  pub label-got : Names text keys tags c 1 key k t d → step ≡ placesIn known .label (nameOf key)
-      → Gets (λ n. n) step text keys tags c (labelIn known (drop (c .at) text)) k t d
-  unfolding labelName purposeNumber
-  label-got n e =
-      name-placed (naming label []) (placesIn known .label) n
-      (ap (λ j. metIn (entry j 1 ∷ []) 0 [] 0) (n .keyed) ∙ used-met (n .bytes) (n .shown) label)
-      (ap (placesIn known .label) (sym (named-by n)) ∙ sym e)
+-- what reads behind a value made of another
+give-behind : {A B C : Type 0} (f : A → B) (next : B × List ℕ → Read C) (x : Read A)
+    → (x >>= (λ (a, rest). give (f a) rest) >>= next) ≡ (x >>= λ (a, rest). next (f a, rest))
+unfolding _>>=_ meeting give
+give-behind f next (got a m rest) = ap (λ (n : Met). meeting n (next (f a, rest))) (met-nothing m)
+give-behind f next broken = refl
 
-  pub entry-got : Names text keys tags c 2 key k t d → step ≡ placesIn known .entry (nameOf key)
-      → Gets (placesIn known .entry) step text keys tags c (nameAs (naming routine []) (drop (c .at) text)) k t d
-  unfolding purposeNumber
-  entry-got n e =
-      name-met (naming routine []) (placesIn known .entry) step n
-      (ap (λ j. metIn (entry j 2 ∷ []) 0 [] 0) (n .keyed) ∙ used-met (n .bytes) (n .shown) routine)
-      (ap (placesIn known .entry) (sym (named-by n)) ∙ sym e)
+-- a name that leads to a step, by its tag
+target-met : (tag : ℕ) → TargetTag tag → (n : List ℕ) → all isKeyByte n ≡ true → metIn (entry (keyOf n) tag ∷ []) 0 [] 0 ≡ metAs tag n
+unfolding purposeNumber
+target-met tag h n a =
+    let met : (u : ℕ) → tag ≡ u → metIn (entry (keyOf n) u ∷ []) 0 [] 0 ≡ metAs u n → metIn (entry (keyOf n) tag ∷ []) 0 [] 0 ≡ metAs tag n =
+    λ u e. subst (λ t. metIn (entry (keyOf n) t ∷ []) 0 [] 0 ≡ metAs t n) (sym e) in
+    ⊎-elim (λ e. met 1 e (used-met n a label))
+    (⊎-elim (λ e. met 2 e (used-met n a routine)) (λ e. met 10 e (declared-met n a routine))) (h .is)
 
-  pub exit-got : Names text keys tags c 10 key k t d → step ≡ placesIn known .exit (nameOf key)
-      → Gets (placesIn known .exit) step text keys tags c (nameAs (declaring routine) (drop (c .at) text)) k t d
-  unfolding purposeNumber
-  exit-got n e =
-      name-met (declaring routine) (placesIn known .exit) step n
-      (ap (λ j. metIn (entry j 10 ∷ []) 0 [] 0) (n .keyed) ∙ declared-met (n .bytes) (n .shown) routine)
-      (ap (placesIn known .exit) (sym (named-by n)) ∙ sym e)
+pub target-got : (known : List ℕ) {text keys tags : List ℕ} {c : Cursor} {tag key step : ℕ} {k t : List ℕ} {d : Cursor} → TargetTag tag
+    → Names text keys tags c tag key k t d → step ≡ stepTo known tag (nameOf key)
+    → Gets (λ n. n) step text keys tags c (targetIn known tag (drop (c .at) text)) k t d
+unfolding targetIn
+target-got known {tag = tag} h n e =
+    name-placed (metAs tag) (stepTo known tag) n
+    (ap (λ j. metIn (entry j tag ∷ []) 0 [] 0) (n .keyed) ∙ target-met tag h (n .bytes) (n .shown))
+    (ap (stepTo known tag) (sym (named-by n)) ∙ sym e)
 
-pub label-broken : (known bs : List ℕ) → Words.name bs ≡ broken → labelIn known bs ≡ broken
-unfolding labelName
-label-broken known bs e = then-broken _ (name-as-broken (naming label []) bs e)
+pub target-broken : (known : List ℕ) (tag : ℕ) (bs : List ℕ) → Words.name bs ≡ broken → targetIn known tag bs ≡ broken
+unfolding targetIn
+target-broken known tag bs e = then-broken _ (name-as-broken (metAs tag) bs e)
+
+-- what reads behind the step reads behind the name
+pub target-then : (known : List ℕ) (tag : ℕ) (bs : List ℕ) {A : Type 0} (next : ℕ × List ℕ → Read A)
+    → (targetIn known tag bs >>= next) ≡ (nameAs (metAs tag) bs >>= λ (n, rest). next (stepTo known tag n, rest))
+unfolding targetIn
+target-then known tag bs next = give-behind (stepTo known tag) next (nameAs (metAs tag) bs)
 
 -- a label on failure
 module _ (known : List ℕ) (s : ℕ) {text keys tags : List ℕ} {c : Cursor} where
@@ -143,7 +152,7 @@ module _ (known bs : List ℕ) where
   -- the branch field behind `/`
   branch-is : branch edition1 (numberIn known) (placesIn known) bs
       ≡ (skip (bytes "/") bs >>= λ (_, rest). targets known rest)
-  unfolding branch targets failingTo
+  unfolding branch targets failingTo labelName targetIn
   branch-is = refl
 
   pub branch-broken : begins (47 ∷ []) bs ≡ false

@@ -1,7 +1,7 @@
 -- Labels, routines and numbers found by their keys. Assumes nothing.
 use mathlib.Core.Bool.{Bool, true, false, cond}
 use mathlib.Core.List.{List, map}
-use mathlib.Core.Path.{_≡_, refl, sym, ap, ap₂, _∙_}
+use mathlib.Core.Path.{_≡_, refl, sym, ap, ap₂, subst, _∙_}
 use Prim.Native.Nat.{ℕ, zero, suc, _+_, _-_, _≤_, _<_}
 use native.Mathlib.Nat.{add-zero}
 use native.Mathlib.Omega.{arith}
@@ -19,6 +19,10 @@ use Rattle.met.specs.KnownLaws.{name-same, ltb-suc}
 -- whether a name is one of the numbers known
 abbrev pub numberIn : List ℕ → List ℕ → Bool
 numberIn known = isOneOf (map nameOf (numberKeys known))
+
+-- the step that a name with a tag leads to: a label's, behind the ROUTINE of a routine that is used, behind the ENDROUTINE of one declared
+abbrev pub stepTo : (known : List ℕ) (tag : ℕ) → List ℕ → ℕ
+stepTo known tag = cond (eqb tag 1) (placesIn known .label) (cond (eqb tag 2) (placesIn known .entry) (placesIn known .exit))
 
 -- the routine with a name: the i-th, or none
 abbrev pub routineAt : List ℕ → List ℕ → ℕ → Routine
@@ -143,6 +147,14 @@ module _ (known : List ℕ) (key : ℕ) where
   unfolding placesIn routineIn
   exit-found zero f = sym (ap (λ (x : Routine). x .exit) (f .is))
   exit-found (suc i) f = sym (ap (λ (x : Routine). x .exit) (f .is))
+
+-- the step by its tag
+module _ (known : List ℕ) {tag step : ℕ} (n : List ℕ) where
+  pub step-tagged : {u : ℕ} → tag ≡ u → step ≡ stepTo known u n → step ≡ stepTo known tag n
+  step-tagged e h = subst (λ t. step ≡ stepTo known t n) (sym e) h
+
+  pub step-exit : (tag ≡ 1 → ⊥) → (tag ≡ 2 → ⊥) → step ≡ placesIn known .exit n → step ≡ stepTo known tag n
+  step-exit f g h = rw (ne-eqb tag 1 f, ne-eqb tag 2 g) h
 
 -- a column of the routines at a place that is one of theirs, and at none
 pub column-none : (known : List ℕ) (from : ℕ) {i : ℕ} → i ≡ 0 → 0 ≡ columnIn known from i

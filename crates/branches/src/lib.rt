@@ -7,18 +7,14 @@ use met::Cursor;
 use met::KNOWN;
 use met::NAMES;
 use met::tags::LABEL;
-use met::tags::ROUTINE;
-use met::tags::ROUTINE_DECLARED;
 use numeric::operands::Cell;
 use numeric::operands::Name;
 use numeric::operands::read_name;
 use numeric::operands::skip;
-use places::label_step;
 use places::next_step;
-use places::routine_entry;
-use places::routine_exit;
+use places::target_step;
 use words::stands_at;
-ghost use Rattle.branches.specs.Branches.{LabelRead, EntryRead, ExitRead, FailureRead, TargetsRead, BranchRead};
+ghost use Rattle.branches.specs.Branches.{TargetTag, TargetRead, FailureRead, TargetsRead, BranchRead};
 ghost use Rattle.met.specs.Known.{Counted};
 ghost use Rattle.numeric.specs.Operands.{Ready};
 
@@ -55,57 +51,23 @@ pub enum Draft {
     Got(Row, Cursor),
 }
 
-// a label that is used
-pub fn read_label(
+// a name with a tag that leads to a step
+pub fn read_target(
     text: &[u8],
     known: &[u64; KNOWN],
     keys: &mut [u64; NAMES],
     tags: &mut [u8; NAMES],
     c: Cursor,
+    tag: u8,
 ) -> Target
     requires { ⌜ Ready (now text) (now keys) (now tags) c ⌝ }
     requires { ⌜ Counted (now known) ⌝ }
-    ensures { λ r. ⌜ LabelRead (now (text .entry)) (now (known .entry)) (now (keys .entry)) (now (tags .entry)) c r (now (keys .exit)) (now (tags .exit)) ⌝ }
+    requires { ⌜ TargetTag tag ⌝ }
+    ensures { λ r. ⌜ TargetRead (now (text .entry)) (now (known .entry)) (now (keys .entry)) (now (tags .entry)) c tag r (now (keys .exit)) (now (tags .exit)) ⌝ }
 {
-    match read_name(text, keys, tags, c, LABEL) {
+    match read_name(text, keys, tags, c, tag) {
         Name::Broken => Target::Broken,
-        Name::Got(key, d) => Target::Got(label_step(known, key), d),
-    }
-}
-
-// a routine that is executed, by the step behind its ROUTINE
-pub fn read_entry(
-    text: &[u8],
-    known: &[u64; KNOWN],
-    keys: &mut [u64; NAMES],
-    tags: &mut [u8; NAMES],
-    c: Cursor,
-) -> Target
-    requires { ⌜ Ready (now text) (now keys) (now tags) c ⌝ }
-    requires { ⌜ Counted (now known) ⌝ }
-    ensures { λ r. ⌜ EntryRead (now (text .entry)) (now (known .entry)) (now (keys .entry)) (now (tags .entry)) c r (now (keys .exit)) (now (tags .exit)) ⌝ }
-{
-    match read_name(text, keys, tags, c, ROUTINE) {
-        Name::Broken => Target::Broken,
-        Name::Got(key, d) => Target::Got(routine_entry(known, key), d),
-    }
-}
-
-// a routine that is declared, by the step behind its ENDROUTINE
-pub fn read_exit(
-    text: &[u8],
-    known: &[u64; KNOWN],
-    keys: &mut [u64; NAMES],
-    tags: &mut [u8; NAMES],
-    c: Cursor,
-) -> Target
-    requires { ⌜ Ready (now text) (now keys) (now tags) c ⌝ }
-    requires { ⌜ Counted (now known) ⌝ }
-    ensures { λ r. ⌜ ExitRead (now (text .entry)) (now (known .entry)) (now (keys .entry)) (now (tags .entry)) c r (now (keys .exit)) (now (tags .exit)) ⌝ }
-{
-    match read_name(text, keys, tags, c, ROUTINE_DECLARED) {
-        Name::Broken => Target::Broken,
-        Name::Got(key, d) => Target::Got(routine_exit(known, key), d),
+        Name::Got(key, d) => Target::Got(target_step(known, key, tag), d),
     }
 }
 
@@ -122,7 +84,7 @@ fn read_failure(
     requires { ⌜ Counted (now known) ⌝ }
     ensures { λ r. ⌜ FailureRead (now (text .entry)) (now (known .entry)) (now (keys .entry)) (now (tags .entry)) c success r (now (keys .exit)) (now (tags .exit)) ⌝ }
 {
-    match read_label(text, known, keys, tags, c) {
+    match read_target(text, known, keys, tags, c, LABEL) {
         Target::Broken => Branching::Broken,
         Target::Got(failure, d) => Branching::Got(Branch { success, failure }, d),
     }
@@ -144,7 +106,7 @@ fn read_targets(
     if stands_at(text, c.at, b',') {
         return read_failure(text, known, keys, tags, skip(c, 1), next);
     }
-    match read_label(text, known, keys, tags, c) {
+    match read_target(text, known, keys, tags, c, LABEL) {
         Target::Broken => Branching::Broken,
         Target::Got(success, d) => {
             if stands_at(text, d.at, b',') {

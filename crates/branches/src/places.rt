@@ -13,15 +13,17 @@ use met::places::NUMBER_COUNT;
 use met::places::NUMBER_KEYS;
 use met::places::ROUTINE_COUNT;
 use met::places::ROUTINE_KEYS;
+use met::tags::LABEL;
+use met::tags::ROUTINE;
 ghost use mathlib.Core.Path.{_≡_};
 ghost use Prim.Native.Nat.{_+_, _≤_};
 ghost use lib.ListN.{length};
-ghost use Rattle.branches.specs.Places.{numberIn, RoutineFound, columnIn};
+ghost use Rattle.branches.specs.Places.{numberIn, stepTo, RoutineFound, columnIn};
 ghost use Rattle.met.specs.Entries.{nameOf};
 ghost use Rattle.met.specs.Known.{Counted, placesIn};
 
 // the step of a label, 0 for none
-pub fn label_step(known: &[u64; KNOWN], key: u64) -> usize
+fn label_step(known: &[u64; KNOWN], key: u64) -> usize
     requires { ⌜ Counted (now known) ⌝ }
     ensures { λ r. ⌜ r ≡ placesIn (now (known .entry)) .label (nameOf key) ⌝ }
 {
@@ -59,20 +61,19 @@ fn column_of(known: &[u64; KNOWN], from: usize, i: usize) -> usize
     known[from + (i - 1)] as usize
 }
 
-// the step behind a routine's ROUTINE, 0 for none
-pub fn routine_entry(known: &[u64; KNOWN], key: u64) -> usize
+// the step that a name with a tag leads to, 0 for none
+pub fn target_step(known: &[u64; KNOWN], key: u64, tag: u8) -> usize
     requires { ⌜ Counted (now known) ⌝ }
-    ensures { λ r. ⌜ r ≡ placesIn (now (known .entry)) .entry (nameOf key) ⌝ }
+    ensures { λ r. ⌜ r ≡ stepTo (now (known .entry)) tag (nameOf key) ⌝ }
 {
-    column_of(known, ENTRIES, routine_found(known, key))
-}
-
-// the step behind a routine's ENDROUTINE, 0 for none
-pub fn routine_exit(known: &[u64; KNOWN], key: u64) -> usize
-    requires { ⌜ Counted (now known) ⌝ }
-    ensures { λ r. ⌜ r ≡ placesIn (now (known .entry)) .exit (nameOf key) ⌝ }
-{
-    column_of(known, EXITS, routine_found(known, key))
+    if tag == LABEL {
+        return label_step(known, key);
+    }
+    let i = routine_found(known, key);
+    if tag == ROUTINE {
+        return column_of(known, ENTRIES, i);
+    }
+    column_of(known, EXITS, i)
 }
 
 // the step behind the statement that is read

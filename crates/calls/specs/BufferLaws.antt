@@ -68,14 +68,14 @@ unfolding cellKeeps longestString
 cell-keeps store at c = rw (lt-ltb _ _ (c .low), le-leb _ _ (c .short), c .zeros)
 
 -- a list of zeros alone
-zeros-are : (l : List ℕ) → all (λ b. eqb b 0) l ≡ true → l ≡ replicate (length l) 0
+pub zeros-are : (l : List ℕ) → all (λ b. eqb b 0) l ≡ true → l ≡ replicate (length l) 0
 unfolding all
 zeros-are [] e = refl
 zeros-are (x ∷ xs) e =
     let h = and-eq-true-iff (eqb x 0) (all (λ b. eqb b 0) xs) .0 e in
     ap₂ {C = List ℕ} _∷_ (eqb-true x 0 (h .0)) (zeros-are xs (h .1))
 
-all-zeros : (n : ℕ) → all (λ b. eqb b 0) (replicate n 0) ≡ true
+pub all-zeros : (n : ℕ) → all (λ b. eqb b 0) (replicate n 0) ≡ true
 unfolding all
 all-zeros zero = refl
 all-zeros (suc n) = all-zeros n

@@ -1,9 +1,9 @@
 -- Bytes that stand at a place of a list, and what is read there: a number in bytes is read back as the number, and an integer kept as a
 -- number as the integer. Assumes nothing.
 use mathlib.Core.Bool.{true, false}
-use mathlib.Core.List.{List, [], _∷_, _++_, append-assoc}
-use mathlib.Core.Path.{_≡_, refl, sym, _∙_, ap, subst}
-use Prim.Native.Nat.{ℕ, zero, suc, _+_, _-_, _/_, _%_, _^_, _<_}
+use mathlib.Core.List.{List, [], _∷_, _++_, map, append-assoc}
+use mathlib.Core.Path.{_≡_, refl, sym, _∙_, ap, ap₂, subst}
+use Prim.Native.Nat.{ℕ, zero, suc, _+_, _-_, _/_, _%_, _^_, _≤_, _<_}
 use native.Mathlib.Nat.{add-zero, pow-suc}
 use native.Mathlib.Omega.{arith}
 use lib.Dec.{ltb}
@@ -87,3 +87,17 @@ biased-unbiased n = cond-cases (λ z. biased z ≡ n) (ltb n (2 ^ 47)) below abo
 
     above : ltb n (2 ^ 47) ≡ false → biased (pos (n - 2 ^ 47)) ≡ n
     above e = omega (arith, ltb-false n (2 ^ 47) e)
+
+-- numbers are written as they were read
+pub numbers-same : (ns : List ℕ) → map biased (map unbiased ns) ≡ ns
+numbers-same [] = refl
+numbers-same (n ∷ ns) = ap₂ {C = List ℕ} _∷_ (biased-unbiased n) (numbers-same ns)
+
+-- how far an integer is from 0, by the number that keeps it
+pub size-low : (n : ℕ) → n < 2 ^ 47 → natAbs (unbiased n) ≡ 2 ^ 47 - n
+unfolding unbiased bias
+size-low n h = rw (lt-ltb n (2 ^ 47) h) (omega arith)
+
+pub size-high : (n : ℕ) → 2 ^ 47 ≤ n → natAbs (unbiased n) ≡ n - 2 ^ 47
+unfolding unbiased bias
+size-high n h = rw (le-ltb n (2 ^ 47) h)

@@ -1,16 +1,18 @@
 -- A step that is stopped leaves store and output byte for byte, and of the state changes the status alone; one that is refused leaves all.
 -- Assumes nothing.
 use mathlib.Core.Bool.{Bool, true, false, cond, not}
-use mathlib.Core.List.{List, [], _∷_, _++_, map, reverse, reverse-reverse}
-use mathlib.Core.Path.{_≡_, refl, sym, _∙_, ap, ap₂}
+use mathlib.Core.List.{List, _∷_, _++_, reverse, reverse-reverse}
+use mathlib.Core.Path.{_≡_, refl, sym, _∙_, ap}
 use Prim.Native.Nat.{ℕ, _+_, _-_, _≤_, _<_}
 use native.Mathlib.Omega.{arith}
 use lib.Dec.{ltb, eqb}
 use lib.ListN.{length, take, drop, getD, length-drop, length-reverse, take-append-drop}
-use lib.Seq.{drop-cons, drop-drop, length-take-le}
+use lib.Seq.{drop-cons, length-take-le}
 use borrow.Author.Tests.{eqb-true, eqb-false}
 use Rattle.base.specs.Choice.{cond-cases}
 use Rattle.base.specs.Edition.{Edition}
+use Rattle.base.specs.ListLaws.{stretch-behind}
+use Rattle.calls.specs.NumeralLaws.{numbers-same}
 use Rattle.machine.specs.State.{Status, stopped, State, withStatus, mostNumbers}
 use Rattle.machine.specs.StepEnds.{stopped-step, turned-down-small}
 use Rattle.machine.specs.Step.{mostReturns, turnedDownBy, step}
@@ -21,8 +23,6 @@ use Rattle.calls.specs.Buffers.{stateKeeps, stateIn, storeLeft, stateLef
 use Rattle.calls.specs.Calls.{Buffers, StepCalled, givenIn, outOfRange, stepRefusal, carried, stepCall}
 use Rattle.calls.specs.GivenLaws.{StateInRange, state-in-range, Unrefused, unrefused}
 use Rattle.calls.specs.Holding.{leftOf}
-use Rattle.calls.specs.NumeralLaws.{biased-unbiased}
-use Rattle.calls.specs.Numerals.{biased, unbiased}
 use Rattle.calls.specs.Rules.{keepsRules}
 use Rattle.calls.specs.TableReading.{programIn}
 
@@ -30,26 +30,16 @@ use Rattle.calls.specs.TableReading.{programIn}
 abbrev pub withState : List ℕ → Buffers → Buffers
 withState s b = record { store = b .store; state = s; output = b .output }
 
--- numbers are written as they were read
-numbers-same : (ns : List ℕ) → map biased (map unbiased ns) ≡ ns
-numbers-same [] = refl
-numbers-same (n ∷ ns) = ap₂ {C = List ℕ} _∷_ (biased-unbiased n) (numbers-same ns)
-
 -- the five numbers in front, and the rest
 five-front : (l : List ℕ) → 5 ≤ length l → drop 1 l ≡ getD l 1 0 ∷ (getD l 2 0 ∷ (getD l 3 0 ∷ (getD l 4 0 ∷ drop 5 l)))
 five-front l h = rw (drop-cons l 1 0 (omega arith), drop-cons l 2 0 (omega arith), drop-cons l 3 0 (omega arith), drop-cons l 4 0 (omega arith))
-
--- a stretch of a list and what lies behind it
-stretch : (l : List ℕ) (at n next : ℕ) → at + n ≡ next → take n (drop at l) ++ drop next l ≡ drop at l
-stretch l at n next e =
-    ap (λ r. take n (drop at l) ++ r) (ap (λ k. drop k l) (sym e) ∙ sym (drop-drop n at l)) ∙ take-append-drop n (drop at l)
 
 -- the returns held and not, the numbers and the rest
 behind-five : (l : List ℕ) (n : ℕ) → n ≤ 16
     → take n (drop 5 l) ++ (take (16 - n) (drop (5 + n) l) ++ (take 32 (drop 21 l) ++ drop 53 l)) ≡ drop 5 l
 behind-five l n few =
     let all-places : 5 + n + (16 - n) ≡ 21 = omega arith in
-    rw (stretch l 21 32 53 refl, stretch l (5 + n) (16 - n) 21 all-places, stretch l 5 n (5 + n) refl)
+    rw (stretch-behind l 21 32 53 refl, stretch-behind l (5 + n) (16 - n) 21 all-places, stretch-behind l 5 n (5 + n) refl)
 
 -- buffers with a state in range
 module _ (e : Edition) (steps : ℕ) (store state input output : List ℕ) (size : length state ≡ stateSize)

@@ -118,12 +118,12 @@ record RegionsFit (e : Edition) (p : Program) : Type 0 where
   literals : length (allLiterals (allElements (p .steps))) ≤ e .tableSize - literalsAt
 
 -- the bytes of each region stand at its place
-record RegionsStand (t : List ℕ) (p : Program) : Type 0 where
-  counts : Stands t 0 (header p)
-  rows : Stands t stepsAt (stepRows 0 0 (p .steps))
-  elements : Stands t elementsAt (elementRows 0 (allElements (p .steps)))
-  items : Stands t itemsAt (itemRows (allItems (p .steps)))
-  literals : Stands t literalsAt (allLiterals (allElements (p .steps)))
+pub record RegionsStand (t : List ℕ) (p : Program) : Type 0 where
+  pub counts : Stands t 0 (header p)
+  pub rows : Stands t stepsAt (stepRows 0 0 (p .steps))
+  pub elements : Stands t elementsAt (elementRows 0 (allElements (p .steps)))
+  pub items : Stands t itemsAt (itemRows (allItems (p .steps)))
+  pub literals : Stands t literalsAt (allLiterals (allElements (p .steps)))
 
 -- the table of a program in range
 module _ (e : Edition) (p : Program) (size : literalsAt + 4096 ≤ e .tableSize) (ok : InRange e p) where
@@ -154,7 +154,7 @@ module _ (e : Edition) (p : Program) (size : literalsAt + 4096 ≤ e .tableSize)
       ) (omega arith)
 
   -- and each region stands at its place, whatever stands behind the table
-  regions-stand : (rest : List ℕ) → RegionsStand (image e p ++ rest) p
+  pub regions-stand : (rest : List ℕ) → RegionsStand (image e p ++ rest) p
   unfolding image stepsAt elementsAt itemsAt literalsAt
   regions-stand rest =
       let t = image e p ++ rest in

@@ -3,7 +3,6 @@ use mathlib.Core.Bool.{Bool}
 use mathlib.Core.List.{List, [], _∷_, _++_}
 use mathlib.Core.Path.{_≡_, refl, sym, _∙_, ap, subst}
 use Prim.Native.Nat.{ℕ, suc, _+_, _-_, _≤_, _<_}
-use native.Mathlib.Nat.{add-zero}
 use native.Mathlib.Numerals.{add-one}
 use native.Mathlib.Omega.{arith}
 use lib.ListN.{length, take, drop, getD, set, take-append-drop, length-reverse, length-drop}
@@ -29,35 +28,9 @@ use Rattle.statements.specs.declared.Did.{Did}
 use Rattle.statements.specs.declared.Did.the-variants as did
 use Rattle.states.specs.Contracts.{Popped}
 use Rattle.states.specs.Laws.{Leaves, leaves-all, holding-leaves, leaves-going, leaves-finished, leaves-stopped, leaves-input, leaves-output, leaves-number, leaves-push, leaves-return, leaves-front}
-use Rattle.values.specs.Work.{Work, done, stop, noting, quietly, _>>=_}
+use Rattle.values.specs.Work.{Work, done, stop, quietly, _>>=_}
+use Rattle.values.specs.WorkLaws.{bound, stopped, bound-twice}
 use Rattle.carry.specs.Carrying.{lent, Standing, machineIn, Moved, Unmoved, Carries, movedOn, MovesOn}
-
--- work on a value that is known
-pub bound : {A B : Type 0} (w : Work A) (f : A → Work B) (a : A) (n : ℕ) (b : B) → w ≡ done a n → f a ≡ done b 0 → (w >>= f) ≡ done b n
-unfolding _>>=_ noting
-bound w f a n b e h = ap (λ x. x >>= f) e ∙ ap (noting n) h ∙ ap (λ (k : ℕ). done b k) (add-zero n)
-
--- work that is stopped stops what would follow
-pub stopped : {A B : Type 0} (w : Work A) (f : A → Work B) (k : ℕ) → w ≡ stop k → (w >>= f) ≡ stop k
-unfolding _>>=_
-stopped w f k e = ap (λ x. x >>= f) e
-
--- notes add up in any order
-noting-twice : {A : Type 0} (n m : ℕ) (w : Work A) → noting (n + m) w ≡ noting n (noting m w)
-unfolding noting
-noting-twice n m (done b k) = ap (λ (j : ℕ). done b j) (omega arith)
-noting-twice n m (stop k) = refl
-
-noting-bound : {A B : Type 0} (n : ℕ) (w : Work A) (f : A → Work B) → (noting n w >>= f) ≡ noting n (w >>= f)
-unfolding _>>=_ noting
-noting-bound n (done a m) f = noting-twice n m (f a)
-noting-bound n (stop k) f = refl
-
--- three works one behind the other
-bound-twice : {A B C : Type 0} (w : Work A) (f : A → Work B) (g : B → Work C) → (w >>= λ a. f a >>= g) ≡ (w >>= f >>= g)
-unfolding _>>=_
-bound-twice (done a n) f g = sym (noting-bound n (f a) g)
-bound-twice (stop k) f g = refl
 
 -- the numbers of a state with one of the first five numbers set
 numbers-stay : (state : List ℕ) (i x : ℕ) → i < 21 → numbersIn (set state i x) ≡ numbersIn state

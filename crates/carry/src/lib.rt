@@ -12,6 +12,7 @@ ghost use Rattle.rows.specs.Holds.{PartHolds, TestHolds};
 ghost use Rattle.rows.specs.Meaning.{partMeaning, testMeaning, branchMeaning, itemsMeaning, elementsMeaning};
 ghost use Rattle.statements.specs.Valued.{Writable};
 ghost use Rattle.carry.specs.Carrying.{lent, Does, MovesOn};
+use base::LONGEST;
 use expressions::Truth;
 use rows::Branch;
 use rows::Part;
@@ -19,8 +20,6 @@ use rows::Stretch;
 use rows::Test;
 use statements::Did;
 use statements::Went;
-
-const LONGEST: usize = 1024;
 
 // the step of a branch field
 pub fn choose(success: bool, b: Branch) -> usize

@@ -87,13 +87,6 @@ module _ (store : List ℕ) (g : Good store) (s : ℕ) (h : s < 32) where
   string-room : length (stringOf store s) ≤ length (drop (1026 * s + 2) store)
   string-room = omega (arith, good-short store g s, length-drop (1026 * s + 2) store, g .size)
 
-  -- the slice that the code takes of the store for the string
-  pub string-slice : (start n : ℕ) → start ≡ 1026 * s + 2 → n ≡ length (stringOf store s)
-      → take (start + n - start) (drop start store) ≡ stringOf store s
-  string-slice start n e f =
-      let count : start + n - start ≡ n = omega arith in
-      ap₂ (λ (i j : ℕ). take i (drop j store)) (count ∙ f) e ∙ sym (string-part store g s h)
-
   -- v over the string, and the string ended anew
   pub written : (v : List ℕ) → length v ≤ 1024
       → ended (splice store (1026 * s + 2) v) s (length (stringOf store s)) (length v) ≡ storeWith store s v

@@ -8,7 +8,6 @@ use Rattle.calls.specs.Buffers.{stringsIn}
 use Rattle.calls.specs.Calls.{startCall}
 use Rattle.calls.specs.Numerals.{inBytes}
 use Rattle.calls.specs.Splices.{splice}
-use Rattle.machine.specs.Step.{recordLength}
 
 -- the string with this place
 abbrev pub stringOf : List ℕ → ℕ → List ℕ
@@ -40,9 +39,3 @@ pub record Replacing (store : List ℕ) (place from to : ℕ) (v : List ℕ) : T
 pub record Started (store : List ℕ) (number : ℕ) (left : List ℕ) : Type 0 where
   pub number-right : number ≡ startCall store .number
   pub left-right : left ≡ startCall store .store
-
--- i lies behind bytes of the record at from, none of which ends it
-pub record Passed (s : List ℕ) (from i : ℕ) : Type 0 where
-  pub order : from ≤ i
-  pub within : i ≤ length s
-  pub rest : recordLength (drop from s) ≡ (i - from) + recordLength (drop i s)

@@ -1,23 +1,24 @@
--- Laws of spans: bytes written one by one from either end, a stretch of bytes, a list turned round, zeros seen, a record passed.
+-- Laws of spans: bytes written one by one from either end, a stretch of bytes, a list turned round, zeros seen, where a record ends.
 -- Assumes nothing.
-use mathlib.Core.Bool.{Bool, true, false, _&&_, _||_, and-assoc, and-true, or-assoc, or-false}
+use mathlib.Core.Bool.{true, false, _&&_, and-assoc, and-true}
 use mathlib.Core.List.{List, [], _∷_, _++_, reverse, reverse-cons}
 use mathlib.Core.Path.{_≡_, refl, sym, ap, ap₂, _∙_}
 use Prim.Native.Nat.{ℕ, zero, suc, _+_, _-_, _≤_, _<_}
-use native.Mathlib.Nat.{add-zero, zero-add, not-suc-le-zero}
+use native.Mathlib.Nat.{add-zero, not-suc-le-zero}
 use native.Mathlib.Numerals.{add-one}
 use native.Mathlib.Omega.{arith}
 use lib.Bits.{bitOr, or-zero-l, or-add-and, and-le-r}
 use lib.Dec.{eqb, ltb}
-use lib.ListN.{length, take, drop, getD, set, length-set, length-drop, drop-of-length-le, length-reverse, List·getD-append, take-append-drop}
-use lib.Seq.{getD-append-seam, drop-cons, drop-drop, getD-drop, getD-take, length-take-le, paste, paste-suc, paste-zero, take-all}
-use borrow.Author.Tests.{eq-eqb, ne-eqb, ltb-false, ltb-true}
-use Rattle.base.specs.Choice.{neither-true, test-cases}
-use Rattle.base.specs.Lists.{all, any}
+use lib.ListN.{length, take, drop, getD, set, length-set, drop-of-length-le, length-reverse, List·getD-append}
+use lib.Seq.{getD-append-seam, drop-cons, length-take-le, paste, paste-suc, paste-zero, take-all}
+use borrow.Author.Tests.{ne-eqb, ltb-false, ltb-true}
+use Rattle.base.specs.Choice.{test-cases}
+use Rattle.base.specs.Lists.{all}
 use Rattle.calls.specs.Splices.{splice, getD-splice-before, getD-splice-behind, paste-splice, set-splice, splice-before, splice-behind, splice-nil}
-use Rattle.cells.specs.Contracts.{Passed}
 use Rattle.cards.specs.Bytes.{newline}
 use Rattle.machine.specs.Step.{recordLength}
+use Rattle.search.specs.NextLaws.{next-until}
+use Rattle.search.specs.Passing.{NextByte, until}
 
 -- the first k of the n bytes of x stand in d from a place on
 pub record Pasted (d : List ℕ) (at : ℕ) (x : List ℕ) (n k : ℕ) (out : List ℕ) : Type 0 where
@@ -103,13 +104,6 @@ module _ (d : List ℕ) (at : ℕ) (x : List ℕ) (n : ℕ) where
   hung-before k out i p fits h =
       ap (λ (l : List ℕ). getD l i 0) (p .bytes) ∙ getD-splice-before d (at + k) (drop k x) i 0 (omega (arith, p .count)) h
 
--- a stretch of n bytes of a list
-pub length-stretch : (d : List ℕ) (from n : ℕ) → from + n ≤ length d → length (take n (drop from d)) ≡ n
-length-stretch d from n h = length-take-le n (drop from d) (simp length-drop (omega arith))
-
-pub getD-stretch : (d : List ℕ) (from n i : ℕ) → i < n → getD (take n (drop from d)) i 0 ≡ getD d (from + i) 0
-getD-stretch d from n i h = getD-take n (drop from d) i 0 h ∙ getD-drop from d i 0
-
 -- an element of a list turned round
 pub getD-reverse : (l : List ℕ) (i : ℕ) → i < length l → getD (reverse l) i 0 ≡ getD l (length l - 1 - i) 0
 getD-reverse [] i h = absurd (not-suc-le-zero h)
@@ -148,18 +142,6 @@ or-test (suc a) b =
     ne-eqb (bitOr (suc a) b) 0 (λ e. omega (arith, e, or-add-and (suc a) b, and-le-r (suc a) b))
     ∙ sym (ap (λ t. t && eqb b 0) (ne-eqb (suc a) 0 (λ e. omega arith)))
 
--- byte 10 seen, behind the bytes passed
-pub ends-more : (s : List ℕ) (i : ℕ) (hit : Bool) → i < length s
-    → (hit || any (λ b. eqb b 10) (drop i s)) ≡ ((hit || eqb (getD s i 0) 10) || any (λ b. eqb b 10) (drop (i + 1) s))
-unfolding any
-ends-more s i hit h =
-    ap (λ l. hit || any (λ b. eqb b 10) l) (drop-cons s i 0 h ∙ ap (λ (n : ℕ). getD s i 0 ∷ drop n s) (sym (add-one i)))
-    ∙ sym (or-assoc hit (eqb (getD s i 0) 10) (any (λ b. eqb b 10) (drop (i + 1) s)))
-
-pub ends-none : (s : List ℕ) (i : ℕ) (hit : Bool) → length s ≤ i → (hit || any (λ b. eqb b 10) (drop i s)) ≡ hit
-unfolding any
-ends-none s i hit h = ap (λ l. hit || any (λ b. eqb b 10) l) (drop-of-length-le s h) ∙ or-false hit
-
 -- the zeros of a list, behind those passed
 pub zeros-more : (s : List ℕ) (i seen : ℕ) → i < length s
     → (eqb seen 0 && all (λ b. eqb b 0) (drop i s)) ≡ (eqb (bitOr seen (getD s i 0)) 0 && all (λ b. eqb b 0) (drop (i + 1) s))
@@ -177,51 +159,11 @@ pub zeros-end : (s : List ℕ) (i seen : ℕ) → length s ≤ i → (eqb seen 0
 unfolding all
 zeros-end s i seen h = ap (λ l. eqb seen 0 && all (λ b. eqb b 0) l) (drop-of-length-le s h) ∙ and-true (eqb seen 0)
 
--- a record behind bytes that have no byte 10
-record-behind : (x y : List ℕ) → any (λ b. eqb b 10) x ≡ false → recordLength (x ++ y) ≡ length x + recordLength y
-unfolding any recordLength newline
-record-behind [] y e = sym (zero-add (recordLength y))
-record-behind (b ∷ x) y e =
-    let h = neither-true (eqb b 10) (any (λ b. eqb b 10) x) e in
-    ap (λ t. elim t [ true ↦ 0 | false ↦ suc (recordLength (x ++ y)) ]) (h .0)
-    ∙ omega (arith, record-behind x y (h .1))
+-- a record reaches to byte 10 or the end
+record-until : (s : List ℕ) → recordLength s ≡ until 10 s
+unfolding recordLength newline until
+record-until [] = refl
+record-until (b ∷ s) = ap (λ (n : ℕ). elim (eqb b 10) [ true ↦ 0 | false ↦ suc n ]) (record-until s)
 
-pub passed-none : (s : List ℕ) (i : ℕ) → i ≤ length s → Passed s i i
-passed-none s i h = record { order = omega arith; within = h; rest = omega arith }
-
-pub passed-more : (s : List ℕ) (from i n : ℕ) → Passed s from i → i + n ≤ length s → any (λ b. eqb b 10) (take n (drop i s)) ≡ false
-    → Passed s from (i + n)
-passed-more s from i n p h e =
-    let block = take n (drop i s) in
-    let size : length block ≡ n = length-stretch s i n h in
-    let cut : recordLength (drop i s) ≡ recordLength (block ++ drop (i + n) s) =
-    ap recordLength (sym (take-append-drop n (drop i s)) ∙ ap (λ (l : List ℕ). block ++ l) (drop-drop n i s)) in
-    let behind : recordLength (drop i s) ≡ length block + recordLength (drop (i + n) s) = cut ∙ record-behind block (drop (i + n) s) e in
-    record { order = omega (arith, p .order); within = h; rest = omega (arith, p .order, p .rest) }
-
--- a record, byte by byte
-record-more : (s : List ℕ) (i : ℕ) → i < length s → (getD s i 0 ≡ 10 → ⊥)
-    → recordLength (drop i s) ≡ 1 + recordLength (drop (i + 1) s)
-unfolding recordLength newline
-record-more s i h n =
-    ap recordLength (drop-cons s i 0 h ∙ ap (λ (j : ℕ). getD s i 0 ∷ drop j s) (sym (add-one i)))
-    ∙ ap (λ t. elim t [ true ↦ 0 | false ↦ suc (recordLength (drop (i + 1) s)) ]) (ne-eqb (getD s i 0) 10 n)
-    ∙ omega arith
-
-pub passed-byte : (s : List ℕ) (from i : ℕ) → Passed s from i → i < length s → (getD s i 0 ≡ 10 → ⊥) → Passed s from (i + 1)
-passed-byte s from i p h n =
-    record {
-      order = omega (arith, p .order);
-      within = omega arith;
-      rest = omega (arith, p .order, p .rest, record-more s i h n);
-    }
-
-pub record-ends : (s : List ℕ) (i : ℕ) → i < length s → getD s i 0 ≡ 10 → recordLength (drop i s) ≡ 0
-unfolding recordLength newline
-record-ends s i h e =
-    ap recordLength (drop-cons s i 0 h)
-    ∙ ap (λ t. elim t [ true ↦ 0 | false ↦ suc (recordLength (drop (suc i) s)) ]) (eq-eqb (getD s i 0) 10 e)
-
-pub record-none : (s : List ℕ) (i : ℕ) → length s ≤ i → recordLength (drop i s) ≡ 0
-unfolding recordLength
-record-none s i h = ap recordLength (drop-of-length-le s h)
+pub record-next : (s : List ℕ) (from at : ℕ) → NextByte s 10 from at → at - from ≡ recordLength (drop from s)
+record-next s from at n = omega (arith, next-until s 10 from at n, record-until (drop from s))

@@ -8,45 +8,25 @@ ghost use Prim.Native.Nat.{_+_, _*_, _-_, _<_, _≤_};
 ghost use lib.ListN.{length, drop, replicate};
 ghost use Rattle.calls.specs.BufferLaws.{Good, storeWith};
 ghost use Rattle.calls.specs.Buffers.{storeSize, cellKeeps, storeKeeps};
-ghost use Rattle.calls.specs.Numerals.{numberAt, inBytes};
+ghost use Rattle.calls.specs.Numerals.{inBytes};
 ghost use Rattle.calls.specs.Splices.{splice};
 ghost use Rattle.cells.specs.Contracts.{stringOf, replaced, ended, Putting, Replacing, Started};
-
-// The store is 32 cells of 1,026 bytes: two of length, then the string, up to 1,024 bytes, then zeros.
-const STRINGS: usize = 32;
-
-const LONGEST: usize = 1024;
-
-const CELL: usize = 1026;
-
-const STORE: usize = 32832;
-
-// A byte as a number that indexes.
-fn wide(x: u8) -> usize
-    ensures { λ r. ⌜ (r ≡ x) × (r < 256) ⌝ }
-{
-    x as usize
-}
-
-// The number in the two bytes at a place, low byte first.
-fn number(store: &[u8], at: usize) -> usize
-    requires { ⌜ at + 1 < length (now store) ⌝ }
-    ensures { λ r. ⌜ r ≡ numberAt 2 (now (store .entry)) at ⌝ }
-{
-    wide(store[at]) + 256 * wide(store[at + 1])
-}
+use base::LONGEST;
+use base::STRINGS;
+use calls::CELL_SIZE;
+use calls::STORE_SIZE;
 
 // Whether the cell at a place keeps its rules: a length up to 1,024, and zeros behind the string.
 fn cell_keeps(store: &[u8], at: usize) -> bool
     requires { ⌜ at + 1026 ≤ length (now store) ⌝ }
     ensures { λ r. ⌜ r ≡ cellKeeps (now (store .entry)) at ⌝ }
 {
-    let n = number(store, at);
+    let n = spans::number2(store, at);
     if n > LONGEST {
         return false;
     }
     let from = at + (2 + n);
-    let to = at + CELL;
+    let to = at + CELL_SIZE;
     spans::marks(&store[from..to]) == 0
 }
 
@@ -54,7 +34,7 @@ fn cell_keeps(store: &[u8], at: usize) -> bool
 pub fn keeps(store: &[u8]) -> bool
     ensures { λ r. ⌜ r ≡ storeKeeps (now (store .entry)) ⌝ }
 {
-    if store.len() < STORE {
+    if store.len() < STORE_SIZE {
         return false;
     }
     let mut at = 0;
@@ -63,7 +43,7 @@ pub fn keeps(store: &[u8]) -> bool
         if !cell_keeps(store, at) {
             return false;
         }
-        at += CELL;
+        at += CELL_SIZE;
         left -= 1;
     }
     true
@@ -74,7 +54,7 @@ pub fn string_start(place: usize) -> usize
     requires { ⌜ place < 32 ⌝ }
     ensures { λ r. ⌜ r ≡ 1026 * place + 2 ⌝ }
 {
-    CELL * place + 2
+    CELL_SIZE * place + 2
 }
 
 // How long the string with this place is.
@@ -83,7 +63,7 @@ pub fn string_length(store: &[u8], place: usize) -> usize
     requires { ⌜ place < 32 ⌝ }
     ensures { λ r. ⌜ (r ≡ length (stringOf (now (store .entry)) place)) × (r ≤ 1024) ⌝ }
 {
-    number(store, CELL * place)
+    spans::number2(store, CELL_SIZE * place)
 }
 
 // Writes a length into its two bytes at a place.
@@ -103,7 +83,7 @@ fn set_end(store: &mut [u8], place: usize, old: usize, new: usize)
 {
     let start = string_start(place);
     spans::blank(store, start + new, start + old);
-    set_length(store, CELL * place, new);
+    set_length(store, CELL_SIZE * place, new);
 }
 
 // Sets the string with this place.
@@ -135,14 +115,14 @@ pub fn clear(store: &mut [u8])
     requires { ⌜ 32832 ≤ length (now store) ⌝ }
     ensures { λ _. ⌜ now (store .exit) ≡ replicate storeSize 0 ++ drop storeSize (now (store .entry)) ⌝ }
 {
-    spans::blank(store, 0, STORE);
+    spans::blank(store, 0, STORE_SIZE);
 }
 
 // Starts a store: zeroes it, or answers 14 if it is too small.
 pub fn start_store(store: &mut [u8]) -> u32
     ensures { λ r. ⌜ Started (now (store .entry)) r (now (store .exit)) ⌝ }
 {
-    if store.len() < STORE {
+    if store.len() < STORE_SIZE {
         return 14;
     }
     clear(store);

@@ -1,14 +1,24 @@
-// Spans of bytes: read over, written, zeroed, moved, copied and turned, and the record at a place of the input.
+// Spans of bytes: a number read, read over, written, zeroed, moved, copied and turned, and the record at a place of the input.
 // A write's contract is one splice.
 ghost use mathlib.Core.List.{reverse};
 ghost use mathlib.Core.Path.{_≡_};
-ghost use Prim.Native.Nat.{_+_, _-_, _<_, _≤_};
+ghost use Prim.Native.Nat.{_+_, _-_, _<_, _≤_, _^_};
 ghost use lib.Dec.{eqb};
 ghost use lib.ListN.{length, take, drop, replicate};
-ghost use Rattle.base.specs.Lists.{all, any};
+ghost use Rattle.base.specs.Lists.{all};
+ghost use Rattle.calls.specs.Numerals.{numberAt};
 ghost use Rattle.calls.specs.Splices.{splice};
-ghost use Rattle.cells.specs.Contracts.{Passed};
 ghost use Rattle.machine.specs.Step.{recordLength};
+use base::LONGEST;
+use base::wide;
+
+// The number in the two bytes at a place, low byte first.
+pub fn number2(s: &[u8], at: usize) -> usize
+    requires { ⌜ at + 2 ≤ length (now s) ⌝ }
+    ensures { λ r. ⌜ (r ≡ numberAt 2 (now (s .entry)) at) × (r < 2 ^ 16) ⌝ }
+{
+    wide(s[at]) + 256 * wide(s[at + 1])
+}
 
 // The bits that any byte of s has: 0 if all bytes are.
 pub fn marks(s: &[u8]) -> u8
@@ -84,7 +94,7 @@ pub fn slide(out: &mut [u8], from: usize, to: usize, n: usize)
 }
 
 // Copies s into a string's buffer, from a place on.
-pub fn copy(s: &[u8], out: &mut [u8; 1024], at: usize)
+pub fn copy(s: &[u8], out: &mut [u8; LONGEST], at: usize)
     requires { ⌜ at + length (now s) ≤ 1024 ⌝ }
     ensures { λ _. ⌜ now (out .exit) ≡ splice (now (out .entry)) at (now (s .entry)) ⌝ }
 {
@@ -104,40 +114,11 @@ fn turn(out: &mut [u8], v: &[u8])
 }
 
 // Copies s, last byte first, to the front of a string's buffer.
-pub fn copy_turned(s: &[u8], out: &mut [u8; 1024])
+pub fn copy_turned(s: &[u8], out: &mut [u8; LONGEST])
     requires { ⌜ length (now s) ≤ 1024 ⌝ }
     ensures { λ _. ⌜ now (out .exit) ≡ splice (now (out .entry)) 0 (reverse (now (s .entry))) ⌝ }
 {
     turn(out, s);
-}
-
-// Whether s has a byte 10. It leaves no turn out, so that it becomes vector code.
-fn has_end(s: &[u8]) -> bool
-    ensures { λ r. ⌜ r ≡ any (λ b. eqb b 10) (now (s .entry)) ⌝ }
-{
-    let mut hit = false;
-    let mut i = 0;
-    while i < s.len() {
-        hit = hit | (s[i] == b'\n');
-        i += 1;
-    }
-    hit
-}
-
-// A place in the record that begins at from, behind blocks of 32 bytes that do not end it.
-fn pass_blocks(input: &[u8], from: usize) -> usize
-    requires { ⌜ from ≤ length (now input) ⌝ }
-    ensures { λ r. ⌜ Passed (now (input .entry)) from r ⌝ }
-{
-    let mut i = from;
-    while 32 <= input.len() - i {
-        let next = i + 32;
-        if has_end(&input[i..next]) {
-            return i;
-        }
-        i = next;
-    }
-    i
 }
 
 // How long the record is that begins at a place of the input: to byte 10 or the end.
@@ -145,12 +126,5 @@ pub fn next_record(input: &[u8], from: usize) -> usize
     requires { ⌜ from ≤ length (now input) ⌝ }
     ensures { λ r. ⌜ r ≡ recordLength (drop from (now (input .entry))) ⌝ }
 {
-    let mut i = pass_blocks(input, from);
-    while i < input.len() {
-        if input[i] == b'\n' {
-            return i - from;
-        }
-        i += 1;
-    }
-    i - from
+    search::next_byte(input, b'\n', from) - from
 }

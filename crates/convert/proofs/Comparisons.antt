@@ -10,13 +10,7 @@ use mir.Syntax.{w64}
 use mir.Val.{ofZ, toZ}
 use mir.ValLaws.{toZ-ofZ}
 use borrow.Author.Tests.{leb-true, leb-false, eqb-true, le-leb, le-ltb, lt-ltb, eq-eqb}
-use Rattle.base.specs.Choice.{test-cases}
-
--- tests that pass together are one test
-same-test : (s t : Bool) → (s ≡ true → t ≡ true) → (t ≡ true → s ≡ true) → s ≡ t
-same-test true t f g = sym (f refl)
-same-test false true f g = g refl
-same-test false false f g = refl
+use Rattle.base.specs.Choice.{test-cases, same-truth}
 
 -- below is not at least
 below-not : (x y : ℕ) → ltb x y ≡ not (leb y x)
@@ -58,7 +52,7 @@ module _ (a b : ℤ) (ha : mag a < 2 ^ 63) (hb : mag b < 2 ^ 63) where
 
   pub equal-bits : eqb (ofZ w64 a) (ofZ w64 b) ≡ (leZ a b && leZ b a)
   equal-bits =
-      same-test (eqb (ofZ w64 a) (ofZ w64 b)) (leZ a b && leZ b a)
+      same-truth (eqb (ofZ w64 a) (ofZ w64 b)) (leZ a b && leZ b a)
       (λ e.
       let same : a ≡ b = sym read-a ∙ ap (toZ w64) (eqb-true (ofZ w64 a) (ofZ w64 b) e) ∙ read-b in
       subst (λ (z : ℤ). (leZ a z && leZ z a) ≡ true) same (and-eq-true-iff (leZ a a) (leZ a a) .1 (at-most-self a, at-most-self a)))

@@ -58,6 +58,3 @@ module _ {n m : ℤ} {r : Text.Text} {before after : List ℕ} (a : Written n m 
 
   pub text-stops : {k : ℕ} → r ≡ Text.the-variants.Stops k → textOf n m ≡ stop k
   text-stops e = sym (a .text) ∙ ap (λ (x : Text.Text). textWorked x after) e
-
-  pub text-keeps : {k : ℕ} → r ≡ Text.the-variants.Stops k → after ≡ before
-  text-keeps e = subst (λ (x : Text.Text). Settled x before after) e (a .settled)

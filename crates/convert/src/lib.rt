@@ -1,24 +1,22 @@
 // Numbers and their text: the operators on numbers, comparisons, NUMERIC, NUMBER and STRING. A number is an i64 from -LIMIT to LIMIT.
 // Assumes nothing.
 ghost use mathlib.Core.Path.{_≡_};
-ghost use Prim.Native.Nat.{ℕ, _+_, _≤_, _<_, _^_};
+ghost use Prim.Native.Nat.{_+_, _≤_, _<_, _^_};
 ghost use mathlib.Core.Bool.{cond};
 ghost use lib.IntN.{pos, negℤ, natAbs};
 ghost use lib.ListN.{length, drop, replicate};
 ghost use Rattle.base.specs.Edition.{edition1};
 ghost use Rattle.machine.specs.Expressions.{compared};
 ghost use Rattle.machine.specs.State.{Memory};
-ghost use Rattle.values.specs.Conversion.{isDigitOrBlank, digitOf, decimal, digits, isNumeric, numberOf, signOf, textOf};
+ghost use Rattle.values.specs.Conversion.{isDigitOrBlank, digitOf, decimal, digits, isNumeric, numberOf, signOf};
 ghost use Rattle.values.specs.Numbers.{isNegative, sum, difference, product, quotient};
 ghost use Rattle.values.specs.Numbers as Numbers;
 ghost use Rattle.convert.specs.Numbers.{limit, InRange, BothInRange, Gives, Answers, signLength, Capped, comparison};
 ghost use Rattle.convert.specs.Text.{longest, Stored, filledText, Room, Writable, Written};
+use base::LONGEST;
 
 // numbers run from -LIMIT to LIMIT
 pub const LIMIT: u64 = 8_388_607;
-
-// the longest string
-pub const LONGEST: usize = 1024;
 
 // a number of the language
 pub struct Int {

@@ -1,5 +1,4 @@
 -- Operands that take no work: a constant, and a number. Assumes nothing.
-use mathlib.Core.List.{List}
 use mathlib.Core.Path.{_≡_, refl, ap, subst}
 use Prim.Native.Nat.{ℕ}
 use lib.IntN.{ℤ}

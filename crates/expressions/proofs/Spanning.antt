@@ -16,9 +16,6 @@ use Rattle.cells.specs.Contracts.{stringOf}
 use Rattle.convert.specs.Numbers.{limit, Gives}
 use Rattle.convert.specs.declared.Int.{Int}
 use Rattle.machine.specs.State.{mostNumbers, numberAt}
-use Rattle.rows.specs.Holds.{LengthHolds, SignedLengthHolds}
-use Rattle.rows.specs.declared.Length.{Length}
-use Rattle.rows.specs.declared.Length.the-variants as lengths
 use Rattle.values.specs.Conversion.{substring}
 use Rattle.values.specs.Numbers.{isNegative}
 use Rattle.values.specs.Work.{done}
@@ -53,11 +50,6 @@ module _ (state : List ℕ) (n : Numbered state) (i : ℕ) (h : i < 32) where
   number-gives r e store =
       let same : r .value ≡ getD (numbersIn state) i (pos 0) = e ∙ sym number-entry in
       record { value = same; range = subst (λ (z : ℤ). natAbs z ≤ limit) (sym same) (n .range i) }
-
--- a length of a string is one of STRING's
-pub length-signed : (n : Length) → LengthHolds n → SignedLengthHolds n
-length-signed (lengths.Constant z) h = h .range
-length-signed (lengths.Number i) h = h
 
 -- the first bytes of a string of a good store
 module _ (store : List ℕ) (g : Good store) (s : ℕ) (h : s < 32) (from : ℕ) (start : from ≡ 1026 * s + 2) where

@@ -5,6 +5,7 @@ use Prim.Native.Nat.{ℕ, _+_, _*_, _-_, _≤_, _<_}
 use native.Mathlib.Omega.{arith}
 use lib.ListN.{length, length-append}
 use Rattle.base.specs.Edition.{edition1}
+use Rattle.calls.specs.ReadingLaws.{elements-more, elements-none}
 use Rattle.calls.specs.Table.{elementsAt}
 use Rattle.calls.specs.TableReading.{cellAt, elementsFrom}
 use Rattle.convert.specs.declared.Text.{Text}
@@ -19,7 +20,7 @@ use Rattle.values.specs.Work.{stop}
 use Rattle.expressions.specs.Notes.{few-done, few-element}
 use Rattle.expressions.specs.Appending.{Added, Adding}
 use Rattle.expressions.specs.Values.{Keeps, Spells}
-use Rattle.expressions.proofs.Working.{elements-more, elements-none, stringFrom, string-begins, string-more, string-stops, string-ends}
+use Rattle.expressions.proofs.Working.{stringFrom, string-begins, string-more, string-stops, string-ends}
 
 pub record Spelling (m : Memory) (t : List ℕ) (from count : ℕ) (out scratch : List ℕ) (size notes at left : ℕ) : Type 0 where
   pub value : List ℕ

@@ -7,6 +7,7 @@ use native.Mathlib.Omega.{arith}
 use lib.IntN.{ℤ, pos}
 use lib.ListN.{getD, replicate}
 use Rattle.base.specs.Edition.{edition1}
+use Rattle.calls.specs.ReadingLaws.{items-more, items-none}
 use Rattle.calls.specs.Rules.{balanced}
 use Rattle.calls.specs.Table.{itemsAt}
 use Rattle.calls.specs.TableReading.{cellAt, itemOfCell, itemsFrom}
@@ -21,7 +22,7 @@ use Rattle.expressions.specs.Waiting.{waitingIn, Waits, Finds, waitingAf
 use Rattle.expressions.specs.declared.Known.{Known}
 use Rattle.expressions.specs.declared.Known.the-variants.{Is, Stops}
 use Rattle.expressions.proofs.Waiting.{waits-none, balanced-more, balanced-end, after-most}
-use Rattle.expressions.proofs.Working.{items-more, items-none, numericFrom, numeric-begins, numeric-more, numeric-stops, numeric-ends}
+use Rattle.expressions.proofs.Working.{numericFrom, numeric-begins, numeric-more, numeric-stops, numeric-ends}
 
 pub record Valuing (m : Memory) (t : List ℕ) (from count : ℕ) (waiting : List ℤ) (known notes at left : ℕ) : Type 0 where
   pub waits : Waits waiting

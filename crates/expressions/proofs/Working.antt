@@ -1,8 +1,8 @@
 -- Work that follows other work, as answers stand for it. Assumes nothing.
 use mathlib.Core.List.{List, [], _∷_, _++_, append-assoc, append-nil}
 use mathlib.Core.Path.{_≡_, refl, sym, ap, ap₂, _∙_}
-use Prim.Native.Nat.{ℕ, zero, suc, _+_, _*_, _-_, _≤_, _<_}
-use native.Mathlib.Nat.{add-assoc, zero-add, add-zero, not-suc-le-zero}
+use Prim.Native.Nat.{ℕ, _+_, _-_}
+use native.Mathlib.Nat.{add-zero}
 use native.Mathlib.Omega.{arith}
 use lib.Dec.{eqb}
 use lib.IntN.{ℤ}
@@ -10,8 +10,6 @@ use lib.ListN.{length}
 use borrow.Author.Tests.{eq-eqb, ne-eqb}
 use Rattle.base.specs.Edition.{edition1}
 use Rattle.base.specs.Lists.{isNil}
-use Rattle.calls.specs.Table.{itemsAt, elementsAt}
-use Rattle.calls.specs.TableReading.{cellAt, itemOfCell, elementOfCell, itemsFrom, elementsFrom}
 use Rattle.convert.specs.Laws.{number-is, number-range, number-stops}
 use Rattle.convert.specs.Numbers.{Answers}
 use Rattle.convert.specs.declared.Int.{Int}
@@ -21,6 +19,7 @@ use Rattle.language.specs.Program.{Item, Element}
 use Rattle.machine.specs.Expressions.{itemIn, itemsIn, latest, numericIn, elementIn, stringIn}
 use Rattle.machine.specs.State.{Memory}
 use Rattle.values.specs.Work.{Work, done, stop, noting, quietly, _>>=_}
+use Rattle.values.specs.WorkLaws.{noting-none, noting-more, bind-noting, quiet}
 
 -- an answer that comes behind notes
 module _ (n : ℕ) {r : Number} {w : Work ℤ} (a : Answers r w) where
@@ -31,61 +30,6 @@ module _ (n : ℕ) {r : Number} {w : Work ℤ} (a : Answers r w) where
   pub number-stopped : {k : ℕ} → r ≡ numbers.Stops k → Answers (numbers.Stops k) (noting n w)
   unfolding noting
   number-stopped e = record { work = ap (noting n) (sym (number-stops a e)); range = tt }
-
--- notes on top of others
-module _ {A : Type 0} where
-  noting-none : (w : Work A) → noting 0 w ≡ w
-  unfolding noting
-  noting-none (done a n) = ap (done a) (zero-add n)
-  noting-none (stop k) = refl
-
-  noting-more : (n more : ℕ) (w : Work A) → noting n (noting more w) ≡ noting (n + more) w
-  unfolding noting
-  noting-more n more (done a k) = ap (done a) (sym (add-assoc n more k))
-  noting-more n more (stop k) = refl
-
-bind-noting : {A B : Type 0} (n : ℕ) (w : Work A) (f : A → Work B) → (noting n w >>= f) ≡ noting n (w >>= f)
-unfolding noting _>>=_
-bind-noting n (done a k) f = sym (noting-more n k (f a))
-bind-noting n (stop k) f = refl
-
--- rows that are read one behind the other
-module _ {A : Type 0} (single : ℕ → A) (rows : ℕ → ℕ → List A) where
-  rows-more : ((at n : ℕ) → rows at (suc n) ≡ single at ∷ rows (at + 1) n) → (at n : ℕ) → 0 < n
-      → rows at n ≡ single at ∷ rows (at + 1) (n - 1)
-  rows-more next at zero h = absurd (not-suc-le-zero h)
-  rows-more next at (suc n) h =
-      let back : n ≡ suc n - 1 = omega arith in
-      next at n ∙ ap (λ (k : ℕ). single at ∷ rows (at + 1) k) back
-
-  rows-none : ((at : ℕ) → rows at 0 ≡ []) → (at n : ℕ) → n ≤ 0 → rows at n ≡ []
-  rows-none none at zero h = none at
-  rows-none none at (suc n) h = absurd (not-suc-le-zero h)
-
--- the items and elements of a stretch
-module _ (t : List ℕ) where
-  pub items-more : (at n : ℕ) → 0 < n → itemsFrom t at n ≡ itemOfCell (cellAt t (itemsAt + 8 * at)) ∷ itemsFrom t (at + 1) (n - 1)
-  unfolding itemsFrom
-  items-more = rows-more (λ at. itemOfCell (cellAt t (itemsAt + 8 * at))) (itemsFrom t) (λ at n. refl)
-
-  pub items-none : (at n : ℕ) → n ≤ 0 → itemsFrom t at n ≡ []
-  unfolding itemsFrom
-  items-none = rows-none (λ at. itemOfCell (cellAt t (itemsAt + 8 * at))) (itemsFrom t) (λ at. refl)
-
-  pub elements-more : (at n : ℕ) → 0 < n
-      → elementsFrom t at n ≡ elementOfCell t (cellAt t (elementsAt + 8 * at)) ∷ elementsFrom t (at + 1) (n - 1)
-  unfolding elementsFrom
-  elements-more = rows-more (λ at. elementOfCell t (cellAt t (elementsAt + 8 * at))) (elementsFrom t) (λ at n. refl)
-
-  pub elements-none : (at n : ℕ) → n ≤ 0 → elementsFrom t at n ≡ []
-  unfolding elementsFrom
-  elements-none = rows-none (λ at. elementOfCell t (cellAt t (elementsAt + 8 * at))) (elementsFrom t) (λ at. refl)
-
--- a value passed on
-quiet : {A : Type 0} (w : Work A) → (w >>= λ a. quietly a) ≡ w
-unfolding _>>=_ noting quietly
-quiet (done a n) = ap (done a) (add-zero n)
-quiet (stop k) = refl
 
 -- a string put in front of one, and then another in front of both
 quiet-front : (u v : List ℕ) (w : Work (List ℕ)) → ((w >>= λ vs. quietly (v ++ vs)) >>= λ vs. quietly (u ++ vs))

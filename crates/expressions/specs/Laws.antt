@@ -2,10 +2,7 @@
 use mathlib.Core.Bool.{Bool}
 use mathlib.Core.List.{List}
 use mathlib.Core.Path.{_≡_, sym, ap, subst, _∙_}
-use Prim.Native.Nat.{ℕ, _≤_}
-use native.Mathlib.Omega.{arith}
-use lib.ListN.{take}
-use lib.Seq.{take-all}
+use Prim.Native.Nat.{ℕ}
 use Rattle.convert.specs.declared.Text.{Text}
 use Rattle.convert.specs.declared.Text.the-variants as texts
 use Rattle.values.specs.Work.{Work, done, stop}
@@ -20,13 +17,6 @@ module _ {r : Text} {out scratch : List ℕ} {w : Work (List ℕ)} (a : Written 
 
   pub string-stops : {k : ℕ} → r ≡ texts.Stops k → w ≡ stop k
   string-stops e = subst (λ (x : Text). Spelt x out w) e (a .spelt)
-
--- a string that is not too long is what was written
-pub spells-whole : {n notes : ℕ} (out : List ℕ) {w : Work (List ℕ)} → Spells n notes out w → n ≤ 1024 → w ≡ done (take n out) notes
-spells-whole {n} {notes} out s h =
-    s .work
-    ∙ ap (λ (v : List ℕ). done v notes)
-    (sym (ap (λ (k : ℕ). take k out) (s .size) ∙ s .kept ∙ take-all 1024 (s .value) (omega (arith, s .size))))
 
 -- a test that was made, and one that stops
 module _ {r : Truth} {w : Work Bool} (a : truthWorked r ≡ w) where

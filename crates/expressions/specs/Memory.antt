@@ -1,7 +1,7 @@
 -- The memory that a store and a state hold, and when values can be found in it. Assumes nothing.
 use mathlib.Core.Bool.{true, and-eq-true-iff}
 use mathlib.Core.List.{List, [], _∷_}
-use mathlib.Core.Path.{_≡_, refl, subst}
+use mathlib.Core.Path.{_≡_, subst}
 use Prim.Native.Nat.{ℕ, zero, suc, _≤_}
 use native.Mathlib.Omega.{arith}
 use lib.IntN.{ℤ, pos, natAbs}
@@ -10,7 +10,7 @@ use borrow.Author.Tests.{leb-true}
 use Rattle.base.specs.Edition.{edition1}
 use Rattle.base.specs.Lists.{all}
 use Rattle.calls.specs.BufferLaws.{Good, keeps-good}
-use Rattle.calls.specs.Buffers.{stringsIn, numbersIn, storeKeeps, stateKeeps, stateIn}
+use Rattle.calls.specs.Buffers.{stringsIn, numbersIn, storeKeeps, stateKeeps}
 use Rattle.calls.specs.GivenLaws.{state-in-range}
 use Rattle.convert.specs.Laws.{limit-is}
 use Rattle.convert.specs.Numbers.{limit}
@@ -48,8 +48,3 @@ module _ (steps input output : ℕ) (state : List ℕ) (size : length state ≡ 
 
   pub keeps-ready : (store : List ℕ) → storeKeeps store ≡ true → Ready store state
   keeps-ready store h = record { strings = keeps-good store h; numbers = keeps-numbered }
-
--- the memory is that of the machine that the buffers hold
-pub memory-is : (store state input output : List ℕ) → stateIn store state input output .memory ≡ memoryIn store state
-unfolding stateIn
-memory-is store state input output = refl

@@ -1,7 +1,7 @@
 -- How many notes come with operands, expressions and tests: few enough to be counted in 32 bits. Assumes nothing.
 use mathlib.Core.List.{List, [], _∷_, _++_}
-use mathlib.Core.Path.{_≡_, refl, ap, subst}
-use Prim.Native.Nat.{ℕ, zero, suc, _+_, _*_, _≤_}
+use mathlib.Core.Path.{_≡_, subst}
+use Prim.Native.Nat.{ℕ, suc, _+_, _≤_}
 use native.Mathlib.Omega.{arith}
 use lib.Dec.{eqb, leb, ltb}
 use lib.IntN.{ℤ, natAbs}
@@ -10,12 +10,13 @@ use Rattle.base.specs.Choice.{cond-cases}
 use Rattle.base.specs.Edition.{Edition}
 use Rattle.base.specs.Lists.{begins}
 use Rattle.base.specs.Text.{bytes}
-use Rattle.calls.specs.TableReading.{itemsFrom, elementsFrom}
+use Rattle.calls.specs.ReadingLaws.{length-elements}
+use Rattle.calls.specs.TableReading.{elementsFrom}
 use Rattle.language.specs.Program.{Part, whole, first, Operand, constant, number, lengthOf, numberOf}
 use Rattle.language.specs.Program.{Operator, plus, minus, times, over, Item, operand, operator, sign}
-use Rattle.language.specs.Program.{Element, literal, part, text, Test, isNull, isNumeric, compares}
-use Rattle.machine.specs.Expressions.{lengthIn, partIn, operandIn, operation, combined, itemIn, itemsIn, latest, numericIn}
-use Rattle.machine.specs.Expressions.{elementIn, stringIn, compared, numericPart, testIn}
+use Rattle.language.specs.Program.{Element, literal, part, text, isNumeric}
+use Rattle.machine.specs.Expressions.{lengthIn, partIn, operandIn, operation, combined, itemIn}
+use Rattle.machine.specs.Expressions.{elementIn, stringIn}
 use Rattle.machine.specs.State.{Memory, numberAt}
 use Rattle.values.specs.Conversion as Conversion
 use Rattle.values.specs.Conversion.{substring, unsignedPart, decimal, signedBy, textOf, filled, longestString, signOf, digits}
@@ -105,18 +106,6 @@ module _ (e : Edition) (m : Memory) where
       few-more 0 2 (combined e m (operation e m o) known) (omega arith) (few-combined (operation e m o) (few-operation o) known)
   few-item known (sign s) = omega arith
 
-  -- at most two for each item
-  few-items : (known : List ℤ) (is : List Item) → Few (2 * length is) (itemsIn e m known is)
-  unfolding itemsIn quietly
-  few-items known [] = omega arith
-  few-items known (x ∷ is) =
-      few-more (2 + 2 * length is) (2 * suc (length is)) (itemIn e m known x >>= λ more. itemsIn e m more is) (omega arith)
-      (few-bind 2 (2 * length is) (itemIn e m known x) (λ more. itemsIn e m more is) (few-item known x) (λ more. few-items more is))
-
-  pub few-numeric : (is : List Item) → Few (2 * length is) (numericIn e m is)
-  unfolding numericIn
-  few-numeric is = few-quiet (2 * length is) (itemsIn e m [] is) (latest e m) (few-items [] is)
-
   -- at most one for each element
   pub few-element : (x : Element) → Few 1 (elementIn e m x)
   unfolding elementIn quietly
@@ -133,31 +122,7 @@ module _ (e : Edition) (m : Memory) where
       (few-bind 1 (length xs) (elementIn e m x) behind (few-element x)
       (λ v. few-quiet (length xs) (stringIn e m xs) (λ vs. v ++ vs) (few-string xs)))
 
-  pub few-test : (t : Test) → Few 4 (testIn e m t)
-  unfolding testIn numericPart quietly
-  few-test (isNull s) = omega arith
-  few-test (isNumeric p) =
-      let w = partIn m p >>= λ s. quietly (Conversion.isNumeric s) in
-      few-more 1 4 w (omega arith) (few-quiet 1 (partIn m p) Conversion.isNumeric (few-part m p))
-  few-test (compares a c b) =
-      few-bind 2 2 (operandIn e m a) (λ x. operandIn e m b >>= λ y. quietly (compared e m c x y)) (few-operand a)
-      (λ x. few-quiet 2 (operandIn e m b) (compared e m c x) (few-operand b))
-
   -- the expressions of a table
-  pub few-items-valued : (t : List ℕ) (at n : ℕ) → Few (2 * n) (numericIn e m (itemsFrom t at n))
-  unfolding itemsFrom
-  few-items-valued t at n =
-      subst (λ (k : ℕ). Few (2 * k) (numericIn e m (itemsFrom t at n))) (count at n) (few-numeric (itemsFrom t at n))
-    where
-      count : (at n : ℕ) → length (itemsFrom t at n) ≡ n
-      count at zero = refl
-      count at (suc n) = ap suc (count (at + 1) n)
-
   pub few-elements-spelt : (t : List ℕ) (at n : ℕ) → Few n (stringIn e m (elementsFrom t at n))
-  unfolding elementsFrom
   few-elements-spelt t at n =
-      subst (λ (k : ℕ). Few k (stringIn e m (elementsFrom t at n))) (count at n) (few-string (elementsFrom t at n))
-    where
-      count : (at n : ℕ) → length (elementsFrom t at n) ≡ n
-      count at zero = refl
-      count at (suc n) = ap suc (count (at + 1) n)
+      subst (λ (k : ℕ). Few k (stringIn e m (elementsFrom t at n))) (length-elements t at n) (few-string (elementsFrom t at n))

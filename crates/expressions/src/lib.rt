@@ -24,6 +24,9 @@ ghost use Rattle.expressions.specs.Notes.{Few};
 ghost use Rattle.expressions.specs.Pairs.{PairAt};
 ghost use Rattle.expressions.specs.Values.{spanned, Lies, Spans, thenNumber, thenNumeric, Valuable, Spellable, Written, truthWorked};
 ghost use Rattle.expressions.specs.Waiting.{waitingIn, pushed, signedAs, Waits, Keepable, waitingAfter, Takable, Taken};
+use base::LONGEST;
+use calls::NUMBERS_AT;
+use calls::WAITING;
 use convert::Int;
 use convert::Number;
 use convert::Text;
@@ -38,17 +41,8 @@ use rows::Sign;
 use rows::Stretch;
 use rows::Test;
 
-// where a state's numbers start
-const NUMBERS_AT: usize = 21;
-
-// the most numbers that wait for an operator
-const WAITING: usize = 64;
-
 // the last of the kinds that operands have in a cell
 const LAST_OPERAND: usize = 9;
-
-// the longest string
-const LONGEST: usize = 1024;
 
 // where bytes of the store lie, with the notes made on the way
 pub struct Ends {

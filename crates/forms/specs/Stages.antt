@@ -6,7 +6,7 @@ use Prim.Native.Nat.{ℕ, _/_, _≤_}
 use lib.ListN.{length, drop}
 use Rattle.base.specs.Edition.{edition1}
 use Rattle.base.specs.Lists.{begins, total}
-use Rattle.branches.specs.Branches.{labelIn}
+use Rattle.branches.specs.Branches.{targetIn}
 use Rattle.branches.specs.Places.{numberIn}
 use Rattle.branches.specs.Rows.{rowMeaning}
 use Rattle.branches.specs.Tests.{testAlone}
@@ -18,9 +18,9 @@ use Rattle.calls.specs.Table.{partCell, replacementOf}
 use Rattle.language.specs.Forms.{branch, branchIfAny, replacementIfAny}
 use Rattle.language.specs.Numeric.{test}
 use Rattle.language.specs.Program.{PatternElement, value}
-use Rattle.language.specs.Reading.{routine, declaring, naming, Read, broken}
+use Rattle.language.specs.Reading.{Read, broken}
 use Rattle.language.specs.Strings.{stringExpression, pattern}
-use Rattle.language.specs.Words.{nameAs, partName}
+use Rattle.language.specs.Words.{partName}
 use Rattle.met.specs.Entries.{roleOf}
 use Rattle.met.specs.Known.{placesIn}
 use Rattle.met.specs.declared.Cursor.{Cursor}
@@ -80,14 +80,8 @@ NamesStage y puts text keys tags r q keys′ tags′ =
     (table : List ℕ) → StageRead y (λ _. puts) (λ _. []) text table keys tags r q table keys′ tags′
 
 -- each part of a form
-abbrev pub LabelStage : (text known keys tags : List ℕ) (r q : Draft) (keys′ tags′ : List ℕ) → Type 0
-LabelStage text known = NamesStage (labelIn known) (λ s. withSteps s 0) text
-
-abbrev pub EntryStage : (text known keys tags : List ℕ) (r q : Draft) (keys′ tags′ : List ℕ) → Type 0
-EntryStage text known = NamesStage (nameAs (naming routine [])) (λ n. withSteps (placesIn known .entry n) 0) text
-
-abbrev pub ExitStage : (text known keys tags : List ℕ) (r q : Draft) (keys′ tags′ : List ℕ) → Type 0
-ExitStage text known = NamesStage (nameAs (declaring routine)) (λ n. withSteps (placesIn known .exit n) 0) text
+abbrev pub TargetStage : (text known keys tags : List ℕ) (tag : ℕ) (r q : Draft) (keys′ tags′ : List ℕ) → Type 0
+TargetStage text known keys tags tag = NamesStage (targetIn known tag) (λ s. withSteps s 0) text keys tags
 
 abbrev pub PartStage : (text known keys tags : List ℕ) (tag : ℕ) (r q : Draft) (keys′ tags′ : List ℕ) → Type 0
 PartStage text known keys tags tag =

@@ -8,20 +8,21 @@ use native.Mathlib.Omega.{arith}
 use lib.ListN.{length, drop}
 use Rattle.base.specs.Edition.{edition1}
 use Rattle.base.specs.Text.{bytes}
-use Rattle.branches.specs.Branches.{labelIn}
+use Rattle.branches.specs.BranchLaws.{target-then}
+use Rattle.branches.specs.Branches.{targetIn}
 use Rattle.branches.specs.Places.{numberIn}
 use Rattle.branches.specs.Tests.{testAlone}
 use Rattle.branches.specs.declared.Draft.{Draft}
 use Rattle.calls.specs.Table as Table
 use Rattle.calls.specs.Table.{partCell, rangeCell, rowOf, testRow, elementsOf, itemsOf, replacementOf, replacementFlag, directionNumber, noCell}
 use Rattle.language.specs.Forms.{stepEnd, withoutUnit, branch, branchIfAny, ifForm, replacementIfAny, scanForm, readForm, writeForm}
-use Rattle.language.specs.Forms.{gotoForm, routineForm, executeForm}
+use Rattle.language.specs.Forms.{labelName, gotoForm, routineForm, executeForm}
 use Rattle.language.specs.Numeric.{test}
 use Rattle.language.specs.Program.{Part, Branch, Test, isNull, isNumeric, compares, Element, PatternElement, value, Direction, Statement}
 use Rattle.language.specs.Program.{setString, goto, ifTest, scan, read, write, execute}
-use Rattle.language.specs.Reading.{routine, declaring, naming, Read, _>>=_, skip}
+use Rattle.language.specs.Reading.{Read, _>>=_, skip}
 use Rattle.language.specs.Strings.{stringExpression, pattern}
-use Rattle.language.specs.Words.{nameAs, noRole, partName}
+use Rattle.language.specs.Words.{noRole, partName}
 use Rattle.met.specs.Entries.{roleOf}
 use Rattle.met.specs.Known.{placesIn}
 use Rattle.met.specs.declared.Cursor.{Cursor}
@@ -31,7 +32,7 @@ use Rattle.forms.specs.FormLaws.{going-start, going-more, going-ended}
 use Rattle.forms.specs.Rows.{begunAs, bare, withSteps, withBranch, withLeft, withRange, withReplacement}
 use Rattle.forms.specs.StageLaws.{marked-stage}
 use Rattle.forms.specs.Stages.{markedBy, StageRead, NamesStage}
-use Rattle.forms.specs.Steps.{FormAt, stringSet}
+use Rattle.forms.specs.Steps.{FormAt, Leads, stringSet}
 
 -- a cursor that stays
 pub stays : (c : Cursor) → Skips c 0 c
@@ -69,28 +70,42 @@ one-stage {U} y puts eu step kind flag {c = c} n {d} s ready on is makes same no
     (λ _ _. refl) (λ _ u. ap (λ m. puts m u (bare kind flag)) (add-zero (c .elements))) (λ _ _. refl) (begunAs kind flag d) q
     (going-start (λ rest. y rest >>= λ (u, l). stepEnd (step u) l) n s on is) a)
 
-module _ (known : List ℕ) {text table keys tags : List ℕ} {c : Cursor} (ready : Ready text keys tags c) (q : Draft) {k g : List ℕ} where
-  pub goto-read : StageRead (labelIn known) (λ _ s. withSteps s 0) (λ _. []) text table keys tags (begunAs 3 0 c) q table k g
-      → FormAt (gotoForm edition1 (numberIn known) (placesIn known) (drop (c .at) text)) text table keys tags c (endedBy text q) table k g
-  unfolding gotoForm rowOf elementsOf itemsOf Table.row noCell
-  goto-read a =
-      one-stage (labelIn known) (λ _ s. withSteps s 0) (λ _. []) goto 3 0 0 (stays c) ready ready refl (λ _. refl) (λ _. refl) (λ _. refl) q a
+-- GOTO, ROUTINE and EXECUTE
+pub target-read : (known : List ℕ) (kind tag : ℕ) {form : List ℕ → Read (Option Statement)} → Leads known kind tag form
+    → {text table keys tags : List ℕ} {c : Cursor} → Ready text keys tags c → (q : Draft) {k g : List ℕ}
+    → StageRead (targetIn known tag) (λ _ s. withSteps s 0) (λ _. []) text table keys tags (begunAs kind 0 c) q table k g
+    → FormAt (form (drop (c .at) text)) text table keys tags c (endedBy text q) table k g
+target-read known kind tag l {text} {c = c} ready q a =
+    one-stage (targetIn known tag) (λ _ s. withSteps s 0) (λ _. []) (l .statement) kind 0 0 (stays c) ready ready (l .is (drop (c .at) text))
+    (l .row (c .elements) (c .items)) (l .noElements) (l .noItems) q a
 
-  pub routine-read : StageRead (nameAs (declaring routine)) (λ _ n. withSteps (placesIn known .exit n) 0) (λ _. []) text table keys tags
-      (begunAs 3 0 c) q table k g
-      → FormAt (routineForm edition1 (numberIn known) (placesIn known) (drop (c .at) text)) text table keys tags c (endedBy text q) table k g
+module _ (known : List ℕ) where
+  pub goto-leads : Leads known 3 1 (gotoForm edition1 (numberIn known) (placesIn known))
+  unfolding gotoForm labelName targetIn rowOf elementsOf itemsOf Table.row noCell
+  goto-leads =
+      record { statement = goto; is = λ _. refl; row = λ _ _ _. refl; noElements = λ _. refl; noItems = λ _. refl }
+
+  pub routine-leads : Leads known 3 10 (routineForm edition1 (numberIn known) (placesIn known))
   unfolding routineForm rowOf elementsOf itemsOf Table.row noCell
-  routine-read a =
-      one-stage (nameAs (declaring routine)) (λ _ n. withSteps (placesIn known .exit n) 0) (λ _. []) (λ n. goto (placesIn known .exit n)) 3 0 0
-      (stays c) ready ready refl (λ _. refl) (λ _. refl) (λ _. refl) q a
+  routine-leads =
+      record {
+        statement = goto;
+        is = λ bs. sym (target-then known 10 bs (λ (s, rest). stepEnd (goto s) rest));
+        row = λ _ _ _. refl;
+        noElements = λ _. refl;
+        noItems = λ _. refl;
+      }
 
-  pub execute-read : StageRead (nameAs (naming routine [])) (λ _ n. withSteps (placesIn known .entry n) 0) (λ _. []) text table keys tags
-      (begunAs 11 0 c) q table k g
-      → FormAt (executeForm edition1 (numberIn known) (placesIn known) (drop (c .at) text)) text table keys tags c (endedBy text q) table k g
+  pub execute-leads : Leads known 11 2 (executeForm edition1 (numberIn known) (placesIn known))
   unfolding executeForm rowOf elementsOf itemsOf Table.row noCell
-  execute-read a =
-      one-stage (nameAs (naming routine [])) (λ _ n. withSteps (placesIn known .entry n) 0) (λ _. []) (λ n. execute (placesIn known .entry n)) 11 0
-      0 (stays c) ready ready refl (λ _. refl) (λ _. refl) (λ _. refl) q a
+  execute-leads =
+      record {
+        statement = execute;
+        is = λ bs. sym (target-then known 2 bs (λ (s, rest). stepEnd (execute s) rest));
+        row = λ _ _ _. refl;
+        noElements = λ _. refl;
+        noItems = λ _. refl;
+      }
 
 -- WRITE and PRINT
 pub output-read : (known : List ℕ) {text table keys tags : List ℕ} {c : Cursor} (n : ℕ) {d : Cursor} → Skips c n d → Ready text keys tags c

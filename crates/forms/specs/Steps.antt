@@ -1,15 +1,16 @@
 -- What the readers of each form do, from behind its keyword on. Assumes nothing.
 use mathlib.Core.Bool.{Bool}
-use mathlib.Core.List.{List}
+use mathlib.Core.List.{List, []}
 use mathlib.Core.Option.{Option}
 use mathlib.Core.Path.{_≡_}
 use Prim.Native.Nat.{ℕ, _-_, _≤_}
 use lib.ListN.{length, drop}
 use Rattle.base.specs.Edition.{edition1}
+use Rattle.branches.specs.Branches.{targetIn}
 use Rattle.branches.specs.Places.{numberIn}
-use Rattle.calls.specs.Table.{directionNumber}
+use Rattle.calls.specs.Table.{directionNumber, rowOf, elementsOf, itemsOf}
 use Rattle.language.specs.Forms.{stepEnd, noStepEnd, withoutUnit, setsNumber, replacement, ifForm, scanForm, readForm, writeForm}
-use Rattle.language.specs.Forms.{gotoForm, routineForm, executeForm, programForm, numberForm}
+use Rattle.language.specs.Forms.{programForm, numberForm}
 use Rattle.language.specs.Numeric.{numericExpression}
 use Rattle.language.specs.Program.{Direction, Statement, setNumber, setString}
 use Rattle.language.specs.Reading.{number, declaring, Read, _>>=_, skip}
@@ -20,6 +21,7 @@ use Rattle.met.specs.Known.{placesIn}
 use Rattle.met.specs.declared.Cursor.{Cursor}
 use Rattle.numeric.specs.Operands.{Skips}
 use Rattle.forms.specs.Contracts.{FormRead}
+use Rattle.forms.specs.Rows.{bare, withSteps}
 use Rattle.forms.specs.declared.Form.{Form}
 
 -- a form at a cursor: no more names than bytes are left; and one that meets names alone, with any table
@@ -36,14 +38,18 @@ pub record BehindUnit (text unit : List ℕ) (c d : Cursor) : Type 0 where
   pub is : withoutUnit unit (drop (c .at) text) ≡ drop (d .at) text
   pub inside : d .at ≤ length text
 
-abbrev pub GotoRead : (text known keys tags : List ℕ) (c : Cursor) → Form → (keys′ tags′ : List ℕ) → Type 0
-GotoRead text known keys tags c = NamesFormAt (gotoForm edition1 (numberIn known) (placesIn known) (drop (c .at) text)) text keys tags c
+-- a form that reads a name with a tag is a statement of the step it leads to, whose row has a kind and that step alone
+pub record Leads (known : List ℕ) (kind tag : ℕ) (form : List ℕ → Read (Option Statement)) : Type 0 where
+  pub statement : ℕ → Statement
+  pub is : (bs : List ℕ) → form bs ≡ (targetIn known tag bs >>= λ (s, rest). stepEnd (statement s) rest)
+  pub row : (elements items s : ℕ) → withSteps s 0 (bare kind 0) ≡ rowOf elements items (statement s)
+  pub noElements : (s : ℕ) → [] ≡ elementsOf (statement s)
+  pub noItems : (s : ℕ) → [] ≡ itemsOf (statement s)
 
-abbrev pub RoutineRead : (text known keys tags : List ℕ) (c : Cursor) → Form → (keys′ tags′ : List ℕ) → Type 0
-RoutineRead text known keys tags c = NamesFormAt (routineForm edition1 (numberIn known) (placesIn known) (drop (c .at) text)) text keys tags c
-
-abbrev pub ExecuteRead : (text known keys tags : List ℕ) (c : Cursor) → Form → (keys′ tags′ : List ℕ) → Type 0
-ExecuteRead text known keys tags c = NamesFormAt (executeForm edition1 (numberIn known) (placesIn known) (drop (c .at) text)) text keys tags c
+abbrev pub TargetFormRead : (text known keys tags : List ℕ) (c : Cursor) (kind tag : ℕ) → Form → (keys′ tags′ : List ℕ) → Type 0
+TargetFormRead text known keys tags c kind tag r keys′ tags′ =
+    (form : List ℕ → Read (Option Statement)) → Leads known kind tag form
+    → NamesFormAt (form (drop (c .at) text)) text keys tags c r keys′ tags′
 
 abbrev pub IfRead : (text known keys tags : List ℕ) (c : Cursor) → Form → (keys′ tags′ : List ℕ) → Type 0
 IfRead text known keys tags c = NamesFormAt (ifForm edition1 (numberIn known) (placesIn known) (drop (c .at) text)) text keys tags c

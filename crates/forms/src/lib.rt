@@ -8,12 +8,13 @@ use met::Cursor;
 use met::KNOWN;
 use met::NAMES;
 use met::note_name;
+use met::tags::LABEL;
 use met::tags::LABEL_DECLARED;
+use met::tags::ROUTINE;
+use met::tags::ROUTINE_DECLARED;
 use numeric::operands::skip;
 use packer::classes::is_letter;
 use packer::classes::is_letter_or_digit;
-use steps::execute_form;
-use steps::goto_form;
 use steps::if_form;
 use steps::input_form;
 use steps::numbers_form;
@@ -21,8 +22,8 @@ use steps::output_form;
 use steps::plain_form;
 use steps::program_form;
 use steps::replacement_form;
-use steps::routine_form;
 use steps::scan_form;
+use steps::target_form;
 use words::keywords::Kind;
 use words::keywords::leading;
 ghost use mathlib.Core.List.{List};
@@ -62,7 +63,7 @@ pub fn read_form(
         Kind::Number => numbers_form(text, keys, tags, d),
         Kind::Program => program_form(text, keys, tags, d),
         Kind::End => plain_form(text, d, 4),
-        Kind::Goto => goto_form(text, known, keys, tags, d),
+        Kind::Goto => target_form(text, known, keys, tags, d, 3, LABEL),
         Kind::Exit => plain_form(text, d, 4),
         Kind::If => if_form(text, known, keys, tags, d),
         Kind::Scan => scan_form(text, known, table, keys, tags, d, 1),
@@ -70,8 +71,8 @@ pub fn read_form(
         Kind::Read => input_form(text, known, keys, tags, d),
         Kind::Write => output_form(text, known, table, keys, tags, d),
         Kind::Print => output_form(text, known, table, keys, tags, d),
-        Kind::Routine => routine_form(text, known, keys, tags, d),
-        Kind::Execute => execute_form(text, known, keys, tags, d),
+        Kind::Routine => target_form(text, known, keys, tags, d, 3, ROUTINE_DECLARED),
+        Kind::Execute => target_form(text, known, keys, tags, d, 11, ROUTINE),
         Kind::EndRoutine => plain_form(text, d, 12),
         Kind::Return => plain_form(text, d, 12),
         Kind::Unknown => Form::Broken,

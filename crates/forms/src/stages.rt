@@ -6,9 +6,7 @@ use branches::Row;
 use branches::Target;
 use branches::places::next_step;
 use branches::read_branch;
-use branches::read_entry;
-use branches::read_exit;
-use branches::read_label;
+use branches::read_target;
 use branches::tests::read_test;
 use met::Cursor;
 use met::KNOWN;
@@ -24,8 +22,9 @@ use words::stands_at;
 ghost use mathlib.Core.Path.{_≡_};
 ghost use Prim.Native.Nat.{_≤_, _<_};
 ghost use lib.ListN.{length};
+ghost use Rattle.branches.specs.Branches.{TargetTag};
 ghost use Rattle.forms.specs.Rows.{begunAs, stepsIn, leftIn, rightIn, rangeIn};
-ghost use Rattle.forms.specs.Stages.{Inward, markedBy, Standing, LabelStage, EntryStage, ExitStage, PartStage};
+ghost use Rattle.forms.specs.Stages.{Inward, markedBy, Standing, TargetStage, PartStage};
 ghost use Rattle.forms.specs.Stages.{TestStage, BranchStage, BranchIfAnyStage, StringsStage, PatternStage, Following, ReplacedStage};
 ghost use Rattle.met.specs.Known.{Counted};
 ghost use Rattle.numeric.specs.Operands.{StringTag};
@@ -126,63 +125,23 @@ pub fn marked(text: &[u8], r: Draft, mark: u8) -> Draft
     }
 }
 
-// to the step of a label
-pub fn to_label(
+// to the step of a name with a tag
+pub fn to_target(
     text: &[u8],
     known: &[u64; KNOWN],
     keys: &mut [u64; NAMES],
     tags: &mut [u8; NAMES],
     r: Draft,
+    tag: u8,
 ) -> Draft
     requires { ⌜ Standing (now text) (now keys) (now tags) r ⌝ }
     requires { ⌜ Counted (now known) ⌝ }
-    ensures { λ q. ⌜ LabelStage (now (text .entry)) (now (known .entry)) (now (keys .entry)) (now (tags .entry)) r q (now (keys .exit)) (now (tags .exit)) ⌝ }
+    requires { ⌜ TargetTag tag ⌝ }
+    ensures { λ q. ⌜ TargetStage (now (text .entry)) (now (known .entry)) (now (keys .entry)) (now (tags .entry)) tag r q (now (keys .exit)) (now (tags .exit)) ⌝ }
 {
     match r {
         Draft::Broken => Draft::Broken,
-        Draft::Got(row, c) => match read_label(text, known, keys, tags, c) {
-            Target::Broken => Draft::Broken,
-            Target::Got(step, d) => Draft::Got(with_steps(row, step, 0), d),
-        },
-    }
-}
-
-// to the step behind a routine's ROUTINE
-pub fn to_entry(
-    text: &[u8],
-    known: &[u64; KNOWN],
-    keys: &mut [u64; NAMES],
-    tags: &mut [u8; NAMES],
-    r: Draft,
-) -> Draft
-    requires { ⌜ Standing (now text) (now keys) (now tags) r ⌝ }
-    requires { ⌜ Counted (now known) ⌝ }
-    ensures { λ q. ⌜ EntryStage (now (text .entry)) (now (known .entry)) (now (keys .entry)) (now (tags .entry)) r q (now (keys .exit)) (now (tags .exit)) ⌝ }
-{
-    match r {
-        Draft::Broken => Draft::Broken,
-        Draft::Got(row, c) => match read_entry(text, known, keys, tags, c) {
-            Target::Broken => Draft::Broken,
-            Target::Got(step, d) => Draft::Got(with_steps(row, step, 0), d),
-        },
-    }
-}
-
-// to the step behind the ENDROUTINE of a routine that is declared
-pub fn to_exit(
-    text: &[u8],
-    known: &[u64; KNOWN],
-    keys: &mut [u64; NAMES],
-    tags: &mut [u8; NAMES],
-    r: Draft,
-) -> Draft
-    requires { ⌜ Standing (now text) (now keys) (now tags) r ⌝ }
-    requires { ⌜ Counted (now known) ⌝ }
-    ensures { λ q. ⌜ ExitStage (now (text .entry)) (now (known .entry)) (now (keys .entry)) (now (tags .entry)) r q (now (keys .exit)) (now (tags .exit)) ⌝ }
-{
-    match r {
-        Draft::Broken => Draft::Broken,
-        Draft::Got(row, c) => match read_exit(text, known, keys, tags, c) {
+        Draft::Got(row, c) => match read_target(text, known, keys, tags, c, tag) {
             Target::Broken => Draft::Broken,
             Target::Got(step, d) => Draft::Got(with_steps(row, step, 0), d),
         },

@@ -11,9 +11,7 @@ use crate::stages::replaced;
 use crate::stages::right_pattern;
 use crate::stages::right_strings;
 use crate::stages::tested;
-use crate::stages::to_entry;
-use crate::stages::to_exit;
-use crate::stages::to_label;
+use crate::stages::to_target;
 use branches::Draft;
 use branches::Row;
 use branches::places::number_known;
@@ -39,9 +37,10 @@ use words::stands_at;
 ghost use mathlib.Core.Path.{_≡_};
 ghost use Prim.Native.Nat.{_≤_, _<_};
 ghost use lib.ListN.{length};
+ghost use Rattle.branches.specs.Branches.{TargetTag};
 ghost use Rattle.forms.specs.Ends.{endedBy, unsteppedAt};
 ghost use Rattle.forms.specs.Rows.{begunAs};
-ghost use Rattle.forms.specs.Steps.{GotoRead, RoutineRead, ExecuteRead, IfRead, InputRead, OutputRead, StringSetRead, ScanRead};
+ghost use Rattle.forms.specs.Steps.{TargetFormRead, IfRead, InputRead, OutputRead, StringSetRead, ScanRead};
 ghost use Rattle.forms.specs.Steps.{AssignedRead, NumberSetRead, SetsNumber, ReplacementRead, ProgramRead, NumbersRead, MoreNumbersRead, BehindUnit};
 ghost use Rattle.met.specs.Known.{Counted};
 ghost use Rattle.numeric.specs.Operands.{Ready};
@@ -78,46 +77,25 @@ pub fn plain_form(text: &[u8], c: Cursor, kind: u8) -> Form
     ended(text, begun(kind, 0, c))
 }
 
-pub fn goto_form(
+// GOTO, ROUTINE and EXECUTE: a step to go to
+pub fn target_form(
     text: &[u8],
     known: &[u64; KNOWN],
     keys: &mut [u64; NAMES],
     tags: &mut [u8; NAMES],
     c: Cursor,
+    kind: u8,
+    tag: u8,
 ) -> Form
     requires { ⌜ Ready (now text) (now keys) (now tags) c ⌝ }
     requires { ⌜ Counted (now known) ⌝ }
-    ensures { λ r. ⌜ GotoRead (now (text .entry)) (now (known .entry)) (now (keys .entry)) (now (tags .entry)) c r (now (keys .exit)) (now (tags .exit)) ⌝ }
+    requires { ⌜ TargetTag tag ⌝ }
+    ensures { λ r. ⌜ TargetFormRead (now (text .entry)) (now (known .entry)) (now (keys .entry)) (now (tags .entry)) c kind tag r (now (keys .exit)) (now (tags .exit)) ⌝ }
 {
-    ended(text, to_label(text, known, keys, tags, begun(3, 0, c)))
-}
-
-pub fn routine_form(
-    text: &[u8],
-    known: &[u64; KNOWN],
-    keys: &mut [u64; NAMES],
-    tags: &mut [u8; NAMES],
-    c: Cursor,
-) -> Form
-    requires { ⌜ Ready (now text) (now keys) (now tags) c ⌝ }
-    requires { ⌜ Counted (now known) ⌝ }
-    ensures { λ r. ⌜ RoutineRead (now (text .entry)) (now (known .entry)) (now (keys .entry)) (now (tags .entry)) c r (now (keys .exit)) (now (tags .exit)) ⌝ }
-{
-    ended(text, to_exit(text, known, keys, tags, begun(3, 0, c)))
-}
-
-pub fn execute_form(
-    text: &[u8],
-    known: &[u64; KNOWN],
-    keys: &mut [u64; NAMES],
-    tags: &mut [u8; NAMES],
-    c: Cursor,
-) -> Form
-    requires { ⌜ Ready (now text) (now keys) (now tags) c ⌝ }
-    requires { ⌜ Counted (now known) ⌝ }
-    ensures { λ r. ⌜ ExecuteRead (now (text .entry)) (now (known .entry)) (now (keys .entry)) (now (tags .entry)) c r (now (keys .exit)) (now (tags .exit)) ⌝ }
-{
-    ended(text, to_entry(text, known, keys, tags, begun(11, 0, c)))
+    ended(
+        text,
+        to_target(text, known, keys, tags, begun(kind, 0, c), tag),
+    )
 }
 
 // IF: the test's row has its own kind

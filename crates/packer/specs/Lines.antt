@@ -2,22 +2,12 @@
 use mathlib.Core.Bool.{Bool, not, _&&_, _||_}
 use mathlib.Core.List.{List, _∷_}
 use mathlib.Core.Path.{_≡_}
-use Prim.Native.Nat.{ℕ, _+_, _-_, _≤_, _<_}
+use Prim.Native.Nat.{ℕ, _+_, _-_, _≤_}
 use lib.Dec.{eqb}
-use lib.ListN.{length, take, drop, getD}
+use lib.ListN.{length, take, drop}
 use Rattle.base.specs.Edition.{edition1}
 use Rattle.cards.specs.Bytes.{isBlank, slash}
 use Rattle.cards.specs.Cards.{lines, isComment, isBlankLine}
-
--- no line ends at the places from from on before to
-abbrev pub NoEnd : List ℕ → ℕ → ℕ → Type 0
-NoEnd bytes from to = (k : ℕ) → from ≤ k → k < to → getD bytes k 0 ≡ 10 → ⊥
-
--- the line that goes through from does not end before at
-pub record Passed (deck : List ℕ) (from at : ℕ) : Type 0 where
-  pub low : from ≤ at
-  pub high : at ≤ length deck
-  pub none : NoEnd deck from at
 
 -- the first line of what begins at from ends at end
 pub record Ends (deck : List ℕ) (from end : ℕ) : Type 0 where

@@ -1,61 +1,24 @@
 // One line of a deck: where it ends, whether it is sound, a comment or blank, and its parts by columns.
 // Assumes nothing.
 use crate::classes;
-ghost use mathlib.Core.Bool.{false};
 ghost use mathlib.Core.Path.{_≡_};
-ghost use Prim.Native.Nat.{_+_, _≤_, _<_};
+ghost use Prim.Native.Nat.{_<_};
 ghost use lib.ListN.{length, take, drop, getD};
 ghost use Rattle.base.specs.Edition.{edition1};
 ghost use Rattle.cards.specs.Cards.{column9, isBlankLine, isComment, soundLine, textOf};
-ghost use Rattle.packer.specs.Lines.{Ends, isSkipped, NoEnd, Passed};
+ghost use Rattle.packer.specs.Lines.{Ends, isSkipped};
 
 // the columns that count, and the longest line
 const COLUMNS: usize = 72;
 
 const LONGEST: usize = 80;
 
-// whether a line ends in a block of 16 bytes; with no early exit, so that the bytes are looked at together
-fn ends_in(block: &[u8]) -> bool
-    requires { ⌜ length (now block) ≡ 16 ⌝ }
-    ensures { λ r. ⌜ (r ≡ false → NoEnd (now (block .entry)) 0 16) ⌝ }
-{
-    let mut found = false;
-    let mut j = 0;
-    while j < 16 {
-        found = found | (block[j] == 10);
-        j += 1;
-    }
-    found
-}
-
-// a place from from on, in blocks of 16, before which the line does not end
-fn pass_blocks(deck: &[u8], from: usize) -> usize
-    requires { ⌜ from ≤ length (now deck) ⌝ }
-    ensures { λ r. ⌜ Passed (now (deck .entry)) from r ⌝ }
-{
-    let mut i = from;
-    while 16 <= deck.len() - i {
-        if ends_in(&deck[i..i + 16]) {
-            return i;
-        }
-        i += 16;
-    }
-    i
-}
-
 // where the line that starts at from ends: at its byte 10, or at the end of the deck
 pub fn line_end(deck: &[u8], from: usize) -> usize
     requires { ⌜ from < length (now deck) ⌝ }
     ensures { λ r. ⌜ Ends (now (deck .entry)) from r ⌝ }
 {
-    let mut i = pass_blocks(deck, from);
-    while i < deck.len() {
-        if deck[i] == 10 {
-            return i;
-        }
-        i += 1;
-    }
-    i
+    search::next_byte(deck, b'\n', from)
 }
 
 // whether 3 finds the line sound: at most 80 bytes, none of them refused

@@ -3,6 +3,7 @@
 ghost use Prim.Native.Nat.{_+_, _*_, _<_, _^_};
 ghost use lib.ListN.{length};
 ghost use Rattle.pattern.specs.Putting.{Put4, PutRow};
+use scanning::ROW_SIZE;
 
 // a number as four bytes at a place, low byte first
 fn put4(rows: &mut [u8], at: usize, n: usize)
@@ -21,7 +22,7 @@ pub fn put_row(rows: &mut [u8], i: usize, kind: u8, a: usize, b: usize)
     requires { ⌜ (a < 2 ^ 32) × (b < 2 ^ 32) ⌝ }
     ensures { λ r. ⌜ PutRow (now (rows .entry)) (now (rows .exit)) i kind a b ⌝ }
 {
-    let at = 12 * i;
+    let at = ROW_SIZE * i;
     rows[at] = kind;
     put4(rows, at + 4, a);
     put4(rows, at + 8, b);

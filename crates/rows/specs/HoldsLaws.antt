@@ -35,6 +35,11 @@ pub constant-holds : (z : Int) → isInRange edition1 (z .value) ≡ true → In
 unfolding isInRange
 constant-holds z h = rw limit-is at (leb-true (natAbs (z .value)) (edition1 .limit) h)
 
+-- a length that counts bytes is a length
+pub length-signed : (n : Length) → LengthHolds n → SignedLengthHolds n
+length-signed (lengths.Constant z) h = h .range
+length-signed (lengths.Number i) h = h
+
 -- the string that is searched
 pub place-is : (p : Part) → placeOf (partMeaning p) ≡ placeIn p
 unfolding placeOf

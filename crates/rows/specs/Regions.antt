@@ -2,22 +2,23 @@
 -- Assumes nothing.
 use mathlib.Core.Bool.{true}
 use mathlib.Core.List.{List, [], _∷_, _++_}
-use mathlib.Core.Path.{_≡_, refl, sym, _∙_, ap}
+use mathlib.Core.Path.{_≡_, refl, _∙_, ap, subst}
 use Prim.Native.Nat.{ℕ, zero, suc, _+_, _*_, _-_, _^_, _≤_, _<_}
 use native.Mathlib.Omega.{arith}
-use lib.ListN.{length, drop, getD, replicate, length-append, take-append-drop}
+use lib.ListN.{length, drop, getD, length-append, take-append-drop}
 use Rattle.base.specs.Edition.{edition1}
 use Rattle.base.specs.Limits as Limits
-use Rattle.language.specs.Program.{PatternElement, value, freeFiller, fixedFiller, literal, part, text, Statement, Step, Program}
+use Rattle.calls.specs.DemandLaws.{edition1-size}
+use Rattle.language.specs.Program.{PatternElement, value, freeFiller, fixedFiller, literal, part, text, Statement, Step}
 use Rattle.calls.specs.CellLaws.{cell-read, range-read, length-kinds, part-kinds, length-cellBytes}
 use Rattle.calls.specs.NumeralLaws.{Stands, stands-moved, stands-front, stands-back, byte-read}
 use Rattle.calls.specs.Numerals.{inBytes}
 use Rattle.calls.specs.RowLaws.{length-rowBytes}
 use Rattle.calls.specs.Rules.{keepsRules}
 use Rattle.calls.specs.Table.{Cell, cell, cellBytes, range, rangeCell, lengthCell, partCell, elementCell, patternCell, literalIn, Row}
-use Rattle.calls.specs.Table.{rowBytes, rowOf, elementsOf, itemsOf, stepRows, allElements, allItems, allLiterals, elementRows, itemRows}
-use Rattle.calls.specs.Table.{stepsAt, elementsAt, itemsAt, literalsAt, filledTo, header, image}
-use Rattle.calls.specs.TableLaws.{InRange, in-range, length-filledTo, keeps-image}
+use Rattle.calls.specs.Table.{rowBytes, rowOf, elementsOf, itemsOf, stepRows, allElements, allItems, allLiterals, elementRows}
+use Rattle.calls.specs.Table.{stepsAt, elementsAt, image}
+use Rattle.calls.specs.TableLaws.{InRange, RegionsStand, in-range, regions-stand, keeps-image}
 use Rattle.calls.specs.TableReading.{cellAt, rowAt, rangeFrom, rangeCount, rangeMore, programIn}
 
 -- a statement's row stands at a place; its elements and items end within so many
@@ -133,65 +134,19 @@ row-range t at card from count more r s e small =
       third = ap rangeMore read ∙ ranges .third;
     }
 
--- the bytes of the rows of steps
-pub length-stepRows : (element item : ℕ) (ss : List Step) → length (stepRows element item ss) ≡ 24 * length ss
-unfolding stepRows
-length-stepRows element item [] = refl
-length-stepRows element item (s ∷ ss) =
-    let y = s .statement in
-    let rest = length-stepRows (element + length (elementsOf y)) (item + length (itemsOf y)) ss in
-    simp (length-append, length-rowBytes, rest) (omega arith)
-
--- the regions of steps and of elements stand at their places
-record RegionsStand (t : List ℕ) (p : Program) : Type 0 where
-  rows : Stands t stepsAt (stepRows 0 0 (p .steps))
-  elements : Stands t elementsAt (elementRows 0 (allElements (p .steps)))
-
--- bytes that are filled up stand where the whole stands
-filled-front : (t : List ℕ) {at : ℕ} (n : ℕ) (bs : List ℕ) → Stands t at (filledTo n bs) → Stands t at bs
-unfolding filledTo
-filled-front t n bs s = stands-front t bs (replicate (n - length bs) 0) s
-
--- of a region the bytes stand where it does, and the next one behind its size
-region : (t : List ℕ) (at n : ℕ) (bs rest : List ℕ) → length bs ≤ n → Stands t at (filledTo n bs ++ rest)
-    → Stands t at bs × Stands t (at + n) rest
-region t at n bs rest small s = (
-  filled-front t n bs (stands-front t (filledTo n bs) rest s),
-  stands-moved t (ap (λ k. at + k) (length-filledTo n bs small)) (stands-back t (filledTo n bs) rest s),
-)
-
--- where the table is the image of a program in range
-regions-stand : (t : List ℕ) (p : Program) → InRange edition1 p → Stands t 0 (image edition1 p) → RegionsStand t p
-unfolding image header inBytes stepsAt elementsAt itemsAt
-regions-stand t p ok s =
-    let ss = p .steps in
-    let es = allElements ss in
-    let literals = filledTo (edition1 .tableSize - literalsAt) (allLiterals es) in
-    let items = filledTo (literalsAt - itemsAt) (itemRows (allItems ss)) ++ literals in
-    let elements = filledTo (itemsAt - elementsAt) (elementRows 0 es) ++ items in
-    let rows = filledTo (elementsAt - stepsAt) (stepRows 0 0 ss) ++ elements in
-    let behind = region t 0 stepsAt (header p) rows (omega arith) s .1 in
-    let few = length-stepRows 0 0 ss in
-    let both = region t stepsAt (elementsAt - stepsAt) (stepRows 0 0 ss) elements (omega arith) behind in
-    let cells = stands-front t (filledTo (itemsAt - elementsAt) (elementRows 0 es)) items (both .1) in
-    record { rows = both .0; elements = filled-front t (itemsAt - elementsAt) (elementRows 0 es) cells }
-
 module _ (t : List ℕ) (kept : keepsRules edition1 t ≡ true) where
   -- the program that the table holds is in range
   pub program-in-range : InRange edition1 (programIn t)
   program-in-range = in-range edition1 (programIn t) (keeps-image edition1 t kept .0)
 
-  image-stands : Stands t 0 (image edition1 (programIn t))
-  image-stands =
-      record {
-        behind = drop (edition1 .tableSize) t;
-        here =
-            sym (take-append-drop (edition1 .tableSize) t)
-            ∙ ap (λ (l : List ℕ). l ++ drop (edition1 .tableSize) t) (sym (keeps-image edition1 t kept .1));
-      }
-
+  -- its regions stand at their places
   regions : RegionsStand t (programIn t)
-  regions = regions-stand t (programIn t) program-in-range image-stands
+  regions =
+      let size = edition1 .tableSize in
+      let whole : image edition1 (programIn t) ++ drop size t ≡ t =
+      ap (λ (l : List ℕ). l ++ drop size t) (keeps-image edition1 t kept .1) ∙ take-append-drop size t in
+      subst (λ (l : List ℕ). RegionsStand l (programIn t)) whole
+      (regions-stand edition1 (programIn t) edition1-size program-in-range (drop size t))
 
   -- the row of each of its steps
   pub kept-row : (k : ℕ) (d : Step) → k < length (programIn t .steps)

@@ -10,20 +10,17 @@ ghost use Rattle.calls.specs.TableReading.{cellAt, rowAt, lengthOfCell, partOfC
 ghost use Rattle.convert.specs.Numbers.{comparison};
 ghost use Rattle.rows.specs.Meaning.{tableSize, cellMeaning, rowMeaning, lengthMeaning, partMeaning, operandMeaning, operatorMeaning, signMeaning, itemMeaning, testMeaning, directionMeaning, branchMeaning};
 ghost use Rattle.rows.specs.Reading.{SmallCell, CellRead, RowRead, SmallRow, StretchRead, ElementRead, PatternRead, ReplacementRead, ScanRead, StatementRead, CountsRead};
+use base::wide;
+use calls::ELEMENTS_AT;
+use calls::ITEMS_AT;
+use calls::LITERALS_AT;
+use calls::STEPS_AT;
+use cells::spans::number2;
 use convert::Comparison;
 use convert::Int;
 
-// where each region of a table starts
-pub const STEPS_AT: usize = 64;
-
-pub const ELEMENTS_AT: usize = 6208;
-
-pub const ITEMS_AT: usize = 14400;
-
-pub const LITERALS_AT: usize = 22592;
-
 // an integer is kept as a number with this much added
-pub const BIAS: i64 = 140_737_488_355_328;
+const BIAS: i64 = calls::BIAS as i64;
 
 // a cell: its kind, the place of a string or number, a value of 6 bytes
 pub struct Cell {
@@ -159,20 +156,6 @@ pub enum Statement {
     Write(Stretch),
     Execute(usize),
     Return,
-}
-
-fn wide(b: u8) -> usize
-    ensures { λ r. ⌜ (r ≡ b) × (r < 256) ⌝ }
-{
-    b as usize
-}
-
-// a number of 2 bytes, low byte first
-pub fn number2(t: &[u8], at: usize) -> usize
-    requires { ⌜ at + 2 ≤ length (now t) ⌝ }
-    ensures { λ r. ⌜ (r ≡ numberAt 2 (now (t .entry)) at) × (r < 2 ^ 16) ⌝ }
-{
-    wide(t[at]) + 256 * wide(t[at + 1])
 }
 
 // a number of 6 bytes
@@ -483,14 +466,6 @@ pub fn statement_at(t: &[u8], k: usize) -> Statement
     ensures { λ r. ⌜ StatementRead (now (t .entry)) (rowAt (now (t .entry)) (stepsAt + 24 * k)) r ⌝ }
 {
     statement_of(row_at(t, STEPS_AT + 24 * k))
-}
-
-// the card of step k
-pub fn card_at(t: &[u8], k: usize) -> usize
-    requires { ⌜ (tableSize ≤ length (now t)) × (k < 256) ⌝ }
-    ensures { λ r. ⌜ (r ≡ numberAt 2 (now (t .entry)) (stepsAt + 24 * k + 2)) × (r < 2 ^ 16) ⌝ }
-{
-    number2(t, STEPS_AT + 24 * k + 2)
 }
 
 pub fn counts_of(t: &[u8]) -> Counts

@@ -3,26 +3,25 @@
 use mathlib.Core.Bool.{true}
 use mathlib.Core.List.{List, [], _∷_, _++_}
 use mathlib.Core.Path.{_≡_, refl, sym, _∙_, ap, ap₂}
-use Prim.Native.Nat.{ℕ, zero, suc, _+_, _*_, _-_, _^_, _≤_, _<_}
+use Prim.Native.Nat.{ℕ, _+_, _*_, _-_, _≤_, _<_}
 use native.Mathlib.Omega.{arith}
-use lib.ListN.{length, take, drop, getD, replicate}
+use lib.ListN.{length, take, getD, replicate}
 use Rattle.base.specs.Edition.{edition1}
-use Rattle.base.specs.ListLaws.{same-refl}
+use Rattle.base.specs.ListLaws.{same-refl, length-stretch}
 use Rattle.base.specs.Lists.{same}
 use Rattle.calls.specs.NumeralLaws.{Stands, stands-back, byte-read, number-behind}
 use Rattle.calls.specs.Numerals.{inBytes, numberAt}
 use Rattle.calls.specs.Rules.{isProgram, keepsRules}
 use Rattle.calls.specs.Table.{stepRows, allElements, allItems, allLiterals, elementRows, itemRows, filledTo}
 use Rattle.calls.specs.Table.{stepsAt, elementsAt, itemsAt, literalsAt, format, header, image}
-use Rattle.calls.specs.TableLaws.{InRange, in-range, length-filledTo, length-elementRows, length-itemRows, keeps-image}
+use Rattle.calls.specs.TableLaws.{InRange, in-range, length-filledTo, length-elementRows, length-itemRows, keeps-image, length-stepRows}
 use Rattle.calls.specs.TableReading.{programIn}
 use Rattle.rows.specs.Kept.{step-count}
 use Rattle.rows.specs.Meaning.{tableSize}
-use Rattle.rows.specs.Regions.{length-stepRows}
 use Rattle.rules.specs.Same.{SameSteps, all-elements, all-literals, all-items}
 use Rattle.rules.specs.Same.{literals-written, items-written, elements-written, steps-written}
 use Rattle.rules.specs.Split.{piece-split, filled-split, items-same, elements-same, literals-same, steps-same}
-use Rattle.rules.specs.Written.{piece, piece-add, piece-stands, piece-first, length-piece, number-written}
+use Rattle.rules.specs.Written.{piece, piece-add, piece-stands, piece-first, number-written}
 
 -- so many zeros from a place on
 abbrev pub Zeros : List ℕ → ℕ → ℕ → Type 0
@@ -47,7 +46,7 @@ filled-written : (t : List ℕ) (at n k : ℕ) (bs : List ℕ) → bs ≡ piece 
     → filledTo n bs ≡ piece t at n
 unfolding filledTo
 filled-written t at n k bs e inside room z =
-    let size = ap length e ∙ length-piece t at k room in
+    let size = ap length e ∙ length-stretch t at k room in
     let sum : k + (n - k) ≡ n = omega arith in
     ap (λ (m : ℕ). bs ++ replicate (n - m) 0) size
     ∙ ap₂ {C = List ℕ} _++_ e (sym z)

@@ -1,6 +1,6 @@
 -- A row that passes its tests, with its elements and items, is the row of the statement that is read from it, which holds. Assumes nothing.
 use mathlib.Core.Bool.{true, false, cond, _&&_, _||_}
-use mathlib.Core.List.{List, _++_, map}
+use mathlib.Core.List.{List, [], _++_, map}
 use mathlib.Core.Logic.{⊎-elim}
 use mathlib.Core.Path.{_≡_, refl, sym, _∙_, ap, subst}
 use Prim.Native.Nat.{ℕ, _+_, _≤_, _<_}
@@ -8,8 +8,9 @@ use native.Mathlib.Omega.{arith}
 use lib.Dec.{leb, ltb, eqb}
 use lib.ListN.{length, getD, length-map, length-append}
 use borrow.Author.Tests.{leb-true, lt-ltb, le-leb, eqb-true}
-use Rattle.base.specs.Choice.{test-cases, either-true}
+use Rattle.base.specs.Choice.{test-cases, either-true, both-true}
 use Rattle.base.specs.Edition.{edition1}
+use Rattle.calls.specs.ReadingLaws.{length-items, length-elements, length-patterns}
 use Rattle.language.specs.Program.{Element, value, Statement}
 use Rattle.calls.specs.RowLaws.{Each}
 use Rattle.calls.specs.Rules.{rowHolds, branchHolds, testHolds, statementHolds}
@@ -20,11 +21,11 @@ use Rattle.calls.specs.TableReading.{branchOf, testOf, elementsOfRow, patternOf
 use Rattle.calls.specs.YieldingForms.{literals-append}
 use Rattle.rows.specs.Meaning.{tableSize}
 use Rattle.rows.specs.declared.Counts.{Counts}
-use Rattle.rules.specs.Conjunctions.{both, three}
+use Rattle.rules.specs.Conjunctions.{three}
 use Rattle.rules.specs.Elements.{ElementsBack, patterns-back, values-back, all-values}
 use Rattle.rules.specs.Items.{items-back}
 use Rattle.rules.specs.Kinds.{from, passes, part-back, operand-back}
-use Rattle.rules.specs.Rows.{length-items, length-elements, length-patterns, range-made, row-same, part-place, or-nothing}
+use Rattle.rules.specs.Rows.{range-made, row-same, part-place, or-nothing}
 use Rattle.rules.specs.Rows.{empty-cell, string-cell, number-cell, range-cell, Tested}
 use Rattle.rules.specs.Same.{ItemSame, SameElements, LiteralSame, same-append, each-append}
 use Rattle.rules.specs.Tests.{cellTest, flagsTest, branchTest, leftTest, rightTest, startTest, stretches, stretchesOf, hasElements}
@@ -40,7 +41,7 @@ places-same a b c = λ j. places (a j) (b j) (c j)
 comparison-written : (flag : ℕ) → (leb 1 flag && leb flag 6) ≡ true → comparisonNumber (comparisonOf flag) ≡ flag
 unfolding comparisonNumber comparisonOf
 comparison-written flag h =
-    let f = both (leb 1 flag) (leb flag 6) h in
+    let f = both-true (leb 1 flag) (leb flag 6) h in
     from (λ k. comparisonNumber (comparisonOf k) ≡ k) 1 6 (refl, (refl, (refl, (refl, (refl, (refl, tt)))))) flag (leb-true 1 flag (f .0))
     (omega (arith, leb-true flag 6 (f .1)))
 
@@ -52,7 +53,7 @@ literals-few q e i l h small = omega (arith, ap (λ (x : Places). x .literals) h
 -- a replacement is not too long
 more-few : (more flag : ℕ) → (eqb more 0 || (leb 3 flag && leb more 20)) ≡ true → more ≤ 20
 more-few more flag h =
-    ⊎-elim (λ e. omega (arith, eqb-true more 0 e)) (λ e. leb-true more 20 (both (leb 3 flag) (leb more 20) e .1))
+    ⊎-elim (λ e. omega (arith, eqb-true more 0 e)) (λ e. leb-true more 20 (both-true (leb 3 flag) (leb more 20) e .1))
     (either-true (eqb more 0) (leb 3 flag && leb more 20) h)
 
 -- the right cell of a row with a range
@@ -105,135 +106,94 @@ module _ (n : Counts) (few : Few n) (t : List ℕ) (bytes : (i : ℕ) → getD t
       let literals : l ≡ l + 0 = omega arith in
       places-same same refl literals
 
-  goto-back : row-kind 3
-  unfolding row-kind statementOfRow rowOf statementHolds elementsOf itemsOf allLiterals row flagsTest branchTest leftTest rightTest stretchesOf
-      stretches hasElements elementsEnd
-  goto-back flag success failure left right h q e small =
-      let b = both (ltb success (n .steps)) (eqb failure 0) (h .branch) in
-      let f = found 3 (left .place) (stretches 0 0 0) q e small in
+  -- a row with no elements and no items
+  bare-back : (kind place : ℕ) (q : Places) (r : Row) (s : Statement) → elementsOf s ≡ [] → itemsOf s ≡ []
+      → cellsEnd n t p kind place (stretches 0 0 0) ≡ q → q .literals ≤ 4096 → rowOf (p .elements) (p .items) s ≡ r
+      → statementHolds edition1 (n .strings) (n .numbers) (n .steps) s ≡ true → RowBack q r s
+  unfolding stretches elementsEnd allLiterals
+  bare-back kind place q r s none nothing e small same holds =
       record {
-        row =
-            row-same 3 (sym (eqb-true flag 0 (h .flags))) refl (sym (eqb-true failure 0 (b .1))) (empty-cell n left (h .left))
-            (empty-cell n right (h .right));
-        holds = b .0;
-        elements = tt;
-        literals = tt;
-        items = tt;
-        end = f .end ∙ none-end (p .elements) (p .items) (p .literals);
+        row = same;
+        holds = holds;
+        elements = rw none tt;
+        literals = rw none tt;
+        items = rw nothing tt;
+        end = rw (none, nothing) (found kind place (stretches 0 0 0) q e small .end ∙ none-end (p .elements) (p .items) (p .literals));
       }
 
+  goto-back : row-kind 3
+  unfolding row-kind statementOfRow rowOf statementHolds elementsOf itemsOf row flagsTest branchTest leftTest rightTest stretchesOf
+      stretches hasElements
+  goto-back flag success failure left right h q e small =
+      let b = both-true (ltb success (n .steps)) (eqb failure 0) (h .branch) in
+      bare-back 3 (left .place) q _ _ refl refl e small
+      (row-same 3 (sym (eqb-true flag 0 (h .flags))) refl (sym (eqb-true failure 0 (b .1))) (empty-cell n left (h .left)) (empty-cell n right (h .right)))
+      (b .0)
+
   execute-back : row-kind 11
-  unfolding row-kind statementOfRow rowOf statementHolds elementsOf itemsOf allLiterals row flagsTest branchTest leftTest rightTest stretchesOf
-      stretches hasElements elementsEnd
+  unfolding row-kind statementOfRow rowOf statementHolds elementsOf itemsOf row flagsTest branchTest leftTest rightTest stretchesOf
+      stretches hasElements
   execute-back flag success failure left right h q e small =
-      let b = both (ltb success (n .steps)) (eqb failure 0) (h .branch) in
-      let f = found 11 (left .place) (stretches 0 0 0) q e small in
-      record {
-        row =
-            row-same 11 (sym (eqb-true flag 0 (h .flags))) refl (sym (eqb-true failure 0 (b .1))) (empty-cell n left (h .left))
-            (empty-cell n right (h .right));
-        holds = b .0;
-        elements = tt;
-        literals = tt;
-        items = tt;
-        end = f .end ∙ none-end (p .elements) (p .items) (p .literals);
-      }
+      let b = both-true (ltb success (n .steps)) (eqb failure 0) (h .branch) in
+      bare-back 11 (left .place) q _ _ refl refl e small
+      (row-same 11 (sym (eqb-true flag 0 (h .flags))) refl (sym (eqb-true failure 0 (b .1))) (empty-cell n left (h .left)) (empty-cell n right (h .right)))
+      (b .0)
 
   -- rows of zeros but for their kind
   finish-back : row-kind 4
-  unfolding row-kind statementOfRow rowOf statementHolds elementsOf itemsOf allLiterals row flagsTest branchTest leftTest rightTest stretchesOf
-      stretches hasElements elementsEnd
+  unfolding row-kind statementOfRow rowOf statementHolds elementsOf itemsOf row flagsTest branchTest leftTest rightTest stretchesOf
+      stretches hasElements
   finish-back flag success failure left right h q e small =
-      let b = both (eqb success 0) (eqb failure 0) (h .branch) in
-      let f = found 4 (left .place) (stretches 0 0 0) q e small in
-      record {
-        row =
-            row-same 4 (sym (eqb-true flag 0 (h .flags))) (sym (eqb-true success 0 (b .0))) (sym (eqb-true failure 0 (b .1)))
-            (empty-cell n left (h .left)) (empty-cell n right (h .right));
-        holds = refl;
-        elements = tt;
-        literals = tt;
-        items = tt;
-        end = f .end ∙ none-end (p .elements) (p .items) (p .literals);
-      }
+      let b = both-true (eqb success 0) (eqb failure 0) (h .branch) in
+      bare-back 4 (left .place) q _ _ refl refl e small
+      (row-same 4 (sym (eqb-true flag 0 (h .flags))) (sym (eqb-true success 0 (b .0))) (sym (eqb-true failure 0 (b .1))) (empty-cell n left (h .left)) (empty-cell n right (h .right)))
+      refl
 
   return-back : row-kind 12
-  unfolding row-kind statementOfRow rowOf statementHolds elementsOf itemsOf allLiterals row flagsTest branchTest leftTest rightTest stretchesOf
-      stretches hasElements elementsEnd
+  unfolding row-kind statementOfRow rowOf statementHolds elementsOf itemsOf row flagsTest branchTest leftTest rightTest stretchesOf
+      stretches hasElements
   return-back flag success failure left right h q e small =
-      let b = both (eqb success 0) (eqb failure 0) (h .branch) in
-      let f = found 12 (left .place) (stretches 0 0 0) q e small in
-      record {
-        row =
-            row-same 12 (sym (eqb-true flag 0 (h .flags))) (sym (eqb-true success 0 (b .0))) (sym (eqb-true failure 0 (b .1)))
-            (empty-cell n left (h .left)) (empty-cell n right (h .right));
-        holds = refl;
-        elements = tt;
-        literals = tt;
-        items = tt;
-        end = f .end ∙ none-end (p .elements) (p .items) (p .literals);
-      }
+      let b = both-true (eqb success 0) (eqb failure 0) (h .branch) in
+      bare-back 12 (left .place) q _ _ refl refl e small
+      (row-same 12 (sym (eqb-true flag 0 (h .flags))) (sym (eqb-true success 0 (b .0))) (sym (eqb-true failure 0 (b .1))) (empty-cell n left (h .left)) (empty-cell n right (h .right)))
+      refl
 
   null-back : row-kind 5
-  unfolding row-kind statementOfRow testOf branchOf rowOf testRow statementHolds testHolds branchHolds elementsOf itemsOf allLiterals row flagsTest
-      branchTest leftTest rightTest stretchesOf stretches hasElements elementsEnd
+  unfolding row-kind statementOfRow testOf branchOf rowOf testRow statementHolds testHolds branchHolds elementsOf itemsOf row flagsTest
+      branchTest leftTest rightTest stretchesOf stretches hasElements
   null-back flag success failure left right h q e small =
       let own = string-cell n left (h .left) in
-      let f = found 5 (left .place) (stretches 0 0 0) q e small in
-      record {
-        row = row-same 5 (sym (eqb-true flag 0 (h .flags))) refl refl (own .0) (empty-cell n right (h .right));
-        holds = rw (lt-ltb (left .place) (n .strings) (own .1)) (h .branch);
-        elements = tt;
-        literals = tt;
-        items = tt;
-        end = f .end ∙ none-end (p .elements) (p .items) (p .literals);
-      }
+      bare-back 5 (left .place) q _ _ refl refl e small
+      (row-same 5 (sym (eqb-true flag 0 (h .flags))) refl refl (own .0) (empty-cell n right (h .right)))
+      (rw (lt-ltb (left .place) (n .strings) (own .1)) (h .branch))
 
   numeric-back : row-kind 6
-  unfolding row-kind statementOfRow testOf branchOf rowOf testRow statementHolds testHolds branchHolds elementsOf itemsOf allLiterals row flagsTest
-      branchTest leftTest rightTest stretchesOf stretches hasElements elementsEnd
+  unfolding row-kind statementOfRow testOf branchOf rowOf testRow statementHolds testHolds branchHolds elementsOf itemsOf row flagsTest
+      branchTest leftTest rightTest stretchesOf stretches hasElements
   numeric-back flag success failure left right h q e small =
       let own = part-back n left (passes n 1 3 left (h .left)) in
-      let f = found 6 (left .place) (stretches 0 0 0) q e small in
-      record {
-        row = row-same 6 (sym (eqb-true flag 0 (h .flags))) refl refl (own .same) (empty-cell n right (h .right));
-        holds = rw (own .holds) (h .branch);
-        elements = tt;
-        literals = tt;
-        items = tt;
-        end = f .end ∙ none-end (p .elements) (p .items) (p .literals);
-      }
+      bare-back 6 (left .place) q _ _ refl refl e small
+      (row-same 6 (sym (eqb-true flag 0 (h .flags))) refl refl (own .same) (empty-cell n right (h .right)))
+      (rw (own .holds) (h .branch))
 
   compares-back : row-kind 7
-  unfolding row-kind statementOfRow testOf branchOf rowOf testRow statementHolds testHolds branchHolds elementsOf itemsOf allLiterals row flagsTest
-      branchTest leftTest rightTest stretchesOf stretches hasElements elementsEnd
+  unfolding row-kind statementOfRow testOf branchOf rowOf testRow statementHolds testHolds branchHolds elementsOf itemsOf row flagsTest
+      branchTest leftTest rightTest stretchesOf stretches hasElements
   compares-back flag success failure left right h q e small =
       let one = operand-back n left (passes n 4 9 left (h .left)) in
       let two = operand-back n right (passes n 4 9 right (h .right)) in
-      let f = found 7 (left .place) (stretches 0 0 0) q e small in
-      record {
-        row = row-same 7 (comparison-written flag (h .flags)) refl refl (one .same) (two .same);
-        holds = rw (one .holds, two .holds) (h .branch);
-        elements = tt;
-        literals = tt;
-        items = tt;
-        end = f .end ∙ none-end (p .elements) (p .items) (p .literals);
-      }
+      bare-back 7 (left .place) q _ _ refl refl e small
+      (row-same 7 (comparison-written flag (h .flags)) refl refl (one .same) (two .same))
+      (rw (one .holds, two .holds) (h .branch))
 
   read-back : row-kind 9
-  unfolding row-kind statementOfRow branchOf rowOf statementHolds branchHolds elementsOf itemsOf allLiterals row flagsTest branchTest leftTest
-      rightTest stretchesOf stretches hasElements elementsEnd
+  unfolding row-kind statementOfRow branchOf rowOf statementHolds branchHolds elementsOf itemsOf row flagsTest branchTest leftTest
+      rightTest stretchesOf stretches hasElements
   read-back flag success failure left right h q e small =
       let own = part-back n left (passes n 1 3 left (h .left)) in
-      let f = found 9 (left .place) (stretches 0 0 0) q e small in
-      record {
-        row = row-same 9 (sym (eqb-true flag 0 (h .flags))) refl refl (own .same) (empty-cell n right (h .right));
-        holds = rw (own .holds) (h .branch);
-        elements = tt;
-        literals = tt;
-        items = tt;
-        end = f .end ∙ none-end (p .elements) (p .items) (p .literals);
-      }
+      bare-back 9 (left .place) q _ _ refl refl e small
+      (row-same 9 (sym (eqb-true flag 0 (h .flags))) refl refl (own .same) (empty-cell n right (h .right)))
+      (rw (own .holds) (h .branch))
 
   -- no more elements leave the place of the literals
   no-more : (place k at more : ℕ) → more ≡ 0 → elementsEnd n 18 place t k at more ≡ at
@@ -247,7 +207,7 @@ module _ (n : Counts) (few : Few n) (t : List ℕ) (bytes : (i : ℕ) → getD t
       let v = right .value in
       let i = p .items in
       let count = rangeCount v in
-      let b = both (eqb success 0) (eqb failure 0) (h .branch) in
+      let b = both-true (eqb success 0) (eqb failure 0) (h .branch) in
       let own = number-cell n left (h .left) in
       let start = eqb-true (rangeFrom v) i (h .start) in
       let tests = stretches-tests n p 1 flag (stretches 0 (rangeMore v) count) (h .stretches) in
@@ -310,7 +270,7 @@ module _ (n : Counts) (few : Few n) (t : List ℕ) (bytes : (i : ℕ) → getD t
   set-string-back flag success failure left right h q e small =
       let v = right .value in
       let count = rangeCount v in
-      let b = both (eqb success 0) (eqb failure 0) (h .branch) in
+      let b = both-true (eqb success 0) (eqb failure 0) (h .branch) in
       let own = part-back n left (passes n 1 3 left (h .left)) in
       let start = eqb-true (rangeFrom v) (p .elements) (h .start) in
       let tests = stretches-tests n p 2 flag (stretches count (rangeMore v) 0) (h .stretches) in
@@ -336,7 +296,7 @@ module _ (n : Counts) (few : Few n) (t : List ℕ) (bytes : (i : ℕ) → getD t
   write-back flag success failure left right h q e small =
       let v = right .value in
       let count = rangeCount v in
-      let b = both (eqb success 0) (eqb failure 0) (h .branch) in
+      let b = both-true (eqb success 0) (eqb failure 0) (h .branch) in
       let start = eqb-true (rangeFrom v) (p .elements) (h .start) in
       let tests = stretches-tests n p 10 flag (stretches count (rangeMore v) 0) (h .stretches) in
       let none = eqb-true (rangeMore v) 0 (or-nothing (eqb (rangeMore v) 0) (tests .0)) in
@@ -367,7 +327,7 @@ module _ (n : Counts) (few : Few n) (t : List ℕ) (bytes : (i : ℕ) → getD t
       → Flagged flag left right success failure
   unfolding directionNumber directionOf replacementFlag replacementOfRow replacementOf row elementsFrom
   flagged flag left right success failure h =
-      let f = both (leb 1 flag) (leb flag 4) h in
+      let f = both-true (leb 1 flag) (leb flag 4) h in
       let more = rangeMore (right .value) in
       let from-there = rangeFrom (right .value) + rangeCount (right .value) in
       let nothing : (eqb more 0 || false) ≡ true → elementsFrom t from-there 0 ≡ elementsFrom t from-there more =

@@ -8,8 +8,9 @@ use native.Mathlib.Omega.{arith}
 use lib.Dec.{leb, ltb, eqb}
 use lib.ListN.{length, take, drop, getD, length-append}
 use borrow.Author.Tests.{ltb-true, leb-true, lt-ltb, le-leb, eqb-true, eq-eqb}
-use Rattle.base.specs.Choice.{test-cases}
+use Rattle.base.specs.Choice.{test-cases, both-true}
 use Rattle.base.specs.Edition.{edition1}
+use Rattle.base.specs.ListLaws.{length-stretch}
 use Rattle.base.specs.Lists.{all, isNil}
 use Rattle.language.specs.Program.{constantly, numbered, whole, first, Element, literal, part, text, PatternElement, value, freeFiller, fixedFiller}
 use Rattle.values.specs.Numbers.{isNegative, isInRange}
@@ -21,14 +22,13 @@ use Rattle.calls.specs.Table.{Cell, cell, cellBytes, lengthCell, partCell, rang
 use Rattle.calls.specs.TableReading.{cellAt, rangeFrom, rangeCount, lengthOfCell, partOfCell, elementOfCell, patternOfCell, elementsFrom, patternFrom}
 use Rattle.rows.specs.Meaning.{tableSize}
 use Rattle.rows.specs.declared.Counts.{Counts}
-use Rattle.rules.specs.Conjunctions.{both}
 use Rattle.rules.specs.Kinds.{From, from, Passes, passes, passed, passes-more, passes-small, Back, part-back, part-forth, limited}
 use Rattle.rules.specs.Kinds.{constant-same, none-same, natural-length, natural-both, natural-low, constant-holds}
 use Rattle.rules.specs.Same.{SameElements, LiteralOf, LiteralSame}
 use Rattle.rules.specs.Tests.{isString, isNumber, isNatural, isSigned, isConstant, isNumbered, isRange, placeBound, valueLow, valueBound}
 use Rattle.rules.specs.Tests.{elementOwn, elementTest, elementEnd, elementsEnd, broken, Few}
 use Rattle.rules.specs.Turns.{element-tests}
-use Rattle.rules.specs.Written.{piece, piece-stands, length-piece, cell-written}
+use Rattle.rules.specs.Written.{piece, piece-stands, cell-written}
 
 -- a string with bytes is not empty
 some-bytes : (w : List ℕ) → 1 ≤ length w → not (isNil w) ≡ true
@@ -91,12 +91,12 @@ module _ (n : Counts) where
         let f = element-tests n high reference at (cell 16 i v) h in
         let p = passes n 1 high (cell 16 i v) (f .0) in
         let count = v / 65_536 % 65_536 in
-        let g = both (leb 1 count) (eqb v (at + 65_536 * count)) (f .2) in
+        let g = both-true (leb 1 count) (eqb v (at + 65_536 * count)) (f .2) in
         let some = leb-true 1 count (g .0) in
         let is = eqb-true v (at + 65_536 * count) (g .1) in
         let end = leb-true (at + count) 4096 (f .4) in
         let start : v % 65_536 ≡ at = omega arith in
-        let size = length-piece t (22_592 + v % 65_536) count (omega arith) in
+        let size = length-stretch t (22_592 + v % 65_536) count (omega arith) in
         let value : range at count 0 ≡ v = omega arith in
         let none : 0 ≡ i = omega (arith, p .place) in
         record {
@@ -272,13 +272,13 @@ module _ (n : Counts) where
       (passes-more n 1 3 1 high (partCell 0 (first s (numbered i))) (omega arith) (omega arith) (part-forth n (first s (numbered i)) ok))
       refl refl refl refl end
   element-forth high reference at h (text (constantly z) m) ok end =
-      let f = both (isInRange edition1 z) (ltb m (n .numbers)) ok in
+      let f = both-true (isInRange edition1 z) (ltb m (n .numbers)) ok in
       let g = limited z (f .0) in
       stays high reference at (elementCell at (text (constantly z) m)) (value (text (constantly z) m))
       (record { least = omega arith; most = omega arith; place = ltb-true m (n .numbers) (f .1); above = g .low; below = g .high })
       refl refl refl refl end
   element-forth high reference at h (text (numbered i) m) ok end =
-      let f = both (ltb i (n .numbers)) (ltb m (n .numbers)) ok in
+      let f = both-true (ltb i (n .numbers)) (ltb m (n .numbers)) ok in
       stays high reference at (elementCell at (text (numbered i) m)) (value (text (numbered i) m))
       (record {
         least = omega arith;
@@ -295,14 +295,14 @@ module _ (n : Counts) where
       isNatural isSigned isConstant isNumbered isRange
   pattern-forth reference at (value x) ok end = element-forth 21 reference at (omega arith) x ok end
   pattern-forth reference at (freeFiller s) ok end =
-      let f = both (ltb s (n .strings)) (not (eqb s reference)) ok in
+      let f = both-true (ltb s (n .strings)) (not (eqb s reference)) ok in
       stays 21 reference at (cell 19 s 0) (freeFiller s)
       (record { least = omega arith; most = omega arith; place = ltb-true s (n .strings) (f .0); above = omega arith; below = omega arith })
       refl refl (f .1) refl end
   pattern-forth reference at (fixedFiller s (constantly z)) ok end =
       let natural = isInRange edition1 z && not (isNegative z) in
-      let f = both (ltb s (n .strings)) (not (eqb s reference) && natural) ok in
-      let g = both (not (eqb s reference)) natural (f .1) in
+      let f = both-true (ltb s (n .strings)) (not (eqb s reference) && natural) ok in
+      let g = both-true (not (eqb s reference)) natural (f .1) in
       let z-holds = natural-both n z (g .1) in
       stays 21 reference at (cell 20 s (biased z)) (fixedFiller s (constantly z))
       (record {
@@ -314,8 +314,8 @@ module _ (n : Counts) where
       })
       refl refl (g .0) refl end
   pattern-forth reference at (fixedFiller s (numbered i)) ok end =
-      let f = both (ltb s (n .strings)) (not (eqb s reference) && ltb i (n .numbers)) ok in
-      let g = both (not (eqb s reference)) (ltb i (n .numbers)) (f .1) in
+      let f = both-true (ltb s (n .strings)) (not (eqb s reference) && ltb i (n .numbers)) ok in
+      let g = both-true (not (eqb s reference)) (ltb i (n .numbers)) (f .1) in
       stays 21 reference at (cell 21 s i) (fixedFiller s (numbered i))
       (record {
         least = omega arith;
@@ -344,7 +344,7 @@ module _ (n : Counts) where
     unfolding elementsEnd all allLiterals
     patterns-forth [] k at same hold end = omega arith
     patterns-forth (x ∷ xs) k at same hold end =
-        let f = both (patternOk reference x) (all (patternOk reference) xs) hold in
+        let f = both-true (patternOk reference x) (all (patternOk reference) xs) hold in
         let size = length-append (literalIn x) (allLiterals xs) in
         let own = stays-end 21 k at x (same .0) (pattern-forth reference at x (f .0) (omega arith)) in
         let rest = patterns-forth xs (k + 1) (at + length (literalIn x)) (same .1) (f .1) (omega arith) in
@@ -357,7 +357,7 @@ module _ (n : Counts) where
     unfolding elementsEnd all allLiterals patternCell
     values-forth [] k at same hold end = omega arith
     values-forth (x ∷ xs) k at same hold end =
-        let f = both (elementOk x) (all elementOk xs) hold in
+        let f = both-true (elementOk x) (all elementOk xs) hold in
         let own-bytes = literalIn (value x) in
         let others = allLiterals (map value xs) in
         let size = length-append own-bytes others in

@@ -8,7 +8,7 @@ use native.Mathlib.Omega.{arith}
 use lib.Dec.{leb, ltb, eqb}
 use lib.ListN.{length, length-map, length-append}
 use borrow.Author.Tests.{ltb-true, leb-true, le-leb, eq-eqb}
-use Rattle.base.specs.Choice.{true-behind}
+use Rattle.base.specs.Choice.{true-behind, both-true}
 use Rattle.base.specs.Edition.{edition1}
 use Rattle.base.specs.Lists.{all}
 use Rattle.language.specs.Program.{constantly, numbered, Part, whole, first, Item, Element, PatternElement, value}
@@ -23,7 +23,6 @@ use Rattle.calls.specs.Table.{replacementOf, elementsOf, itemsOf, allLiterals, 
 use Rattle.calls.specs.TableReading.{rangeFrom, rangeCount, rangeMore}
 use Rattle.calls.specs.YieldingForms.{literals-append}
 use Rattle.rows.specs.declared.Counts.{Counts}
-use Rattle.rules.specs.Conjunctions.{both}
 use Rattle.rules.specs.Decoded.{places-same}
 use Rattle.rules.specs.Elements.{elementOk, patternOk, patterns-forth, values-forth}
 use Rattle.rules.specs.Items.{items-forth}
@@ -115,7 +114,7 @@ module _ (n : Counts) (few : Few n) (t : List ℕ) (p : Places) where
   -- the steps of a branch field fit into their bytes
   branch-fits : (success failure : ℕ) → (ltb success (n .steps) && ltb failure (n .steps)) ≡ true → (success < 2 ^ 16) × (failure < 2 ^ 16)
   branch-fits success failure h =
-      let f = both (ltb success (n .steps)) (ltb failure (n .steps)) h in
+      let f = both-true (ltb success (n .steps)) (ltb failure (n .steps)) h in
       omega (arith, ltb-true success (n .steps) (f .0), ltb-true failure (n .steps) (f .1), few .steps)
 
   -- a row with no cells
@@ -196,14 +195,14 @@ module _ (n : Counts) (few : Few n) (t : List ℕ) (p : Places) where
   unfolding rowOf testRow row statementHolds testHolds branchHolds elementsOf itemsOf allLiterals flagsTest branchTest leftTest rightTest
       hasElements
   test-forth (isNull s) b h =
-      let ok = both (ltb s (n .strings)) (ltb (b .success) (n .steps) && ltb (b .failure) (n .steps)) (h .holds) in
+      let ok = both-true (ltb s (n .strings)) (ltb (b .success) (n .steps) && ltb (b .failure) (n .steps)) (h .holds) in
       let targets = branch-fits (b .success) (b .failure) (ok .1) in
       let r =
       bare (row 5 0 (b .success) (b .failure) (cell 1 s 0) noCell) refl refl (h .elementsEnd) (h .itemsEnd) (targets .0) (targets .1) (string-small s) nothing-small (omega arith) (omega arith)
       refl (ok .1) (string-passes s (ok .0)) empty-passes in
       record { fits = r .fits; tested = r .tested; end = r .end }
   test-forth (isNumeric q) b h =
-      let ok = both (partOk n q) (ltb (b .success) (n .steps) && ltb (b .failure) (n .steps)) (h .holds) in
+      let ok = both-true (partOk n q) (ltb (b .success) (n .steps) && ltb (b .failure) (n .steps)) (h .holds) in
       let targets = branch-fits (b .success) (b .failure) (ok .1) in
       let own = part-forth n q (ok .0) in
       let r =
@@ -211,8 +210,8 @@ module _ (n : Counts) (few : Few n) (t : List ℕ) (p : Places) where
       refl (ok .1) (passed n 1 3 (partCell 0 q) own) empty-passes in
       record { fits = r .fits; tested = r .tested; end = r .end }
   test-forth (compares x c y) b h =
-      let ok = both (operandOk n x && operandOk n y) (ltb (b .success) (n .steps) && ltb (b .failure) (n .steps)) (h .holds) in
-      let two = both (operandOk n x) (operandOk n y) (ok .0) in
+      let ok = both-true (operandOk n x && operandOk n y) (ltb (b .success) (n .steps) && ltb (b .failure) (n .steps)) (h .holds) in
+      let two = both-true (operandOk n x) (operandOk n y) (ok .0) in
       let targets = branch-fits (b .success) (b .failure) (ok .1) in
       let one = operand-forth n x (two .0) in
       let other = operand-forth n y (two .1) in
@@ -224,7 +223,7 @@ module _ (n : Counts) (few : Few n) (t : List ℕ) (p : Places) where
   read-forth : (q : Part) (b : Branch) → Placed (read q b) → RowForth (read q b)
   unfolding rowOf row statementHolds branchHolds elementsOf itemsOf allLiterals flagsTest branchTest leftTest rightTest hasElements
   read-forth q b h =
-      let ok = both (partOk n q) (ltb (b .success) (n .steps) && ltb (b .failure) (n .steps)) (h .holds) in
+      let ok = both-true (partOk n q) (ltb (b .success) (n .steps) && ltb (b .failure) (n .steps)) (h .holds) in
       let targets = branch-fits (b .success) (b .failure) (ok .1) in
       let own = part-forth n q (ok .0) in
       let r =
@@ -242,8 +241,8 @@ module _ (n : Counts) (few : Few n) (t : List ℕ) (p : Places) where
   set-number-forth i xs h =
       let at = p .items in
       let size = length xs in
-      let ok = both (ltb i (n .numbers)) (balanced 0 xs && all (itemOk n) xs) (h .holds) in
-      let items = both (balanced 0 xs) (all (itemOk n) xs) (ok .1) in
+      let ok = both-true (ltb i (n .numbers)) (balanced 0 xs && all (itemOk n) xs) (h .holds) in
+      let items = both-true (balanced 0 xs) (all (itemOk n) xs) (ok .1) in
       let inside = h .itemsEnd in
       let ranges = range-read at size 0 (omega (arith, few .items)) (omega (arith, few .items)) (omega arith) in
       let known = items-forth n few t at 0 xs (omega (arith, few .items)) (omega arith) (h .items) (items .1) (items .0) in
@@ -286,7 +285,7 @@ module _ (n : Counts) (few : Few n) (t : List ℕ) (p : Places) where
   ranged place xs h same inside items literals =
       let at = p .elements in
       let size = length xs in
-      let ok = both (leb size 20) (all (elementOk n) xs) h in
+      let ok = both-true (leb size 20) (all (elementOk n) xs) h in
       let mapped = length-map xs value in
       let ranges = range-read at size 0 (omega (arith, few .elements)) (omega (arith, few .elements)) (omega arith) in
       let sum : at + size + 0 ≡ at + length (map value xs) = omega arith in
@@ -303,7 +302,7 @@ module _ (n : Counts) (few : Few n) (t : List ℕ) (p : Places) where
   unfolding rowOf row rangeCell cell statementHolds elementsOf itemsOf flagsTest branchTest leftTest rightTest startTest stretchesOf stretches
       hasElements stretchesTest cellsEnd numbersLeft lastKind itemsEnd elementsEnd
   set-string-forth q xs h =
-      let ok = both (partOk n q) (rowHolds edition1 (n .strings) (n .numbers) (n .steps) xs) (h .holds) in
+      let ok = both-true (partOk n q) (rowHolds edition1 (n .strings) (n .numbers) (n .steps) xs) (h .holds) in
       let own = part-forth n q (ok .0) in
       let r = ranged (partCell 0 q .place) xs (ok .1) (h .elements) (h .elementsEnd) (h .itemsEnd) (h .literalsEnd) in
       record {
@@ -356,11 +355,11 @@ module _ (n : Counts) (few : Few n) (t : List ℕ) (p : Places) where
       let branch = ltb (b .success) (n .steps) && ltb (b .failure) (n .steps) in
       let row-ok = leb more 20 && all (elementOk n) ys in
       let patterns = all (patternOk n (placeOf q)) xs in
-      let one = both (partOk n q) (leb first-size 20 && (patterns && (row-ok && branch))) (h .holds) in
-      let two = both (leb first-size 20) (patterns && (row-ok && branch)) (one .1) in
-      let three = both patterns (row-ok && branch) (two .1) in
-      let four = both row-ok branch (three .1) in
-      let five = both (leb more 20) (all (elementOk n) ys) (four .0) in
+      let one = both-true (partOk n q) (leb first-size 20 && (patterns && (row-ok && branch))) (h .holds) in
+      let two = both-true (leb first-size 20) (patterns && (row-ok && branch)) (one .1) in
+      let three = both-true patterns (row-ok && branch) (two .1) in
+      let four = both-true row-ok branch (three .1) in
+      let five = both-true (leb more 20) (all (elementOk n) ys) (four .0) in
       let targets = branch-fits (b .success) (b .failure) (four .1) in
       let own = part-forth n q (one .0) in
       let count = length-append xs zs in

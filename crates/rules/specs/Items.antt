@@ -8,7 +8,7 @@ use native.Mathlib.Omega.{arith}
 use lib.Dec.{leb, ltb}
 use lib.ListN.{length, getD}
 use borrow.Author.Tests.{ltb-true, leb-true, lt-ltb, le-leb, eqb-true, eq-eqb}
-use Rattle.base.specs.Choice.{test-cases, cond-cases}
+use Rattle.base.specs.Choice.{test-cases, cond-cases, both-true}
 use Rattle.base.specs.Lists.{all}
 use Rattle.language.specs.Program.{Item, operand, operator, plus, minus, times, over, sign, positive, negative}
 use Rattle.calls.specs.CellLaws.{cell-read}
@@ -18,7 +18,6 @@ use Rattle.calls.specs.Table.{Cell, cell, cellBytes, operatorKind, signKind, it
 use Rattle.calls.specs.TableReading.{cellAt, itemOfCell, itemsFrom}
 use Rattle.rows.specs.Meaning.{tableSize}
 use Rattle.rows.specs.declared.Counts.{Counts}
-use Rattle.rules.specs.Conjunctions.{both}
 use Rattle.rules.specs.Kinds.{passes, passed, passes-small, itemOk, item-back, operand-forth, item-forth}
 use Rattle.rules.specs.Same.{ItemSame}
 use Rattle.rules.specs.Tests.{itemUsed, itemTest, itemEnd, itemsEnd, broken, Few}
@@ -68,7 +67,7 @@ finds c known used is e low high h = record { enough = rw e low; room = rw e hig
 operator-finds : (c : Cell) (known : ℕ) (is : List Item) → itemUsed (c .kind) ≡ 2 → known ≤ 64
     → (leb 2 known && balanced (known - 1) is) ≡ true → Finds c known is
 operator-finds c known is e small h =
-    let f = both (leb 2 known) (balanced (known - 1) is) h in
+    let f = both-true (leb 2 known) (balanced (known - 1) is) h in
     let low = leb-true 2 known (f .0) in
     let next : known - 1 ≡ known + 1 - 2 = omega arith in
     finds c known 2 is e low (omega arith) (rw next at (f .1))
@@ -76,7 +75,7 @@ operator-finds c known is e small h =
 sign-finds : (c : Cell) (known : ℕ) (is : List Item) → itemUsed (c .kind) ≡ 1 → known ≤ 64
     → (leb 1 known && balanced known is) ≡ true → Finds c known is
 sign-finds c known is e small h =
-    let f = both (leb 1 known) (balanced known is) h in
+    let f = both-true (leb 1 known) (balanced known is) h in
     let low = leb-true 1 known (f .0) in
     let next : known + 1 - 1 ≡ known = omega arith in
     finds c known 1 is e low (omega arith) (rw next (f .1))
@@ -86,7 +85,7 @@ module _ (n : Counts) where
       → Finds (itemCell x) known is
   unfolding balanced itemUsed itemCell mostWaiting operatorKind signKind cell itemHolds
   item-finds (operand a) known is ok small h =
-      let f = both (ltb known 64) (balanced (suc known) is) h in
+      let f = both-true (ltb known 64) (balanced (suc known) is) h in
       let less = ltb-true known 64 (f .0) in
       let next : suc known ≡ known + 1 - 0 = omega arith in
       let none : itemUsed (operandCell a .kind) ≡ 0 = rw (le-leb (operandCell a .kind) 9 (operand-forth n a ok .most)) in
@@ -139,7 +138,7 @@ module _ (n : Counts) where
     unfolding itemsEnd all balanced
     items-forth k known [] inside small same hold h = eqb-true known 1 h
     items-forth k known (x ∷ xs) inside small same hold h =
-        let f = both (itemOk n x) (all (itemOk n) xs) hold in
+        let f = both-true (itemOk n x) (all (itemOk n) xs) hold in
         let c = itemCell x in
         let p = item-forth n x (f .0) in
         let at = itemsAt + 8 * k in

@@ -7,18 +7,18 @@ use native.Mathlib.Omega.{arith}
 use lib.Dec.{leb, ltb, eqb}
 use lib.IntN.{ℤ, pos, negsuc, natAbs}
 use borrow.Author.Tests.{ltb-true, ltb-false, leb-true, leb-false, eqb-true, eqb-false, not-true, lt-ltb, le-ltb, le-leb}
-use Rattle.base.specs.Choice.{test-cases, cond-cases}
+use Rattle.base.specs.Choice.{test-cases, cond-cases, both-true}
 use Rattle.base.specs.Edition.{edition1}
 use Rattle.language.specs.Program.{constantly, numbered, Part, whole, first, Operand, constant, number, lengthOf, numberOf}
 use Rattle.language.specs.Program.{plus, minus, times, over, positive, negative, Item, operand, operator, sign}
 use Rattle.values.specs.Numbers.{isNegative, isInRange}
-use Rattle.calls.specs.NumeralLaws.{biased-unbiased}
+use Rattle.calls.specs.NumeralLaws.{biased-unbiased, size-low, size-high}
 use Rattle.calls.specs.Numerals.{bias, biased, unbiased}
 use Rattle.calls.specs.Rules.{lengthHolds, partHolds, operandHolds, itemHolds}
 use Rattle.calls.specs.Table.{Cell, cell, lengthCell, partCell, operandCell, operatorKind, signKind, itemCell}
 use Rattle.calls.specs.TableReading.{lengthOfCell, partOfCell, operandOfCell, operatorOfKind, signOfKind, itemOfCell}
 use Rattle.rows.specs.declared.Counts.{Counts}
-use Rattle.rules.specs.Conjunctions.{both, five}
+use Rattle.rules.specs.Conjunctions.{five}
 use Rattle.rules.specs.Tests.{isString, isNumber, isNatural, isSigned, isConstant, isNumbered, isRange, placeBound, valueLow, valueBound, cellTest, Few}
 
 -- a property of so many numbers, from one on
@@ -31,15 +31,6 @@ from P k zero b j low high = absurd (omega arith)
 from P k (suc m) b j low high =
     test-cases (λ _. P j) (eqb j k) (λ e. subst P (sym (eqb-true j k e)) (b .0))
     (λ e. let d : k + 1 ≤ j = omega (arith, eqb-false j k e) in from P (k + 1) m (b .1) j d (omega arith))
-
--- how far an integer is from 0, by the number that keeps it
-size-low : (v : ℕ) → v < 2 ^ 47 → natAbs (unbiased v) ≡ 2 ^ 47 - v
-unfolding unbiased bias
-size-low v h = rw (lt-ltb v (2 ^ 47) h) (omega arith)
-
-size-high : (v : ℕ) → 2 ^ 47 ≤ v → natAbs (unbiased v) ≡ v - 2 ^ 47
-unfolding unbiased bias
-size-high v h = rw (le-ltb v (2 ^ 47) h)
 
 -- a constant between its limits is in range, and one that is not under 0 is natural
 pub constant-holds : (v : ℕ) → 140_737_479_966_721 ≤ v → v < 140_737_496_743_936 → isInRange edition1 (unbiased v) ≡ true
@@ -248,7 +239,7 @@ module _ (n : Counts) where
 
   -- the cells of what holds pass
   pub natural-both : (z : ℤ) → (isInRange edition1 z && not (isNegative z)) ≡ true → (isInRange edition1 z ≡ true) × (isNegative z ≡ false)
-  natural-both z h = let f = both (isInRange edition1 z) (not (isNegative z)) h in (f .0, not-true (isNegative z) (f .1))
+  natural-both z h = let f = both-true (isInRange edition1 z) (not (isNegative z)) h in (f .0, not-true (isNegative z) (f .1))
 
   pub part-forth : (p : Part) → partOk p ≡ true → Passes 1 3 (partCell 0 p)
   unfolding partCell lengthCell cell partHolds lengthHolds placeBound valueLow valueBound isString isNumber isNatural isSigned isConstant
@@ -256,7 +247,7 @@ module _ (n : Counts) where
   part-forth (whole s) h =
       record { least = omega arith; most = omega arith; place = ltb-true s (n .strings) h; above = omega arith; below = omega arith }
   part-forth (first s (constantly z)) h =
-      let f = both (ltb s (n .strings)) (isInRange edition1 z && not (isNegative z)) h in
+      let f = both-true (ltb s (n .strings)) (isInRange edition1 z && not (isNegative z)) h in
       let g = natural-both z (f .1) in
       record {
         least = omega arith;
@@ -266,7 +257,7 @@ module _ (n : Counts) where
         below = limited z (g .0) .high;
       }
   part-forth (first s (numbered i)) h =
-      let f = both (ltb s (n .strings)) (ltb i (n .numbers)) h in
+      let f = both-true (ltb s (n .strings)) (ltb i (n .numbers)) h in
       record {
         least = omega arith;
         most = omega arith;
@@ -288,7 +279,7 @@ module _ (n : Counts) where
   operand-forth (numberOf (whole s)) h =
       record { least = omega arith; most = omega arith; place = ltb-true s (n .strings) h; above = omega arith; below = omega arith }
   operand-forth (numberOf (first s (constantly z))) h =
-      let f = both (ltb s (n .strings)) (isInRange edition1 z && not (isNegative z)) h in
+      let f = both-true (ltb s (n .strings)) (isInRange edition1 z && not (isNegative z)) h in
       let g = natural-both z (f .1) in
       record {
         least = omega arith;
@@ -298,7 +289,7 @@ module _ (n : Counts) where
         below = limited z (g .0) .high;
       }
   operand-forth (numberOf (first s (numbered i))) h =
-      let f = both (ltb s (n .strings)) (ltb i (n .numbers)) h in
+      let f = both-true (ltb s (n .strings)) (ltb i (n .numbers)) h in
       record {
         least = omega arith;
         most = omega arith;

@@ -1,38 +1,20 @@
 -- The tests of a row ask for what the rules say: what its bytes have to be, by kind. Assumes nothing.
 use mathlib.Core.Bool.{Bool, true, false, _||_}
-use mathlib.Core.List.{List}
-use mathlib.Core.Path.{_≡_, refl, sym, ap}
-use Prim.Native.Nat.{ℕ, zero, suc, _+_, _≤_, _<_}
+use mathlib.Core.Path.{_≡_, refl, sym}
+use Prim.Native.Nat.{ℕ, _≤_, _<_}
 use native.Mathlib.Omega.{arith}
 use lib.Dec.{leb, eqb}
-use lib.ListN.{length}
 use borrow.Author.Tests.{leb-true, le-leb}
 use Rattle.base.specs.Choice.{cond-cases}
 use Rattle.calls.specs.Rules.{placeOf}
 use Rattle.calls.specs.Table.{Cell, cell, noCell, range, Row, row}
-use Rattle.calls.specs.TableReading.{rangeFrom, rangeCount, rangeMore, partOfCell, itemsFrom, elementsFrom, patternFrom}
+use Rattle.calls.specs.TableReading.{rangeFrom, rangeCount, rangeMore, partOfCell}
 use Rattle.rows.specs.declared.Counts.{Counts}
 use Rattle.rules.specs.Conjunctions.{three, six}
 use Rattle.rules.specs.Kinds.{passes}
 use Rattle.rules.specs.Tests.{isString, isNumber, isNatural, isSigned, isConstant, isNumbered, isRange, placeBound, valueLow, valueBound}
 use Rattle.rules.specs.Tests.{cellTest, flagsTest, branchTest, leftTest, rightTest, rowTest, startTest, stretchesTest, stretchesOf, stepTest}
 use Rattle.rules.specs.declared.steps.Places.{Places}
-
--- as many are read as asked for
-pub length-items : (t : List ℕ) (k m : ℕ) → length (itemsFrom t k m) ≡ m
-unfolding itemsFrom
-length-items t k zero = refl
-length-items t k (suc m) = ap suc (length-items t (k + 1) m)
-
-pub length-elements : (t : List ℕ) (k m : ℕ) → length (elementsFrom t k m) ≡ m
-unfolding elementsFrom
-length-elements t k zero = refl
-length-elements t k (suc m) = ap suc (length-elements t (k + 1) m)
-
-pub length-patterns : (t : List ℕ) (k m : ℕ) → length (patternFrom t k m) ≡ m
-unfolding patternFrom
-length-patterns t k zero = refl
-length-patterns t k (suc m) = ap suc (length-patterns t (k + 1) m)
 
 -- a value is the range of its three numbers
 pub range-made : (v : ℕ) → range (rangeFrom v) (rangeCount v) (rangeMore v) ≡ v

@@ -3,17 +3,17 @@ use mathlib.Core.List.{List, [], _∷_, _++_}
 use mathlib.Core.Path.{_≡_, refl, sym, _∙_, ap, subst}
 use Prim.Native.Nat.{ℕ, suc, _+_, _*_, _-_, _^_, _≤_, _<_}
 use native.Mathlib.Omega.{arith}
-use lib.ListN.{length, take, drop, replicate, length-append, length-drop}
-use lib.Seq.{take-at, drop-at, length-take-le}
+use lib.ListN.{length, take, drop, replicate, length-append}
+use lib.Seq.{take-at, drop-at}
+use Rattle.base.specs.ListLaws.{length-stretch}
 use Rattle.language.specs.Program.{Item, PatternElement, value, freeFiller, fixedFiller, literal, part, text, Step}
 use Rattle.calls.specs.CellLaws.{cell-read, range-read, length-cellBytes}
 use Rattle.calls.specs.RowLaws.{Each, each-front, each-back, length-rowBytes}
 use Rattle.calls.specs.Table.{Cell, cell, cellBytes, itemCell, range, elementCell, patternCell, literalIn, elementsOf, itemsOf, rowBytes}
 use Rattle.calls.specs.Table.{rowOf, stepRows, allElements, allItems, allLiterals, elementRows, itemRows, filledTo}
 use Rattle.calls.specs.Table.{stepsAt, elementsAt, itemsAt, literalsAt}
-use Rattle.calls.specs.TableReading.{cellAt, rangeFrom, rangeCount}
-use Rattle.rules.specs.Same.{ItemSame, SameElements, LiteralOf, LiteralSame, StepSame, SameSteps}
-use Rattle.rules.specs.Written.{piece, piece-add, piece-stands, length-piece}
+use Rattle.rules.specs.Same.{ItemSame, SameElements, LiteralSame, SameSteps}
+use Rattle.rules.specs.Written.{piece, piece-add, piece-stands}
 
 -- equal lists that are made of two are equal part by part
 append-split : (xs ys zs ws : List ℕ) → xs ++ ys ≡ zs ++ ws → length xs ≡ length zs → (xs ≡ zs) × (ys ≡ ws)
@@ -28,7 +28,7 @@ module _ (t : List ℕ) where
   pub piece-split : (at n m : ℕ) (xs ys : List ℕ) → xs ++ ys ≡ piece t at (n + m) → length xs ≡ n → at + n ≤ length t
       → (xs ≡ piece t at n) × (ys ≡ piece t (at + n) m)
   piece-split at n m xs ys e h room =
-      append-split xs ys (piece t at n) (piece t (at + n) m) (e ∙ piece-add t at n m) (h ∙ sym (length-piece t at n room))
+      append-split xs ys (piece t at n) (piece t (at + n) m) (e ∙ piece-add t at n m) (h ∙ sym (length-stretch t at n room))
 
   -- bytes that are filled up, and the zeros behind them
   pub filled-split : (at n k : ℕ) (bs : List ℕ) → filledTo n bs ≡ piece t at n → length bs ≡ k → k ≤ n → at + n ≤ length t

@@ -6,11 +6,11 @@ use Prim.Native.Nat.{ℕ, suc, _+_, _*_, _-_, _≤_, _<_}
 use native.Mathlib.Omega.{arith}
 use lib.Dec.{leb, ltb, eqb}
 use borrow.Author.Tests.{leb-true, le-leb, eq-eqb, ne-eqb}
-use Rattle.base.specs.Choice.{cond-cases}
+use Rattle.base.specs.Choice.{cond-cases, both-true}
 use Rattle.calls.specs.Table.{Cell, Row, stepsAt, elementsAt, itemsAt}
 use Rattle.calls.specs.TableReading.{cellAt, rowAt}
 use Rattle.rows.specs.declared.Counts.{Counts}
-use Rattle.rules.specs.Conjunctions.{both, three, four, five, seven}
+use Rattle.rules.specs.Conjunctions.{three, four, five, seven}
 use Rattle.rules.specs.Tests.{elementOwn, elementTest, elementEnd, elementsEnd, itemUsed, cellTest, itemTest, itemEnd, itemsEnd, broken}
 use Rattle.rules.specs.Tests.{lastKind, numbersLeft, stretchesOf, places, lost, startTest, rowTest, cellsEnd, stepTest}
 use Rattle.rules.specs.Tests.{Few, Room, Inside, stepEnd, stepsEnd, stretchesTest, countsTest}
@@ -71,8 +71,8 @@ module _ (n : Counts) where
   item-tests known c h =
       let low = leb (itemUsed (c .kind)) known in
       let high = leb (known + 1 - itemUsed (c .kind)) 64 in
-      let one = both (cellTest n 4 15 c) (low && high) h in
-      let two = both low high (one .1) in
+      let one = both-true (cellTest n 4 15 c) (low && high) h in
+      let two = both-true low high (one .1) in
       (one .0, leb-true (itemUsed (c .kind)) known (two .0), leb-true (known + 1 - itemUsed (c .kind)) 64 (two .1))
 
   pub item-few : (known : ℕ) (c : Cell) → known < itemUsed (c .kind) → itemEnd n known c ≡ broken

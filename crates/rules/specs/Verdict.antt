@@ -1,15 +1,17 @@
 -- The code's tests of a table, all together, are the rules. Assumes nothing.
 use mathlib.Core.Bool.{Bool, true, false, _&&_, true≢false}
-use mathlib.Core.List.{List, [], _∷_}
+use mathlib.Core.List.{List}
 use mathlib.Core.Path.{_≡_, refl, sym, _∙_, ap, subst}
 use Prim.Native.Nat.{ℕ, zero, suc, _+_, _*_, _-_, _≤_, _<_}
 use native.Mathlib.Omega.{arith}
 use lib.Dec.{leb, eqb}
 use lib.ListN.{length, getD, replicate}
 use borrow.Author.Tests.{leb-true, leb-false, eqb-true, le-leb, lt-leb, eq-eqb, ne-eqb}
-use Rattle.base.specs.Choice.{test-cases}
+use Rattle.base.specs.Choice.{test-cases, same-truth}
 use Rattle.base.specs.Edition.{edition1}
+use Rattle.base.specs.ListLaws.{length-stretch}
 use Rattle.base.specs.Lists.{all}
+use Rattle.calls.specs.BufferLaws.{zeros-are, all-zeros}
 use Rattle.calls.specs.Numerals.{numberAt}
 use Rattle.calls.specs.ProgramLaws.{program-runs, first-step}
 use Rattle.calls.specs.Rules.{isFinish, lastFinishes, stepHolds, isProgram, keepsRules}
@@ -21,42 +23,23 @@ use Rattle.rows.specs.Meaning.{tableSize}
 use Rattle.rows.specs.Reading.{CountsRead}
 use Rattle.rows.specs.declared.Counts.{Counts}
 use Rattle.rules.specs.Checked.{Zeros, Checked, checked-keeps, keeps-checked}
-use Rattle.rules.specs.Conjunctions.{both, three, five}
+use Rattle.rules.specs.Conjunctions.{three, five}
 use Rattle.rules.specs.Kinds.{From, from}
 use Rattle.rules.specs.Tests.{places, first, stepsEnd, countsTest, unusedTest, zerosTest, endsTest, totalsTest, Few}
 use Rattle.rules.specs.Turns.{counts-few}
 use Rattle.rules.specs.Walk.{steps-back, steps-forth}
-use Rattle.rules.specs.Written.{piece, length-piece}
+use Rattle.rules.specs.Written.{piece}
 use Rattle.rules.specs.declared.steps.Places.{Places}
-
--- tests of which each follows from the other are equal
-same-tests : (a b : Bool) → (a ≡ true → b ≡ true) → (b ≡ true → a ≡ true) → a ≡ b
-same-tests true b f g = sym (f refl)
-same-tests false true f g = g refl
-same-tests false false f g = refl
-
--- bytes that are all zero are zeros
-zero-list : (xs : List ℕ) → all (λ b. eqb b 0) xs ≡ true → xs ≡ replicate (length xs) 0
-unfolding all
-zero-list [] h = refl
-zero-list (x ∷ xs) h =
-    let f = both (eqb x 0) (all (λ b. eqb b 0) xs) h in
-    λ i. eqb-true x 0 (f .0) i ∷ zero-list xs (f .1) i
-
-list-zero : (m : ℕ) → all (λ b. eqb b 0) (replicate m 0) ≡ true
-unfolding all
-list-zero zero = refl
-list-zero (suc m) = list-zero m
 
 zeros-found : (t : List ℕ) (from to m : ℕ) → to - from ≡ m → from + m ≤ length t → zerosTest t from to ≡ true → Zeros t from m
 unfolding zerosTest
 zeros-found t from to m e room h =
     let own = rw e at h in
-    zero-list (piece t from m) own ∙ ap (λ (k : ℕ). replicate k 0) (length-piece t from m room)
+    zeros-are (piece t from m) own ∙ ap (λ (k : ℕ). replicate k 0) (length-stretch t from m room)
 
 zeros-kept : (t : List ℕ) (from to m : ℕ) → to - from ≡ m → Zeros t from m → zerosTest t from to ≡ true
 unfolding zerosTest
-zeros-kept t from to m e z = rw (e, z) (list-zero m)
+zeros-kept t from to m e z = rw (e, z) (all-zeros m)
 
 -- a statement finishes where its row's kind is 4
 finish-kind : (t : List ℕ) (r : Row) → isFinish (statementOfRow t r) ≡ eqb (r .kind) 4
@@ -241,5 +224,5 @@ module _ (t : List ℕ) (bytes : (i : ℕ) → getD t i 0 < 256) (room : tableSi
       let same = counts-same t n c in
       let few = counts-few (countsIn t) (ap countsTest same ∙ h) in
       ap (λ (m : Counts). allTests m t) (sym same)
-      ∙ same-tests (allTests (countsIn t) t) (keepsRules edition1 t) (λ e. checked-keeps t bytes room (tests-checked few e))
+      ∙ same-truth (allTests (countsIn t) t) (keepsRules edition1 t) (λ e. checked-keeps t bytes room (tests-checked few e))
       (λ e. checked-tests few (keeps-checked t room e))

@@ -8,7 +8,7 @@ use native.Mathlib.Omega.{arith}
 use lib.Dec.{ltb}
 use lib.ListN.{length, getD, length-append}
 use borrow.Author.Tests.{lt-ltb}
-use Rattle.base.specs.Choice.{test-cases}
+use Rattle.base.specs.Choice.{test-cases, both-true}
 use Rattle.base.specs.Edition.{edition1}
 use Rattle.base.specs.Lists.{all}
 use Rattle.language.specs.Program.{Statement, Step}
@@ -20,7 +20,6 @@ use Rattle.calls.specs.TableReading.{rowAt, statementOfRow, stepIn, stepsFrom}
 use Rattle.calls.specs.YieldingForms.{literals-append}
 use Rattle.rows.specs.Meaning.{tableSize}
 use Rattle.rows.specs.declared.Counts.{Counts}
-use Rattle.rules.specs.Conjunctions.{both}
 use Rattle.rules.specs.Decoded.{places-same, RowBack, row-back}
 use Rattle.rules.specs.Encoded.{row-forth}
 use Rattle.rules.specs.Rows.{step-tests, step-tested}
@@ -118,7 +117,7 @@ module _ (n : Counts) where
         let s = x .statement in
         let at = stepsAt + 24 * k in
         let r = rowOf (p .elements) (p .items) s in
-        let ok = both (ltb (x .card) (2 ^ 16)) (statementHolds edition1 (n .strings) (n .numbers) (n .steps) s) h in
+        let ok = both-true (ltb (x .card) (2 ^ 16)) (statementHolds edition1 (n .strings) (n .numbers) (n .steps) s) h in
         let own =
         row-forth n few t p s
         (record { holds = ok .1; elements = same .elements; items = same .items; elementsEnd = e; itemsEnd = i; literalsEnd = l }) in
@@ -134,7 +133,7 @@ module _ (n : Counts) where
         let s = x .statement in
         let es = elementsOf s in
         let is = itemsOf s in
-        let ok = both (stepOk x) (all stepOk xs) h in
+        let ok = both-true (stepOk x) (all stepOk xs) h in
         let one = length-append es (allElements xs) in
         let two = length-append is (allItems xs) in
         let three = ap length (literals-append es (allElements xs)) ∙ length-append (allLiterals es) (allLiterals (allElements xs)) in

@@ -1,11 +1,11 @@
 -- What is read at a place, written again, is the bytes that stand there. Assumes nothing.
-use mathlib.Core.List.{List, [], _∷_, _++_}
-use mathlib.Core.Path.{_≡_, refl, sym, _∙_, ap, ap₂}
+use mathlib.Core.List.{List, _∷_, _++_}
+use mathlib.Core.Path.{_≡_, refl, sym, _∙_, ap}
 use Prim.Native.Nat.{ℕ, zero, suc, _+_, _*_, _/_, _%_, _≤_, _<_}
 use native.Mathlib.Numerals.{add-one}
 use native.Mathlib.Omega.{arith}
-use lib.ListN.{length, take, drop, getD, length-drop, take-append-drop}
-use lib.Seq.{drop-cons, drop-drop, take-add, length-take-le}
+use lib.ListN.{length, take, drop, getD, take-append-drop}
+use lib.Seq.{drop-cons, drop-drop, take-add}
 use Rattle.calls.specs.NumeralLaws.{Stands}
 use Rattle.calls.specs.Numerals.{inBytes, numberAt}
 use Rattle.calls.specs.Table.{cellBytes, rowBytes}
@@ -18,10 +18,6 @@ piece t at n = take n (drop at t)
 -- a piece is made of two
 pub piece-add : (t : List ℕ) (at n m : ℕ) → piece t at (n + m) ≡ piece t at n ++ piece t (at + n) m
 piece-add t at n m = take-add n m (drop at t) ∙ ap (λ l. piece t at n ++ take m l) (drop-drop n at t)
-
--- a piece has the size asked for
-pub length-piece : (t : List ℕ) (at n : ℕ) → at + n ≤ length t → length (piece t at n) ≡ n
-length-piece t at n h = length-take-le n (drop at t) (simp length-drop (omega arith))
 
 -- a piece stands at its place
 pub piece-stands : (t : List ℕ) (at n : ℕ) {bs : List ℕ} → bs ≡ piece t at n → Stands t at bs

@@ -5,6 +5,8 @@ ghost use Prim.Native.Nat.{_+_, _≤_, _<_, _^_};
 ghost use lib.ListN.{length};
 ghost use Rattle.rows.specs.Meaning.{tableSize, cellMeaning};
 ghost use Rattle.rules.specs.Tests.{placeBound, valueLow, valueBound, cellTest, elementOwn, elementEnd, elementsEnd, itemUsed, itemEnd, itemsEnd};
+use base::LITERALS;
+use calls::WAITING;
 use rows::Cell;
 use rows::Counts;
 
@@ -12,9 +14,9 @@ use rows::Counts;
 pub const BROKEN: usize = 65_536;
 
 // integers are kept with a bias and lie between limits
-const BIAS: usize = 140_737_488_355_328;
+const BIAS: usize = calls::BIAS as usize;
 
-const LIMIT: usize = 8_388_607;
+const LIMIT: usize = convert::LIMIT as usize;
 
 // a value has 6 bytes
 const VALUES: usize = 281_474_976_710_656;
@@ -23,11 +25,6 @@ const VALUES: usize = 281_474_976_710_656;
 const LITERAL: usize = 16;
 
 const FILLER: usize = 19;
-
-// how many literal bytes there may be, and how many numbers may wait
-pub const LITERALS: usize = 4096;
-
-const WAITING: usize = 64;
 
 // What the place of a cell of this kind lies under: strings, numbers, or 1 where it names nothing.
 fn place_bound(kind: usize, n: Counts) -> usize
@@ -129,7 +126,7 @@ pub fn elements_end(
     let mut i: usize = 0;
     while i < count {
         end = element_end(
-            rows::cell_at(t, rows::ELEMENTS_AT + 8 * (k + i)),
+            rows::cell_at(t, calls::ELEMENTS_AT + 8 * (k + i)),
             high,
             reference,
             end,
@@ -180,7 +177,7 @@ pub fn items_end(t: &[u8], k: usize, count: usize, n: Counts) -> usize
     let mut known: usize = 0;
     let mut i: usize = 0;
     while i < count {
-        known = item_end(rows::cell_at(t, rows::ITEMS_AT + 8 * (k + i)), known, n);
+        known = item_end(rows::cell_at(t, calls::ITEMS_AT + 8 * (k + i)), known, n);
         i += 1;
     }
     known

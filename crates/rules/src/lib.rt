@@ -11,34 +11,25 @@ ghost use Rattle.base.specs.Edition.{edition1};
 ghost use Rattle.calls.specs.Rules.{keepsRules};
 ghost use Rattle.rows.specs.Meaning.{tableSize};
 ghost use Rattle.rules.specs.Tests.{Few, countsTest, zerosTest, unusedTest, endsTest, totalsTest};
+use calls::ELEMENTS_AT;
+use calls::ITEMS_AT;
+use calls::LITERALS_AT;
+use calls::STEPS_AT;
+use calls::TABLE_SIZE;
 use rows::Counts;
 use steps::Places;
-
-// the limits of the counts; that of the literals is named where literals are counted
-const STEPS: usize = 256;
-
-const STRINGS: usize = 32;
-
-const NUMBERS: usize = 32;
-
-const ELEMENTS: usize = 1024;
-
-const ITEMS: usize = 1024;
-
-// the bytes of a table
-const SIZE: usize = 28_672;
 
 // Whether the counts of the header are within their limits, and there is a step.
 fn counts_hold(n: Counts) -> bool
     ensures { λ r. ⌜ r ≡ countsTest n ⌝ }
 {
     (1 <= n.steps)
-        & (n.steps <= STEPS)
-        & (n.strings <= STRINGS)
-        & (n.numbers <= NUMBERS)
-        & (n.elements <= ELEMENTS)
-        & (n.items <= ITEMS)
-        & (n.literals <= kinds::LITERALS)
+        & (n.steps <= base::STEPS)
+        & (n.strings <= base::STRINGS)
+        & (n.numbers <= base::NUMBERS)
+        & (n.elements <= base::ELEMENTS)
+        & (n.items <= base::ITEMS)
+        & (n.literals <= base::LITERALS)
 }
 
 // Whether the bytes from..to are zero.
@@ -54,11 +45,11 @@ fn unused_zero(t: &[u8], n: Counts) -> bool
     requires { ⌜ (tableSize ≤ length (now t)) × Few n ⌝ }
     ensures { λ r. ⌜ r ≡ unusedTest n (now (t .entry)) ⌝ }
 {
-    zeros(t, 14, rows::STEPS_AT)
-        & zeros(t, rows::STEPS_AT + 24 * n.steps, rows::ELEMENTS_AT)
-        & zeros(t, rows::ELEMENTS_AT + 8 * n.elements, rows::ITEMS_AT)
-        & zeros(t, rows::ITEMS_AT + 8 * n.items, rows::LITERALS_AT)
-        & zeros(t, rows::LITERALS_AT + n.literals, SIZE)
+    zeros(t, 14, STEPS_AT)
+        & zeros(t, STEPS_AT + 24 * n.steps, ELEMENTS_AT)
+        & zeros(t, ELEMENTS_AT + 8 * n.elements, ITEMS_AT)
+        & zeros(t, ITEMS_AT + 8 * n.items, LITERALS_AT)
+        & zeros(t, LITERALS_AT + n.literals, TABLE_SIZE)
 }
 
 // Whether the table starts as every table does, and its last step finishes.
@@ -66,7 +57,7 @@ fn ends_hold(t: &[u8], n: Counts) -> bool
     requires { ⌜ (tableSize ≤ length (now t)) × Few n ⌝ }
     ensures { λ r. ⌜ r ≡ endsTest n (now (t .entry)) ⌝ }
 {
-    (t[0] == 1) & (t[1] == 0) & (t[rows::STEPS_AT + 24 * (n.steps - 1)] == 4)
+    (t[0] == 1) & (t[1] == 0) & (t[STEPS_AT + 24 * (n.steps - 1)] == 4)
 }
 
 // Whether the places behind all steps are the header's counts.

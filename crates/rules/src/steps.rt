@@ -7,6 +7,7 @@ ghost use lib.ListN.{length};
 ghost use Rattle.rows.specs.Meaning.{tableSize, cellMeaning, rowMeaning};
 ghost use Rattle.rules.specs.Tests.{Few, Short, Room, Inside, flagsTest, branchTest, leftTest, rightTest, stretchesOf, startTest, stretchesTest, rowTest, lastKind, numbersLeft, cellsEnd, stepEnd, stepsEnd, first};
 use crate::kinds;
+use base::ROW;
 use rows::Cell;
 use rows::Counts;
 use rows::Row;
@@ -24,9 +25,6 @@ pub struct Stretches {
     pub more: usize,
     pub items: usize,
 }
-
-// the longest string expression, pattern or replacement
-const ROW: usize = 20;
 
 // the last kinds of an element, and of one in a pattern
 const ELEMENT: usize = 18;
@@ -211,7 +209,7 @@ fn step_end(t: &[u8], k: usize, p: Places, n: Counts) -> Places
     requires { ⌜ (tableSize ≤ length (now t)) × ((k < 256) × (Room p × Few n)) ⌝ }
     ensures { λ x. ⌜ (x ≡ stepEnd n (now (t .entry)) k p) × Room x ⌝ }
 {
-    let r = rows::row_at(t, rows::STEPS_AT + 24 * k);
+    let r = rows::row_at(t, calls::STEPS_AT + 24 * k);
     let kind = r.kind;
     let range = r.right.value;
     let s = stretches_of(kind, range);

@@ -5,8 +5,9 @@ use mathlib.Core.Path.{_≡_, sym, _∙_, ap, subst}
 use Prim.Native.Nat.{ℕ, suc, _-_, _≤_, _<_, _^_}
 use native.Mathlib.Omega.{arith}
 use lib.ListN.{length, take, drop, length-drop, getD}
-use lib.Seq.{take-all, drop-cons}
+use lib.Seq.{drop-cons}
 use borrow.Author.Tests.{eq-eqb, ne-eqb, le-leb, lt-leb}
+use Rattle.base.specs.ListLaws.{stretch-end}
 use Rattle.base.specs.Lists.{same, begins}
 use Rattle.scanning.specs.Splits as Splits
 use Rattle.scanning.specs.Splits.{string}
@@ -50,10 +51,6 @@ module _ (e : Element) where
   unfolding Good
   good-part values from to h g = subst (Good values) h g
 
--- the reference from a place on
-pub part-rest : (s : List ℕ) (at n : ℕ) → n ≡ length s - at → take n (drop at s) ≡ drop at s
-part-rest s at n e = take-all n (drop at s) (omega (arith, length-drop at s))
-
 module _ (word rest : List ℕ) where
   pub test-few : length rest < length word → Few ≡ testOf (string word) rest
   unfolding testOf judged
@@ -73,7 +70,7 @@ module _ (values s : List ℕ) (at : ℕ) (e : Element) where
   unfolding elementOf
   test-part from to m n t h em en r =
       r
-      ∙ ap (testOf (string (take n (drop from values)))) (part-rest s at m em)
+      ∙ ap (testOf (string (take n (drop from values)))) (stretch-end s at m em)
       ∙ ap (λ (k : ℕ). testOf (string (take k (drop from values))) (drop at s)) en
       ∙ sym (ap (λ (x : Element). testOf (elementOf values x) (drop at s)) h)
 
@@ -96,7 +93,7 @@ module _ (values s : List ℕ) (at : ℕ) (e : Element) where
   unfolding elementOf
   skip-part from to m n k h em en p =
       let word : List ℕ = take n (drop from values) in
-      let rest = part-rest s at m em in
+      let rest = stretch-end s at m em in
       let p′ : Passes (drop at s) word k = subst (λ (l : List ℕ). Passes l word k) rest p in
       let same : string word ≡ elementOf values e =
       ap (λ (i : ℕ). string (take i (drop from values))) en ∙ sym (ap (elementOf values) h) in

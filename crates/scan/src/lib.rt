@@ -10,13 +10,19 @@ ghost use Rattle.scanning.specs.Trials.{scan};
 ghost use Rattle.scanning.specs.Call.{number4 as Call·number4, splitNumbers, answerNumbers, countOf, scanWith, patternIn, ScanPromise};
 ghost use Rattle.scan.specs.Rows.{rowElement, elementOf, patternOf, sizeOf, sizesAt, Sized, Good, GoodRows, RowSays, rowAnswer, RowsSay};
 ghost use Rattle.scan.specs.Steps.{testOf, SkipSays, StandsSays, CallSays, GroupSays, GroupReady, RunSays};
+use base::LONGEST;
+use base::wide;
+use scanning::FIXED;
+use scanning::FREE;
+use scanning::LENGTHS_AT;
+use scanning::NOTES_AT;
+use scanning::ROW_SIZE;
+use scanning::START_AT;
+use scanning::STRING;
+use scanning::TRIALS_AT;
 
-// the longest reference, the most bytes of a pattern, the bytes of a row, and the first fixed length that is negative
-const LONGEST: usize = 1024;
-
-const MOST: usize = 240;
-
-const ROW: usize = 12;
+// the most bytes of a pattern, and the first fixed length that is negative
+const MOST: usize = ROW_SIZE * base::ROW;
 
 const NEGATIVE: usize = 2147483648;
 
@@ -49,13 +55,6 @@ pub enum Ran {
     Fails(usize),
 }
 
-// a byte as a number
-fn wide(x: u8) -> usize
-    ensures { λ r. ⌜ (r ≡ x) × (r < 256) ⌝ }
-{
-    x as usize
-}
-
 // four bytes as a number, low byte first
 fn number4(b: &[u8], at: usize) -> usize
     requires { ⌜ at + 3 < length (now b) ⌝ }
@@ -69,13 +68,13 @@ fn row_element(rows: &[u8], i: usize) -> Element
     requires { ⌜ (12 * i + 11 < length (now rows)) × (i < 20) ⌝ }
     ensures { λ r. ⌜ r ≡ rowElement (now (rows .entry)) i ⌝ }
 {
-    let at = ROW * i;
+    let at = ROW_SIZE * i;
     let kind = rows[at];
-    if kind == 1 {
+    if kind == STRING {
         let from = number4(rows, at + 4);
         return Element::Part(from, number4(rows, at + 8));
     }
-    if kind == 2 {
+    if kind == FIXED {
         return Element::Fixed(number4(rows, at + 4));
     }
     Element::Free
@@ -154,7 +153,7 @@ fn test_group(
 
 // how many places from one on a group can pass over because its first element, a string, fails there: each is one trial
 fn skip(reference: &[u8], values: &[u8], e: Element, at: usize) -> usize
-    requires { ⌜ (length (now reference) ≤ 1024) × (at ≤ length (now reference)) ⌝ }
+    requires { ⌜ at ≤ length (now reference) ⌝ }
     requires { ⌜ Good (now values) e ⌝ }
     ensures { λ r. ⌜ SkipSays (drop at (now (reference .entry))) (elementOf (now (values .entry)) e) r ⌝ }
 {
@@ -255,7 +254,7 @@ fn fill(rows: &[u8], count: usize, answer: &mut [u32; 24])
     let mut i: usize = 0;
     while i < count {
         let e = row_element(rows, i);
-        answer[4 + i] = length_of(e) as u32;
+        answer[LENGTHS_AT + i] = length_of(e) as u32;
         i += 1;
     }
 }
@@ -266,7 +265,7 @@ fn fail(trials: usize, answer: &mut [u32; 24])
     ensures { λ r. ⌜ now (answer .exit) ≡ splitNumbers none trials 0 ⌝ }
 {
     *answer = [0u32; 24];
-    answer[2] = trials as u32;
+    answer[TRIALS_AT] = trials as u32;
 }
 
 // the answer of a scan that found one: the start moves from before the lengths to its own place
@@ -276,9 +275,9 @@ fn finish(trials: usize, answer: &mut [u32; 24])
 {
     let start = answer[3];
     answer[0] = 1;
-    answer[1] = start;
-    answer[2] = trials as u32;
-    answer[3] = 0;
+    answer[START_AT] = start;
+    answer[TRIALS_AT] = trials as u32;
+    answer[NOTES_AT] = 0;
 }
 
 // the scan by rows whose lengths stand in the answer
@@ -313,11 +312,11 @@ fn is_element(values: &[u8], elements: &[u8], at: usize) -> bool
     requires { ⌜ (at ≤ length (now elements)) × (length (now elements) ≤ 240) ⌝ }
     ensures { λ r. ⌜ RowSays (now (values .entry)) (now (elements .entry)) at r ⌝ }
 {
-    if elements.len() - at < ROW {
+    if elements.len() - at < ROW_SIZE {
         return false;
     }
     let kind = elements[at];
-    if kind == 1 {
+    if kind == STRING {
         let from = number4(elements, at + 4);
         let to = number4(elements, at + 8);
         if to < from {
@@ -325,10 +324,10 @@ fn is_element(values: &[u8], elements: &[u8], at: usize) -> bool
         }
         return to <= values.len();
     }
-    if kind == 2 {
+    if kind == FIXED {
         return number4(elements, at + 4) < NEGATIVE;
     }
-    kind == 3
+    kind == FREE
 }
 
 // whether all rows are elements; their lengths stand in the answer then
@@ -344,9 +343,9 @@ fn read_rows(values: &[u8], elements: &[u8], count: usize, answer: &mut [u32; 24
             return false;
         }
         let e = row_element(elements, i);
-        answer[4 + i] = length_of(e) as u32;
+        answer[LENGTHS_AT + i] = length_of(e) as u32;
         i += 1;
-        at += ROW;
+        at += ROW_SIZE;
     }
     true
 }
@@ -393,7 +392,7 @@ pub extern "C" fn strigol_scan(
         reference,
         values,
         elements,
-        (elements.len() + 11) / ROW,
+        (elements.len() + 11) / ROW_SIZE,
         answer,
     )
 }

@@ -6,7 +6,7 @@ use mathlib.Core.Path.{_≡_, refl, sym, ap, _∙_}
 use Prim.Native.Nat.{ℕ, _<_, _^_}
 use native.Mathlib.Nat.{add-zero}
 use lib.IntN.{ℤ, natAbs}
-use lib.ListN.{length, take, set}
+use lib.ListN.{take, set}
 use borrow.Author.Tests.{lt-ltb}
 use Rattle.base.specs.Edition.{edition1}
 use Rattle.expressions.specs.Appending.{Adds}
@@ -18,11 +18,11 @@ use Rattle.pattern.specs.Putting.{PutRow}
 use Rattle.scanning.specs.Splits.{string, fixed, free}
 use Rattle.statements.specs.Fillers.{nameOf}
 use Rattle.statements.specs.Leaving.{Spells}
-use Rattle.statements.specs.ValuedLaws.{stopped}
 use Rattle.statements.specs.declared.Did.{Did}
 use Rattle.statements.specs.declared.Did.the-variants as did
 use Rattle.values.specs.Numbers.{isNegative}
 use Rattle.values.specs.Work.{Work, done, noting, quietly, _>>=_}
+use Rattle.values.specs.WorkLaws.{stopped}
 use Rattle.scanstep.specs.PatternLaws.{row-fixed, row-free, row-null}
 use Rattle.scanstep.specs.Patterns.{Put, PutBy, ValueBy}
 

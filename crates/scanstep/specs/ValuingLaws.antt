@@ -2,13 +2,14 @@
 use mathlib.Core.Bool.{false, _||_}
 use mathlib.Core.List.{List, [], _∷_, _++_, append-assoc, append-nil}
 use mathlib.Core.Path.{_≡_, refl, sym, ap, ap₂, subst, _∙_}
-use Prim.Native.Nat.{ℕ, zero, suc, _+_, _*_, _-_, _≤_, _<_}
-use native.Mathlib.Nat.{add-assoc, add-zero, not-suc-le-zero, zero-add}
+use Prim.Native.Nat.{ℕ, _+_, _*_, _-_, _≤_, _<_}
+use native.Mathlib.Nat.{add-zero}
 use native.Mathlib.Omega.{arith}
 use lib.Dec.{eqb}
 use borrow.Author.Tests.{ne-eqb}
 use Rattle.base.specs.Choice.{cond-cases}
 use Rattle.base.specs.Edition.{edition1}
+use Rattle.calls.specs.ReadingLaws.{patterns-more, patterns-none}
 use Rattle.calls.specs.Table.{elementsAt}
 use Rattle.calls.specs.TableReading.{cellAt, patternFrom, patternOfCell}
 use Rattle.expressions.specs.Notes.{Few, few-bind, few-done, few-element}
@@ -23,36 +24,13 @@ use Rattle.rows.specs.Reading.{PatternRead}
 use Rattle.rows.specs.declared.PatternElement.{PatternElement}
 use Rattle.rows.specs.declared.PatternElement.the-variants.{Value, Free, Fixed}
 use Rattle.statements.specs.Fillers.{fillerOf, isFiller}
-use Rattle.scanning.specs.Splits.{string}
 use Rattle.statements.specs.declared.Did.{Did}
 use Rattle.statements.specs.declared.Did.the-variants as did
 use Rattle.values.specs.Numbers.{isNegative}
 use Rattle.values.specs.Work.{Work, done, stop, noting, quietly, _>>=_}
+use Rattle.values.specs.WorkLaws.{noting-none, noting-more, bind-noting, quiet}
 use Rattle.scanstep.specs.PatternLaws.{rowed-all, rowed-more, rowed-none}
 use Rattle.scanstep.specs.Patterns.{AllPut, Buffers, ElementPut, PutBy, Rowed, valuesOf}
-
--- notes on top of others
-module _ {A : Type 0} where
-  pub noting-none : (w : Work A) → noting 0 w ≡ w
-  unfolding noting
-  noting-none (done a n) = ap (done a) (zero-add n)
-  noting-none (stop k) = refl
-
-  noting-more : (n more : ℕ) (w : Work A) → noting n (noting more w) ≡ noting (n + more) w
-  unfolding noting
-  noting-more n more (done a k) = ap (done a) (sym (add-assoc n more k))
-  noting-more n more (stop k) = refl
-
-bind-noting : {A B : Type 0} (n : ℕ) (w : Work A) (f : A → Work B) → (noting n w >>= f) ≡ noting n (w >>= f)
-unfolding noting _>>=_
-bind-noting n (done a k) f = sym (noting-more n k (f a))
-bind-noting n (stop k) f = refl
-
--- a value passed on
-quiet : {A : Type 0} (w : Work A) → (w >>= λ a. quietly a) ≡ w
-unfolding _>>=_ noting quietly
-quiet (done a n) = ap (done a) (add-zero n)
-quiet (stop k) = refl
 
 -- a value in front of others, and then those so far in front of all
 quiet-front : (us : List Valued) (v : Valued) (w : Work (List Valued))
@@ -61,20 +39,6 @@ unfolding _>>=_ noting quietly
 quiet-front us v (done vs n) =
     ap (λ (l : List Valued). done l (n + 0 + 0)) (sym (append-assoc us (v ∷ []) vs)) ∙ ap (done ((us ++ (v ∷ [])) ++ vs)) (add-zero (n + 0))
 quiet-front us v (stop k) = refl
-
--- the elements of a pattern
-pattern-more : (t : List ℕ) (at n : ℕ) → 0 < n
-    → patternFrom t at n ≡ patternOfCell t (cellAt t (elementsAt + 8 * at)) ∷ patternFrom t (at + 1) (n - 1)
-unfolding patternFrom
-pattern-more t at zero h = absurd (not-suc-le-zero h)
-pattern-more t at (suc n) h =
-    let back : n ≡ suc n - 1 = omega arith in
-    ap (λ (j : ℕ). patternOfCell t (cellAt t (elementsAt + 8 * at)) ∷ patternFrom t (at + 1) j) back
-
-pattern-none : (t : List ℕ) (at n : ℕ) → n ≤ 0 → patternFrom t at n ≡ []
-unfolding patternFrom
-pattern-none t at zero h = refl
-pattern-none t at (suc n) h = absurd (not-suc-le-zero h)
 
 module _ (m : Memory) where
   -- what a pattern comes to from the values so far and the elements that are left, with the notes so far
@@ -159,13 +123,13 @@ module _ {m : Memory} {t : List ℕ} {from count : ℕ} {values rows names scrat
       let all : i ≡ count = omega (arith, v .most) in
       record {
         valued = v .valued;
-        work = v .same ∙ ap (valuesFrom m notes (v .valued)) (pattern-none t (from + i) (count - i) (omega arith)) ∙ values-end m notes (v .valued);
+        work = v .same ∙ ap (valuesFrom m notes (v .valued)) (patterns-none t (from + i) (count - i) (omega arith)) ∙ values-end m notes (v .valued);
         few = omega (arith, v .few);
         rows-are = subst (λ (k : ℕ). Rowed values rows names k (v .valued)) all (rowed-all values rows names i (v .valued) (v .rows-are));
         clear =
             λ searched known p.
             v .clear searched known (λ k x low high read. p .each k x (record { low = low; high = high }) read)
-            ∙ ap (isFiller searched) (pattern-none t (from + i) (count - i) (omega arith));
+            ∙ ap (isFiller searched) (patterns-none t (from + i) (count - i) (omega arith));
       }
 
   -- the element that is next
@@ -177,7 +141,7 @@ module _ {m : Memory} {t : List ℕ} {from count : ℕ} {values rows names scrat
     first =
         let next : from + i + 1 ≡ from + (i + 1) = omega arith in
         let fewer : count - i - 1 ≡ count - (i + 1) = omega arith in
-        pattern-more t (from + i) (count - i) (omega arith)
+        patterns-more t (from + i) (count - i) (omega arith)
         ∙ ap₂ (λ (j k : ℕ). patternOfCell t (cellAt t (elementsAt + 8 * (from + i))) ∷ patternFrom t j k) next fewer
         ∙ ap (λ (y : Program.PatternElement). y ∷ rest) (sym (read .means))
 

@@ -2,11 +2,9 @@
 // Each contract is an equation with the definitions of the crate machine.
 ghost use Rattle.scanstep.specs.Searches.{Searchable, Searched};
 use rows::Stretch;
+use scanning::NOTES_AT;
 use statements::fillers::name_fillers;
 use statements::fillers::null_fillers;
-
-// where an answer has the notes
-const NOTES_AT: usize = 3;
 
 // Whether the pattern of these rows fits the reference. The fillers are null, but for those that name a piece.
 pub fn find_split(

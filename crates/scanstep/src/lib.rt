@@ -8,6 +8,7 @@ ghost use Rattle.rows.specs.Holds.{ReplacementHolds};
 ghost use Rattle.rows.specs.Meaning.{replacementMeaning};
 ghost use Rattle.scanstep.specs.Scans.{Scannable, Lent, scanningOf, Carried};
 ghost use Rattle.scanstep.specs.Stages.{Findable, Found, Referred, searchedRest};
+use base::LONGEST;
 use finding::find_split;
 use replacing::scan_replacing;
 use rows::Replacement;
@@ -17,9 +18,6 @@ use statements::reference::Reference;
 use statements::reference::copy_reference;
 use statements::reference::reference_ends;
 use valuing::pattern_rows;
-
-// the longest string
-const LONGEST: usize = 1024;
 
 // how a scan went: with a split or without one, each with so many notes, or what stops it
 pub enum Scanned {

@@ -16,27 +16,16 @@ ghost use Rattle.scanstep.specs.Stages.{Counting, Findable, Found, searc
 use crate::Scanned;
 use crate::Span;
 use crate::finding::find_split;
+use base::LONGEST;
+use base::number;
 use rows::Direction;
 use rows::Stretch;
+use scanning::LENGTHS_AT;
+use scanning::NOTES_AT;
+use scanning::START_AT;
 use statements::Did;
 use statements::fillers::copy_fillers;
 use statements::replacing::replace_found;
-
-// the longest string
-const LONGEST: usize = 1024;
-
-// where an answer has the start, the notes and the lengths
-const START_AT: usize = 1;
-
-const NOTES_AT: usize = 3;
-
-const LENGTHS_AT: usize = 4;
-
-fn number(n: u32) -> usize
-    ensures { λ r. ⌜ r ≡ n ⌝ }
-{
-    n as usize
-}
 
 // the start of a split
 fn start_of(answer: &[u32]) -> usize

@@ -7,27 +7,21 @@ ghost use Rattle.machine.specs.Scanning.{patternIn, valuedIn};
 ghost use Rattle.rows.specs.Meaning.{elementMeaning, patternMeaning, patternsMeaning};
 ghost use Rattle.scanstep.specs.Patterns.{StringPutting, StringPut, ValuePutting, ValuePut, FixedPutting, FixedPut};
 ghost use Rattle.scanstep.specs.Patterns.{ElementPutting, ElementPut, PatternPutting, PatternPut};
+use base::LONGEST;
 use convert::Int;
 use convert::Text;
 use rows::Element;
 use rows::PatternElement;
 use rows::Stretch;
+use scanning::FIXED;
+use scanning::FREE;
+use scanning::STRING;
 use statements::Did;
 
-// the longest string, and how many bytes of the values each row has
-const LONGEST: usize = 1024;
-
 // as the place that a piece is to name: none
-const NONE: u8 = 32;
+const NONE: u8 = base::STRINGS as u8;
 
-// the kinds of rows
-const STRING: u8 = 1;
-
-const FIXED: u8 = 2;
-
-const FREE: u8 = 3;
-
-// Row i is a string of n bytes, of which v has the first 1,024. One that is longer fits no reference, just as a fixed filler of its
+// Row i is a string of n bytes, of which v has the first 1,024. Each row has as many of the values. One that is longer fits no reference, just as a fixed filler of its
 // length fits none.
 fn put_string(values: &mut [u8], rows: &mut [u8], i: usize, v: &[u8], n: usize)
     requires { ⌜ StringPutting (now values) (now rows) i (now v) n ⌝ }

@@ -7,12 +7,13 @@ use Prim.Native.Nat.{ℕ, zero, suc, _+_, _-_, _≤_, _<_}
 use native.Mathlib.Omega.{arith}
 use lib.Dec.{eqb}
 use lib.ListN.{length, take, drop, getD, length-drop}
-use lib.Seq.{length-take-le, take-all, getD-take, getD-drop, ext-getD}
+use lib.Seq.{length-take-le, getD-take, getD-drop, ext-getD}
 use borrow.Author.Count.{below-more}
 use borrow.Author.Tests.{eq-eqb, ne-eqb}
+use Rattle.base.specs.Choice.{neither-true}
 use Rattle.base.specs.Lists.{begins}
-use Rattle.base.specs.ListLaws.{begins-iff}
-use Rattle.search.specs.Passing.{Agrees, Both, Without, Passes}
+use Rattle.base.specs.ListLaws.{begins-iff, getD-stretch, stretch-end}
+use Rattle.search.specs.Passing.{Agrees, Both, Without, Next, NextByte, Passes}
 
 -- a test that is not true is false
 not-true : (b : Bool) → (b ≡ true → ⊥) → b ≡ false
@@ -25,14 +26,6 @@ below-or-not zero zero = inr (omega arith)
 below-or-not zero (suc k) = inl (omega arith)
 below-or-not (suc j) zero = inr (omega arith)
 below-or-not (suc j) (suc k) = ⊎-map (λ h. omega arith) (λ h. omega arith) (below-or-not j k)
-
--- the text from a place on
-pub part-rest : (s : List ℕ) (at n : ℕ) → n ≡ length s - at → take n (drop at s) ≡ drop at s
-part-rest s at n e = take-all n (drop at s) (omega (arith, length-drop at s))
-
--- a part of so many bytes has them
-pub part-length : (s : List ℕ) (at n : ℕ) → at + n ≤ length s → length (take n (drop at s)) ≡ n
-part-length s at n h = length-take-le n (drop at s) (omega (arith, length-drop at s))
 
 -- where a word begins a text each of its bytes stands there
 begins-byte : (word text : List ℕ) → begins word text ≡ true → (i : ℕ) → i < length word → getD text i 0 ≡ getD word i 0
@@ -73,32 +66,18 @@ both-false true true e f g = true≢false e
 both-false true false e f g = false≢true g
 both-false false b e f g = false≢true f
 
--- a disjunction that is false has two false parts
-neither : (a b : Bool) → (a || b) ≡ false → (a ≡ false) × (b ≡ false)
-neither true b e = absurd (true≢false e)
-neither false b e = (refl, e)
-
 -- one more place of a block with nothing found
 pub hit-more : (fronts backs : List ℕ) (first last : ℕ) (found : Bool) (j : ℕ)
     → (found ≡ false → (i : ℕ) → i < j → Both fronts backs first last i → ⊥)
     → (found || (eqb (getD fronts j 0) first && eqb (getD backs j 0) last)) ≡ false
     → (i : ℕ) → i < j + 1 → Both fronts backs first last i → ⊥
 hit-more fronts backs first last found j h e =
-    let parts = neither found (eqb (getD fronts j 0) first && eqb (getD backs j 0) last) e in
+    let parts = neither-true found (eqb (getD fronts j 0) first && eqb (getD backs j 0) last) e in
     below-more (λ i. Both fronts backs first last i → ⊥) j (h (parts .0))
     (λ b.
     both-false (eqb (getD fronts j 0) first) (eqb (getD backs j 0) last) (parts .1)
     (eq-eqb (getD fronts j 0) first (b .0))
     (eq-eqb (getD backs j 0) last (b .1)))
-
--- the same of one byte
-pub byte-more : (block : List ℕ) (byte : ℕ) (found : Bool) (j : ℕ)
-    → (found ≡ false → (i : ℕ) → i < j → getD block i 0 ≡ byte → ⊥)
-    → (found || eqb (getD block j 0) byte) ≡ false → (i : ℕ) → i < j + 1 → getD block i 0 ≡ byte → ⊥
-byte-more block byte found j h e =
-    let parts = neither found (eqb (getD block j 0) byte) e in
-    below-more (λ i. getD block i 0 ≡ byte → ⊥) j (h (parts .0))
-    (λ b. true≢false (sym (eq-eqb (getD block j 0) byte b) ∙ parts .1))
 
 module _ (text : List ℕ) (first last span places from : ℕ) where
   -- no place passed yet
@@ -142,12 +121,34 @@ module _ (text : List ℕ) (first last span places from : ℕ) where
             let e : k + i ≡ j = omega arith in
             let e′ : k + span + i ≡ j + span = omega arith in
             h i (omega arith) (
-              getD-take m (drop k text) i 0 (omega arith) ∙ getD-drop k text i 0 ∙ ap (λ (n : ℕ). getD text n 0) e ∙ f,
-              getD-take n (drop (k + span) text) i 0 (omega arith)
-                  ∙ getD-drop (k + span) text i 0
-                  ∙ ap (λ (n : ℕ). getD text n 0) e′
-                  ∙ l,
+              getD-stretch text k m i (omega arith) ∙ ap (λ (n : ℕ). getD text n 0) e ∙ f,
+              getD-stretch text (k + span) n i (omega arith) ∙ ap (λ (n : ℕ). getD text n 0) e′ ∙ l,
             )
+
+-- the next place behind those passed in blocks of two sizes
+pub next-behind : (text : List ℕ) (first last span places from b e k : ℕ) → Without text first last span places from b
+    → Without text first last span places b e → Next text first last span places e k → Next text first last span places from k
+next-behind text first last span places from b e k w w′ n =
+    record {
+      passed =
+          without-join text first last span places from e
+          (without-join text first last span places from b w e w′) k (n .passed);
+      here = n .here;
+    }
+
+-- both bytes the same, and at the same place
+pub next-byte : (text : List ℕ) (byte from at : ℕ) → Next text byte byte 0 (length text) from at → NextByte text byte from at
+next-byte text byte from at n =
+    let w = n .passed in
+    record {
+      low = w .low;
+      high = w .high;
+      none =
+          λ j low high e.
+          let here : j ≡ j + 0 = omega arith in
+          w .differ j low high e (ap (λ (i : ℕ). getD text i 0) (sym here) ∙ e);
+      here = λ h. n .here h .0;
+    }
 
 module _ (text word : List ℕ) where
   -- no place is passed
@@ -172,6 +173,12 @@ module _ (text word : List ℕ) where
           (ap (λ (n : ℕ). getD text n 0) (omega arith) ∙ sym (getD-drop j text 0 0) ∙ begins-byte word (drop j text) e 0 (omega arith))
           (sym (getD-drop j text span 0) ∙ begins-byte word (drop j text) e span inside)
 
+  -- where the one byte of the word does not stand the word does not
+  pub passes-byte : (k : ℕ) → length word ≡ 1 → NextByte text (getD word 0 0) 0 k → Passes text word k
+  passes-byte k one n =
+      passes-more 0 (length text) 0 k (omega arith) (omega arith) passes-none
+      (record { low = n .low; high = n .high; differ = λ j low high e l. n .none j low high e })
+
   -- one more place, where not all bytes agree
   pub passes-one : (places k n m : ℕ) → places + length word ≡ length text + 1 → k < places → Passes text word k
       → m ≡ length text - k → Agrees (take m (drop k text)) word n → n < length word → Passes text word (k + 1)
@@ -181,5 +188,5 @@ module _ (text word : List ℕ) where
         enough = λ j l. omega (arith, length-drop j text);
         differ =
             below-more (λ j. begins word (drop j text) ≡ false) k (p .differ)
-            (ap (begins word) (sym (part-rest text k m e)) ∙ agrees-part (take m (drop k text)) word n a h);
+            (ap (begins word) (sym (stretch-end text k m e)) ∙ agrees-part (take m (drop k text)) word n a h);
       }

@@ -1,8 +1,9 @@
 -- Places that a string can't stand at: told by two of its bytes, and what that says of the whole string. Assumes nothing.
-use mathlib.Core.Bool.{false}
-use mathlib.Core.List.{List}
+use mathlib.Core.Bool.{true, false}
+use mathlib.Core.List.{List, [], _∷_}
 use mathlib.Core.Path.{_≡_}
-use Prim.Native.Nat.{ℕ, _+_, _≤_, _<_}
+use Prim.Native.Nat.{ℕ, suc, _+_, _≤_, _<_}
+use lib.Dec.{eqb}
 use lib.ListN.{length, drop, getD}
 use Rattle.base.specs.Lists.{begins}
 
@@ -16,14 +17,8 @@ pub record Agrees (rest word : List ℕ) (n : ℕ) : Type 0 where
 abbrev pub Both : List ℕ → List ℕ → ℕ → ℕ → ℕ → Type 0
 Both fronts backs first last j = (getD fronts j 0 ≡ first) × (getD backs j 0 ≡ last)
 
--- two blocks of so many bytes
-pub record Blocks (fronts backs : List ℕ) (size : ℕ) : Type 0 where
-  pub front : length fronts ≡ size
-  pub back : length backs ≡ size
-
 -- so many places of a text, each with span bytes behind it, to be searched from a place on
 pub record Searchable (text : List ℕ) (span places from : ℕ) : Type 0 where
-  pub short : length text ≤ 1024
   pub room : places + span ≤ length text
   pub start : from ≤ places
 
@@ -33,9 +28,25 @@ pub record Without (text : List ℕ) (first last span places from to : ℕ) : Ty
   pub high : to ≤ places
   pub differ : (j : ℕ) → from ≤ j → j < to → getD text j 0 ≡ first → getD text (j + span) 0 ≡ last → ⊥
 
+-- the next place from one on where first stands and last stands span bytes behind it, or the end of the places
+pub record Next (text : List ℕ) (first last span places from at : ℕ) : Type 0 where
+  pub passed : Without text first last span places from at
+  pub here : at < places → (getD text at 0 ≡ first) × (getD text (at + span) 0 ≡ last)
+
+-- the place where a byte stands next from one on, or the text's end
+pub record NextByte (text : List ℕ) (byte from at : ℕ) : Type 0 where
+  pub low : from ≤ at
+  pub high : at ≤ length text
+  pub none : (j : ℕ) → from ≤ j → j < at → getD text j 0 ≡ byte → ⊥
+  pub here : at < length text → getD text at 0 ≡ byte
+
+-- how many bytes stand before the first one of this value, or in all
+unfoldable pub until : ℕ → List ℕ → ℕ
+until byte [] = 0
+until byte (b ∷ bs) = elim (eqb b byte) [ true ↦ 0 | false ↦ suc (until byte bs) ]
+
 -- a word that a text has room for
 pub record Room (text word : List ℕ) : Type 0 where
-  pub short : length text ≤ 1024
   pub some : 0 < length word
   pub fits : length word ≤ length text
 

@@ -1,11 +1,11 @@
-// Looking for a word in a text: whether it stands at a place, and how many places from the first on it can't stand at. Whole blocks of
-// places are passed by comparing two of the word's bytes at once. Assumes nothing.
+// Looking for a byte or a word in a text: where a byte stands next, whether a word stands at a place, and how many places from the first on
+// it can't stand at. Whole blocks of places are passed by comparing two of the word's bytes at once. Assumes nothing.
 ghost use mathlib.Core.Bool.{false};
 ghost use mathlib.Core.Path.{_≡_};
 ghost use Prim.Native.Nat.{ℕ, _+_, _≤_, _<_};
-ghost use lib.ListN.{length, getD};
+ghost use lib.ListN.{length};
 ghost use Rattle.base.specs.Lists.{begins};
-ghost use Rattle.search.specs.Passing.{Agrees, Both, Blocks, Searchable, Without, Room, Passes};
+ghost use Rattle.search.specs.Passing.{Agrees, Both, Searchable, Without, Next, NextByte, Room, Passes};
 
 // how many bytes of rest and word are the same, from the first on
 fn same_until(rest: &[u8], word: &[u8]) -> usize
@@ -30,14 +30,15 @@ pub fn begins_with(rest: &[u8], word: &[u8]) -> bool
     same_until(rest, word) == word.len()
 }
 
-// whether at one of 32 places the byte of fronts is first and that of backs is last; no early exit, so that it is vector code
+// Whether at one of the places of two blocks the byte of fronts is first and that of backs is last. It leaves no turn out, so that it becomes
+// vector code.
 fn hit(fronts: &[u8], backs: &[u8], first: u8, last: u8) -> bool
-    requires { ⌜ Blocks (now fronts) (now backs) 32 ⌝ }
-    ensures { λ r. ⌜ (r ≡ false → (j : ℕ) → j < 32 → Both (now (fronts .entry)) (now (backs .entry)) first last j → ⊥) ⌝ }
+    requires { ⌜ length (now fronts) ≡ length (now backs) ⌝ }
+    ensures { λ r. ⌜ (r ≡ false → (j : ℕ) → j < length (now (fronts .entry)) → Both (now (fronts .entry)) (now (backs .entry)) first last j → ⊥) ⌝ }
 {
     let mut found = false;
     let mut j: usize = 0;
-    while j < 32 {
+    while j < fronts.len() {
         let x = fronts[j];
         let y = backs[j];
         found = found | ((x == first) & (y == last));
@@ -46,93 +47,36 @@ fn hit(fronts: &[u8], backs: &[u8], first: u8, last: u8) -> bool
     found
 }
 
-// whether one of 32 bytes is this one
-fn byte_hit(block: &[u8], byte: u8) -> bool
-    requires { ⌜ length (now block) ≡ 32 ⌝ }
-    ensures { λ r. ⌜ (r ≡ false → (j : ℕ) → j < 32 → getD (now (block .entry)) j 0 ≡ byte → ⊥) ⌝ }
-{
-    let mut found = false;
-    let mut j: usize = 0;
-    while j < 32 {
-        let x = block[j];
-        found = found | (x == byte);
-        j += 1;
-    }
-    found
-}
-
-// the same as hit of 8 places
-fn eight_hit(fronts: &[u8], backs: &[u8], first: u8, last: u8) -> bool
-    requires { ⌜ Blocks (now fronts) (now backs) 8 ⌝ }
-    ensures { λ r. ⌜ (r ≡ false → (j : ℕ) → j < 8 → Both (now (fronts .entry)) (now (backs .entry)) first last j → ⊥) ⌝ }
-{
-    let mut found = false;
-    let mut j: usize = 0;
-    while j < 8 {
-        let x = fronts[j];
-        let y = backs[j];
-        found = found | ((x == first) & (y == last));
-        j += 1;
-    }
-    found
-}
-
-// the places from one on, in blocks of 32, at which not both first stands and last stands span bytes behind it
-fn pass_blocks(text: &[u8], first: u8, last: u8, span: usize, places: usize, from: usize) -> usize
-    requires { ⌜ Searchable (now text) span places from ⌝ }
+// the places from one on, in blocks of this size, at which not both first stands and last stands span bytes behind it
+fn pass_blocks(
+    text: &[u8],
+    first: u8,
+    last: u8,
+    span: usize,
+    places: usize,
+    from: usize,
+    size: usize,
+) -> usize
+    requires { ⌜ Searchable (now text) span places from × (0 < size) ⌝ }
     ensures { λ r. ⌜ Without (now (text .entry)) first last span places from r ⌝ }
 {
     let mut k: usize = from;
-    while 32 <= places - k {
+    while size <= places - k {
         let behind = k + span;
-        let fronts = &text[k..k + 32];
-        let backs = &text[behind..behind + 32];
+        let fronts = &text[k..k + size];
+        let backs = &text[behind..behind + size];
         if hit(fronts, backs, first, last) {
             return k;
         }
-        k += 32;
+        k += size;
     }
     k
 }
 
-// the places from the first on, in blocks of 32, at which the byte does not stand
-fn byte_blocks(text: &[u8], byte: u8) -> usize
-    requires { ⌜ length (now text) ≤ 1024 ⌝ }
-    ensures { λ r. ⌜ Without (now (text .entry)) byte byte 0 (length (now (text .entry))) 0 r ⌝ }
-{
-    let mut k: usize = 0;
-    while 32 <= text.len() - k {
-        let block = &text[k..k + 32];
-        if byte_hit(block, byte) {
-            return k;
-        }
-        k += 32;
-    }
-    k
-}
-
-// the same as pass_blocks in blocks of 8
-fn pass_eights(text: &[u8], first: u8, last: u8, span: usize, places: usize, from: usize) -> usize
-    requires { ⌜ Searchable (now text) span places from ⌝ }
-    ensures { λ r. ⌜ Without (now (text .entry)) first last span places from r ⌝ }
-{
-    let mut k: usize = from;
-    while 8 <= places - k {
-        let behind = k + span;
-        let fronts = &text[k..k + 8];
-        let backs = &text[behind..behind + 8];
-        if eight_hit(fronts, backs, first, last) {
-            return k;
-        }
-        k += 8;
-    }
-    k
-}
-
-// the same as pass_blocks one place at a time
+// the same one place at a time, up to one where both stand
 fn pass_bytes(text: &[u8], first: u8, last: u8, span: usize, places: usize, from: usize) -> usize
     requires { ⌜ Searchable (now text) span places from ⌝ }
-    ensures { λ r. ⌜ Without (now (text .entry)) first last span places from r ⌝ }
+    ensures { λ r. ⌜ Next (now (text .entry)) first last span places from r ⌝ }
 {
     let mut k = from;
     while k < places {
@@ -146,17 +90,29 @@ fn pass_bytes(text: &[u8], first: u8, last: u8, span: usize, places: usize, from
     k
 }
 
-// the places from the first on at which the byte does not stand
-fn passed_byte(text: &[u8], byte: u8) -> usize
-    requires { ⌜ length (now text) ≤ 1024 ⌝ }
-    ensures { λ r. ⌜ Without (now (text .entry)) byte byte 0 (length (now (text .entry))) 0 r ⌝ }
+// the next place from one on at which first stands and last stands span bytes behind it, or the end of the places
+fn next_place(text: &[u8], first: u8, last: u8, span: usize, places: usize, from: usize) -> usize
+    requires { ⌜ Searchable (now text) span places from ⌝ }
+    ensures { λ r. ⌜ Next (now (text .entry)) first last span places from r ⌝ }
 {
-    if text.len() < 32 {
-        return pass_bytes(text, byte, byte, 0, text.len(), 0);
+    let b = pass_blocks(text, first, last, span, places, from, 32);
+    let e = pass_blocks(text, first, last, span, places, b, 8);
+    pass_bytes(text, first, last, span, places, e)
+}
+
+// Where this byte stands next from a place on, or where the text ends. The calls of next_place are made anew here, so that they are compiled
+// for one byte.
+pub fn next_byte(text: &[u8], byte: u8, from: usize) -> usize
+    requires { ⌜ from ≤ length (now text) ⌝ }
+    ensures { λ r. ⌜ NextByte (now (text .entry)) byte from r ⌝ }
+{
+    let end = text.len();
+    if end - from < 32 {
+        return pass_bytes(text, byte, byte, 0, end, from);
     }
-    let k = byte_blocks(text, byte);
-    let k2 = pass_eights(text, byte, byte, 0, text.len(), k);
-    pass_bytes(text, byte, byte, 0, text.len(), k2)
+    let b = pass_blocks(text, byte, byte, 0, end, from, 32);
+    let e = pass_blocks(text, byte, byte, 0, end, b, 8);
+    pass_bytes(text, byte, byte, 0, end, e)
 }
 
 // The places of text from the first on at which word does not stand, though enough bytes do. Its first and its last byte are looked for;
@@ -171,9 +127,7 @@ fn passed_word(text: &[u8], word: &[u8]) -> usize
     let mut k: usize = 0;
     while k < places {
         let last = word[span];
-        let b = pass_blocks(text, first, last, span, places, k);
-        let e = pass_eights(text, first, last, span, places, b);
-        k = pass_bytes(text, first, last, span, places, e);
+        k = next_place(text, first, last, span, places, k);
         if k == places {
             return k;
         }
@@ -189,7 +143,6 @@ fn passed_word(text: &[u8], word: &[u8]) -> usize
 
 // places of text from the first on at which word does not stand, though enough bytes do
 pub fn passed(text: &[u8], word: &[u8]) -> usize
-    requires { ⌜ length (now text) ≤ 1024 ⌝ }
     ensures { λ r. ⌜ Passes (now (text .entry)) (now (word .entry)) r ⌝ }
 {
     let n = word.len();
@@ -200,7 +153,7 @@ pub fn passed(text: &[u8], word: &[u8]) -> usize
         return 0;
     }
     if n == 1 {
-        return passed_byte(text, word[0]);
+        return next_byte(text, word[0], 0);
     }
     passed_word(text, word)
 }

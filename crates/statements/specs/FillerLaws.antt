@@ -3,8 +3,8 @@ use mathlib.Core.Bool.{Bool, true, false, cond, _||_}
 use mathlib.Core.List.{List, [], _∷_, _++_}
 use mathlib.Core.Option.{none, some}
 use mathlib.Core.Path.{_≡_, refl, sym, ap, ap₂, subst, _∙_}
-use Prim.Native.Nat.{ℕ, zero, suc, _+_, _*_, _-_, _≤_, _<_}
-use native.Mathlib.Nat.{min-le-right, not-suc-le-zero}
+use Prim.Native.Nat.{ℕ, suc, _+_, _*_, _-_, _≤_, _<_}
+use native.Mathlib.Nat.{min-le-right}
 use native.Mathlib.Numerals.{add-one}
 use native.Mathlib.Omega.{arith}
 use lib.Dec.{eqb, ltb}
@@ -16,6 +16,7 @@ use Rattle.base.specs.Choice.{test-cases}
 use Rattle.base.specs.Lists.{total}
 use Rattle.calls.specs.BufferLaws.{Good, good-image, good-short, storeWith, count-strings, with-strings}
 use Rattle.calls.specs.Buffers.{storeImage, storeSize, stringsIn}
+use Rattle.calls.specs.ReadingLaws.{patterns-more}
 use Rattle.calls.specs.Table.{elementsAt}
 use Rattle.calls.specs.TableReading.{cellAt, patternFrom, patternOfCell}
 use Rattle.cells.specs.Contracts.{stringOf}
@@ -80,14 +81,6 @@ pub record Nulls (table : List ℕ) (from count : ℕ) (store : List ℕ) (at le
 pub nulls-none : (table : List ℕ) (s : Stretch) (store : List ℕ) → Patterned table store s → Nulls table (s .from) (s .count) store (s .from) (s .count) store
 nulls-none table s store p = record { stays = stays-same store (p .good); inside = p .inside; work = λ numbers. refl }
 
-pattern-more : (table : List ℕ) (at n : ℕ) → 0 < n
-    → patternFrom table at n ≡ patternOfCell table (cellAt table (elementsAt + 8 * at)) ∷ patternFrom table (at + 1) (n - 1)
-unfolding patternFrom
-pattern-more table at zero h = absurd (not-suc-le-zero h)
-pattern-more table at (suc n) h =
-    let back : n ≡ suc n - 1 = omega arith in
-    ap (λ (j : ℕ). patternOfCell table (cellAt table (elementsAt + 8 * at)) ∷ patternFrom table (at + 1) j) back
-
 module _ (table : List ℕ) (s : Stretch) (store : List ℕ) (at left : ℕ) (now : List ℕ)
     (p : Nulls table (s .from) (s .count) store at left now) where
   pub nulls-more : 0 < left → (x : ℕ) → x ≡ fillerOf (patternOfCell table (cellAt table (elementsAt + 8 * at)))
@@ -101,7 +94,7 @@ module _ (table : List ℕ) (s : Stretch) (store : List ℕ) (at left : ℕ) (no
         work =
             λ numbers.
             p .work numbers
-            ∙ ap (λ (xs : List PatternElement). withoutFillers xs (memoryOf now numbers)) (pattern-more table at left h)
+            ∙ ap (λ (xs : List PatternElement). withoutFillers xs (memoryOf now numbers)) (patterns-more table at left h)
             ∙ filler-null now numbers cell rest
             ∙ ap (λ (y : ℕ). withoutFillers rest (named (nameOf y) [] (memoryOf now numbers))) (sym e)
             ∙ ap (withoutFillers rest)
@@ -256,7 +249,7 @@ module _ (table : List ℕ) (s : Stretch) (source to : List ℕ) (at left : ℕ)
             ap (λ (v : List ℕ). cond other (stringOf source i) v) mine
             ∙ either i x other (eqb i x) (stringOf now i) refl
             ∙ ap (λ (y : ℕ). cond (eqb i y || other) (stringOf source i) (stringOf now i)) e
-            ∙ sym (ap (λ (xs : List PatternElement). cond (isFiller i xs) (stringOf source i) (stringOf now i)) (pattern-more table at left h))
+            ∙ sym (ap (λ (xs : List PatternElement). cond (isFiller i xs) (stringOf source i) (stringOf now i)) (patterns-more table at left h))
             ∙ p .each i k;
       }
     where

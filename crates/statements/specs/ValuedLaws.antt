@@ -2,7 +2,7 @@
 use mathlib.Core.Bool.{true, false}
 use mathlib.Core.List.{List, _++_, append-nil}
 use mathlib.Core.Path.{_≡_, refl, sym, ap, subst, _∙_}
-use Prim.Native.Nat.{ℕ, zero, suc, _+_, _-_, _≤_, _<_, min}
+use Prim.Native.Nat.{ℕ, _+_, _-_, _≤_, _<_, min}
 use native.Mathlib.Nat.{add-zero, min-eq-left, min-eq-right}
 use native.Mathlib.Omega.{arith}
 use lib.Dec.{leb}
@@ -13,28 +13,25 @@ use borrow.Author.Tests.{le-leb, le-ltb, leb-false, leb-true, lt-leb, lt-ltb}
 use Rattle.base.specs.Choice.{test-cases}
 use Rattle.base.specs.Edition.{edition1}
 use Rattle.calls.specs.Numerals.{biased}
-use Rattle.calls.specs.TableReading.{elementsFrom}
 use Rattle.cells.specs.Contracts.{stringOf, replaced}
 use Rattle.convert.specs.Numbers.{worked}
 use Rattle.convert.specs.declared.Int.{Int}
 use Rattle.convert.specs.declared.Number.{Number}
 use Rattle.convert.specs.declared.Number.the-variants as numbers
 use Rattle.expressions.specs.Memory.{memoryIn}
-use Rattle.expressions.specs.Notes.{few-done, few-string}
+use Rattle.expressions.specs.Notes.{few-done, few-elements-spelt}
 use Rattle.expressions.specs.Values as Values
 use Rattle.language.specs.Program as Program
 use Rattle.machine.specs.Expressions.{lengthIn, stringIn}
 use Rattle.machine.specs.Scanning.{storing}
 use Rattle.machine.specs.State.{Memory, stringAt, withOutput}
 use Rattle.machine.specs.Step.{putting, setStringIn, shortened}
-use Rattle.rows.specs.Holds.{LengthHolds, SignedLengthHolds}
 use Rattle.rows.specs.Meaning.{elementsMeaning}
 use Rattle.rows.specs.declared.Length.{Length}
-use Rattle.rows.specs.declared.Length.the-variants as lengths
 use Rattle.rows.specs.declared.Stretch.{Stretch}
 use Rattle.values.specs.Conversion.{longestString}
 use Rattle.values.specs.Numbers.{isNegative}
-use Rattle.values.specs.Work.{Work, done, stop, noting, _>>=_}
+use Rattle.values.specs.Work.{Work, done, noting, _>>=_}
 use Rattle.statements.specs.Laws.{drop-least}
 use Rattle.statements.specs.Leaving.{memoryOf, Leaves, Sets, Spells, Wrote, Full}
 use Rattle.statements.specs.Valued.{Assigned, Put, Unput, PutBy, Recorded, Stored, storedBetween, tailNotes}
@@ -52,11 +49,6 @@ unfolding _>>=_
 spelt-leaves r store left place from to out n notes zs w s h =
     subst (λ x. Leaves r store left zs (x >>= λ v. storing place (replaced (stringOf store place) from to v) (memoryOf store zs)))
     (sym (s .work)) (h (s .value) zs (spelt n notes out w s))
-
--- and one that is not stops the work
-pub stopped : {A B : Type 0} (w : Work A) (f : A → Work B) (k : ℕ) → w ≡ stop k → (w >>= f) ≡ stop k
-unfolding _>>=_
-stopped w f k e = ap (λ x. x >>= f) e
 
 -- a number that is valued
 pub assigned : (r : Number) (z : Int) (notes : ℕ) (w : Work ℤ) (state left : List ℕ) (place : ℕ) → r ≡ numbers.Is z notes → worked r ≡ w
@@ -152,15 +144,10 @@ module _ (state output v : List ℕ) (n notes : ℕ) (room : length v ≡ 1024) 
       }
 
 -- how many notes come with a string expression of so many elements
-count-elements : (table : List ℕ) (at n : ℕ) → length (elementsFrom table at n) ≡ n
-unfolding elementsFrom
-count-elements table at zero = refl
-count-elements table at (suc n) = ap suc (count-elements table (at + 1) n)
-
 pub few-notes : (table : List ℕ) (s : Stretch) (m : Memory) (n notes : ℕ) (out : List ℕ)
     → Values.Spells n notes out (stringIn edition1 m (elementsMeaning table s)) → notes ≤ s .count
 few-notes table s m n notes out p =
-    omega (arith, few-done (few-string edition1 m (elementsMeaning table s)) (p .work), count-elements table (s .from) (s .count))
+    few-done (few-elements-spelt edition1 m table (s .from) (s .count)) (p .work)
 
 -- a record of a value that is spelt
 pub spelt-puts : (r : Did) (state stateLeft output left out : List ℕ) (n notes : ℕ) (w : Work (List ℕ)) → Values.Spells n notes out w
@@ -170,11 +157,6 @@ unfolding _>>=_
 spelt-puts r state stateLeft output left out n notes w s h =
     subst (λ (x : Work (List ℕ)). PutBy r state stateLeft output left (λ c. x >>= λ v. shortened v >>= λ u. putting (length output) u c))
     (sym (s .work)) (h (s .value) (spelt n notes out w s))
-
--- a length that counts bytes is a length
-pub length-signed : (n : Length) → LengthHolds n → SignedLengthHolds n
-length-signed (lengths.Constant z) h = h .range
-length-signed (lengths.Number i) h = h
 
 -- a stored string, by another name of the work
 pub stored-as : (r : Did) (store left state scratch out : List ℕ) (w u : Work Memory) → u ≡ w → Stored r store left state scratch out w

@@ -8,25 +8,15 @@ ghost use Rattle.calls.specs.BufferLaws.{Good};
 ghost use Rattle.cells.specs.Contracts.{stringOf};
 ghost use Rattle.rows.specs.Meaning.{patternMeaning};
 ghost use Rattle.statements.specs.Fillers.{fillerOf, renamed, Patterned, Nulled, Nameable, Naming, Copying, Copied};
+use base::STRINGS;
+use base::number;
+use base::wide;
 use rows::PatternElement;
 use rows::Stretch;
+use scanning::LENGTHS_AT;
+use scanning::START_AT;
 
-// how many strings there are; as the place of a filler: none
-const STRINGS: usize = 32;
-
-fn wide(b: u8) -> usize
-    ensures { λ r. ⌜ (r ≡ b) × (r < 256) ⌝ }
-{
-    b as usize
-}
-
-fn number(n: u32) -> usize
-    ensures { λ r. ⌜ r ≡ n ⌝ }
-{
-    n as usize
-}
-
-// the place of a filler, or none
+// the place of a filler, or one behind those of all strings
 fn filler_of(x: PatternElement) -> usize
     ensures { λ r. ⌜ ((t : List ℕ) → r ≡ fillerOf (patternMeaning t x)) ⌝ }
 {
@@ -68,10 +58,10 @@ pub fn name_fillers(store: &mut [u8], reference: &[u8], names: &[u8], answer: &[
     requires { ⌜ Nameable (now store) (now reference) (now names) (now answer) count ⌝ }
     ensures { λ _. ⌜ Naming (now (store .entry)) (now (store .exit)) (now (reference .entry)) (now (names .entry)) (now (answer .entry)) count ⌝ }
 {
-    let mut at = number(answer[1]);
+    let mut at = number(answer[START_AT]);
     let mut i = 0;
     while i < count {
-        let to = at + number(answer[4 + i]);
+        let to = at + number(answer[LENGTHS_AT + i]);
         set_named(store, wide(names[i]), &reference[at..to]);
         at = to;
         i += 1;

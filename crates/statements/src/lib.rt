@@ -10,9 +10,7 @@ ghost use mathlib.Core.Path.{_≡_};
 ghost use Prim.Native.Nat.{_≤_, min};
 ghost use lib.ListN.{length};
 ghost use Rattle.statements.specs.Leaving.{Taking, Took, Puts, Setting, Sets};
-
-// the longest string
-const LONGEST: usize = 1024;
+use base::LONGEST;
 
 // what a statement's work comes to: done, with so many notes, or stopped by a number
 pub enum Did {

@@ -8,13 +8,9 @@ ghost use Rattle.rows.specs.Meaning.{partMeaning};
 ghost use Rattle.statements.specs.Reading.{Reading, Next, Reads};
 use crate::Went;
 use crate::take_record;
+use base::LONGEST;
+use calls::READ_AT;
 use rows::Part;
-
-// the longest string
-const LONGEST: usize = 1024;
-
-// where a state keeps the place in the input
-const READ_AT: usize = 3;
 
 // takes the next record of the input that the state knows of
 fn read_next(

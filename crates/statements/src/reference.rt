@@ -11,11 +11,9 @@ ghost use Rattle.rows.specs.Meaning.{directionMeaning, partMeaning};
 ghost use Rattle.statements.specs.References.{Refers, restrictedBy, referenceOf};
 ghost use Rattle.statements.specs.Valued.{Between};
 use crate::least;
+use base::LONGEST;
 use rows::Direction;
 use rows::Part;
-
-// the longest string
-const LONGEST: usize = 1024;
 
 // the bytes from..to of the string with this place, or what stops the run
 pub enum Reference {

@@ -13,12 +13,10 @@ ghost use Rattle.statements.specs.Valued.{Between, Stored};
 use crate::Did;
 use crate::set_between;
 use crate::valued::set_value;
+use base::LONGEST;
 use convert::Text;
 use rows::Direction;
 use rows::Stretch;
-
-// the longest string
-const LONGEST: usize = 1024;
 
 // copies the first n bytes of v, last byte first, to the front of a string's buffer
 fn turn_first(v: &[u8], n: usize, out: &mut [u8; LONGEST])

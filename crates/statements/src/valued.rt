@@ -16,15 +16,12 @@ use crate::Output;
 use crate::least;
 use crate::put_record;
 use crate::set_between;
+use base::LONGEST;
+use calls::WRITTEN_AT;
 use convert::Number;
 use convert::Text;
 use rows::Part;
 use rows::Stretch;
-
-const LONGEST: usize = 1024;
-
-// where a state keeps the output's length
-const WRITTEN_AT: usize = 4;
 
 // a numeric expression's value becomes the number of this place
 pub fn assign(table: &[u8], store: &[u8], state: &mut [u64; 64], place: usize, s: Stretch) -> Did

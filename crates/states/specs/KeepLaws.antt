@@ -10,12 +10,13 @@ use lib.Dec.{ltb, leb}
 use lib.IntN.{natAbs}
 use lib.ListN.{length, take, drop, getD, replicate}
 use lib.Seq.{drop-cons}
-use borrow.Author.Tests.{le-leb, le-ltb, lt-leb, lt-ltb, ltb-false, ltb-true}
+use borrow.Author.Tests.{le-leb, lt-leb, ltb-false, ltb-true}
 use Rattle.base.specs.Choice.{cond-cases, test-cases}
 use Rattle.base.specs.Edition.{edition1}
 use Rattle.base.specs.Lists.{all}
 use Rattle.calls.specs.Calls.{StartCalled, startCall}
 use Rattle.calls.specs.Buffers.{storeSize, firstState, stateLeft, stateSize, returnsAt, numbersAt, statusNumber, returnsIn, numbersIn, stateKeeps}
+use Rattle.calls.specs.NumeralLaws.{size-low, size-high}
 use Rattle.calls.specs.Numerals.{bias, biased, unbiased}
 use Rattle.calls.specs.Splices.{splice}
 use Rattle.machine.specs.State.{mostNumbers, fresh, freshMemory}
@@ -60,15 +61,6 @@ lowest = 2 ^ 47 - 8_388_607
 
 abbrev pub highest : ℕ
 highest = 2 ^ 47 + 8_388_607
-
--- how far a number is from 0, by the word that keeps it
-size-low : (n : ℕ) → n < 2 ^ 47 → natAbs (unbiased n) ≡ 2 ^ 47 - n
-unfolding unbiased bias
-size-low n h = rw (lt-ltb n (2 ^ 47) h) (omega arith)
-
-size-high : (n : ℕ) → 2 ^ 47 ≤ n → natAbs (unbiased n) ≡ n - 2 ^ 47
-unfolding unbiased bias
-size-high n h = rw (le-ltb n (2 ^ 47) h)
 
 pub number-low : (n : ℕ) → n < lowest → keepsNumber n ≡ false
 unfolding keepsNumber isInRange edition1

@@ -1,27 +1,28 @@
 -- What the writes of a step are to the machine: numbers that leave a machine's state, kept so by each write. A step starts from numbers
 -- that hold the machine (holding-leaves), has one law for each write, and ends at stateLeft (leaves-all). Assumes nothing.
-use mathlib.Core.Bool.{Bool, true, false, cond}
+use mathlib.Core.Bool.{true, false, cond}
 use mathlib.Core.List.{List, [], _∷_, _++_, map, reverse, reverse-cons, reverse-reverse}
-use mathlib.Core.Path.{_≡_, refl, sym, _∙_, ap, ap₂, subst}
+use mathlib.Core.Path.{_≡_, refl, sym, _∙_, ap, subst}
 use Prim.Native.Nat.{ℕ, zero, suc, _+_, _-_, _≤_, _<_}
 use native.Mathlib.Numerals.{add-one}
 use native.Mathlib.Omega.{arith}
 use lib.Dec.{eqb}
 use lib.IntN.{ℤ}
 use lib.ListN.{length, take, drop, getD, set, length-drop, length-reverse, length-set, take-append-drop}
-use lib.Seq.{drop-cons, drop-drop, length-take-le, take-suc-set, take-set-le, take-set-lt, drop-set-lt, drop-set-add, getD-drop, getD-take, ext-getD, take-take, take-at, getD-append-seam, getD-set-other}
+use lib.Seq.{drop-cons, length-take-le, take-suc-set, take-set-le, take-set-lt, drop-set-lt, drop-set-add, getD-drop, getD-take, ext-getD, take-take, take-at, getD-append-seam, getD-set-other}
 use borrow.Author.Tests.{eqb-true}
 use Rattle.base.specs.Choice.{cond-cases, test-cases}
 use Rattle.base.specs.Edition.{Edition}
+use Rattle.base.specs.ListLaws.{stretch-behind, length-stretch, getD-stretch}
 use Rattle.calls.specs.Buffers.{stateSize, returnsAt, numbersAt, statusNumber, statusOf, returnsIn, numbersIn, stateKeeps, stateIn, stateLeft}
 use Rattle.calls.specs.Calls.{Buffers}
 use Rattle.calls.specs.GivenLaws.{StateInRange, state-in-range}
 use Rattle.calls.specs.Holding.{Holding}
-use Rattle.calls.specs.NumeralLaws.{biased-unbiased}
-use Rattle.calls.specs.Numerals.{biased, unbiased}
+use Rattle.calls.specs.NumeralLaws.{numbers-same}
+use Rattle.calls.specs.Numerals.{biased}
 use Rattle.language.specs.Program.{Program}
 use Rattle.machine.specs.State.{running, finished, stopped, isRunning, Memory, State, mostNumbers, withNumber, goingTo, withReturns, withInput, withOutput, withStatus}
-use Rattle.machine.specs.Step.{mostReturns, returning, statementAt, lacksReturn, turnedDownBy}
+use Rattle.machine.specs.Step.{mostReturns, returning}
 
 -- the five numbers in front
 abbrev pub frontOf : (input : List ℕ) → State → List ℕ
@@ -39,29 +40,24 @@ pub record Leaves (state input : List ℕ) (c : State) (left : List ℕ) : Type 
   pub numbers : take 32 (drop 21 left) ≡ map biased (c .memory .numbers)
   pub behind : drop 53 left ≡ drop 53 state
 
--- a stretch of a list and what lies behind it
-stretch : (l : List ℕ) (at n next : ℕ) → at + n ≡ next → take n (drop at l) ++ drop next l ≡ drop at l
-stretch l at n next e =
-    ap (λ r. take n (drop at l) ++ r) (ap (λ k. drop k l) (sym e) ∙ sym (drop-drop n at l)) ∙ take-append-drop n (drop at l)
-
 -- the numbers in front, the returns held and not, the numbers and the rest
 parts : (l : List ℕ) (n : ℕ) → n ≤ 16
     → l ≡ take 5 l ++ (take n (drop 5 l) ++ (take (16 - n) (drop (5 + n) l) ++ (take 32 (drop 21 l) ++ drop 53 l)))
 parts l n few =
     let places : 5 + n + (16 - n) ≡ 21 = omega arith in
-    rw (stretch l 21 32 53 refl, stretch l (5 + n) (16 - n) 21 places, stretch l 5 n (5 + n) refl) (sym (take-append-drop 5 l))
+    rw (stretch-behind l 21 32 53 refl, stretch-behind l (5 + n) (16 - n) 21 places, stretch-behind l 5 n (5 + n) refl) (sym (take-append-drop 5 l))
 
 -- two stretches with the same numbers are the same
 same-stretch : (l r : List ℕ) (at n : ℕ) → length l ≡ length r → at + n ≤ length l
     → ((i : ℕ) → at ≤ i → i < at + n → getD l i 0 ≡ getD r i 0)
     → take n (drop at l) ≡ take n (drop at r)
 same-stretch l r at n sizes fits same =
-    let left : length (take n (drop at l)) ≡ n = length-take-le n (drop at l) (simp length-drop (omega arith)) in
-    let right : length (take n (drop at r)) ≡ n = length-take-le n (drop at r) (simp length-drop (omega arith)) in
+    let left : length (take n (drop at l)) ≡ n = length-stretch l at n fits in
+    let right : length (take n (drop at r)) ≡ n = length-stretch r at n (omega arith) in
     ext-getD 0 (take n (drop at l)) (take n (drop at r)) (left ∙ sym right)
     (λ i h.
     let below : i < n = omega arith in
-    rw (getD-take n (drop at l) i 0 below, getD-take n (drop at r) i 0 below, getD-drop at l i 0, getD-drop at r i 0) (same (at + i) (omega arith) (omega arith)))
+    rw (getD-stretch l at n i below, getD-stretch r at n i below) (same (at + i) (omega arith) (omega arith)))
 
 -- they are what is left of the state
 pub leaves-all : {state input : List ℕ} {c : State} {left : List ℕ} → Leaves state input c left → left ≡ stateLeft state input c
@@ -73,27 +69,12 @@ leaves-all {state} {input} {c} {left} g =
     let unheld = same-stretch left state (5 + n) (16 - n) (g .same-size) (omega (arith, g .size)) (λ i h k. g .unheld i h (omega arith)) in
     parts left n few ∙ (λ i. g .front i ++ (g .returns i ++ (unheld i ++ (g .numbers i ++ g .behind i))))
 
--- numbers are written as they were read
-numbers-same : (ns : List ℕ) → map biased (map unbiased ns) ≡ ns
-numbers-same [] = refl
-numbers-same (n ∷ ns) = ap₂ {C = List ℕ} _∷_ (biased-unbiased n) (numbers-same ns)
-
 -- a machine runs where its status number is 0
 pub running-number : (n : ℕ) → eqb n 0 ≡ isRunning (statusOf n)
 unfolding statusOf isRunning
 running-number n =
     test-cases (λ t. t ≡ isRunning (cond t running (cond (eqb n 1) finished stopped))) (eqb n 0) (λ _. refl)
     (λ _. cond-cases (λ x. false ≡ isRunning x) (eqb n 1) (λ _. refl) (λ _. refl))
-
--- and it does in a step that the machine doesn't turn down
-pub goes-running : (p : Program) (c : State) → turnedDownBy p c ≡ 0 → isRunning (c .status) ≡ true
-unfolding turnedDownBy
-goes-running p c = runs (lacksReturn (statementAt p (c .next)) (c .returns)) (isRunning (c .status))
-  where
-    runs : (lacks goes : Bool) → _≡_ {A = ℕ} (cond lacks 15 (cond goes 0 16)) 0 → goes ≡ true
-    runs true goes h = absurd (omega arith)
-    runs false true h = refl
-    runs false false h = absurd (omega arith)
 
 -- the first five numbers
 five : (l : List ℕ) → 5 ≤ length l → take 5 l ≡ getD l 0 0 ∷ (getD l 1 0 ∷ (getD l 2 0 ∷ (getD l 3 0 ∷ (getD l 4 0 ∷ []))))

@@ -12,38 +12,26 @@ ghost use Rattle.convert.specs.Numbers.{InRange};
 ghost use Rattle.machine.specs.State.{isRunning};
 ghost use Rattle.values.specs.Numbers.{isInRange};
 ghost use Rattle.states.specs.Contracts.{Popped, StartedWith};
+use calls::BIAS;
+use calls::HELD_AT;
+use calls::NEXT_AT;
+use calls::NUMBERS_AT;
+use calls::READ_AT;
+use calls::RETURNS_AT;
+use calls::STATUS_AT;
+use calls::WRITTEN_AT;
 use convert::Int;
 
-// Five numbers come first: the status, the next step, how many returns are held, the input place and the output length.
-const STATUS: usize = 0;
-
-const NEXT: usize = 1;
-
-const HELD: usize = 2;
-
-const PLACE: usize = 3;
-
-const WRITTEN: usize = 4;
-
-// 16 returns, the oldest first
-const RETURNS: usize = 5;
-
-const MOST_RETURNS: u64 = 16;
-
-// 32 numbers, each with the bias added; those behind them don't count
-const NUMBERS: usize = 21;
-
-const BEHIND: usize = 53;
-
-const BIAS: u64 = 140_737_488_355_328;
+// where the numbers end; what stands behind them doesn't count
+const BEHIND: usize = NUMBERS_AT + base::NUMBERS;
 
 // Whether the returns held are steps of a program with so many.
 fn returns_keep(state: &[u64], steps: usize) -> bool
     requires { ⌜ (length (now state) ≡ 64) × (getD (now state) 2 0 ≤ 16) ⌝ }
     ensures { λ r. ⌜ r ≡ all (λ k. ltb k steps) (returnsIn (now (state .entry))) ⌝ }
 {
-    let end = RETURNS + (state[HELD] as usize);
-    let mut i = RETURNS;
+    let end = RETURNS_AT + (state[HELD_AT] as usize);
+    let mut i = RETURNS_AT;
     while i < end {
         if steps as u64 <= state[i] {
             return false;
@@ -58,7 +46,7 @@ fn numbers_keep(state: &[u64]) -> bool
     requires { ⌜ length (now state) ≡ 64 ⌝ }
     ensures { λ r. ⌜ r ≡ all (isInRange edition1) (numbersIn (now (state .entry))) ⌝ }
 {
-    let mut i = NUMBERS;
+    let mut i = NUMBERS_AT;
     while i < BEHIND {
         let n = state[i];
         if n < BIAS - convert::LIMIT {
@@ -76,10 +64,10 @@ fn numbers_keep(state: &[u64]) -> bool
 pub fn keeps(state: &[u64; 64], steps: usize, input: usize, output: usize) -> bool
     ensures { λ r. ⌜ r ≡ stateKeeps edition1 steps input output (now (state .entry)) ⌝ }
 {
-    if steps as u64 <= state[NEXT] {
+    if steps as u64 <= state[NEXT_AT] {
         return false;
     }
-    if MOST_RETURNS < state[HELD] {
+    if (base::RETURNS as u64) < state[HELD_AT] {
         return false;
     }
     if !returns_keep(state, steps) {
@@ -88,66 +76,52 @@ pub fn keeps(state: &[u64; 64], steps: usize, input: usize, output: usize) -> bo
     if !numbers_keep(state) {
         return false;
     }
-    if (input as u64) < state[PLACE] {
+    if (input as u64) < state[READ_AT] {
         return false;
     }
-    state[WRITTEN] <= output as u64
+    state[WRITTEN_AT] <= output as u64
 }
 
 // Whether the run goes on: it has neither finished nor stopped.
 pub fn is_running(state: &[u64; 64]) -> bool
     ensures { λ r. ⌜ r ≡ isRunning (statusOf (getD (now (state .entry)) 0 0)) ⌝ }
 {
-    state[STATUS] == 0
+    state[STATUS_AT] == 0
 }
 
 // The step that comes next.
 pub fn next_step(state: &[u64; 64]) -> usize
     ensures { λ r. ⌜ r ≡ getD (now (state .entry)) 1 0 ⌝ }
 {
-    state[NEXT] as usize
+    state[NEXT_AT] as usize
 }
 
 // How many returns are held.
 pub fn returns_held(state: &[u64; 64]) -> usize
     ensures { λ r. ⌜ r ≡ getD (now (state .entry)) 2 0 ⌝ }
 {
-    state[HELD] as usize
-}
-
-// How far the input is taken.
-pub fn input_place(state: &[u64; 64]) -> usize
-    ensures { λ r. ⌜ r ≡ getD (now (state .entry)) 3 0 ⌝ }
-{
-    state[PLACE] as usize
-}
-
-// How far the output is written.
-pub fn output_length(state: &[u64; 64]) -> usize
-    ensures { λ r. ⌜ r ≡ getD (now (state .entry)) 4 0 ⌝ }
-{
-    state[WRITTEN] as usize
+    state[HELD_AT] as usize
 }
 
 // Moves on to a step.
 pub fn go_to(state: &mut [u64; 64], k: usize)
     ensures { λ _. ⌜ now (state .exit) ≡ set (now (state .entry)) 1 k ⌝ }
 {
-    state[NEXT] = k as u64;
+    state[NEXT_AT] = k as u64;
 }
 
 // Marks the run finished.
 pub fn finish(state: &mut [u64; 64])
     ensures { λ _. ⌜ now (state .exit) ≡ set (now (state .entry)) 0 1 ⌝ }
 {
-    state[STATUS] = 1;
+    state[STATUS_AT] = 1;
 }
 
 // Marks the run stopped.
 pub fn stop(state: &mut [u64; 64])
     ensures { λ _. ⌜ now (state .exit) ≡ set (now (state .entry)) 0 2 ⌝ }
 {
-    state[STATUS] = 2;
+    state[STATUS_AT] = 2;
 }
 
 // Sets the number with this place.
@@ -156,7 +130,7 @@ pub fn set_number(state: &mut [u64; 64], place: usize, z: Int)
     requires { ⌜ InRange z ⌝ }
     ensures { λ _. ⌜ now (state .exit) ≡ set (now (state .entry)) (21 + place) (biased (z .value)) ⌝ }
 {
-    state[NUMBERS + place] = (z.value + (BIAS as i64)) as u64;
+    state[NUMBERS_AT + place] = (z.value + (BIAS as i64)) as u64;
 }
 
 // Holds a return to a step.
@@ -165,9 +139,9 @@ pub fn push_return(state: &mut [u64; 64], k: usize)
     ensures { λ _. ⌜ now (state .exit)
         ≡ set (set (now (state .entry)) (5 + getD (now (state .entry)) 2 0) k) 2 (getD (now (state .entry)) 2 0 + 1) ⌝ }
 {
-    let held = state[HELD];
-    state[RETURNS + (held as usize)] = k as u64;
-    state[HELD] = held + 1;
+    let held = state[HELD_AT];
+    state[RETURNS_AT + (held as usize)] = k as u64;
+    state[HELD_AT] = held + 1;
 }
 
 // Lets the latest return go and gives its step.
@@ -175,24 +149,10 @@ pub fn pop_return(state: &mut [u64; 64]) -> usize
     requires { ⌜ (0 < getD (now state) 2 0) × (getD (now state) 2 0 ≤ 16) ⌝ }
     ensures { λ r. ⌜ Popped (now (state .entry)) r (now (state .exit)) ⌝ }
 {
-    let held = state[HELD];
+    let held = state[HELD_AT];
     let left = held - 1;
-    state[HELD] = left;
-    state[RETURNS + (left as usize)] as usize
-}
-
-// Sets how far the input is taken.
-pub fn take_input(state: &mut [u64; 64], place: usize)
-    ensures { λ _. ⌜ now (state .exit) ≡ set (now (state .entry)) 3 place ⌝ }
-{
-    state[PLACE] = place as u64;
-}
-
-// Sets how far the output is written.
-pub fn put_output(state: &mut [u64; 64], length: usize)
-    ensures { λ _. ⌜ now (state .exit) ≡ set (now (state .entry)) 4 length ⌝ }
-{
-    state[WRITTEN] = length as u64;
+    state[HELD_AT] = left;
+    state[RETURNS_AT + (left as usize)] as usize
 }
 
 // Makes the state before the first step: zeros, and 32 numbers that are 0.
@@ -200,7 +160,7 @@ pub fn start(state: &mut [u64; 64])
     ensures { λ _. ⌜ now (state .exit) ≡ firstState ⌝ }
 {
     *state = [0u64; 64];
-    let mut i = NUMBERS;
+    let mut i = NUMBERS_AT;
     while i < BEHIND {
         state[i] = BIAS;
         i += 1;

@@ -23,7 +23,7 @@ use Rattle.calls.specs.StepLaws.{Tabled, call-held}
 use Rattle.calls.specs.Table.{Row, stepsAt}
 use Rattle.calls.specs.TableReading.{programIn, rowAt, statementOfRow}
 use Rattle.carry.specs.Carrying.{Carries, Standing, Unmoved, lent, machineIn}
-use Rattle.carry.specs.Laws.{bound, stopped, stops, scans}
+use Rattle.carry.specs.Laws.{stops, scans}
 use Rattle.expressions.specs.Memory.{Ready, keeps-ready, memoryIn}
 use Rattle.language.specs.Program as Program
 use Rattle.language.specs.Program.{Program}
@@ -43,6 +43,7 @@ use Rattle.scanstep.specs.Scans.{Ended, Lent, scanningOf}
 use Rattle.statements.specs.declared.Did.{Did}
 use Rattle.statements.specs.declared.Did.the-variants as did
 use Rattle.values.specs.Work.{Work, stop, quietly}
+use Rattle.values.specs.WorkLaws.{bound, stopped}
 use Rattle.steps.specs.Contracts.{Given, Going, ReturnsEnough, Worked, Works, WorksOn, carriedOut, workOf, Concludes, Answers, unfitNumber}
 
 -- an answer that says nothing is zeros

@@ -17,18 +17,12 @@ ghost use Rattle.scanning.specs.Call.{noAnswer};
 ghost use Rattle.scanstep.specs.Scans.{Lent};
 ghost use Rattle.steps.specs.Contracts.{Given, Going, WorksOn, carriedOut, Concludes, Answers, unfitNumber};
 ghost use Rattle.steps.specs.Promises.{StepPromise};
-use crate::scans::LONGEST;
+use base::LONGEST;
+use base::RETURNS;
+use calls::TABLE_SIZE;
 use rows::Statement;
+use scanning::NOTES_AT;
 use statements::Did;
-
-// the bytes of a table
-const TABLE_SIZE: usize = 28_672;
-
-// where an answer has its notes
-pub const NOTES: usize = 3;
-
-// the most returns that a state can hold
-const MOST_RETURNS: usize = 16;
 
 // the kind of a step that is an EXECUTE; what is above it returns
 const EXECUTE: usize = 11;
@@ -41,7 +35,7 @@ fn lacks_return(kind: usize, held: usize) -> bool
         return false;
     }
     if kind == EXECUTE {
-        return MOST_RETURNS <= held;
+        return RETURNS <= held;
     }
     held == 0
 }
@@ -114,7 +108,7 @@ fn conclude(did: Did, state: &mut [u64; 64], answer: &mut [u32; 24]) -> u32
 {
     match did {
         Did::Done(notes) => {
-            answer[NOTES] = notes;
+            answer[NOTES_AT] = notes;
             0
         }
         Did::Stops(k) => {

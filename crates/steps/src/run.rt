@@ -8,14 +8,15 @@ ghost use Rattle.calls.specs.Calls.{runCall, stepCall};
 ghost use Rattle.carry.specs.Carrying.{lent};
 ghost use Rattle.steps.specs.Contracts.{Given, Answers};
 ghost use Rattle.steps.specs.Promises.{RunPromise};
-use crate::NOTES;
-use crate::scans::LONGEST;
 use crate::scans::NAMES_SIZE;
 use crate::scans::ROWS_SIZE;
-use crate::scans::STORE_SIZE;
 use crate::scans::VALUES_SIZE;
 use crate::step_on;
 use crate::unfit;
+use base::LONGEST;
+use calls::STATUS_AT;
+use calls::STORE_SIZE;
+use scanning::NOTES_AT;
 
 // how a run ends
 const FINISHED: u64 = 0;
@@ -29,21 +30,18 @@ const REFUSED: u64 = 3;
 // the least number by which a step is stopped; those below turn it down
 const FIRST_STOP: u32 = 17;
 
-// where a state keeps its status
-const STATUS: usize = 0;
-
 // whether the run has finished
 fn is_finished(state: &[u64; 64]) -> bool
     ensures { λ r. ⌜ r ≡ eqb (getD (now (state .entry)) 0 0) 1 ⌝ }
 {
-    state[STATUS] == 1
+    state[STATUS_AT] == 1
 }
 
 // the notes of a step
 fn notes_of(answer: &[u32; 24]) -> u32
     ensures { λ r. ⌜ r ≡ getD (now (answer .entry)) 3 0 ⌝ }
 {
-    answer[NOTES]
+    answer[NOTES_AT]
 }
 
 // says how a run ended, and gives its number

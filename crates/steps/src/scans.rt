@@ -4,21 +4,19 @@ ghost use Prim.Native.Nat.{ℕ};
 ghost use Rattle.carry.specs.Carrying.{lent};
 ghost use Rattle.scanstep.specs.Scans.{Scannable, Lent};
 ghost use Rattle.steps.specs.Contracts.{DoesScan};
+use base::LONGEST;
+use base::ROW;
 use rows::Scan;
+use scanning::ROW_SIZE;
 use scanstep::Scanned;
 use statements::Did;
 
-// the longest string
-pub const LONGEST: usize = 1024;
+// the bytes of a pattern's values, rows and names
+pub const VALUES_SIZE: usize = LONGEST * ROW;
 
-// a store that keeps the fillers meanwhile; the pattern's values, rows and names
-pub const STORE_SIZE: usize = 32_832;
+pub const ROWS_SIZE: usize = ROW_SIZE * ROW;
 
-pub const VALUES_SIZE: usize = 20_480;
-
-pub const ROWS_SIZE: usize = 240;
-
-pub const NAMES_SIZE: usize = 20;
+pub const NAMES_SIZE: usize = ROW;
 
 // a scan, with the buffers that it works in
 pub fn scan(

@@ -1,13 +1,15 @@
 -- `branches::read_failure` reads a label beside a step.
 -- Assumes nothing.
+use mathlib.Core.Logic.{inl}
+use mathlib.Core.Path.{refl}
 use lib.ListN.{drop}
 use Rattle.branches.specs.BranchLaws.{target-case, target-none, failure-got, failure-broken}
 use borrow.Author.Needs.{needs}
 use Rattle.branches.proofs.read_failure.Statement.{statement}
 use Rattle.branches.proofs.read_failure.Tie as tie
 
-read-label-requires : tie.Need-read-label-requires
-read-label-requires c κs = search needs
+read-target-requires : tie.Need-read-target-requires
+read-target-requires c κs = (c .before .before .before .pre .0, (c .before .before .before .pre .1, record { is = inl refl }))
 
 enum-told : tie.Need-enum-told
 enum-told c = search needs
@@ -19,15 +21,15 @@ returns : tie.Need-returns
 returns c =
     let a = c .before .before .before .before .before .before .args in
     record {
-      answer = failure-broken (a .known .now) (a .success) (drop (a .c .at) (a .text .now)) (target-none (c .before .before .read-label .ensures) (c .enum-told .given .1));
+      answer = failure-broken (a .known .now) (a .success) (drop (a .c .at) (a .text .now)) (target-none (c .before .before .read-target .ensures) (c .enum-told .given .1));
     }
 
 returns-2 : tie.Need-returns-2
 returns-2 c =
     record {
-      answer = failure-got (c .before .before .before .before .before .before .before .args .known .now) (c .before .before .before .before .before .before .before .args .success) (target-case (c .before .before .before .read-label .ensures) (c .before .failure .given .1));
+      answer = failure-got (c .before .before .before .before .before .before .before .args .known .now) (c .before .before .before .before .before .before .before .args .success) (target-case (c .before .before .before .read-target .ensures) (c .before .failure .given .1));
     }
 
 pub read-failure-spec : {M : Type 1} → statement M
 read-failure-spec =
-    tie.close (tie.spec read-label-requires enum-told enum-known-failure returns returns-2)
+    tie.close (tie.spec read-target-requires enum-told enum-known-failure returns returns-2)

@@ -1,7 +1,8 @@
 -- `branches::read_targets` reads one label or two.
 -- Assumes nothing.
 use mathlib.Core.List.{[], _∷_}
-use mathlib.Core.Path.{sym, subst, _∙_}
+use mathlib.Core.Logic.{inl}
+use mathlib.Core.Path.{refl, sym, subst, _∙_}
 use lib.ListN.{drop}
 use native.Mathlib.Omega.{arith}
 use Rattle.met.specs.Known.{placesIn}
@@ -47,8 +48,8 @@ returns c =
     (failingTo (a .known .now) s (drop (c .before .skip .result .at) (a .text .now))) (f .result) (f .last .1 .1 .0) (f .last .1 .1 .1 .0))
     (c .before .before .before .before .before .before .next-step .ensures) (f .ensures)))
 
-read-label-requires : tie.Need-read-label-requires
-read-label-requires c κs = search needs
+read-target-requires : tie.Need-read-target-requires
+read-target-requires c κs = (c .before .before .before .before .before .before .pre .0, (c .before .before .before .before .before .before .pre .1, record { is = inl refl }))
 
 enum-told : tie.Need-enum-told
 enum-told c = search needs
@@ -60,11 +61,11 @@ stands-at-requires-2 : tie.Need-stands-at-requires-2
 stands-at-requires-2 c κs = search needs
 
 skip-requires-2 : tie.Need-skip-requires-2
-skip-requires-2 c κs = omega (arith, target-case (c .before .before .before .before .before .before .before .read-label .ensures) (c .before .before .before .before .before .success .given .1) .ready)
+skip-requires-2 c κs = omega (arith, target-case (c .before .before .before .before .before .before .before .read-target .ensures) (c .before .before .before .before .before .success .given .1) .ready)
 
 read-failure-requires-2 : tie.Need-read-failure-requires-2
 read-failure-requires-2 c κs =
-    let l = c .before .before .before .before .before .before .before .before .read-label in
+    let l = c .before .before .before .before .before .before .before .before .read-target in
     let g = target-case (l .ensures) (c .before .before .before .before .before .before .success .given .1) in
     let comma = sym (c .before .before .before .before .stands-at2 .ensures) ∙ c .before .before .before .if2 .taken in (
       subst (Ready (c .before .before .before .before .before .before .before .before .before .before .before .before .before .before .before .args .text .now) (l .last .1 .1 .0) (l .last .1 .1 .1 .0)) (sym (c .skip2 .ensures)) (ready-moved (44 ∷ []) (g .ready) comma),
@@ -74,7 +75,7 @@ read-failure-requires-2 c κs =
 returns-2 : tie.Need-returns-2
 returns-2 c =
     let a = c .before .before .before .before .before .before .before .before .before .before .before .before .before .before .before .before .args in
-    let l = c .before .before .before .before .before .before .before .before .before .read-label in
+    let l = c .before .before .before .before .before .before .before .before .before .read-target in
     let f = c .read-failure2 in
     let s = c .before .before .before .before .before .before .before .success .given .0 .0 in
     let none = sym (c .before .before .before .before .before .before .before .before .before .before .before .before .before .stands-at .ensures) ∙ c .before .before .before .before .before .before .before .before .before .before .before .before .if1 .left in
@@ -92,13 +93,13 @@ returns-3 c =
     record {
       answer =
           targets-broken (a .known .now) (drop (a .c .at) (a .text .now)) (sym (c .before .before .before .before .before .before .stands-at .ensures) ∙ c .before .before .before .before .before .if1 .left)
-          (target-none (c .before .before .read-label .ensures) (c .enum-told .given .1));
+          (target-none (c .before .before .read-target .ensures) (c .enum-told .given .1));
     }
 
 returns-4 : tie.Need-returns-4
 returns-4 c =
     let a = c .before .before .before .before .before .before .before .before .before .before .before .before .args in
-    let l = c .before .before .before .before .before .read-label in
+    let l = c .before .before .before .before .before .read-target in
     let s = c .before .before .before .success .given .0 .0 in
     record {
       answer =
@@ -120,7 +121,7 @@ read-targets-spec =
     skip-requires
     read-failure-requires
     returns
-    read-label-requires
+    read-target-requires
     enum-told
     enum-known-success
     stands-at-requires-2

@@ -6,13 +6,13 @@ use native.Mathlib.Omega.{arith}
 use Rattle.cells.proofs.cell_keeps.Statement.{statement}
 use Rattle.cells.proofs.cell_keeps.Tie as tie
 
-number-requires : tie.Need-number-requires
-number-requires c κs = search needs
+number2-requires : tie.Need-number2-requires
+number2-requires c κs = search needs
 
 returns : tie.Need-returns
 returns c =
     let a = c .before .before .before .args in
-    sym (cell-long (a .store .now) (a .at) (c .before .before .shared-slice-known .given (a .at) .fits) (omega (arith, c .before .number .ensures)))
+    sym (cell-long (a .store .now) (a .at) (c .before .before .shared-slice-known .given (a .at) .fits) (omega (arith, c .before .number2 .ensures .0)))
 
 add-from : tie.Need-add-from
 add-from c = search needs
@@ -41,13 +41,13 @@ returns-2 c =
     let a = read .before .before .args in
     let low = read .before .shared-slice-known .given (a .at) .fits in
     c .marks .ensures
-    ∙ cell-zeros (a .store .now) (a .at) (read .number .result) low (read .number .ensures) (c .before .before .if1 .left)
+    ∙ cell-zeros (a .store .now) (a .at) (read .number2 .result) low (read .number2 .ensures .0) (c .before .before .if1 .left)
 
 pub cell-keeps-spec : {M : Type 1} → statement M
 cell-keeps-spec =
     tie.close
     (tie.spec
-    number-requires
+    number2-requires
     returns
     add-from
     add-from-2

@@ -9,21 +9,21 @@ use native.Mathlib.Omega.{arith}
 use Rattle.cells.proofs.string_length.Statement.{statement}
 use Rattle.cells.proofs.string_length.Tie as tie
 
-mul-number : tie.Need-mul-number
-mul-number c = search needs
+mul-number2 : tie.Need-mul-number2
+mul-number2 c = search needs
 
-number-requires : tie.Need-number-requires
-number-requires c κs = search needs
+number2-requires : tie.Need-number2-requires
+number2-requires c κs = search needs
 
 returns : tie.Need-returns
 returns c =
     let a = c .before .before .args in
     let good = c .before .before .pre .0 in
-    let count : c .number .result ≡ length (stringOf (a .store .now) (a .place)) =
-    c .number .ensures
+    let count : c .number2 .result ≡ length (stringOf (a .store .now) (a .place)) =
+    c .number2 .ensures .0
     ∙ number-two (a .store .now) (1026 * a .place)
     ∙ sym (string-count (a .store .now) good (a .place) (c .before .before .pre .1)) in
     (count, omega (arith, count, good-short (a .store .now) good (a .place)))
 
 pub string-length-spec : {M : Type 1} → statement M
-string-length-spec = tie.close (tie.spec mul-number number-requires returns)
+string-length-spec = tie.close (tie.spec mul-number2 number2-requires returns)

@@ -7,10 +7,10 @@ use Rattle.cells.specs.Contracts.{stringOf}
 use Rattle.machine.specs.Expressions.{partIn}
 use Rattle.machine.specs.State.{stringAt}
 use Rattle.rows.specs.Holds.{PartHolds}
+use Rattle.rows.specs.HoldsLaws.{length-signed}
 use Rattle.values.specs.Conversion.{substring}
 use Rattle.values.specs.Work.{quietly}
 use Rattle.expressions.specs.Values.{Spans}
-use Rattle.expressions.proofs.Spanning.{length-signed}
 use Rattle.expressions.proofs.part_ends.Statement.{statement}
 use Rattle.expressions.proofs.part_ends.Tie as tie
 

@@ -1,17 +1,21 @@
 -- `forms::read_form` goes by the kind of the statement.
 -- Assumes nothing.
+use mathlib.Core.Logic.{inl, inr}
 use mathlib.Core.Path.{refl, ap}
 use native.Mathlib.Omega.{arith}
+use Rattle.base.specs.Edition.{edition1}
+use Rattle.branches.specs.Places.{numberIn}
 use Rattle.calls.specs.Table as Table
 use Rattle.calls.specs.Table.{rowOf, elementsOf, itemsOf, directionNumber, noCell}
-use Rattle.language.specs.Forms.{formOf}
+use Rattle.language.specs.Forms.{formOf, gotoForm, routineForm, executeForm}
 use Rattle.language.specs.Keywords.{REPLACEMENT, NUMBER, PROGRAM, END, GOTO, EXIT, IF, SCAN, BACKSCAN, READ, WRITE, PRINT, ROUTINE, EXECUTE, ENDROUTINE, RETURN, UNKNOWN}
 use Rattle.language.specs.Program.{forward, backward, finish, return}
+use Rattle.met.specs.Known.{placesIn}
 use Rattle.words.specs.Kinds.{kindOf}
 use Rattle.forms.specs.BehindLaws.{lead-fits}
 use Rattle.forms.specs.Labels.{lead-ready, of-lead}
 use Rattle.forms.specs.StageLaws.{form-ends}
-use Rattle.forms.specs.StepLaws.{plain-read}
+use Rattle.forms.specs.StepLaws.{plain-read, goto-leads, routine-leads, execute-leads}
 use Rattle.forms.specs.declared.Form as FormCode
 use borrow.Author.Needs.{needs}
 use Rattle.forms.proofs.read_form.Statement.{statement}
@@ -50,8 +54,8 @@ plain-form-requires c κs = search needs
 enum-told-5 : tie.Need-enum-told-5
 enum-told-5 c = search needs
 
-goto-form-requires : tie.Need-goto-form-requires
-goto-form-requires c κs = (lead-ready (c .before .before .before .before .before .leading .result) (c .before .before .before .before .before .before .before .before .pre .0) (c .before .before .before .before .before .leading .ensures) (c .before .before .before .before .skip .ensures), c .before .before .before .before .before .before .before .before .pre .1 .0)
+target-form-requires : tie.Need-target-form-requires
+target-form-requires c κs = (lead-ready (c .before .before .before .before .before .leading .result) (c .before .before .before .before .before .before .before .before .pre .0) (c .before .before .before .before .before .leading .ensures) (c .before .before .before .before .skip .ensures), (c .before .before .before .before .before .before .before .before .pre .1 .0, record { is = inl refl }))
 
 enum-told-6 : tie.Need-enum-told-6
 enum-told-6 c = search needs
@@ -98,14 +102,14 @@ output-form-requires-2 c κs = (lead-ready (c .before .before .before .before .b
 enum-told-13 : tie.Need-enum-told-13
 enum-told-13 c = search needs
 
-routine-form-requires : tie.Need-routine-form-requires
-routine-form-requires c κs = (lead-ready (c .before .before .before .before .before .leading .result) (c .before .before .before .before .before .before .before .before .pre .0) (c .before .before .before .before .before .leading .ensures) (c .before .before .before .before .skip .ensures), c .before .before .before .before .before .before .before .before .pre .1 .0)
+target-form-requires-2 : tie.Need-target-form-requires-2
+target-form-requires-2 c κs = (lead-ready (c .before .before .before .before .before .leading .result) (c .before .before .before .before .before .before .before .before .pre .0) (c .before .before .before .before .before .leading .ensures) (c .before .before .before .before .skip .ensures), (c .before .before .before .before .before .before .before .before .pre .1 .0, record { is = inr (inr refl) }))
 
 enum-told-14 : tie.Need-enum-told-14
 enum-told-14 c = search needs
 
-execute-form-requires : tie.Need-execute-form-requires
-execute-form-requires c κs = (lead-ready (c .before .before .before .before .before .leading .result) (c .before .before .before .before .before .before .before .before .pre .0) (c .before .before .before .before .before .leading .ensures) (c .before .before .before .before .skip .ensures), c .before .before .before .before .before .before .before .before .pre .1 .0)
+target-form-requires-3 : tie.Need-target-form-requires-3
+target-form-requires-3 c κs = (lead-ready (c .before .before .before .before .before .leading .result) (c .before .before .before .before .before .before .before .before .pre .0) (c .before .before .before .before .before .leading .ensures) (c .before .before .before .before .skip .ensures), (c .before .before .before .before .before .before .before .before .pre .1 .0, record { is = inr (inl refl) }))
 
 enum-told-15 : tie.Need-enum-told-15
 enum-told-15 c = search needs
@@ -153,7 +157,7 @@ returns-5 : tie.Need-returns-5
 unfolding formOf
 returns-5 c =
     of-lead (c .before .before .before .before .before .before .leading .result) (c .before .before .before .before .before .before .before .before .before .pre .0) (c .before .before .before .before .before .before .leading .ensures) (c .before .before .before .before .before .skip .ensures) (c .before .before .before .before .before .before .before .before .before .args .known .now) GOTO (ap kindOf (c .before .before .before .enum-told5 .given .1))
-    (c .goto-form .result) (c .goto-form .ensures (c .before .before .before .before .before .before .before .before .before .args .table .now))
+    (c .target-form .result) (c .target-form .ensures (gotoForm edition1 (numberIn (c .before .before .before .before .before .before .before .before .before .args .known .now)) (placesIn (c .before .before .before .before .before .before .before .before .before .args .known .now))) (goto-leads (c .before .before .before .before .before .before .before .before .before .args .known .now)) (c .before .before .before .before .before .before .before .before .before .args .table .now))
 
 returns-6 : tie.Need-returns-6
 unfolding formOf rowOf elementsOf itemsOf Table.row noCell
@@ -213,13 +217,13 @@ returns-13 : tie.Need-returns-13
 unfolding formOf
 returns-13 c =
     of-lead (c .before .before .before .before .before .before .leading .result) (c .before .before .before .before .before .before .before .before .before .pre .0) (c .before .before .before .before .before .before .leading .ensures) (c .before .before .before .before .before .skip .ensures) (c .before .before .before .before .before .before .before .before .before .args .known .now) ROUTINE (ap kindOf (c .before .before .before .enum-told13 .given .1))
-    (c .routine-form .result) (c .routine-form .ensures (c .before .before .before .before .before .before .before .before .before .args .table .now))
+    (c .target-form2 .result) (c .target-form2 .ensures (routineForm edition1 (numberIn (c .before .before .before .before .before .before .before .before .before .args .known .now)) (placesIn (c .before .before .before .before .before .before .before .before .before .args .known .now))) (routine-leads (c .before .before .before .before .before .before .before .before .before .args .known .now)) (c .before .before .before .before .before .before .before .before .before .args .table .now))
 
 returns-14 : tie.Need-returns-14
 unfolding formOf
 returns-14 c =
     of-lead (c .before .before .before .before .before .before .leading .result) (c .before .before .before .before .before .before .before .before .before .pre .0) (c .before .before .before .before .before .before .leading .ensures) (c .before .before .before .before .before .skip .ensures) (c .before .before .before .before .before .before .before .before .before .args .known .now) EXECUTE (ap kindOf (c .before .before .before .enum-told14 .given .1))
-    (c .execute-form .result) (c .execute-form .ensures (c .before .before .before .before .before .before .before .before .before .args .table .now))
+    (c .target-form3 .result) (c .target-form3 .ensures (executeForm edition1 (numberIn (c .before .before .before .before .before .before .before .before .before .args .known .now)) (placesIn (c .before .before .before .before .before .before .before .before .before .args .known .now))) (execute-leads (c .before .before .before .before .before .before .before .before .before .args .known .now)) (c .before .before .before .before .before .before .before .before .before .args .table .now))
 
 returns-15 : tie.Need-returns-15
 unfolding formOf rowOf elementsOf itemsOf Table.row noCell
@@ -254,7 +258,7 @@ read-form-spec =
     enum-told-4
     plain-form-requires
     enum-told-5
-    goto-form-requires
+    target-form-requires
     enum-told-6
     plain-form-requires-2
     enum-told-7
@@ -270,9 +274,9 @@ read-form-spec =
     enum-told-12
     output-form-requires-2
     enum-told-13
-    routine-form-requires
+    target-form-requires-2
     enum-told-14
-    execute-form-requires
+    target-form-requires-3
     enum-told-15
     plain-form-requires-3
     enum-told-16

@@ -85,7 +85,7 @@ skip-requires c κs =
     let a = c .before .before .before .before .before .args in
     let p = c .before .before .before .before .before .pre in
     let s = c .before .loop in
-    ((p .1 .0 .0, s .inv .inside), subst (Good (a .values .now)) (sym (c .row-element .ensures)) (p .0 .good (s .g) (s .inv .more)))
+    (s .inv .inside, subst (Good (a .values .now)) (sym (c .row-element .ensures)) (p .0 .good (s .g) (s .inv .more)))
 
 add-place : tie.Need-add-place Inv-loop μ-loop
 add-place c =

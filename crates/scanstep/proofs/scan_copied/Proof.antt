@@ -9,8 +9,8 @@ use Rattle.expressions.specs.Memory.{memoryIn}
 use Rattle.machine.specs.Scanning.{patternIn}
 use Rattle.rows.specs.Holds.{PatternsHold}
 use Rattle.rows.specs.Meaning.{patternsMeaning, replacementMeaning}
-use Rattle.statements.specs.ValuedLaws.{stopped}
 use Rattle.statements.specs.declared.Did.{Did}
+use Rattle.values.specs.WorkLaws.{stopped}
 use Rattle.scanstep.specs.Patterns.{AllBy}
 use Rattle.scanstep.specs.ReferenceLaws.{reference-fits}
 use Rattle.scanstep.specs.Stages.{valuedRest}

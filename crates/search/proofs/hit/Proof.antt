@@ -2,6 +2,7 @@
 -- Assumes nothing.
 use Rattle.search.proofs.Laws.{hit-more}
 use Rattle.search.specs.Passing.{Both}
+use lib.ListN.{length}
 use Prim.Native.Nat.{ℕ, _≤_, _<_, _-_}
 use mathlib.Core.Path.{_≡_}
 use mathlib.Core.Bool.{false}
@@ -11,10 +12,10 @@ use Rattle.search.proofs.hit.Statement.{statement}
 use Rattle.search.proofs.hit.Tie as tie
 
 abbrev Inv-loop : tie.InvT-loop
-Inv-loop fronts backs first last found₀ j₀ found j = (j ≤ 32) × (found ≡ false → (i : ℕ) → i < j → Both fronts backs first last i → ⊥)
+Inv-loop fronts backs first last found₀ j₀ found j = (j ≤ length fronts) × (found ≡ false → (i : ℕ) → i < j → Both fronts backs first last i → ⊥)
 
 abbrev μ-loop : tie.MeasureT-loop
-μ-loop fronts backs first last found₀ j₀ found j = 32 - j
+μ-loop fronts backs first last found₀ j₀ found j = length fronts - j
 
 loop-holds : tie.Need-loop-holds Inv-loop μ-loop
 loop-holds c = search needs

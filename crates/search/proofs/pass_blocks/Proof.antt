@@ -1,22 +1,23 @@
 -- `search::pass_blocks` passes only blocks where nothing was found. The invariant: no place passed has both bytes.
 -- Assumes nothing.
-use Rattle.search.proofs.Laws.{part-length, without-none, without-block}
+use Rattle.base.specs.ListLaws.{length-stretch}
+use Rattle.search.proofs.Laws.{without-none, without-block}
 use Rattle.search.specs.Passing.{Without}
 use Prim.Native.Nat.{_+_, _-_}
-use mathlib.Core.Path.{_∙_}
+use mathlib.Core.Path.{sym, _∙_}
 use native.Mathlib.Omega.{arith}
 use borrow.Author.Needs.{needs}
 use Rattle.search.proofs.pass_blocks.Statement.{statement}
 use Rattle.search.proofs.pass_blocks.Tie as tie
 
 abbrev Inv-loop : tie.InvT-loop
-Inv-loop text first last span places from k₀ k = Without text first last span places from k
+Inv-loop text first last span places from size k₀ k = Without text first last span places from k
 
 abbrev μ-loop : tie.MeasureT-loop
-μ-loop text first last span places from k₀ k = places - k
+μ-loop text first last span places from size k₀ k = places - k
 
 loop-holds : tie.Need-loop-holds Inv-loop μ-loop
-loop-holds c = let a = c .before .args in without-none (a .text .now) (a .first) (a .last) (a .span) (a .places) (a .from) (c .before .pre .start)
+loop-holds c = let a = c .before .args in without-none (a .text .now) (a .first) (a .last) (a .span) (a .places) (a .from) (c .before .pre .0 .start)
 
 sub-loop : tie.Need-sub-loop Inv-loop μ-loop
 sub-loop c = omega arith
@@ -50,13 +51,13 @@ part-backs-end c = omega arith
 
 hit-requires : tie.Need-hit-requires Inv-loop μ-loop
 hit-requires c κs =
-    let text = c .before .before .before .before .before .args .text .now in
-    let span = c .before .before .before .before .before .args .span in
+    let a = c .before .before .before .before .before .args in
+    let text = a .text .now in
+    let size = a .size in
     let k = c .before .before .before .loop .k in
-    record {
-      front = part-length text k (k + 32 - k) (omega arith) ∙ omega arith;
-      back = part-length text (k + span) (k + span + 32 - (k + span)) (omega arith) ∙ omega arith;
-    }
+    length-stretch text k (k + size - k) (omega arith)
+    ∙ omega arith
+    ∙ sym (length-stretch text (k + a .span) (k + a .span + size - (k + a .span)) (omega arith))
 
 returns : tie.Need-returns Inv-loop μ-loop
 returns c = search needs
@@ -71,8 +72,11 @@ loop-again : tie.Need-loop-again Inv-loop μ-loop
 loop-again c =
     let a = c .before .before .before .before .before .before .before .args in
     let s = c .before .before .before .before .before .loop in
-    without-block (a .text .now) (a .first) (a .last) (a .span) (a .places) (a .from) (s .k) (s .inv) 32 (s .k + 32 - s .k)
-    (s .k + a .span + 32 - (s .k + a .span)) (omega arith) (omega arith) (omega arith) (c .before .hit .ensures (c .if1 .left))
+    let size = a .size in
+    let width = s .k + size - s .k in
+    without-block (a .text .now) (a .first) (a .last) (a .span) (a .places) (a .from) (s .k) (s .inv) size width
+    (s .k + a .span + size - (s .k + a .span)) (omega arith) (omega arith) (omega arith)
+    (λ j h. c .before .hit .ensures (c .if1 .left) j (omega (arith, length-stretch (a .text .now) (s .k) width (omega arith))))
 
 returns-2 : tie.Need-returns-2 Inv-loop μ-loop
 returns-2 c = search needs

@@ -1,7 +1,6 @@
 -- `search::passed` passes only places where the word does not stand.
 -- Assumes nothing.
-use Rattle.search.proofs.Laws.{passes-none, passes-more}
-use lib.ListN.{length}
+use Rattle.search.proofs.Laws.{passes-none, passes-byte}
 use native.Mathlib.Omega.{arith}
 use borrow.Author.Needs.{needs}
 use Rattle.search.proofs.passed.Statement.{statement}
@@ -13,18 +12,16 @@ returns c = let a = c .before .before .before .args in passes-none (a .text .now
 returns-2 : tie.Need-returns-2
 returns-2 c = let a = c .before .before .before .before .args in passes-none (a .text .now) (a .word .now)
 
-shared-slice-read-passed-byte : tie.Need-shared-slice-read-passed-byte
-shared-slice-read-passed-byte c = search needs
+shared-slice-read-next-byte : tie.Need-shared-slice-read-next-byte
+shared-slice-read-next-byte c = search needs
 
-passed-byte-requires : tie.Need-passed-byte-requires
-passed-byte-requires c κs = search needs
+next-byte-requires : tie.Need-next-byte-requires
+next-byte-requires c κs = search needs
 
 returns-3 : tie.Need-returns-3
 returns-3 c =
     let a = c .before .before .before .before .before .before .before .args in
-    let text = a .text .now in
-    let word = a .word .now in
-    passes-more text word 0 (length text) 0 (c .passed-byte .result) (omega arith) (omega arith) (passes-none text word) (c .passed-byte .ensures)
+    passes-byte (a .text .now) (a .word .now) (c .next-byte .result) (omega arith) (c .next-byte .ensures)
 
 passed-word-requires : tie.Need-passed-word-requires
 passed-word-requires c κs = search needs
@@ -38,8 +35,8 @@ passed-spec =
     (tie.spec
     returns
     returns-2
-    shared-slice-read-passed-byte
-    passed-byte-requires
+    shared-slice-read-next-byte
+    next-byte-requires
     returns-3
     passed-word-requires
     returns-4)

@@ -1,8 +1,9 @@
 -- `search::passed_word` passes only places where two of the word's bytes don't both stand or the bytes don't all agree. The invariant: no place
 -- passed has the word. Assumes nothing.
-use Rattle.search.proofs.Laws.{part-length, without-join, passes-none, passes-more, passes-one}
+use Rattle.base.specs.ListLaws.{length-stretch}
+use Rattle.search.proofs.Laws.{passes-none, passes-more, passes-one}
 use Rattle.search.specs.Passing.{Passes}
-use lib.ListN.{length, getD}
+use lib.ListN.{length}
 use Prim.Native.Nat.{_-_, _≤_, _<_}
 use mathlib.Core.Path.{refl}
 use native.Mathlib.Omega.{arith}
@@ -15,23 +16,14 @@ Inv-loop text word places first span₀ k₀ span k = (span < length word) × (k
 abbrev μ-loop : tie.MeasureT-loop
 μ-loop text word places first span₀ k₀ span k = places - k
 
--- after the three ways of passing places
-gone : (c : tie.After-pass-bytes Inv-loop μ-loop) → Passes (c .before .before .before .before .before .before .before .before .before .args .text .now) (c .before .before .before .before .before .before .before .before .before .args .word .now) (c .pass-bytes .result)
+-- the next place that the word may stand at
+gone : (c : tie.After-next-place Inv-loop μ-loop) → Passes (c .before .before .before .before .before .before .before .args .text .now) (c .before .before .before .before .before .before .before .args .word .now) (c .next-place .result)
 gone c =
-    let a = c .before .before .before .before .before .before .before .before .before .args in
-    let p = c .before .before .before .before .before .before .before .before .before .pre in
-    let s = c .before .before .before .before .before .loop in
-    let text = a .text .now in
-    let word = a .word .now in
-    let first = getD word 0 0 in
-    let last = getD word (s .span) 0 in
-    let places = length text - (length word - 1) in
-    let b = c .before .before .pass-blocks in
-    let e = c .before .pass-eights in
-    let w = c .pass-bytes in
-    passes-more text word (s .span) places (s .k) (w .result) (s .inv .0) (omega arith) (s .inv .2)
-    (without-join text first last (s .span) places (s .k) (e .result)
-    (without-join text first last (s .span) places (s .k) (b .result) (b .ensures) (e .result) (e .ensures)) (w .result) (w .ensures))
+    let a = c .before .before .before .before .before .before .before .args in
+    let p = c .before .before .before .before .before .before .before .pre in
+    let s = c .before .before .before .loop in
+    passes-more (a .text .now) (a .word .now) (s .span) (length (a .text .now) - (length (a .word .now) - 1)) (s .k) (c .next-place .result)
+    (s .inv .0) (omega arith) (s .inv .2) (c .next-place .ensures .passed)
 
 sub-places : tie.Need-sub-places Inv-loop μ-loop
 sub-places c = omega arith
@@ -54,93 +46,75 @@ loop-holds c =
 shared-slice-read-last : tie.Need-shared-slice-read-last Inv-loop μ-loop
 shared-slice-read-last c = omega arith
 
-pass-blocks-requires : tie.Need-pass-blocks-requires Inv-loop μ-loop
-pass-blocks-requires c κs =
+next-place-requires : tie.Need-next-place-requires Inv-loop μ-loop
+next-place-requires c κs =
     let a = c .before .before .before .before .before .before .args in
     let p = c .before .before .before .before .before .before .pre in
     let s = c .before .before .loop in
-    record { short = p .short; room = omega arith; start = omega arith }
-
-pass-eights-requires : tie.Need-pass-eights-requires Inv-loop μ-loop
-pass-eights-requires c κs =
-    let a = c .before .before .before .before .before .before .before .args in
-    let p = c .before .before .before .before .before .before .before .pre in
-    let s = c .before .before .before .loop in
-    let w = c .pass-blocks .ensures in
-    record { short = p .short; room = omega arith; start = w .high }
-
-pass-bytes-requires : tie.Need-pass-bytes-requires Inv-loop μ-loop
-pass-bytes-requires c κs =
-    let a = c .before .before .before .before .before .before .before .before .args in
-    let p = c .before .before .before .before .before .before .before .before .pre in
-    let s = c .before .before .before .before .loop in
-    let w = c .pass-eights .ensures in
-    record { short = p .short; room = omega arith; start = w .high }
+    record { room = omega arith; start = omega arith }
 
 returns : tie.Need-returns Inv-loop μ-loop
 returns c = gone (c .before)
 
 sub-same-until : tie.Need-sub-same-until Inv-loop μ-loop
 sub-same-until c =
-    let a = c .before .before .before .before .before .before .before .before .before .before .args in
-    let p = c .before .before .before .before .before .before .before .before .before .before .pre in
-    let s = c .before .before .before .before .before .before .loop in
-    let w = c .before .pass-bytes .ensures in
+    let a = c .before .before .before .before .before .before .before .before .args in
+    let p = c .before .before .before .before .before .before .before .before .pre in
+    let s = c .before .before .before .before .loop in
+    let w = c .before .next-place .ensures .passed in
     omega arith
 
 part-same-until-start : tie.Need-part-same-until-start Inv-loop μ-loop
 part-same-until-start c =
-    let a = c .before .before .before .before .before .before .before .before .before .before .args in
-    let p = c .before .before .before .before .before .before .before .before .before .before .pre in
-    let s = c .before .before .before .before .before .before .loop in
-    let w = c .before .pass-bytes .ensures in
+    let a = c .before .before .before .before .before .before .before .before .args in
+    let p = c .before .before .before .before .before .before .before .before .pre in
+    let s = c .before .before .before .before .loop in
+    let w = c .before .next-place .ensures .passed in
     omega arith
 
 part-same-until-end : tie.Need-part-same-until-end Inv-loop μ-loop
 part-same-until-end c =
-    let a = c .before .before .before .before .before .before .before .before .before .before .args in
-    let p = c .before .before .before .before .before .before .before .before .before .before .pre in
-    let s = c .before .before .before .before .before .before .loop in
-    let w = c .before .pass-bytes .ensures in
+    let a = c .before .before .before .before .before .before .before .before .args in
+    let p = c .before .before .before .before .before .before .before .before .pre in
+    let s = c .before .before .before .before .loop in
+    let w = c .before .next-place .ensures .passed in
     omega arith
 
 same-until-requires : tie.Need-same-until-requires Inv-loop μ-loop
 same-until-requires c κs =
-    let a = c .before .before .before .before .before .before .before .before .before .before .before .args in
-    let p = c .before .before .before .before .before .before .before .before .before .before .before .pre in
-    let s = c .before .before .before .before .before .before .before .loop in
-    let w = c .before .before .pass-bytes .ensures in
-    let k = c .before .before .pass-bytes .result in
-    omega (arith, part-length (a .text .now) k (length (a .text .now) - k) (omega arith), c .before .if1 .left)
+    let a = c .before .before .before .before .before .before .before .before .before .args in
+    let p = c .before .before .before .before .before .before .before .before .before .pre in
+    let s = c .before .before .before .before .before .loop in
+    let w = c .before .before .next-place .ensures .passed in
+    let k = c .before .before .next-place .result in
+    omega (arith, length-stretch (a .text .now) k (length (a .text .now) - k) (omega arith), c .before .if1 .left)
 
 returns-2 : tie.Need-returns-2 Inv-loop μ-loop
 returns-2 c = gone (c .before .before .before .before)
 
 add-k : tie.Need-add-k Inv-loop μ-loop
 add-k c =
-    let a = c .before .before .before .before .before .before .before .before .before .before .before .before .before .args in
-    let p = c .before .before .before .before .before .before .before .before .before .before .before .before .before .pre in
-    let s = c .before .before .before .before .before .before .before .before .before .loop in
-    let w = c .before .before .before .before .pass-bytes .ensures in
+    let a = c .before .before .before .before .before .before .before .before .before .before .before .args in
+    let p = c .before .before .before .before .before .before .before .before .before .before .before .pre in
+    let s = c .before .before .before .before .before .before .before .loop in
+    let w = c .before .before .before .before .next-place .ensures .passed in
     omega arith
 
 loop-less : tie.Need-loop-less Inv-loop μ-loop
 loop-less c =
-    let a = c .before .before .before .before .before .before .before .before .before .before .before .before .before .args in
-    let p = c .before .before .before .before .before .before .before .before .before .before .before .before .before .pre in
-    let s = c .before .before .before .before .before .before .before .before .before .loop in
-    let w = c .before .before .before .before .pass-bytes .ensures in
-    let e = c .before .before .before .before .before .pass-eights .ensures in
-    let b = c .before .before .before .before .before .before .pass-blocks .ensures in
-    omega (arith, w .low, w .high, e .low, b .low, c .before .before .before .if1 .left)
+    let a = c .before .before .before .before .before .before .before .before .before .before .before .args in
+    let p = c .before .before .before .before .before .before .before .before .before .before .before .pre in
+    let s = c .before .before .before .before .before .before .before .loop in
+    let w = c .before .before .before .before .next-place .ensures .passed in
+    omega (arith, w .low, w .high, c .before .before .before .if1 .left)
 
 loop-again : tie.Need-loop-again Inv-loop μ-loop
 loop-again c =
-    let a = c .before .before .before .before .before .before .before .before .before .before .before .before .before .args in
-    let p = c .before .before .before .before .before .before .before .before .before .before .before .before .before .pre in
-    let s = c .before .before .before .before .before .before .before .before .before .loop in
-    let w = c .before .before .before .before .pass-bytes .ensures in
-    let k = c .before .before .before .before .pass-bytes .result in
+    let a = c .before .before .before .before .before .before .before .before .before .before .before .args in
+    let p = c .before .before .before .before .before .before .before .before .before .before .before .pre in
+    let s = c .before .before .before .before .before .before .before .loop in
+    let w = c .before .before .before .before .next-place .ensures .passed in
+    let k = c .before .before .before .before .next-place .result in
     let g = c .before .same-until .ensures in (
       omega (arith, g .inside, c .if2 .left),
       omega (arith, w .high, c .before .before .before .if1 .left),
@@ -163,9 +137,7 @@ passed-word-spec =
     sub-span
     loop-holds
     shared-slice-read-last
-    pass-blocks-requires
-    pass-eights-requires
-    pass-bytes-requires
+    next-place-requires
     returns
     sub-same-until
     part-same-until-start

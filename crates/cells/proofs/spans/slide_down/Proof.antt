@@ -3,7 +3,8 @@
 use mathlib.Core.Path.{sym, _∙_}
 use Prim.Native.Nat.{_+_, _-_}
 use lib.ListN.{take, drop}
-use Rattle.cells.specs.SpanLaws.{Pasted, pasted-none, pasted-more, pasted-all, pasted-behind, length-stretch, getD-stretch}
+use Rattle.base.specs.ListLaws.{length-stretch, getD-stretch}
+use Rattle.cells.specs.SpanLaws.{Pasted, pasted-none, pasted-more, pasted-all, pasted-behind}
 use borrow.Author.Needs.{needs}
 use native.Mathlib.Omega.{arith}
 use Rattle.cells.proofs.spans.slide_down.Statement.{statement}

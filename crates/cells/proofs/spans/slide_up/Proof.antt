@@ -3,7 +3,8 @@
 use mathlib.Core.Path.{_≡_, sym, _∙_}
 use Prim.Native.Nat.{_+_, _-_}
 use lib.ListN.{take, drop}
-use Rattle.cells.specs.SpanLaws.{Hung, hung-none, hung-more, hung-all, hung-before, length-stretch, getD-stretch}
+use Rattle.base.specs.ListLaws.{length-stretch, getD-stretch}
+use Rattle.cells.specs.SpanLaws.{Hung, hung-none, hung-more, hung-all, hung-before}
 use borrow.Author.Needs.{needs}
 use native.Mathlib.Omega.{arith}
 use Rattle.cells.proofs.spans.slide_up.Statement.{statement}

@@ -8,9 +8,9 @@ use Rattle.base.specs.Edition.{edition1}
 use Rattle.expressions.specs.Memory.{memoryIn}
 use Rattle.machine.specs.Scanning.{fixedAt, valuedIn}
 use Rattle.rows.specs.Holds.{PatternHolds}
+use Rattle.rows.specs.HoldsLaws.{length-signed}
 use Rattle.rows.specs.Meaning.{elementMeaning, patternMeaning}
 use Rattle.rows.specs.declared.PatternElement.{PatternElement}
-use Rattle.statements.specs.ValuedLaws.{length-signed}
 use Rattle.statements.specs.declared.Did.the-variants as did
 use Rattle.scanstep.specs.ElementLaws.{free-put, value-put}
 use Rattle.scanstep.specs.Patterns.{Put, PutBy}

@@ -6,11 +6,11 @@ use lib.IntN.{natAbs}
 use Rattle.expressions.specs.Memory.{memoryIn}
 use Rattle.machine.specs.Expressions.{lengthIn}
 use Rattle.rows.specs.Holds.{PartHolds}
+use Rattle.rows.specs.HoldsLaws.{length-signed}
 use Rattle.rows.specs.Meaning.{lengthMeaning, partMeaning}
 use Rattle.values.specs.Numbers.{isNegative}
 use Rattle.statements.specs.Reading.{Halts, Next, Reads}
 use Rattle.statements.specs.ReadingLaws.{first-halts, first-reads, whole-reads}
-use Rattle.statements.specs.ValuedLaws.{length-signed}
 use borrow.Author.Needs.{needs}
 use Rattle.statements.proofs.reading.read_record.Statement.{statement}
 use Rattle.statements.proofs.reading.read_record.Tie as tie

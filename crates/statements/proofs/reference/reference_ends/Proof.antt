@@ -11,12 +11,12 @@ use Rattle.language.specs.Program as Program
 use Rattle.machine.specs.Expressions.{lengthIn}
 use Rattle.machine.specs.Scanning.{searchedIn}
 use Rattle.rows.specs.Holds.{PartHolds}
+use Rattle.rows.specs.HoldsLaws.{length-signed}
 use Rattle.rows.specs.Meaning.{directionMeaning, lengthMeaning, partMeaning}
 use Rattle.rows.specs.declared.Part.the-variants.{Whole, First}
 use Rattle.values.specs.Numbers.{isNegative}
 use Rattle.statements.specs.ReferenceLaws.{first-refers, first-stops, whole-refers}
 use Rattle.statements.specs.References.{Refers, restrictedBy}
-use Rattle.statements.specs.ValuedLaws.{length-signed}
 use borrow.Author.Needs.{needs}
 use Rattle.statements.proofs.reference.reference_ends.Statement.{statement}
 use Rattle.statements.proofs.reference.reference_ends.Tie as tie

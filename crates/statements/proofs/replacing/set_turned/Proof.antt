@@ -7,8 +7,8 @@ use Rattle.expressions.specs.Memory.{memoryIn}
 use Rattle.expressions.specs.Values.{Spelt}
 use Rattle.machine.specs.Expressions.{stringIn}
 use Rattle.rows.specs.Meaning.{elementsMeaning}
+use Rattle.values.specs.WorkLaws.{stopped}
 use Rattle.statements.specs.ReplacingLaws.{turned-leaves, turned-long, turned-room, turned-spelt}
-use Rattle.statements.specs.ValuedLaws.{stopped}
 use borrow.Author.Needs.{needs}
 use Rattle.statements.proofs.replacing.set_turned.Statement.{statement}
 use Rattle.statements.proofs.replacing.set_turned.Tie as tie

@@ -11,11 +11,12 @@ use Rattle.expressions.specs.Memory.{memoryIn}
 use Rattle.machine.specs.Expressions.{lengthIn}
 use Rattle.machine.specs.Step.{setStringIn}
 use Rattle.rows.specs.Holds.{PartHolds}
+use Rattle.rows.specs.HoldsLaws.{length-signed}
 use Rattle.rows.specs.Meaning.{elementsMeaning, lengthMeaning, partMeaning}
 use Rattle.values.specs.Numbers.{isNegative}
 use Rattle.statements.specs.Laws.{stays-same}
 use Rattle.statements.specs.Valued.{storedBetween}
-use Rattle.statements.specs.ValuedLaws.{first-between, first-none, length-signed, stored-as, whole-between}
+use Rattle.statements.specs.ValuedLaws.{first-between, first-none, stored-as, whole-between}
 use borrow.Author.Needs.{needs}
 use Rattle.statements.proofs.valued.set_string.Statement.{statement}
 use Rattle.statements.proofs.valued.set_string.Tie as tie

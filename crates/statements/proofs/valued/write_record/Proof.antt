@@ -6,7 +6,8 @@ use Rattle.expressions.specs.Memory.{memoryIn}
 use Rattle.expressions.specs.Values.{Spelt}
 use Rattle.machine.specs.Expressions.{stringIn}
 use Rattle.rows.specs.Meaning.{elementsMeaning}
-use Rattle.statements.specs.ValuedLaws.{few-notes, spelt-puts, stopped}
+use Rattle.values.specs.WorkLaws.{stopped}
+use Rattle.statements.specs.ValuedLaws.{few-notes, spelt-puts}
 use borrow.Author.Needs.{needs}
 use Rattle.statements.proofs.valued.write_record.Statement.{statement}
 use Rattle.statements.proofs.valued.write_record.Tie as tie

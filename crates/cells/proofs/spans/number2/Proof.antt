@@ -1,10 +1,10 @@
--- `rows::number2` meets its contract. Two bytes make a number below 2 ^ 16.
+-- `cells::spans::number2` meets its contract. Two bytes make a number below 2 ^ 16.
 -- Assumes nothing.
 use borrow.Author.Needs.{needs}
 use native.Mathlib.Omega.{arith}
 use Rattle.calls.specs.Numerals.{numberAt}
-use Rattle.rows.proofs.number2.Statement.{statement}
-use Rattle.rows.proofs.number2.Tie as tie
+use Rattle.cells.proofs.spans.number2.Statement.{statement}
+use Rattle.cells.proofs.spans.number2.Tie as tie
 
 shared-slice-read-wide : tie.Need-shared-slice-read-wide
 shared-slice-read-wide c = search needs
