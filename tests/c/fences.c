@@ -12,18 +12,19 @@
 #include <sys/mman.h>
 #include <unistd.h>
 
-enum { PAGE = 4096, FENCE = 65536, MORE = 4096, MOST_SHOWN = 5, MOST_LENT = 8, UNWRITTEN = 0x5a };
+enum { FENCE = 65536, MOST_SHOWN = 5, MOST_LENT = 8, UNWRITTEN = 0x5a };
 
 const char *const buffer_name[BUFFERS] = {"deck",   "table",  "card",   "store",     "state",  "input",
                                           "output", "answer", "result", "reference", "values", "elements"};
 
 static const size_t room[BUFFERS] = {
-    [DECK] = DECK_ROOM, [TABLE] = STRIGOL_TABLE_SIZE + MORE, [CARD] = sizeof(uint32_t), [STORE] = STRIGOL_STORE_SIZE + MORE,
-    [STATE] = STRIGOL_STATE_SIZE * sizeof(uint64_t), [INPUT] = INPUT_ROOM, [OUTPUT] = MORE,
-    [ANSWER] = STRIGOL_ANSWER_SIZE * sizeof(uint32_t), [RESULT] = STRIGOL_RESULT_SIZE * sizeof(uint64_t), [REFERENCE] = MORE,
-    [VALUES] = MORE, [ELEMENTS] = MORE};
+    [DECK] = DECK_ROOM, [TABLE] = STRIGOL_TABLE_SIZE + PAGE, [CARD] = sizeof(uint32_t), [STORE] = STRIGOL_STORE_SIZE + PAGE,
+    [STATE] = STRIGOL_STATE_SIZE * sizeof(uint64_t), [INPUT] = INPUT_ROOM, [OUTPUT] = PAGE,
+    [ANSWER] = STRIGOL_ANSWER_SIZE * sizeof(uint32_t), [RESULT] = STRIGOL_RESULT_SIZE * sizeof(uint64_t), [REFERENCE] = PAGE,
+    [VALUES] = PAGE, [ELEMENTS] = PAGE};
 
-_Thread_local struct doing doing = {"nothing", "no call", 0};
+const char *test = "a test";
+_Thread_local struct doing doing = {"nothing", "no call", 0, NULL};
 int failures;
 
 static struct lent *all_lent[MOST_LENT];
@@ -34,11 +35,12 @@ void fail(const char *form, ...)
     va_list values;
     if (__atomic_add_fetch(&failures, 1, __ATOMIC_SEQ_CST) > MOST_SHOWN) return;
     flockfile(stdout);
-    printf("load test: %s, seed %llu, %s: ", doing.part, (unsigned long long)doing.seed, doing.call);
+    printf("%s: %s, seed %llu, %s: ", test, doing.part, (unsigned long long)doing.seed, doing.call);
     va_start(values, form);
     vprintf(form, values);
     va_end(values);
     printf("\n");
+    if (doing.deck != NULL) show_deck(doing.deck);
     funlockfile(stdout);
 }
 
@@ -48,7 +50,7 @@ void make_fence(struct buffer *b, size_t bytes)
     uint8_t *pages = mmap(NULL, inner + 2 * FENCE, PROT_NONE, MAP_PRIVATE | MAP_ANONYMOUS, -1, 0);
     b->copy = malloc(inner);
     if (pages == MAP_FAILED || b->copy == NULL || mprotect(pages + FENCE, inner, PROT_READ | PROT_WRITE) != 0) {
-        perror("load test: a fenced buffer");
+        perror("a fenced buffer");
         exit(1);
     }
     b->from = b->at = pages + FENCE;
@@ -72,7 +74,7 @@ void lay(struct buffer *b, enum side side, const void *bytes, size_t have, size_
 static void protect(struct buffer *b, int how)
 {
     if (mprotect(b->from, (size_t)(b->to - b->from), how) == 0) return;
-    perror("load test: mprotect");
+    perror("mprotect");
     exit(1);
 }
 
@@ -111,7 +113,7 @@ static void faulted(int number, siginfo_t *info, void *context)
 {
     const uint8_t *address = info->si_addr;
     (void)context;
-    dprintf(1, "load test: %s, seed %llu, %s: ", doing.part, (unsigned long long)doing.seed, doing.call);
+    dprintf(1, "%s: %s, seed %llu, %s: ", test, doing.part, (unsigned long long)doing.seed, doing.call);
     for (int i = 0; i < lents; i++)
         for (int k = 0; k < BUFFERS; k++) {
             const struct buffer *b = &all_lent[i]->b[k];
@@ -142,7 +144,7 @@ void catch_faults(void)
 static void too_late(int number)
 {
     (void)number;
-    dprintf(1, "load test: %s, seed %llu, %s: the test isn't done in time\n", doing.part, (unsigned long long)doing.seed, doing.call);
+    dprintf(1, "%s: %s, seed %llu, %s: the test isn't done in time\n", test, doing.part, (unsigned long long)doing.seed, doing.call);
     _exit(1);
 }
 

@@ -8,6 +8,8 @@
 /* Which fence a buffer lies flush against: the pages behind its last byte, or those before its first. */
 enum side { BEHIND, BEFORE, SIDES };
 
+enum { PAGE = 4096 };
+
 /* All that is lent to the calls. */
 enum which { DECK, TABLE, CARD, STORE, STATE, INPUT, OUTPUT, ANSWER, RESULT, REFERENCE, VALUES, ELEMENTS, BUFFERS };
 extern const char *const buffer_name[BUFFERS];
@@ -19,11 +21,12 @@ struct buffer { uint8_t *from, *to, *at, *copy; size_t length; };
 /* The buffers of one run, and how many steps are lent to it. */
 struct lent { struct buffer b[BUFFERS]; uint32_t count; };
 
-/* What is being done, for messages. */
-struct doing { const char *part, *call; uint64_t seed; };
+/* What is being done, for messages: the test; its part, the call and the seed, and the deck at hand if there is one. */
+struct doing { const char *part, *call; uint64_t seed; const struct deck *deck; };
+extern const char *test;
 extern _Thread_local struct doing doing;
 
-/* Says what went wrong where, and counts it. Only the first few are said. */
+/* Says what went wrong where, shows the deck, and counts it. Only the first few are said. */
 extern int failures;
 void fail(const char *form, ...) __attribute__((format(printf, 1, 2)));
 

@@ -11,11 +11,7 @@
 
    The seeds are fixed. `load_test PART` does one part alone; `load_test PART SEED` does one seed of steps, faults, interleaved or stacks. */
 #define _GNU_SOURCE
-#include "damage.h"
-#include "decks.h"
-#include "fences.h"
-#include "oracle.h"
-#include "strigol.h"
+#include "beside.h"
 
 #include <pthread.h>
 #include <stdio.h>
@@ -24,9 +20,9 @@
 #include <sys/mman.h>
 
 enum {
-    STEPS = 1000000, RUNS_OF_A_DECK = 4, MOST_LIST = 120, MOST_OUTPUT = 2000,
-    FAULTS = 12000, INTERLEAVED = 1500, PAIRS = 800, SHARED = 40, PROBED = 200,
-    SECONDS = 170, MORE = 64, PAGE = 4096
+    STEPS = 1000000, RUNS_OF_A_DECK = 4, MOST_LIST = 120, STORES_EVERY = 10,
+    FAULTS = 12000, FAULTY_STEPS = 6, INTERLEAVED = 1500, PAIRS = 800, SHARED = 40, PROBED = 200,
+    SECONDS = 170
 };
 
 /* What docs/GATEWAY.md says of the stack, in bytes: what strigol_read takes at most, what any other call does, and what a thread should have. */
@@ -46,184 +42,13 @@ static int more_seeds(uint64_t seed, uint64_t count)
     return only_seed != 0 ? seed == only_seed : seed <= count;
 }
 
-/* The calls, by what is lent; and the oracle's on the copies. */
-
-#define LENT(l, which) (l)->b[which].at, (l)->b[which].length
-#define COPY(l, which) kept(&(l)->b[which]), (l)->b[which].length
-#define NUMBERS_64(l, which) ((uint64_t *)(void *)(l)->b[which].at)
-#define NUMBERS_32(l, which) ((uint32_t *)(void *)(l)->b[which].at)
-#define COPIED_64(l, which) ((uint64_t *)(void *)kept(&(l)->b[which]))
-#define COPIED_32(l, which) ((uint32_t *)(void *)kept(&(l)->b[which]))
-
-static uint32_t call_read(struct lent *l)
-{
-    return strigol_read(LENT(l, DECK), LENT(l, TABLE), NUMBERS_32(l, CARD));
-}
-
-static uint32_t right_read(struct lent *l)
-{
-    return oracle_read_call(COPY(l, DECK), COPY(l, TABLE), COPIED_32(l, CARD));
-}
-
-static uint32_t call_start(struct lent *l)
-{
-    return strigol_start(LENT(l, STORE), NUMBERS_64(l, STATE));
-}
-
-static uint32_t right_start(struct lent *l)
-{
-    return oracle_start_call(COPY(l, STORE), COPIED_64(l, STATE));
-}
-
-static uint32_t call_step(struct lent *l)
-{
-    return strigol_step(LENT(l, TABLE), LENT(l, STORE), NUMBERS_64(l, STATE), LENT(l, INPUT), LENT(l, OUTPUT), NUMBERS_32(l, ANSWER));
-}
-
-static uint32_t right_step(struct lent *l)
-{
-    return oracle_step_call(COPY(l, TABLE), COPY(l, STORE), COPIED_64(l, STATE), COPY(l, INPUT), COPY(l, OUTPUT), COPIED_32(l, ANSWER));
-}
-
-static uint32_t call_run(struct lent *l)
-{
-    return strigol_run(LENT(l, TABLE), LENT(l, STORE), NUMBERS_64(l, STATE), LENT(l, INPUT), LENT(l, OUTPUT), l->count,
-                       NUMBERS_64(l, RESULT));
-}
-
-static uint32_t right_run(struct lent *l)
-{
-    oracle_run_call(COPY(l, TABLE), COPY(l, STORE), COPIED_64(l, STATE), COPY(l, INPUT), COPY(l, OUTPUT), l->count, COPIED_64(l, RESULT));
-    return (uint32_t)COPIED_64(l, RESULT)[STRIGOL_BY];
-}
-
-static uint32_t call_scan(struct lent *l)
-{
-    return strigol_scan(LENT(l, REFERENCE), LENT(l, VALUES), LENT(l, ELEMENTS), NUMBERS_32(l, ANSWER));
-}
-
-static uint32_t right_scan(struct lent *l)
-{
-    return oracle_scan_call(COPY(l, REFERENCE), COPY(l, VALUES), COPY(l, ELEMENTS), COPIED_32(l, ANSWER));
-}
-
-/* A call: the numbers that document 01 lets it give, as bits, and the buffers lent to it, as bits. */
-#define BIT(n) (1u << (n))
-#define FROM_TO(from, to) (BIT((to) + 1) - BIT(from))
-#define STEP_NUMBERS (BIT(0) | BIT(2) | FROM_TO(13, 21))
-#define STEP_BUFFERS (BIT(TABLE) | BIT(STORE) | BIT(STATE) | BIT(INPUT) | BIT(OUTPUT))
-
-enum call { READ, START, STEP, RUN, SCAN, CALLS };
-static struct { const char *name; uint32_t (*call)(struct lent *), (*right)(struct lent *); uint32_t numbers, buffers; long tried, met[25]; }
-calls[CALLS] = {
-    {"strigol_read", call_read, right_read, FROM_TO(0, 12), BIT(DECK) | BIT(TABLE) | BIT(CARD), 0, {0}},
-    {"strigol_start", call_start, right_start, BIT(0) | BIT(14), BIT(STORE) | BIT(STATE), 0, {0}},
-    {"strigol_step", call_step, right_step, STEP_NUMBERS, STEP_BUFFERS | BIT(ANSWER), 0, {0}},
-    {"strigol_run", call_run, right_run, STEP_NUMBERS, STEP_BUFFERS | BIT(RESULT), 0, {0}},
-    {"strigol_scan", call_scan, right_scan, BIT(0) | FROM_TO(22, 24), BIT(REFERENCE) | BIT(VALUES) | BIT(ELEMENTS) | BIT(ANSWER), 0, {0}},
-};
-
-/* Makes a call and looks at its number alone. */
-static uint32_t make(struct lent *l, enum call call)
-{
-    uint32_t number;
-    doing.call = calls[call].name;
-    number = calls[call].call(l);
-    if (number > 24 || (calls[call].numbers >> number & 1) == 0) fail("number %u, which this call can't give", number);
-    return number;
-}
-
-/* Makes a call and compares its number and all bytes between the fences with what the oracle gives and leaves. */
-static uint32_t make_right(struct lent *l, enum call call)
-{
-    uint32_t number, right;
-    for (int i = 0; i < BUFFERS; i++)
-        if (calls[call].buffers >> i & 1) keep(&l->b[i]);
-    number = make(l, call);
-    right = calls[call].right(l);
-    calls[call].tried++;
-    calls[call].met[right]++;
-    if (number != right) fail("number %u, not %u", number, right);
-    for (int i = 0; i < BUFFERS; i++)
-        if ((calls[call].buffers >> i & 1) && !same(l, (enum which)i)) break;
-    return number;
-}
-
-/* Laying out a run */
-
-static void lay_empty(struct lent *l, enum side side, enum which which, size_t length)
-{
-    lay(&l->b[which], side, NULL, 0, length);
-}
-
-/* The small buffers, which have one size. */
-static void lay_small(struct lent *l, enum side side)
-{
-    lay_empty(l, side, CARD, sizeof(uint32_t));
-    lay_empty(l, side, STATE, STRIGOL_STATE_SIZE * sizeof(uint64_t));
-    lay_empty(l, side, ANSWER, STRIGOL_ANSWER_SIZE * sizeof(uint32_t));
-    lay_empty(l, side, RESULT, STRIGOL_RESULT_SIZE * sizeof(uint64_t));
-}
-
 /* A deck and a table with nothing in it yet, some bytes longer than it need be in every other deck. */
-static void lay_deck(struct lent *l, enum side side, const struct deck *deck)
+static void lay_any_deck(struct lent *l, enum side side, const struct deck *deck)
 {
-    lay(&l->b[DECK], side, deck->bytes, deck->length, deck->length);
-    lay_empty(l, side, TABLE, STRIGOL_TABLE_SIZE + (deck->length % 2 ? MORE : 0));
-    lay_small(l, side);
-}
-
-/* Input, output and store for a run of it. */
-static void lay_run(struct lent *l, enum side side, struct draws *d)
-{
-    static uint8_t input[INPUT_ROOM];
-    size_t n = random_input(d, input);
-    lay(&l->b[INPUT], side, input, n, n);
-    lay_empty(l, side, OUTPUT, draw(d, 4) == 0 ? draw(d, 40) : draw(d, MOST_OUTPUT + 1));
-    lay_empty(l, side, STORE, STRIGOL_STORE_SIZE + (draw(d, 2) ? MORE : 0));
-}
-
-static void lay_scan(struct lent *l, enum side side, const struct scan *s)
-{
-    lay(&l->b[REFERENCE], side, s->reference, s->reference_len, s->reference_len);
-    lay(&l->b[VALUES], side, s->values, s->values_len, s->values_len);
-    lay(&l->b[ELEMENTS], side, s->rows, s->rows_len, s->rows_len);
+    lay_deck(l, side, deck, STRIGOL_TABLE_SIZE + (deck->length % 2 ? MORE : 0));
 }
 
 /* Steps */
-
-/* What a step answered and left, beside the oracle's machine; its store is compared at the end of a list. */
-static int step_right(struct lent *l, const struct oracle_program *p, struct machine *m)
-{
-    struct answer a;
-    uint32_t number;
-    oracle_step(p, m, l->b[INPUT].at, l->b[INPUT].length, kept(&l->b[OUTPUT]), l->b[OUTPUT].length, &a);
-    oracle_answer(&a, COPIED_32(l, ANSWER));
-    oracle_state(m, COPIED_64(l, STATE));
-    number = make(l, STEP);
-    if (number != (uint32_t)a.number) fail("number %u, not %d", number, a.number);
-    calls[STEP].met[a.number]++;
-    return same(l, ANSWER) && same(l, STATE) && same(l, OUTPUT) && number == (uint32_t)a.number;
-}
-
-/* A list of steps from a fresh start; behind its end one step more is turned down by 16. Answers how many were made. */
-static long list_right(struct lent *l, const struct oracle_program *p)
-{
-    static struct machine m;
-    long steps = 0;
-    int ended = 0, right = 1;
-    make_right(l, START);
-    oracle_fresh(&m);
-    keep(&l->b[ANSWER]);
-    keep(&l->b[OUTPUT]);
-    for (; steps < MOST_LIST && ended < 2 && right; steps++) {
-        right = step_right(l, p, &m);
-        ended += m.status != RUNNING;
-    }
-    oracle_store(&m, kept(&l->b[STORE]));
-    if (right) same(l, STORE);
-    return steps;
-}
 
 static void steps_on(enum side side)
 {
@@ -234,10 +59,9 @@ static void steps_on(enum side side)
     doing.part = side == BEHIND ? "steps, fences behind" : "steps, fences before";
     for (uint64_t seed = first_seed(); only_seed != 0 ? seed == only_seed : steps < STEPS / SIDES; seed++, decks++) {
         struct draws d;
-        doing.seed = seed;
-        draws_from(&d, seed);
+        begin_seed(&d, seed);
         running_deck(&d, &deck);
-        lay_deck(&first, side, &deck);
+        lay_any_deck(&first, side, &deck);
         if (make_right(&first, READ) != 0 || oracle_read(deck.bytes, deck.length, &p, &card) != 0) {
             fail("a sound deck is refused");
             return;
@@ -245,16 +69,16 @@ static void steps_on(enum side side)
         lock(&first.b[DECK]);
         lock(&first.b[TABLE]);
         for (int run = 0; run < RUNS_OF_A_DECK; run++) {
-            lay_run(&first, side, &d);
+            lay_random_run(&first, side, &d);
             lock(&first.b[INPUT]);
-            steps += list_right(&first, &p);
+            steps += list_right(&first, &p, MOST_LIST, STORES_EVERY);
             unlock(&first.b[INPUT]);
         }
         unlock(&first.b[DECK]);
         unlock(&first.b[TABLE]);
         if (failures > 0) return;
     }
-    printf("load test: %s: %ld steps over %ld decks\n", doing.part, steps, decks);
+    printf("load test: %s: %ld steps carried out over %ld decks\n", doing.part, steps, decks);
 }
 
 static void steps(void)
@@ -301,8 +125,7 @@ static void fault_read(struct draws *d, enum side side)
 {
     static struct deck deck;
     bad_deck(d, &deck);
-    lay(&first.b[DECK], side, deck.bytes, deck.length, deck.length);
-    lay_empty(&first, side, TABLE, a_length(d, STRIGOL_TABLE_SIZE, STRIGOL_TABLE_SIZE + PAGE));
+    lay_deck(&first, side, &deck, a_length(d, STRIGOL_TABLE_SIZE, STRIGOL_TABLE_SIZE + PAGE));
     make_right(&first, READ);
 }
 
@@ -313,23 +136,19 @@ static void fault_start(struct draws *d, enum side side)
     make_right(&first, START);
 }
 
-/* Lays the bytes of a buffer again, in another length: the bytes that fit, and others behind them. */
-static void lay_again(struct buffer *b, enum side side, size_t length)
-{
-    static uint8_t bytes[STRIGOL_STORE_SIZE + PAGE];
-    size_t have = b->length;
-    memcpy(bytes, b->at, have);
-    lay(b, side, bytes, have, length);
-}
+/* Damaged tables that keep the rules. */
+static long kept_damaged;
 
 static void damage_lent(struct draws *d, enum side side)
 {
     struct buffer *b = first.b;
-    uint64_t steps = (uint64_t)b[TABLE].at[2] + 256u * b[TABLE].at[3];
+    uint64_t steps = count_in(b[TABLE].at, STEP_COUNT);
     switch (draw(d, 8)) {
     case 0: garbage(d, b[TABLE].at, STRIGOL_TABLE_SIZE); break;
     case 1: memset(b[TABLE].at, 0, STRIGOL_TABLE_SIZE); break;
-    case 2: case 3: damage_table(d, b[TABLE].at); break;
+    case 2: case 3:
+        for (uint32_t times = 1 + draw(d, 2); times > 0; times--) damage_table(d, b[TABLE].at);
+        break;
     case 4: lay_again(&b[TABLE], side, a_length(d, STRIGOL_TABLE_SIZE, STRIGOL_TABLE_SIZE + PAGE)); break;
     default: break;
     }
@@ -349,19 +168,23 @@ static void damage_lent(struct draws *d, enum side side)
     if (draw(d, 16) == 0) garbage(d, b[INPUT].at, b[INPUT].length);
 }
 
-/* Some steps into a deck all may be damaged; then come a step and a run. */
+/* Some steps into a deck all may be damaged; then come some steps, until one isn't carried out, and a run. */
 static void fault_step(struct draws *d, enum side side)
 {
     static struct deck deck;
+    static uint8_t sound[STRIGOL_TABLE_SIZE];
+    const struct buffer *table = &first.b[TABLE];
     running_deck(d, &deck);
-    lay_deck(&first, side, &deck);
-    lay_run(&first, side, d);
+    lay_any_deck(&first, side, &deck);
+    lay_random_run(&first, side, d);
     make(&first, READ);
+    memcpy(sound, table->at, sizeof sound);
     make(&first, START);
     first.count = draw(d, 20);
     make(&first, RUN);
     if (draw(d, 3) > 0) damage_lent(d, side);
-    make_right(&first, STEP);
+    kept_damaged += table->length >= sizeof sound && memcmp(sound, table->at, sizeof sound) != 0 && oracle_keeps(table->at);
+    for (int step = 0; step < FAULTY_STEPS && make_right(&first, STEP) == 0; step++) continue;
     first.count = draw(d, 4) == 0 ? draw(d, 3) : draw(d, 60);
     make_right(&first, RUN);
 }
@@ -385,9 +208,7 @@ static void faults_on(enum side side)
     doing.part = side == BEHIND ? "faults, fences behind" : "faults, fences before";
     for (uint64_t seed = first_seed(); more_seeds(seed, FAULTS); seed++) {
         struct draws d;
-        doing.seed = seed;
-        draws_from(&d, seed);
-        lay_small(&first, side);
+        begin_seed(&d, seed);
         fault_read(&d, side);
         fault_start(&d, side);
         fault_step(&d, side);
@@ -400,16 +221,8 @@ static void faults(void)
 {
     for (int i = 0; i < CALLS; i++) memset(calls[i].met, 0, sizeof calls[i].met);
     for (int side = 0; side < SIDES; side++) faults_on((enum side)side);
-    for (int i = 0; i < CALLS; i++) {
-        printf("load test: faults: %s, numbers met:", calls[i].name);
-        for (uint32_t number = 0; number < 25; number++) {
-            if ((calls[i].numbers >> number & 1) == 0) continue;
-            printf(" %u: %ld", number, calls[i].met[number]);
-            doing.call = calls[i].name;
-            if (only_seed == 0 && calls[i].met[number] == 0) fail("number %u is never met", number);
-        }
-        printf("\n");
-    }
+    for (int i = 0; i < CALLS; i++) show_met((enum call)i, only_seed == 0);
+    printf("load test: faults: %ld damaged tables keep the rules\n", kept_damaged);
 }
 
 /* Lengths and places past 2^32 */
@@ -478,6 +291,7 @@ static void far_away(void)
     uint8_t *long_one = mmap(NULL, pages, PROT_READ | PROT_WRITE, MAP_PRIVATE | MAP_ANONYMOUS | MAP_NORESERVE, -1, 0);
     doing.part = "far";
     doing.seed = 0;
+    doing.deck = NULL;
     if (long_one == MAP_FAILED) {
         fail("no 4 GiB of addresses");
         return;
@@ -511,11 +325,19 @@ static uint64_t mixed_buffer(uint64_t so_far, const struct lent *l, enum which w
     return mixed(so_far, l->b[which].at, l->b[which].length);
 }
 
+/* What a step or a run left, with what it answered. */
+static uint64_t mixed_run(uint64_t so_far, const struct lent *l, enum which answer)
+{
+    const enum which left[] = {STORE, STATE, OUTPUT, answer};
+    for (size_t i = 0; i < sizeof left / sizeof left[0]; i++) so_far = mixed_buffer(so_far, l, left[i]);
+    return so_far;
+}
+
 /* A step, and all that it answered and left. */
 static uint64_t mixed_step(struct lent *l, uint32_t *number)
 {
     *number = make(l, STEP);
-    return mixed_buffer(mixed_buffer(mixed_buffer(mixed_buffer(*number, l, STORE), l, STATE), l, OUTPUT), l, ANSWER);
+    return mixed_run(*number, l, ANSWER);
 }
 
 /* The steps of a run until it ends, or so many. */
@@ -545,9 +367,9 @@ static void interleave(struct draws *d, int one_deck)
     int done[2] = {0, 0};
     for (int i = 0; i < 2; i++) {
         running_deck(d, &decks[i]);
-        lay_deck(l[i], (enum side)i, &decks[i]);
+        lay_any_deck(l[i], (enum side)i, &decks[i]);
         make(l[i], READ);
-        lay_run(l[i], (enum side)i, d);
+        lay_random_run(l[i], (enum side)i, d);
         lock(&l[i]->b[TABLE]);
     }
     own_table = second.b[TABLE];
@@ -572,8 +394,7 @@ static void interleaved(void)
     doing.part = "interleaved";
     for (uint64_t seed = first_seed(); more_seeds(seed, INTERLEAVED); seed++) {
         struct draws d;
-        doing.seed = seed;
-        draws_from(&d, seed);
+        begin_seed(&d, seed);
         interleave(&d, seed % 2 == 0);
     }
     printf("load test: interleaved: %d pairs of runs\n", INTERLEAVED);
@@ -592,7 +413,7 @@ static uint64_t run_job(struct lent *l, uint64_t all)
     for (int step = 0; step < MOST_LIST / 4 && number == 0; step++) all = all * 31 + mixed_step(l, &number);
     all = all * 31 + make(l, START);
     all = all * 31 + make(l, RUN);
-    return mixed_buffer(mixed_buffer(mixed_buffer(mixed_buffer(all, l, STORE), l, STATE), l, OUTPUT), l, RESULT);
+    return mixed_run(all, l, RESULT);
 }
 
 /* All calls: the deck is read into a table of the run's own, then come steps and a run on the table shared, and a scan. Gives what was given
@@ -603,19 +424,14 @@ static uint64_t do_job(struct lent *l, const struct job *job, enum side side)
     struct scan s;
     struct draws d;
     struct buffer own_table;
-    size_t n;
     uint64_t all;
-    doing.seed = job->seed;
-    draws_from(&d, job->seed);
-    lay_deck(l, side, job->deck);
+    begin_seed(&d, job->seed);
+    lay_any_deck(l, side, job->deck);
     all = make(l, READ);
     all = mixed_buffer(mixed(all, l->b[TABLE].at, STRIGOL_TABLE_SIZE), l, CARD);
     own_table = l->b[TABLE];
     l->b[TABLE] = *job->table;
-    n = random_input(&d, input);
-    lay(&l->b[INPUT], side, input, n, n);
-    lay_empty(l, side, OUTPUT, MOST_OUTPUT);
-    lay_empty(l, side, STORE, STRIGOL_STORE_SIZE);
+    lay_run(l, side, input, random_input(&d, input), MOST_OUTPUT, STRIGOL_STORE_SIZE);
     l->count = 1000;
     all = run_job(l, all);
     l->b[TABLE] = own_table;
@@ -648,10 +464,9 @@ static void prepare_jobs(struct deck *decks, struct buffer *tables)
     doing.part = "threads, alone";
     for (int i = 0; i < SHARED; i++) {
         struct draws d;
-        doing.seed = (uint64_t)i + 1;
-        draws_from(&d, doing.seed);
+        begin_seed(&d, (uint64_t)i + 1);
         running_deck(&d, &decks[i]);
-        lay_deck(&first, BEHIND, &decks[i]);
+        lay_any_deck(&first, BEHIND, &decks[i]);
         make(&first, READ);
         make_fence(&tables[i], STRIGOL_TABLE_SIZE);
         lay(&tables[i], (enum side)(i % SIDES), first.b[TABLE].at, STRIGOL_TABLE_SIZE, STRIGOL_TABLE_SIZE);
@@ -737,38 +552,18 @@ static void probe_stack(enum call call, struct lent *l, const char *by)
     }
 }
 
-/* Decks made to take much stack: long expressions of each kind, deep parentheses, long rows, many names. */
-static void probe_long_decks(void)
+/* Decks made to take much stack: those that one statement fills, and those at the edges. */
+static void probe_deck(const struct deck *deck)
 {
-    static const struct { const char *name, *first, *each, *last; } decks[] = {
-        {"N=1+1+1+..", "N=1", "+1", ""},
-        {"N=1*1*1*..", "N=1", "*1", ""},
-        {"N=N*N+N*N+..", "N=N*N", "+N*N", ""},
-        {"N=(((1)))+(((1)))+..", "N=1", "+((((((((((((((((1))))))))))))))))", ""},
-        {"N=(1+(1+(1+..", "N=1", "+(1*(1+(1*(1+(1*(1+(1*(1+(1*(1+(1*(1+(1*(1+(1*(1+1))))))))))))))))", ""},
-        {"N=((..1+1+1+..", "N=((((((((((((((((1", "+1", ""},
-        {"N=1*((..*1*1*1..))", "N=1*(1*(1*(1*(1*(1*(1*(1*(1*(1*(1*(1*(1*(1*(1*(1*(1", "*1", "))))))))))))))))"},
-        {"N=-NUMBER(A$N)-..", "N=-1", "-NUMBER(A$N)", ""},
-        {"N=LENGTH(A)*..", "N=1", "*LENGTH(A)", ""},
-        {"N=1111..", "N=1", "1", ""},
-        {"N=((((..", "N=", "(", "1"},
-        {"PRINT A,A,..", "PRINTA", ",A", ""},
-        {"PRINT STRING(-1,N),..", "PRINTA", ",STRING(-1,N)", ""},
-        {"SCAN A[(B),C,..]", "SCANA[(B)", ",C,(B$N)", "]"},
-        {"a long literal", "A=\"", "1", "\""},
-        {"NUMBER X,X,..", "NUMBERX", ",X", ""},
-        {"AAAA..", "A", "A", ""},
-    };
+    lay_any_deck(&first, BEHIND, deck);
+    probe_stack(READ, &first, deck->name);
+}
+
+static void probe_decks(void)
+{
     static struct deck deck;
-    for (size_t i = 0; i < sizeof decks / sizeof decks[0]; i++) {
-        long_deck(decks[i].first, decks[i].each, decks[i].last, &deck);
-        lay_deck(&first, BEHIND, &deck);
-        probe_stack(READ, &first, decks[i].name);
-    }
-    for (int i = 0; edge_deck(i, &deck); i++) {
-        lay_deck(&first, BEHIND, &deck);
-        probe_stack(READ, &first, deck.name);
-    }
+    for (int i = 0; long_deck(i, &deck); i++) probe_deck(&deck);
+    for (int i = 0; edge_deck(i, &deck); i++) probe_deck(&deck);
 }
 
 /* Random decks, their steps and runs, and scans. */
@@ -777,11 +572,10 @@ static void probe_random(uint64_t seed)
     static struct deck deck;
     static struct scan s;
     struct draws d;
-    doing.seed = seed;
-    draws_from(&d, seed);
+    begin_seed(&d, seed);
     running_deck(&d, &deck);
-    lay_deck(&first, BEHIND, &deck);
-    lay_run(&first, BEHIND, &d);
+    lay_any_deck(&first, BEHIND, &deck);
+    lay_random_run(&first, BEHIND, &d);
     probe_stack(READ, &first, "a random deck");
     probe_stack(START, &first, "any store");
     for (int step = 0; step < 20; step++) probe_stack(STEP, &first, "a random deck");
@@ -805,7 +599,7 @@ static void stacks(void)
     doing.part = "stacks";
     for (uint64_t seed = first_seed(); more_seeds(seed, PROBED); seed++) probe_random(seed);
     show_stacks("random decks");
-    probe_long_decks();
+    probe_decks();
     show_stacks(stack_use[READ].by);
     for (int i = 0; i < CALLS; i++) {
         doing.call = calls[i].name;
@@ -820,8 +614,7 @@ int main(int argc, char **argv)
     };
     setvbuf(stdout, NULL, _IOLBF, 0);
     end_after(SECONDS);
-    catch_faults();
-    make_fences(&first);
+    begin_test("load test", &first);
     make_fences(&second);
     if (argc > 2) only_seed = strtoull(argv[2], NULL, 10);
     for (size_t i = 0; i < sizeof parts / sizeof parts[0]; i++)

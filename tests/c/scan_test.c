@@ -1,133 +1,85 @@
-/* Tries the scan call of the static library: document 01's trade lines P1 to P8, the refusals 22 to 24 at their edges, and random scans
-   against a plain search through all splits in order. */
-#include "strigol.h"
+/* Tries the scan call of the static library against the oracle: number and 24 numbers answered, on document 01's trade lines P1 to P8, on 22,
+   23 and 24 at their edges, on a pattern of 20 elements, and on random references and patterns, rows out of range and random rows among them.
+   The first three also against document 01. Nothing else lent may be written. A first argument is the only seed to try. */
+#include "beside.h"
 
-#include <stdint.h>
 #include <stdio.h>
 #include <stdlib.h>
 #include <string.h>
 
-enum { STRING = 1, FIXED = 2, FREE = 3, ROW = 12, MOST = 20, ANSWER = 24 };
+enum { SCANS_TRIED = 60000, MOST_BYTES_SHOWN = 300 };
 
-struct element { int kind; uint32_t from, to; };
+static struct lent lent;
 
-static int failures;
-
-static void expect(int ok, const char *what)
+static void show(const char *name, const uint8_t *bytes, size_t n)
 {
-    if (!ok) {
-        printf("scan test: %s\n", what);
-        failures++;
-    }
+    printf("%s:", name);
+    for (size_t i = 0; i < n && i < MOST_BYTES_SHOWN; i++) printf(" %d", bytes[i]);
+    printf("\n");
 }
 
-static void put4(uint8_t *at, uint32_t n)
+static void expect(int holds, const char *what)
 {
-    for (int i = 0; i < 4; i++) at[i] = (uint8_t)(n >> (8 * i));
+    if (!holds) fail("not the %s of document 01", what);
 }
 
-static size_t encode(const struct element *p, int count, uint8_t *rows)
+/* Makes the scan by the call and by the oracle; shows the first that differ. */
+static uint32_t try_scan(const struct scan *s, enum side side)
 {
-    memset(rows, 0, (size_t)count * ROW);
-    for (int i = 0; i < count; i++) {
-        rows[i * ROW] = (uint8_t)p[i].kind;
-        put4(rows + i * ROW + 4, p[i].from);
-        put4(rows + i * ROW + 8, p[i].to);
-    }
-    return (size_t)count * ROW;
+    int before = failures;
+    uint32_t number;
+    lay_small(&lent, side);
+    lay_scan(&lent, side, s);
+    number = make_right(&lent, SCAN);
+    if (before != 0 || failures == 0) return number;
+    show("reference", s->reference, s->reference_len);
+    show("values", s->values, s->values_len);
+    show("rows", s->rows, s->rows_len);
+    return number;
 }
 
-/* The first split that fits, tried in the order of splits: the start first, then each length, each from small to large. */
-static int pieces_fit(const uint8_t *r, int n, int at, const uint8_t *v, const struct element *p, int count, uint32_t *lengths)
+static void put_element(struct scan *s, enum strigol_element kind, size_t first, size_t second)
 {
-    if (count == 0) return 1;
-    int shortest = 0, longest = n - at;
-    if (p->kind == STRING) shortest = longest = (int)(p->to - p->from);
-    if (p->kind == FIXED) shortest = longest = (int)p->from;
-    if (p->kind == FREE && count == 1) shortest = n - at;
-    for (int l = shortest; l <= longest && at + l <= n; l++) {
-        if (p->kind == STRING && memcmp(r + at, v + p->from, (size_t)l) != 0) continue;
-        lengths[0] = (uint32_t)l;
-        if (pieces_fit(r, n, at + l, v, p + 1, count - 1, lengths + 1)) return 1;
-    }
-    return 0;
+    strigol_put_element(s->rows + s->rows_len, kind, (uint32_t)first, (uint32_t)second);
+    s->rows_len += STRIGOL_ROW_SIZE;
 }
 
-static int first_fit(const uint8_t *r, int n, const uint8_t *v, const struct element *p, int count, uint32_t *start, uint32_t *lengths)
+/* A pattern as the paper writes it, with free fillers as (), fixed ones as (n). */
+static void put_pattern(struct scan *s, const char *pattern)
 {
-    for (int at = 0; at <= n; at++)
-        if (pieces_fit(r, n, at, v, p, count, lengths)) {
-            *start = (uint32_t)at;
-            return 1;
-        }
-    return 0;
-}
-
-/* The trials by the paper's rule: groups parted by free fillers, each tested element by element. */
-static uint32_t trials_of(const uint8_t *r, int n, const uint8_t *v, const struct element *p, int count)
-{
-    uint32_t trials = 0;
-    int at = 0, i = 0;
-    while (i <= count) {
-        int end = i;
-        while (end < count && p[end].kind != FREE) end++;
-        for (;; at++) {
-            int here = at, j = i;
-            for (; j < end; j++) {
-                int l = p[j].kind == STRING ? (int)(p[j].to - p[j].from) : (int)p[j].from;
-                trials++;
-                if (n - here < l) return trials;
-                if (p[j].kind == STRING && memcmp(r + here, v + p[j].from, (size_t)l) != 0) break;
-                here += l;
-            }
-            if (j == end) {
-                at = here;
-                break;
-            }
-        }
-        i = end + 1;
-    }
-    return trials;
-}
-
-static void compare(const uint8_t *r, int n, const uint8_t *v, size_t v_len, const struct element *p, int count, const char *what)
-{
-    uint8_t rows[MOST * ROW];
-    uint32_t answer[ANSWER], expected[ANSWER] = {0};
-    memset(answer, 0xa5, sizeof answer);
-    size_t rows_len = encode(p, count, rows);
-    expected[0] = (uint32_t)first_fit(r, n, v, p, count, &expected[1], expected + 4);
-    if (!expected[0]) memset(expected, 0, sizeof expected);
-    expected[2] = trials_of(r, n, v, p, count);
-    expect(strigol_scan(r, (size_t)n, v, v_len, rows, rows_len, answer) == 0, what);
-    expect(memcmp(answer, expected, sizeof answer) == 0, what);
-}
-
-/* A trade line: the reference, the pattern as the paper writes it with free fillers as (), fixed ones as (n), and what is right. */
-static void line(const char *reference, const char *pattern, int found, uint32_t start, const char *lengths, int trials)
-{
-    struct element p[MOST];
-    uint8_t values[256], rows[MOST * ROW];
-    uint32_t answer[ANSWER];
-    int count = 0;
-    uint32_t used = 0;
-    for (const char *s = pattern; *s; s++) {
-        if (*s == '"') {
-            uint32_t from = used;
-            for (s++; *s != '"'; s++) values[used++] = (uint8_t)*s;
-            p[count++] = (struct element){STRING, from, used};
-        } else if (*s == '(') {
-            uint32_t l = (uint32_t)strtoul(s + 1, NULL, 10);
-            p[count++] = s[1] == ')' ? (struct element){FREE, 0, 0} : (struct element){FIXED, l, 0};
-            s = strchr(s, ')');
+    for (const char *at = pattern; *at; at++) {
+        if (*at == '"') {
+            size_t from = s->values_len;
+            for (at++; *at != '"'; at++) s->values[s->values_len++] = (uint8_t)*at;
+            put_element(s, STRIGOL_STRING, from, s->values_len);
+        } else if (*at == '(') {
+            if (at[1] == ')') put_element(s, STRIGOL_FREE, 0, 0);
+            else put_element(s, STRIGOL_FIXED, strtoul(at + 1, NULL, 10), 0);
+            at = strchr(at, ')');
         }
     }
-    size_t rows_len = encode(p, count, rows);
-    expect(strigol_scan((const uint8_t *)reference, strlen(reference), values, used, rows, rows_len, answer) == 0, pattern);
-    expect(answer[0] == (uint32_t)found && answer[1] == start && (trials < 0 || answer[2] == (uint32_t)trials), pattern);
-    for (int i = 0; i < count && found; i++) expect(answer[4 + i] == (uint32_t)(lengths[i] - '0'), pattern);
 }
 
+/* A line with its answer by hand, and its trials where document 01 says how many. */
+static void line(const char *reference, const char *pattern, uint32_t found, uint32_t start, const char *lengths, int trials)
+{
+    static struct scan s;
+    s.values_len = s.rows_len = 0;
+    s.reference_len = strlen(reference);
+    memcpy(s.reference, reference, s.reference_len);
+    put_pattern(&s, pattern);
+    doing.part = pattern;
+    for (int side = 0; side < SIDES; side++) {
+        uint32_t number = try_scan(&s, (enum side)side);
+        const uint32_t *answer = NUMBERS_32(&lent, ANSWER);
+        expect(number == STRIGOL_OK, "number");
+        expect(answer[STRIGOL_SPLIT] == found && answer[STRIGOL_START] == start, "split");
+        expect(trials < 0 || answer[STRIGOL_TRIALS] == (uint32_t)trials, "trials");
+        for (int i = 0; lengths[i] != 0; i++) expect(answer[STRIGOL_LENGTHS_AT + i] == (uint32_t)(lengths[i] - '0'), "lengths");
+    }
+}
+
+/* P1 to P8, and a pattern of as many elements as there may be. */
 static void trade_lines(void)
 {
     line("ABCDEFGHIJKLMNOP", "(5)()\"K\"()", 1, 0, "5515", -1);
@@ -138,82 +90,70 @@ static void trade_lines(void)
     line("ABCDE", "\"A\"()\"C\"()", 1, 0, "1112", -1);
     line("AAB", "\"AB\"", 1, 1, "2", 2);
     line("AB", "\"B\"\"C\"", 0, 0, "", 3);
+    line("A,,B,,,,C,,,,,D", "()\",\"()\",\"()\",\"()\",\"()\",\"()\",\"()\",\"()\",\"()\",\"()\",\"", 1, 0, "11011101010111010101", -1);
 }
 
+/* 22, 23 and 24 at their edges: one row, and bytes of zero as reference, values and further rows. */
 static void refusals(void)
 {
-    static uint8_t zeros[2048];
-    uint8_t rows[(MOST + 1) * ROW] = {0};
-    uint32_t answer[ANSWER], none[ANSWER] = {0};
-    struct { size_t reference, rows; uint8_t kind; uint32_t from, to; uint32_t number; } const tries[] = {
-        {1024, ROW, FREE, 0, 0, 0},        {1025, ROW, FREE, 0, 0, 22},          {1025, (MOST + 1) * ROW, 9, 0, 0, 22},
-        {3, (MOST + 1) * ROW, 9, 0, 0, 23}, {3, MOST * ROW + 1, 9, 0, 0, 23},     {3, ROW, 9, 0, 0, 24},
-        {3, ROW, 0, 0, 0, 24},             {3, ROW - 1, FREE, 0, 0, 24},         {3, ROW, FIXED, 0x80000000u, 0, 24},
-        {3, ROW, FIXED, 0x7fffffffu, 0, 0}, {3, ROW, STRING, 2, 1, 24},           {3, ROW, STRING, 0, 2049, 24},
-        {3, ROW, STRING, 2048, 2048, 0},   {3, 0, 0, 0, 0, 0},
+    enum { ROW = STRIGOL_ROW_SIZE, MOST = STRIGOL_ELEMENTS_MOST, LONGEST = STRIGOL_STRING_MOST, NO_KIND = 9 };
+    static const struct { size_t reference, rows; int kind; uint32_t from, to, number; } tries[] = {
+        {LONGEST, ROW, STRIGOL_FREE, 0, 0, 0},
+        {LONGEST + 1, ROW, STRIGOL_FREE, 0, 0, 22},
+        {LONGEST + 1, (MOST + 1) * ROW, NO_KIND, 0, 0, 22},
+        {3, (MOST + 1) * ROW, NO_KIND, 0, 0, 23},
+        {3, MOST * ROW + 1, NO_KIND, 0, 0, 23},
+        {3, ROW, NO_KIND, 0, 0, 24},
+        {3, ROW, 0, 0, 0, 24},
+        {3, ROW - 1, STRIGOL_FREE, 0, 0, 24},
+        {3, ROW, STRIGOL_FIXED, 0x80000000u, 0, 24},
+        {3, ROW, STRIGOL_FIXED, 0x7fffffffu, 0, 0},
+        {3, ROW, STRIGOL_STRING, 2, 1, 24},
+        {3, ROW, STRIGOL_STRING, 0, SCAN_VALUES + 1, 24},
+        {3, ROW, STRIGOL_STRING, SCAN_VALUES, SCAN_VALUES, 0},
+        {3, 0, 0, 0, 0, 0},
     };
+    static struct scan s;
+    doing.part = "edges";
     for (size_t i = 0; i < sizeof tries / sizeof tries[0]; i++) {
-        memset(rows, 0, sizeof rows);
-        rows[0] = tries[i].kind;
-        put4(rows + 4, tries[i].from);
-        put4(rows + 8, tries[i].to);
-        memset(answer, 0xa5, sizeof answer);
-        uint32_t number = strigol_scan(zeros, tries[i].reference, zeros, sizeof zeros, rows, tries[i].rows, answer);
-        expect(number == tries[i].number, "refusal");
-        if (number != 0) expect(memcmp(answer, none, sizeof none) == 0, "refused scan answers no split and 0 trials");
-    }
-}
-
-static uint64_t seed = 20671967;
-
-static uint32_t draw(uint32_t below)
-{
-    seed ^= seed << 13;
-    seed ^= seed >> 7;
-    seed ^= seed << 17;
-    return (uint32_t)(seed % below);
-}
-
-static void random_scans(int rounds)
-{
-    uint8_t reference[1024], values[64];
-    for (int round = 0; round < rounds; round++) {
-        struct element p[MOST];
-        int letters = 1 + (int)draw(3), count = (int)draw(6), free_fillers = 0;
-        int n = round % 50 == 0 ? (int)draw(1025) : (int)draw(24);
-        for (int i = 0; i < n; i++) reference[i] = (uint8_t)('A' + draw((uint32_t)letters));
-        for (int i = 0; i < 64; i++) values[i] = (uint8_t)('A' + draw((uint32_t)letters));
-        if (n > 64 && draw(2)) memset(reference, 'A', (size_t)n - draw(40));
-        for (int i = 0; i < count; i++) {
-            uint32_t from = draw(60), kind = draw(4);
-            if (n > 64 && free_fillers == 1 && kind == 0) kind = 1;
-            if (kind == 0) {
-                p[i] = (struct element){FREE, 0, 0};
-                free_fillers++;
-            } else if (kind == 1) {
-                p[i] = (struct element){FIXED, draw(4), 0};
-            } else {
-                p[i] = (struct element){STRING, from, from + draw(n > 64 && draw(2) ? 40u < 64 - from ? 40 : 64 - from : 4)};
-            }
+        static const uint32_t none[STRIGOL_ANSWER_SIZE];
+        memset(&s, 0, sizeof s);
+        put_element(&s, (enum strigol_element)tries[i].kind, tries[i].from, tries[i].to);
+        s.reference_len = tries[i].reference;
+        s.values_len = SCAN_VALUES;
+        s.rows_len = tries[i].rows;
+        doing.seed = i;
+        for (int side = 0; side < SIDES; side++) {
+            uint32_t number = try_scan(&s, (enum side)side);
+            expect(number == tries[i].number, "number");
+            if (number != 0) expect(memcmp(lent.b[ANSWER].at, none, sizeof none) == 0, "answer, no split and 0 trials,");
         }
-        compare(reference, n, values, sizeof values, p, count, "random scan");
     }
 }
 
-/* Every pattern of up to 20 elements that the call takes: 20 pass. */
-static void twenty(void)
+static int found;
+
+static void try_random(uint64_t seed)
 {
-    struct element p[MOST];
-    for (int i = 0; i < MOST; i++) p[i] = i % 2 ? (struct element){STRING, 0, 1} : (struct element){FREE, 0, 0};
-    compare((const uint8_t *)"A,,B,,,,C,,,,,D", 15, (const uint8_t *)",", 1, p, MOST, "20 elements");
+    static struct scan s;
+    struct draws d;
+    doing.part = "random";
+    begin_seed(&d, seed);
+    random_scan(&d, &s);
+    try_scan(&s, (enum side)(seed % SIDES));
+    found += NUMBERS_32(&lent, ANSWER)[STRIGOL_SPLIT] == 1;
 }
 
-int main(void)
+int main(int argc, char **argv)
 {
-    trade_lines();
-    refusals();
-    twenty();
-    random_scans(20000);
-    printf("scan test: %d failures\n", failures);
+    int tried = argc > 1 ? 1 : SCANS_TRIED;
+    begin_test("scan test", &lent);
+    if (argc == 1) {
+        trade_lines();
+        refusals();
+    }
+    for (int i = 1; i <= tried; i++) try_random(argc > 1 ? strtoull(argv[1], NULL, 10) : (uint64_t)i);
+    show_met(SCAN, argc == 1);
+    printf("scan test: %d random scans, %d splits found, %d failures\n", tried, found, failures);
     return failures != 0;
 }

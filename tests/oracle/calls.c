@@ -3,18 +3,13 @@
 
 #include <string.h>
 
-static const uint64_t bias = (uint64_t)1 << 47;
-
-enum { RETURNS_AT = 5, NUMBERS_AT = 21, SCAN_ROW = 12 };
-
 void oracle_store(const struct machine *m, uint8_t store[STORE_SIZE])
 {
     for (int i = 0; i < MOST_STRINGS; i++) {
         uint8_t *cell = store + i * CELL_SIZE;
         const struct text *t = &m->strings[i];
         memset(cell, 0, CELL_SIZE);
-        cell[0] = (uint8_t)(t->length & 255);
-        cell[1] = (uint8_t)(t->length >> 8);
+        put_number(cell, 2, (uint64_t)t->length);
         memcpy(cell + 2, t->bytes, (size_t)t->length);
     }
 }
@@ -23,9 +18,9 @@ void oracle_store(const struct machine *m, uint8_t store[STORE_SIZE])
 void oracle_state(const struct machine *m, uint64_t state[STATE_SIZE])
 {
     const uint64_t first[] = {m->status, m->next, m->held, m->taken, m->put};
-    for (int i = 0; i < 5; i++) state[i] = first[i];
+    for (int i = 0; i < RETURNS_AT; i++) state[i] = first[i];
     for (uint64_t i = 0; i < m->held && i < MOST_HELD; i++) state[RETURNS_AT + i] = m->returns[i];
-    for (int i = 0; i < MOST_NUMBERS; i++) state[NUMBERS_AT + i] = (uint64_t)m->numbers[i] + bias;
+    for (int i = 0; i < MOST_NUMBERS; i++) state[NUMBERS_AT + i] = (uint64_t)(m->numbers[i] + BIAS);
 }
 
 void oracle_answer(const struct answer *a, uint32_t numbers[ANSWER_SIZE])
@@ -42,7 +37,7 @@ void oracle_answer(const struct answer *a, uint32_t numbers[ANSWER_SIZE])
 static int cell_keeps(const uint8_t *cell)
 {
     static const uint8_t zeros[MOST_STRING];
-    int length = cell[0] + 256 * cell[1];
+    int length = (int)get_number(cell, 2);
     return length <= MOST_STRING && memcmp(cell + 2 + length, zeros, (size_t)(MOST_STRING - length)) == 0;
 }
 
@@ -58,12 +53,12 @@ static void machine_of(const uint8_t *store, const uint64_t *state, struct machi
 {
     uint64_t *const first[] = {&m->status, &m->next, &m->held, &m->taken, &m->put};
     oracle_fresh(m);
-    for (int i = 0; i < 5; i++) *first[i] = state[i];
+    for (int i = 0; i < RETURNS_AT; i++) *first[i] = state[i];
     for (int i = 0; i < MOST_HELD; i++) m->returns[i] = state[RETURNS_AT + i];
-    for (int i = 0; i < MOST_NUMBERS; i++) m->numbers[i] = (int64_t)(state[NUMBERS_AT + i] - bias);
+    for (int i = 0; i < MOST_NUMBERS; i++) m->numbers[i] = (int64_t)(state[NUMBERS_AT + i] - (uint64_t)BIAS);
     for (int i = 0; i < MOST_STRINGS; i++) {
         const uint8_t *cell = store + i * CELL_SIZE;
-        m->strings[i].length = cell[0] + 256 * cell[1];
+        m->strings[i].length = (int)get_number(cell, 2);
         memcpy(m->strings[i].bytes, cell + 2, (size_t)m->strings[i].length);
     }
 }
@@ -137,26 +132,20 @@ void oracle_run_call(const uint8_t *table, size_t table_len, uint8_t *store, siz
 
 /* The scan call */
 
-static uint32_t number4(const uint8_t *at)
-{
-    return (uint32_t)at[0] + ((uint32_t)at[1] << 8) + ((uint32_t)at[2] << 16) + ((uint32_t)at[3] << 24);
-}
-
 /* The element of a row, from as many of its bytes as were lent: 0 for one that is turned down by 24. */
 static int element_of(const uint8_t *row, size_t row_len, const uint8_t *values, size_t values_len, struct scan_element *e)
 {
-    enum { STRING_ROW = 1, FIXED_ROW, FREE_ROW };
-    uint32_t first, second;
+    uint64_t first, second;
     if (row_len < SCAN_ROW) return 0;
-    first = number4(row + 4);
-    second = number4(row + 8);
+    first = get_number(row + SCAN_FIRST_AT, 4);
+    second = get_number(row + SCAN_SECOND_AT, 4);
     *e = (struct scan_element){SCAN_FREE, 0, NULL};
-    if (row[0] == FREE_ROW) return 1;
-    if (row[0] == FIXED_ROW) {
+    if (row[0] == SCAN_FREE) return 1;
+    if (row[0] == SCAN_FIXED) {
         *e = (struct scan_element){SCAN_FIXED, (int)(first & 0x7fffffff), NULL};
         return first < 0x80000000u;
     }
-    if (row[0] != STRING_ROW || first > second || second > values_len) return 0;
+    if (row[0] != SCAN_STRING || first > second || second > values_len) return 0;
     *e = (struct scan_element){SCAN_STRING, (int)(second - first), values + first};
     return 1;
 }

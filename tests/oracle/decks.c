@@ -1,8 +1,10 @@
 /* Random decks. A deck is planned first (which statements stand in which routine, which have labels), then each statement is made from
    names that fit, and laid on cards with blanks, joins, comments and blank lines. A well-formed one is accepted; others are spoilt on the
    way. */
+#define _POSIX_C_SOURCE 200809L
 #include "decks.h"
 
+#include <glob.h>
 #include <stdio.h>
 #include <string.h>
 
@@ -115,6 +117,12 @@ static void plan_deck(struct maker *m)
 
 /* Statements, spelt without blanks. The makers of parts add to what is spelt. */
 
+static void begin_statement(struct maker *m)
+{
+    m->length = 0;
+    m->spelt[0] = 0;
+}
+
 static void spell(struct maker *m, const char *text)
 {
     int n = (int)strlen(text);
@@ -155,10 +163,31 @@ static void spell_bound(struct maker *m)
     else spell_constant(m);
 }
 
+/* A name, and sometimes a length. */
+static void spell_part_of(struct maker *m, const char *name)
+{
+    spell(m, name);
+    if (one_in(m->d, 3)) spell_bound(m);
+}
+
 static void spell_part(struct maker *m)
 {
+    spell_part_of(m, a_string(m));
+}
+
+/* A function of a whole string, or of one with perhaps a length. */
+static void spell_of_string(struct maker *m, const char *function)
+{
+    spell(m, function);
     spell(m, a_string(m));
-    if (one_in(m->d, 3)) spell_bound(m);
+    spell(m, ")");
+}
+
+static void spell_of_part(struct maker *m, const char *function)
+{
+    spell(m, function);
+    spell_part(m);
+    spell(m, ")");
 }
 
 static void spell_literal(struct maker *m)
@@ -229,8 +258,7 @@ static void spell_pattern(struct maker *m, const char *searched)
         if (i > 0) spell(m, ",");
         if (is_filler) {
             spell(m, "(");
-            spell(m, name);
-            if (one_in(m->d, 3)) spell_bound(m);
+            spell_part_of(m, name);
             spell(m, ")");
             fillers[filled++] = name;
         } else {
@@ -240,8 +268,7 @@ static void spell_pattern(struct maker *m, const char *searched)
                 if (m->declared > 0 && one_in(m->d, 6)) spell_text_call(m);
                 else spell_literal(m);
             } else {
-                spell(m, name);
-                if (one_in(m->d, 3)) spell_bound(m);
+                spell_part_of(m, name);
             }
         }
     }
@@ -281,13 +308,9 @@ static void spell_factor(struct maker *m, int depth)
     } else if (which < 5) {
         spell(m, a_number(m));
     } else if (which == 5) {
-        spell(m, "LENGTH(");
-        spell(m, a_string(m));
-        spell(m, ")");
+        spell_of_string(m, "LENGTH(");
     } else if (which == 6) {
-        spell(m, "NUMBER(");
-        spell_part(m);
-        spell(m, ")");
+        spell_of_part(m, "NUMBER(");
     } else if (depth < 15) {
         spell(m, "(");
         spell_expression(m, depth + 1);
@@ -313,13 +336,9 @@ static void spell_if_operand(struct maker *m)
 {
     uint32_t which = draw(m->d, 6);
     if (which == 0) {
-        spell(m, "LENGTH(");
-        spell(m, a_string(m));
-        spell(m, ")");
+        spell_of_string(m, "LENGTH(");
     } else if (which == 1) {
-        spell(m, "NUMBER(");
-        spell_part(m);
-        spell(m, ")");
+        spell_of_part(m, "NUMBER(");
     } else if (which < 4 && m->declared > 0) {
         spell(m, a_number(m));
     } else {
@@ -334,13 +353,9 @@ static void spell_if(struct maker *m)
     uint32_t which = draw(m->d, 5);
     spell(m, "IF(");
     if (which == 0) {
-        spell(m, "NULL(");
-        spell(m, a_string(m));
-        spell(m, ")");
+        spell_of_string(m, "NULL(");
     } else if (which == 1) {
-        spell(m, "NUMERIC(");
-        spell_part(m);
-        spell(m, ")");
+        spell_of_part(m, "NUMERIC(");
     } else {
         spell_if_operand(m);
         spell(m, signs[draw(m->d, 6)]);
@@ -461,8 +476,7 @@ static void spell_declaration(struct maker *m)
 
 static void spell_planned(struct maker *m, int i)
 {
-    m->length = 0;
-    m->spelt[0] = 0;
+    begin_statement(m);
     m->scope = m->plan[i].scope;
     switch (m->plan[i].planned) {
     case PLAN_PROGRAM: spell(m, "PROGRAMP"); break;
@@ -482,7 +496,7 @@ static void spell_planned(struct maker *m, int i)
 
 /* Cards */
 
-static void put_byte(struct deck *deck, uint8_t byte)
+void put_byte(struct deck *deck, uint8_t byte)
 {
     if (deck->length < DECK_ROOM) deck->bytes[deck->length++] = byte;
 }
@@ -529,6 +543,49 @@ static void put_skipped_line(struct maker *m)
         if (which == 3) put_text(m->deck, "SEQ 0/*");
     }
     put_byte(m->deck, 10);
+}
+
+void put_statement(struct deck *deck, const char *label, const char *text, size_t n, int numbered)
+{
+    enum { COLUMNS = 63, WHOLE_CARD = 81 };
+    char card[WHOLE_CARD + 1];
+    size_t from = 0;
+    do {
+        int joins = n - from > COLUMNS, count = joins ? COLUMNS : (int)(n - from);
+        snprintf(card, sizeof card, numbered ? "%-8s%c%-63.*sSEQ%05u\n" : "%-8s%c%.*s\n", from == 0 ? label : "", joins ? '+' : ' ', count,
+                 text + from, (unsigned)(deck->length / WHOLE_CARD + 1) % 100000);
+        put_text(deck, card);
+        from += (size_t)count;
+    } while (from < n);
+}
+
+void pad_to(struct deck *deck, size_t length)
+{
+    enum { LINE = 80 };
+    while (deck->length < length) {
+        size_t n = length - deck->length < LINE ? length - deck->length : LINE;
+        for (size_t i = 0; i + 1 < n; i++) put_byte(deck, i == 0 ? '*' : '-');
+        put_byte(deck, 10);
+    }
+}
+
+void show_deck(const struct deck *deck)
+{
+    for (size_t i = 0; i < deck->length; i++) {
+        uint8_t c = deck->bytes[i];
+        if (c == 10 || (c >= 32 && c < 127)) putchar(c);
+        else printf("<%d>", c);
+    }
+    if (deck->length > 0 && deck->bytes[deck->length - 1] != 10) printf("<no byte 10>\n");
+}
+
+const char *made_name(int i)
+{
+    static char text[4];
+    text[0] = (char)('A' + i / 36 / 26 % 26);
+    text[1] = (char)('A' + i / 36 % 26);
+    text[2] = "ABCDEFGHIJKLMNOPQRSTUVWXYZ0123456789"[i % 36];
+    return text;
 }
 
 /* The statement with some blanks outside its literals. */
@@ -590,12 +647,12 @@ static void lay(struct maker *m, const char *label)
     } while (from < n);
 }
 
-static void start_deck(struct deck *deck)
+void start_deck(struct deck *deck, const char *name)
 {
     deck->length = 0;
     deck->number = 0;
     deck->card = 0;
-    deck->name = "random";
+    deck->name = name;
 }
 
 /* Ways to spoil a statement. `#S`, `#N`, `#L`, `#R` stand for a string, a declared number, a label of the same routine and that routine. */
@@ -618,8 +675,7 @@ static void spell_mistake(struct maker *m)
     const char *from = mistakes[draw(m->d, sizeof mistakes / sizeof mistakes[0])];
     const char *label = a_label(m);
     char one[2] = {0};
-    m->length = 0;
-    m->spelt[0] = 0;
+    begin_statement(m);
     for (; *from; from++) {
         if (*from == '#') {
             from++;
@@ -638,8 +694,7 @@ static void spell_mistake(struct maker *m)
 static void spell_bent(struct maker *m)
 {
     static const char signs[] = "()[]$,,\"/=+-*<>AN1L";
-    m->length = 0;
-    m->spelt[0] = 0;
+    begin_statement(m);
     spell_plain(m);
     for (uint32_t times = 1 + draw(m->d, 2); times > 0 && m->length > 0 && m->length < MOST_SPELT - 2; times--) {
         int at = (int)draw(m->d, (uint32_t)m->length);
@@ -663,7 +718,7 @@ static void spell_bent(struct maker *m)
 /* In a routine: executes it or an earlier one, which may execute this one. */
 static void spell_ring(struct maker *m)
 {
-    m->length = 0;
+    begin_statement(m);
     spell(m, "EXECUTE");
     spell(m, routine_pool[draw(m->d, (uint32_t)m->scope + 1)]);
 }
@@ -676,7 +731,7 @@ static void make_deck(struct draws *d, struct deck *deck, enum mistake mistake)
     int at = -1, replaces = one_in(d, 2);
     m.d = d;
     m.deck = deck;
-    start_deck(deck);
+    start_deck(deck, "random");
     plan_deck(&m);
     if (mistake != NO_MISTAKE) at = (int)draw(d, (uint32_t)m.plans);
     if (mistake == RING)
@@ -778,23 +833,11 @@ static void put_counted(struct deck *deck, const char *form, uint32_t i)
     put_text(deck, text);
 }
 
-/* Pads a deck with comments to this length. */
-static void pad_to(struct deck *deck, size_t length)
-{
-    while (deck->length < length) {
-        size_t room = length - deck->length;
-        put_byte(deck, room == 1 ? 10 : '*');
-        if (room == 1) return;
-        for (size_t i = 2; i < room && i < 60; i++) put_byte(deck, 'C');
-        put_byte(deck, 10);
-    }
-}
-
 static void counted_deck(struct draws *d, struct deck *deck)
 {
     uint32_t which = draw(d, 10), over = draw(d, 3);
     int scans;
-    start_deck(deck);
+    start_deck(deck, "random");
     put_card(deck, "PROGRAM P");
     put_card(deck, "NUMBER N0");
     switch (which) {
@@ -831,27 +874,6 @@ static void counted_deck(struct draws *d, struct deck *deck)
     if (which == 9) pad_to(deck, 32767 + over);
 }
 
-void long_deck(const char *first, const char *each, const char *last, struct deck *deck)
-{
-    enum { FULL = 32768, BEFORE = 9, COLUMNS = 63, CARD = BEFORE + COLUMNS + 1 };
-    static char text[FULL];
-    size_t n = strlen(first), ends = strlen(last), step = strlen(each), room, rest;
-    start_deck(deck);
-    put_card(deck, "PROGRAMP");
-    put_card(deck, "NUMBERN");
-    rest = (FULL - deck->length) % CARD;
-    room = (FULL - deck->length) / CARD * COLUMNS + (rest > BEFORE ? rest - BEFORE : 0);
-    memcpy(text, first, n);
-    for (; n + step + ends <= room; n += step) memcpy(text + n, each, step);
-    memcpy(text + n, last, ends);
-    n += ends;
-    for (size_t at = 0; at < n; at++) {
-        if (at > 0 && at % COLUMNS == 0) put_byte(deck, 10);
-        if (at % COLUMNS == 0) put_text(deck, n - at > COLUMNS ? "        +" : "         ");
-        put_byte(deck, (uint8_t)text[at]);
-    }
-}
-
 void random_deck(struct draws *d, struct deck *deck)
 {
     uint32_t which = draw(d, 100);
@@ -881,4 +903,34 @@ size_t random_input(struct draws *d, uint8_t input[INPUT_ROOM])
         for (size_t i = 0; i < n; i++)
             if (input[i] == 10) input[i] = '1';
     return n;
+}
+
+/* Files */
+
+long file_bytes(const char *stem, const char *ending, uint8_t *to, size_t most)
+{
+    char path[4096];
+    FILE *file;
+    long n;
+    snprintf(path, sizeof path, "%s%s", stem, ending);
+    file = fopen(path, "rb");
+    if (file == NULL) return -1;
+    n = (long)fread(to, 1, most, file);
+    if (fgetc(file) != EOF) n = -1;
+    fclose(file);
+    return n;
+}
+
+int each_deck(const char *pattern, void (*each)(const char *stem))
+{
+    glob_t found;
+    int count = 0;
+    if (glob(pattern, 0, NULL, &found) != 0) return 0;
+    for (; count < (int)found.gl_pathc; count++) {
+        char *stem = found.gl_pathv[count];
+        stem[strlen(stem) - strlen(".deck")] = 0;
+        each(stem);
+    }
+    globfree(&found);
+    return count;
 }

@@ -9,6 +9,18 @@ enum { DECK_ROOM = 40000, INPUT_ROOM = 2048 };
 
 /* A deck; for an edge, the number and card that document 01 gives it. */
 struct deck { size_t length; uint8_t bytes[DECK_ROOM]; int number; uint32_t card; const char *name; };
+void show_deck(const struct deck *deck);
+
+/* Putting a deck together: nothing in it yet; a byte; a statement, on joined cards if it is longer than one, which are filled up to column 80
+   with sequence numbers or not; comments up to a length. */
+void start_deck(struct deck *deck, const char *name);
+void put_byte(struct deck *deck, uint8_t byte);
+void put_statement(struct deck *deck, const char *label, const char *text, size_t n, int numbered);
+void pad_to(struct deck *deck, size_t length);
+
+/* A name for each number up to so many: a letter, a letter, a letter or digit. It lasts until the next call. */
+enum { MADE_NAMES = 26 * 26 * 36 };
+const char *made_name(int i);
 
 /* A row of random numbers that is the same for the same seed. */
 struct draws { uint64_t state; };
@@ -27,9 +39,9 @@ size_t random_input(struct draws *d, uint8_t input[INPUT_ROOM]);
 /* The edge of this place, from 0; 0 if there is none. */
 int edge_deck(int place, struct deck *deck);
 
-/* A deck of 32,768 bytes that one statement fills: `first`, then `each` as often as there is room, then `last`, on joined cards, with no END
-   behind it. N is a number in it. */
-void long_deck(const char *first, const char *each, const char *last, struct deck *deck);
+/* A deck near 32,768 bytes that one statement fills, on joined cards, from place 0 on: sums, rows, parentheses and others of thousands. 0 if
+   there is none. */
+int long_deck(int place, struct deck *deck);
 
 /* A deck in the short notation of edges.c. */
 void short_deck(const char *lines, struct deck *deck);
@@ -38,5 +50,11 @@ void short_deck(const char *lines, struct deck *deck);
    outcome, number, steps and notes. 0 if there is none. */
 struct run_edge { const char *name, *lines, *input; size_t output_len; const char *printed; };
 int run_edge(int place, struct run_edge *edge);
+
+/* The bytes of the file that has this stem and ending: how many, or -1 if it isn't there or has more than fit. */
+long file_bytes(const char *stem, const char *ending, uint8_t *to, size_t most);
+
+/* Goes through the files *.deck that match, in order, by their stems: how many. */
+int each_deck(const char *pattern, void (*each)(const char *stem));
 
 #endif

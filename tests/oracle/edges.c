@@ -1,5 +1,6 @@
 /* Decks at the edges of document 01's numbers, each with the number and card that the document gives it. */
 #include "decks.h"
+#include "oracle.h"
 
 #include <stdio.h>
 #include <string.h>
@@ -313,14 +314,9 @@ static const struct { const char *name; int number; uint32_t card; const char *l
      "PROGRAM P|EXECUTE R|ROUTINE R|EXECUTE S|EXECUTE T|ENDROUTINE|ROUTINE S|EXECUTE T|ENDROUTINE|ROUTINE T|ENDROUTINE|END|"},
 };
 
-static void put_byte(struct deck *d, char byte)
+static uint8_t special(char letter)
 {
-    if (d->length < DECK_ROOM) d->bytes[d->length++] = (uint8_t)byte;
-}
-
-static char special(char letter)
-{
-    return (char)(letter == 'T' ? 9 : letter == 'R' ? 13 : letter == 'D' ? 127 : letter == 'H' ? 200 : 0);
+    return (uint8_t)(letter == 'T' ? 9 : letter == 'R' ? 13 : letter == 'D' ? 127 : letter == 'H' ? 200 : 0);
 }
 
 static void put_short(struct deck *d, const char *at)
@@ -333,12 +329,12 @@ static void put_short(struct deck *d, const char *at)
             at++;
         } else {
             if (colon && colon < end)
-                for (; at < colon; column++) put_byte(d, *at++);
+                for (; at < colon; column++) put_byte(d, (uint8_t)*at++);
             if (colon && colon < end) at++;
             for (; column < 9; column++) put_byte(d, ' ');
         }
         for (; at < end; at++) {
-            put_byte(d, *at == '^' ? special(at[1]) : *at);
+            put_byte(d, *at == '^' ? special(at[1]) : (uint8_t)*at);
             if (*at == '^') at++;
         }
         if (*at == '|') {
@@ -446,17 +442,67 @@ static const struct filled filled_decks[] = {
 static void put_filled(struct deck *d, const struct filled *f, size_t from)
 {
     put_short(d, f->line);
-    while (d->length < from + (size_t)f->length) put_byte(d, f->filling);
+    while (d->length < from + (size_t)f->length) put_byte(d, (uint8_t)f->filling);
     put_short(d, f->behind);
 }
 
 void short_deck(const char *lines, struct deck *d)
 {
-    d->length = 0;
-    d->number = 0;
-    d->card = 0;
-    d->name = "short";
+    start_deck(d, "short");
     put_short(d, lines);
+}
+
+/* Decks that one statement fills: what stands before it, then `first`, `each` as often as there is room, with %s a name of its own each time,
+   `last`, and END. */
+#define FULL "PROGRAM FULL|"
+#define FULL_N FULL "NUMBER N|"
+static const struct { const char *name, *before, *first, *each, *last; } long_decks[] = {
+    {"a NUMBER statement with thousands of names", FULL, "NUMBER A", ",%s", ""},
+    {"PRINT of thousands of strings", FULL, "PRINT A", ",%s", ""},
+    {"PRINT of one string thousands of times", FULL, "PRINT A", ",A", ""},
+    {"PRINT of thousands of substrings", FULL, "PRINT A", ",%s$1", ""},
+    {"a pattern of thousands of fillers", FULL, "SCAN REF [(A)", ",(%.3s)", "]"},
+    {"a pattern of fillers and strings in turn", FULL, "SCAN REF [A", ",(%1$s),B%1$s", "]"},
+    {"a pattern of a filler and a string in turn", FULL, "SCAN REF [A", ",(B),A", "]"},
+    {"a sum of thousands of ones", FULL_N, "N=1", "+1", ""},
+    {"a sum of thousands of LENGTHs", FULL_N, "N=1", "+LENGTH(%s)", ""},
+    {"thousands of opening parentheses", FULL_N, "N=", "(", ""},
+    {"thousands of pairs of parentheses", FULL_N, "N=1", "+(1)", ""},
+    {"a constant of thousands of digits", FULL_N, "N=", "00000000", ""},
+    {"a literal of thousands of bytes", FULL, "PRINT \"", "ABCDEFGH", "\""},
+    {"thousands of literals of one byte", FULL, "PRINT \"A\"", ",\"A\"", ""},
+    {"thousands of literals of one quote", FULL, "PRINT \"A\"", ",\"\"\"", ""},
+    {"a statement of blanks, broken at its end", FULL, "PRINT A", "          ", ",,"},
+    {"N=1*1*1*..", FULL_N, "N=1", "*1", ""},
+    {"N=N*N+N*N+..", FULL_N, "N=N*N", "+N*N", ""},
+    {"N=(((1)))+(((1)))+..", FULL_N, "N=1", "+((((((((((((((((1))))))))))))))))", ""},
+    {"N=(1+(1+(1+..", FULL_N, "N=1", "+(1*(1+(1*(1+(1*(1+(1*(1+(1*(1+(1*(1+(1*(1+(1*(1+1))))))))))))))))", ""},
+    {"N=((..1+1+1+..", FULL_N, "N=((((((((((((((((1", "+1", ""},
+    {"N=1*((..*1*1*1..))", FULL_N, "N=1*(1*(1*(1*(1*(1*(1*(1*(1*(1*(1*(1*(1*(1*(1*(1*(1", "*1", "))))))))))))))))"},
+    {"N=-NUMBER(A$N)-..", FULL_N, "N=-1", "-NUMBER(A$N)", ""},
+    {"N=LENGTH(A)*..", FULL_N, "N=1", "*LENGTH(A)", ""},
+    {"N=1111..", FULL_N, "N=1", "1", ""},
+    {"PRINT STRING(-1,N),..", FULL_N, "PRINT A", ",STRING(-1,N)", ""},
+    {"SCAN A[(B),C,..]", FULL_N, "SCAN A[(B)", ",C,(B$N)", "]"},
+    {"NUMBER X,X,..", FULL, "NUMBER X", ",X", ""},
+    {"AAAA..", FULL, "A", "A", ""},
+};
+
+int long_deck(int place, struct deck *d)
+{
+    enum { COLUMNS = 63, CARD = 73, LONGEST_EACH = 80 };
+    static char text[MOST_DECK];
+    size_t n, room;
+    if (place >= (int)(sizeof long_decks / sizeof long_decks[0])) return 0;
+    start_deck(d, long_decks[place].name);
+    put_short(d, long_decks[place].before);
+    room = (MOST_DECK - d->length) * COLUMNS / CARD - 120;
+    n = (size_t)snprintf(text, sizeof text, "%s", long_decks[place].first);
+    for (int i = 0; n < room; i++) n += (size_t)snprintf(text + n, LONGEST_EACH, long_decks[place].each, made_name(i % MADE_NAMES));
+    n += (size_t)snprintf(text + n, LONGEST_EACH, "%s", long_decks[place].last);
+    put_statement(d, "", text, n, 0);
+    put_short(d, "END|");
+    return 1;
 }
 
 /* Ten doublings make a string of 1,024 bytes. */
@@ -468,6 +514,27 @@ void short_deck(const char *lines, struct deck *d)
 #define NUMBERS "PROGRAM P|NUMBER N,M,K|"
 
 static const struct run_edge run_edges[] = {
+    /* Document 01's trade lines, and examples of the manual */
+    {"P1", NUMBERS "A=\"ABCDEFGHIJKLMNOP\"|SCAN A[(X$5),(Y),\"K\",(Z)]|PRINT X,\".\",Y,\".\",Z|END|", "", 100,
+     "ABCDE.FGHIJ.LMNOP\nFINISHED,0,4,0\n"},
+    {"P2", NUMBERS "S=\"123.\"|SCAN S[(A),(T$3),\".\"]|PRINT A,\"/\",T|END|", "", 100, "/123\nFINISHED,0,4,0\n"},
+    {"P3", NUMBERS "S=\"HOU\"|SCAN S[(A),(B),(C)]|PRINT A,\"/\",B,\"/\",C|END|", "", 100, "//HOU\nFINISHED,0,4,0\n"},
+    {"P4", NUMBERS "S=\"ABCD\"|SCAN S[(X$2),(Y$3)]/,F|PRINT \"FITS\"|F:END|", "", 100, "FINISHED,0,3,0\n"},
+    {"P5", NUMBERS "SCAN S[(F)]/,X|PRINT \"FITS\"|X:END|", "", 100, "FITS\nFINISHED,0,3,0\n"},
+    {"P6", NUMBERS "S=\"ABCDE\"|SCAN S[\"A\",(F),\"C\",(F)]|PRINT F|END|", "", 100, "DE\nFINISHED,0,4,0\n"},
+    {"P7", NUMBERS "S=\"AAB\"|SCAN S[\"AB\"]=\".\"|PRINT S|END|", "", 100, "A.\nFINISHED,0,4,0\n"},
+    {"P8", NUMBERS "S=\"AB\"|SCAN S[\"B\",\"C\"]/,F|PRINT \"FITS\"|F:END|", "", 100, "FINISHED,0,3,0\n"},
+    {"P9", NUMBERS "S=\"ABC\"|BACKSCAN S[(X$1),(Y$2)]=Y,X|PRINT S,\" \",X,\" \",Y|END|", "", 100, "CAB C BA\nFINISHED,0,4,0\n"},
+    {"P10", NUMBERS "N=-12|PRINT STRING(-4,N)|END|", "", 100, "- 12\nFINISHED,0,3,0\n"},
+    {"P11", NUMBERS "N=-12|PRINT STRING(2,N)|END|", "", 100, "-1\nFINISHED,0,3,1\n"},
+    {"P12", NUMBERS "S=\"3 \"|N=NUMBER(S)|PRINT STRING(N)|END|", "", 100, "30\nFINISHED,0,4,0\n"},
+    {"past the largest number", NUMBERS "N=8388607+1|END|", "", 100, "STOPPED,19,1,0\n"},
+    {"the manual, 2.4",
+     NUMBERS "A=\"ABCDEFGHIJKLMNOPQRSTUVWXYZ\"|N=LENGTH(A)+1|M=N*(N-7)/2|K=-(M*N/M/N)+7|"
+             "!        +PRINT STRING(N),\" \",STRI|NG(M),\" \",STRING(K)|END|",
+     "", 100, "27 270 6\nFINISHED,0,6,0\n"},
+    {"the manual, 6.1", NUMBERS "STR=\"ABC\"|STR$N=\"123\"|STR$4=STR,STR$N,\"X\"|PRINT STR|END|", "", 100, "123ABCXBC\nFINISHED,0,5,0\n"},
+    {"the manual, 6.4", NUMBERS "I=\"ABC00\"|BACKSCAN I$4[\"00\",(X)]|PRINT X|END|", "", 100, "CB\nFINISHED,0,4,0\n"},
     /* 17 */
     {"a reference length below zero", NUMBERS "N=-1|SCAN A$N[]|END|", "", 100, "STOPPED,17,2,0\n"},
     {"a reference length of zero", NUMBERS "A=\"X\"|SCAN A$N[(B)]=\"Y\"|PRINT A,B|END|", "", 100, "YX\nFINISHED,0,4,0\n"},
@@ -551,7 +618,6 @@ static const struct run_edge run_edges[] = {
     {"a replacement of a beginning", "PROGRAM P|A=\"ABC\"|A$1=A,\"X\"|PRINT A|A$99=\"Y\"|PRINT A|END|", "", 100,
      "ABCXBC\nY\nFINISHED,0,6,0\n"},
     /* Scans */
-    {"naming, the rightmost wins", "PROGRAM P|A=\"ABCDE\"|SCAN A[\"A\",(F),\"C\",(F)]|PRINT F|END|", "", 100, "DE\nFINISHED,0,4,0\n"},
     {"fillers are null after a failure", "PROGRAM P|A=\"ABC\"|F=\"X\"|SCAN A[(F),\"Z\"]/T|PRINT \"(\",F,A,\")\"|T:END|", "", 100,
      "(ABC)\nFINISHED,0,5,0\n"},
     {"pattern values are older than null fillers", "PROGRAM P|A=\"XY\"|F=\"X\"|SCAN A[F,(F)]|PRINT F|END|", "", 100, "Y\nFINISHED,0,5,0\n"},

@@ -10,8 +10,18 @@ enum {
     MOST_DECK = 32768, MOST_STEPS = 256, MOST_STRINGS = 32, MOST_NUMBERS = 32, MOST_LABELS = 64, MOST_ROUTINES = 16,
     MOST_ROW = 20, MOST_ELEMENTS = 1024, MOST_ITEMS = 1024, MOST_LITERALS = 4096, MOST_DEPTH = 16, MOST_NAME = 8,
     MOST_STRING = 1024, MOST_HELD = 16, MOST_WAITING = 64, LIMIT = 8388607,
-    TABLE_SIZE = 28672, STORE_SIZE = 32832, CELL_SIZE = 1026, STATE_SIZE = 64, ANSWER_SIZE = 24
+    TABLE_SIZE = 28672, STORE_SIZE = 32832, CELL_SIZE = 1026, STATE_SIZE = 64, ANSWER_SIZE = 24, RESULT_SIZE = 4
 };
+
+/* The layouts of docs/TABLE.md: the table's counts and regions, its rows and cells; places in a state; a row lent to the scan call. */
+enum {
+    COUNTS_AT = 2, COUNTS_END = 14, STEPS_AT = 64, ELEMENTS_AT = 6208, ITEMS_AT = 14400, LITERALS_AT = 22592, LITERALS_END = 26688,
+    ROW_SIZE = 24, CARD_AT = 2, SUCCESS_AT = 4, FAILURE_AT = 6, CELL = 8,
+    STATUS_AT = 0, NEXT_AT, HELD_AT, TAKEN_AT, PUT_AT, RETURNS_AT, NUMBERS_AT = 21, NUMBERS_END = 53,
+    SCAN_ROW = 12, SCAN_FIRST_AT = 4, SCAN_SECOND_AT = 8
+};
+enum count { STEP_COUNT, STRING_COUNT, NUMBER_COUNT, ELEMENT_COUNT, ITEM_COUNT, LITERAL_COUNT, COUNTS };
+#define BIAS ((int64_t)1 << 47)
 
 /* A length behind `$`: none, a constant or a number. */
 enum bound { WHOLE, CONSTANT, VARIABLE };
@@ -74,14 +84,18 @@ struct machine {
 /* What a step answers. */
 struct answer { int number; uint32_t notes, trials; int found, start, pieces, lengths[MOST_ROW]; };
 
-/* An element of a scan once its value is known. */
-enum scan_kind { SCAN_STRING, SCAN_FIXED, SCAN_FREE };
+/* An element of a scan once its value is known; the kinds have the numbers of a row lent to the scan call. */
+enum scan_kind { SCAN_STRING = 1, SCAN_FIXED, SCAN_FREE };
 struct scan_element { enum scan_kind kind; int length; const uint8_t *bytes; };
 
 /* reader.c: the number and card of a deck: 0 with its program, 1, or 3 to 12. */
 int oracle_read(const uint8_t *deck, size_t n, struct oracle_program *p, uint32_t *card);
 
-/* table.c: the table of a program; whether bytes keep the rules of a table; the program of a table that keeps them. */
+/* table.c: a number of so many bytes, the low byte first; a count of a table. The table of a program; whether bytes keep the rules of a table;
+   the program of a table that keeps them. */
+void put_number(uint8_t *at, int bytes, uint64_t n);
+uint64_t get_number(const uint8_t *at, int bytes);
+uint64_t count_in(const uint8_t *table, enum count count);
 void oracle_table(const struct oracle_program *p, uint8_t table[TABLE_SIZE]);
 int oracle_keeps(const uint8_t table[TABLE_SIZE]);
 void oracle_program_of(const uint8_t table[TABLE_SIZE], struct oracle_program *p);

@@ -3,10 +3,7 @@
 
 #include <string.h>
 
-enum {
-    STEPS_AT = 64, ELEMENTS_AT = 6208, ITEMS_AT = 14400, LITERALS_AT = 22592, LITERALS_END = 26688, ROW_SIZE = 24, CELL = 8,
-    LEFT = 8, RIGHT = 16
-};
+enum { LEFT = 8, RIGHT = 16 }; /* the cells of a row */
 
 /* The kinds of cells. */
 enum {
@@ -15,18 +12,21 @@ enum {
     CONSTANT_FIXED, VARIABLE_FIXED, RANGE_CELL
 };
 
-static const int64_t bias = (int64_t)1 << 47;
-
-static void put_number(uint8_t *at, int bytes, uint64_t n)
+void put_number(uint8_t *at, int bytes, uint64_t n)
 {
     for (int i = 0; i < bytes; i++) at[i] = (uint8_t)(n >> (8 * i));
 }
 
-static uint64_t get_number(const uint8_t *at, int bytes)
+uint64_t get_number(const uint8_t *at, int bytes)
 {
     uint64_t n = 0;
     for (int i = 0; i < bytes; i++) n |= (uint64_t)at[i] << (8 * i);
     return n;
+}
+
+uint64_t count_in(const uint8_t *table, enum count count)
+{
+    return get_number(table + COUNTS_AT + 2 * count, 2);
 }
 
 /* Writing */
@@ -50,7 +50,7 @@ static void put_range(uint8_t *at, int kind, int from, int count, int more)
 static void put_bound(uint8_t *at, int whole, int constant, int variable, int place, enum bound bound, int32_t n)
 {
     if (bound == WHOLE) put_cell(at, whole, place, 0);
-    else if (bound == CONSTANT) put_cell(at, constant, place, (uint64_t)(n + bias));
+    else if (bound == CONSTANT) put_cell(at, constant, place, (uint64_t)(n + BIAS));
     else put_cell(at, variable, place, (uint64_t)n);
 }
 
@@ -62,7 +62,7 @@ static void put_part(uint8_t *at, struct part p)
 static void put_operand(uint8_t *at, struct operand o)
 {
     switch (o.kind) {
-    case OPERAND_CONSTANT: put_cell(at, CONSTANT_CELL, 0, (uint64_t)(o.constant + bias)); break;
+    case OPERAND_CONSTANT: put_cell(at, CONSTANT_CELL, 0, (uint64_t)(o.constant + BIAS)); break;
     case OPERAND_NUMBER: put_cell(at, NUMBER_CELL, o.number, 0); break;
     case OPERAND_LENGTH: put_cell(at, LENGTH_CELL, o.part.string, 0); break;
     case OPERAND_VALUE: put_bound(at, VALUE_CELL, CONSTANT_VALUE, VARIABLE_VALUE, o.part.string, o.part.bound, o.part.n); break;
@@ -99,9 +99,9 @@ static void put_step(uint8_t *row, const struct step *s)
 {
     put_number(row, 1, s->kind);
     put_number(row + 1, 1, (uint64_t)flag_of(s));
-    put_number(row + 2, 2, s->card);
-    put_number(row + 4, 2, (uint64_t)s->success);
-    put_number(row + 6, 2, (uint64_t)s->failure);
+    put_number(row + CARD_AT, 2, s->card);
+    put_number(row + SUCCESS_AT, 2, (uint64_t)s->success);
+    put_number(row + FAILURE_AT, 2, (uint64_t)s->failure);
     switch (s->kind) {
     case SET_NUMBER: put_cell(row + LEFT, NUMBER_CELL, s->number, 0); break;
     case SET_STRING: case IF_NULL: case IF_NUMERIC: case SCANS: case READS: put_part(row + LEFT, s->part); break;
@@ -120,7 +120,7 @@ void oracle_table(const struct oracle_program *p, uint8_t table[TABLE_SIZE])
     const int counts[] = {p->steps, p->strings, p->numbers, p->elements, p->items, p->literals};
     memset(table, 0, TABLE_SIZE);
     table[0] = 1;
-    for (int i = 0; i < 6; i++) put_number(table + 2 + 2 * i, 2, (uint64_t)counts[i]);
+    for (int i = 0; i < COUNTS; i++) put_number(table + COUNTS_AT + 2 * i, 2, (uint64_t)counts[i]);
     for (int i = 0; i < p->steps; i++) put_step(table + STEPS_AT + i * ROW_SIZE, &p->step[i]);
     for (int i = 0; i < p->elements; i++) put_element(table + ELEMENTS_AT + i * CELL, p->element[i]);
     for (int i = 0; i < p->items; i++) put_item(table + ITEMS_AT + i * CELL, p->item[i]);
@@ -159,7 +159,7 @@ static uint64_t value_of(const uint8_t *cell)
 /* A biased constant between the two. */
 static int constant_in(const uint8_t *cell, int64_t lowest, int64_t highest)
 {
-    int64_t z = (int64_t)value_of(cell) - bias;
+    int64_t z = (int64_t)value_of(cell) - BIAS;
     return z >= lowest && z <= highest;
 }
 
@@ -286,8 +286,9 @@ static int row_holds(struct rules *k, const uint8_t *row)
 {
     const uint8_t *left = row + LEFT, *right = row + RIGHT;
     int no_flag = row[1] == 0;
-    int no_success = get_number(row + 4, 2) == 0, no_failure = get_number(row + 6, 2) == 0;
-    int leads = get_number(row + 4, 2) < k->steps, branches = leads && get_number(row + 6, 2) < k->steps;
+    uint64_t success = get_number(row + SUCCESS_AT, 2), failure = get_number(row + FAILURE_AT, 2);
+    int no_success = success == 0, no_failure = failure == 0;
+    int leads = success < k->steps, branches = leads && failure < k->steps;
     int no_branch = no_success && no_failure;
     switch (row[0]) {
     case SET_NUMBER:
@@ -317,10 +318,10 @@ static int rest_is_zero(const struct rules *k)
 int oracle_keeps(const uint8_t table[TABLE_SIZE])
 {
     struct rules k = {table,
-                      get_number(table + 2, 2), get_number(table + 4, 2), get_number(table + 6, 2),
-                      get_number(table + 8, 2), get_number(table + 10, 2), get_number(table + 12, 2),
+                      count_in(table, STEP_COUNT), count_in(table, STRING_COUNT), count_in(table, NUMBER_COUNT),
+                      count_in(table, ELEMENT_COUNT), count_in(table, ITEM_COUNT), count_in(table, LITERAL_COUNT),
                       0, 0, 0};
-    if (table[0] != 1 || table[1] != 0 || !all_zero(table + 14, 50)) return 0;
+    if (table[0] != 1 || table[1] != 0 || !all_zero(table + COUNTS_END, STEPS_AT - COUNTS_END)) return 0;
     if (k.steps < 1 || k.steps > MOST_STEPS || k.strings > MOST_STRINGS || k.numbers > MOST_NUMBERS) return 0;
     if (k.elements > MOST_ELEMENTS || k.items > MOST_ITEMS || k.literals > MOST_LITERALS) return 0;
     for (uint64_t i = 0; i < k.steps; i++)
@@ -333,7 +334,7 @@ int oracle_keeps(const uint8_t table[TABLE_SIZE])
 
 static int32_t unbiased(const uint8_t *cell)
 {
-    return (int32_t)((int64_t)value_of(cell) - bias);
+    return (int32_t)((int64_t)value_of(cell) - BIAS);
 }
 
 /* The length of a cell whose three kinds begin at `whole`. */
@@ -398,9 +399,9 @@ static struct step step_in(const uint8_t *row)
     struct step s;
     memset(&s, 0, sizeof s);
     s.kind = (enum step_kind)row[0];
-    s.card = (uint32_t)get_number(row + 2, 2);
-    s.success = (int)get_number(row + 4, 2);
-    s.failure = (int)get_number(row + 6, 2);
+    s.card = (uint32_t)get_number(row + CARD_AT, 2);
+    s.success = (int)get_number(row + SUCCESS_AT, 2);
+    s.failure = (int)get_number(row + FAILURE_AT, 2);
     if (s.kind == SET_NUMBER) s.number = (int)place_of(row + LEFT);
     if (s.kind == SET_STRING || s.kind == IF_NULL || s.kind == IF_NUMERIC || s.kind == SCANS || s.kind == READS)
         s.part = part_in(row + LEFT, STRING_CELL);
@@ -425,7 +426,7 @@ void oracle_program_of(const uint8_t table[TABLE_SIZE], struct oracle_program *p
 {
     int *const counts[] = {&p->steps, &p->strings, &p->numbers, &p->elements, &p->items, &p->literals};
     memset(p, 0, sizeof *p);
-    for (int i = 0; i < 6; i++) *counts[i] = (int)get_number(table + 2 + 2 * i, 2);
+    for (int i = 0; i < COUNTS; i++) *counts[i] = (int)count_in(table, (enum count)i);
     for (int i = 0; i < p->steps; i++) p->step[i] = step_in(table + STEPS_AT + i * ROW_SIZE);
     for (int i = 0; i < p->elements; i++) p->element[i] = element_in(table + ELEMENTS_AT + i * CELL);
     for (int i = 0; i < p->items; i++) p->item[i] = item_in(table + ITEMS_AT + i * CELL);
