@@ -1,9 +1,12 @@
-/* What the benchmarks share: the time, and figures as they are printed. */
+/* What the benchmarks share: the time, decks read from files, and figures as they are printed. */
 #ifndef FIGURES_H
 #define FIGURES_H
 
+#include "strigol.h"
+
 #include <stdint.h>
 #include <stdio.h>
+#include <stdlib.h>
 #include <time.h>
 
 /* A clock's time in nanoseconds. CLOCK_PROCESS_CPUTIME_ID has the processor time that this process used; it stands still while others run. */
@@ -14,12 +17,55 @@ static inline double now(clockid_t clock)
     return (double)t.tv_sec * 1e9 + (double)t.tv_nsec;
 }
 
-/* A whole number with a comma between thousands. The texts of this and of `figure` last for eight calls, so that one printf may have several. */
+/* Sets `best` to the nanoseconds of processor time that what is called takes once: the best of so many rounds of so many calls. */
+#define BEST_NS(best, rounds, calls, ...)                                                                                                      \
+    do {                                                                                                                                       \
+        best = 1e18;                                                                                                                           \
+        for (int round_ = 0; round_ < (rounds); round_++) {                                                                                    \
+            double from_ = now(CLOCK_PROCESS_CPUTIME_ID), time_;                                                                               \
+            for (int call_ = 0; call_ < (calls); call_++) { __VA_ARGS__; }                                                                     \
+            time_ = (now(CLOCK_PROCESS_CPUTIME_ID) - from_) / (calls);                                                                         \
+            if (time_ < best) best = time_;                                                                                                    \
+        }                                                                                                                                      \
+    } while (0)
+
+static inline void give_up(const char *what)
+{
+    fprintf(stderr, "bench: %s\n", what);
+    exit(1);
+}
+
+/* The bytes of a file, as many as fit; and the table of the deck in one. */
+static inline size_t load(const char *name, uint8_t *to, size_t most)
+{
+    FILE *file = fopen(name, "rb");
+    size_t n;
+    if (file == NULL) give_up(name);
+    n = fread(to, 1, most, file);
+    fclose(file);
+    return n;
+}
+
+static inline void load_table(const char *name, uint8_t table[STRIGOL_TABLE_SIZE])
+{
+    static uint8_t deck[STRIGOL_DECK_MOST + 1];
+    uint32_t card;
+    if (strigol_read(deck, load(name, deck, sizeof deck), table, STRIGOL_TABLE_SIZE, &card) != 0) give_up(name);
+}
+
+/* Room for a text that lasts for eight calls, so that one printf may have several. */
+enum { TEXT_ROOM = 32 };
+static inline char *next_text(void)
+{
+    static char texts[8][TEXT_ROOM];
+    static unsigned next;
+    return texts[next++ % 8];
+}
+
+/* A whole number with a comma between thousands. */
 static inline const char *whole(uint64_t n)
 {
-    static char texts[8][32];
-    static unsigned next;
-    char *at = texts[next++ % 8] + sizeof texts[0] - 1;
+    char *at = next_text() + TEXT_ROOM - 1;
     int digits = 0;
     *at = 0;
     do {
@@ -33,12 +79,10 @@ static inline const char *whole(uint64_t n)
 /* A figure to three digits. */
 static inline const char *figure(double x)
 {
-    static char texts[8][32];
-    static unsigned next;
     uint64_t unit = 1;
     if (x < 100) {
-        char *text = texts[next++ % 8];
-        snprintf(text, sizeof texts[0], "%.*f", x < 10 ? 2 : 1, x);
+        char *text = next_text();
+        snprintf(text, TEXT_ROOM, "%.*f", x < 10 ? 2 : 1, x);
         return text;
     }
     while (x >= 1000 * (double)unit) unit *= 10;

@@ -1,49 +1,23 @@
 /* The reading call beside a plain reader of the same grammar in C (tests/oracle/reader.c), on decks of up to 32,768 bytes: accepted ones, and
    refused ones made to cost as much as can be before they are refused. Each figure is the best of several rounds in one run. A ratio above
-   1 means that the reading call is the faster of the two. Both must give the same number, card and table. Printed are tables in Markdown. */
+   1 means that the reading call is the faster of the two. Both must give the same number, card and table. The argument is LOTS. Printed are
+   tables in Markdown. */
+#include "decks.h"
 #include "figures.h"
 #include "oracle.h"
 #include "strigol.h"
 
 #include <stdarg.h>
 #include <stdio.h>
+#include <stdlib.h>
 #include <string.h>
 
-enum { ROUNDS = 40, TEXT_FROM = 9, TEXT_TO = 72, NAMES = 26 * 26 * 36 };
+enum { ROUNDS = 40 };
 
-static char deck[STRIGOL_DECK_MOST + 1];
-static size_t length;
+static struct deck deck;
 static int numbered;
 
 /* Building a deck. A statement longer than a card goes on over joined cards. */
-
-static size_t left(void)
-{
-    return STRIGOL_DECK_MOST - length;
-}
-
-static void put_bytes(const char *s, size_t n)
-{
-    if (n > left()) n = left();
-    memcpy(deck + length, s, n);
-    length += n;
-}
-
-/* A card; `numbered` ones are filled up to column 80, the last eight being a sequence number. */
-static void put_card(const char *label, int joins, const char *text, size_t n)
-{
-    char card[128];
-    int size = snprintf(card, sizeof card, numbered ? "%-8s%c%-63.*sSEQ%05zu\n" : "%-8s%c%.*s\n", label, joins ? '+' : ' ', (int)n, text,
-                        length / 81 + 1);
-    put_bytes(card, (size_t)size);
-}
-
-static void put_statement(const char *label, const char *text, size_t n)
-{
-    const size_t most = TEXT_TO - TEXT_FROM;
-    for (; n > most; text += most, n -= most, label = "") put_card(label, 1, text, most);
-    put_card(label, 0, text, n);
-}
 
 static void put(const char *label, const char *form, ...)
 {
@@ -52,53 +26,23 @@ static void put(const char *label, const char *form, ...)
     va_start(values, form);
     int n = vsnprintf(text, sizeof text, form, values);
     va_end(values);
-    put_statement(label, text, (size_t)n);
+    put_statement(&deck, label, text, (size_t)n, numbered);
 }
 
-/* Fills the deck up with comments, to its last byte. */
+/* Comments up to the last byte but so many. */
 static void fill(size_t room)
 {
-    char comment[80];
-    memset(comment, '-', sizeof comment);
-    comment[0] = '*';
-    while (left() > room) {
-        size_t n = left() - room < sizeof comment ? left() - room : sizeof comment;
-        put_bytes(comment, n - 1);
-        put_bytes("\n", 1);
-    }
+    pad_to(&deck, STRIGOL_DECK_MOST - room);
 }
 
 static void begin(void)
 {
-    length = 0;
+    start_deck(&deck, "");
     numbered = 0;
     put("", "PROGRAM FULL");
 }
 
-/* A name for each number: a letter, a letter, a letter or digit. */
-static const char *name(int i)
-{
-    static char text[4];
-    text[0] = (char)('A' + i / 36 / 26 % 26);
-    text[1] = (char)('A' + i / 36 % 26);
-    text[2] = "ABCDEFGHIJKLMNOPQRSTUVWXYZ0123456789"[i % 36];
-    text[3] = 0;
-    return text;
-}
-
-/* One statement that fills the deck: `first`, then `each` as often as there is room, with %s a name of its own each time, then `last`. */
-static void long_statement(const char *first, const char *each, const char *last)
-{
-    static char text[STRIGOL_DECK_MOST];
-    size_t n = (size_t)snprintf(text, sizeof text, "%s", first);
-    size_t room = left() * (TEXT_TO - TEXT_FROM) / (TEXT_TO + 1) - 100;
-    for (int i = 0; n + 20 < room; i++) n += (size_t)snprintf(text + n, 20, each, name(i % NAMES));
-    n += (size_t)snprintf(text + n, 20, "%s", last);
-    put_statement("", text, n);
-    put("", "END");
-}
-
-/* The statements of a full deck: 31 strings and 32 numbers, 60 labels, 16 routines, 250 steps of all kinds, near all counts of 10. */
+/* The statements of a full deck: 31 strings, 32 numbers, 30 labels, 16 routines, 244 steps of all kinds. */
 static void full_statements(int recursive)
 {
     char label[9], target[9];
@@ -145,15 +89,6 @@ static void full_broken(void)
     put("", "PRINT STR1,,STR2");
 }
 
-static void lots(void)
-{
-    static const char text[] = "         PROGRAM LOTS\n         NUMBER N\nNEXT     READ LINE /,DONE\n"
-                               "         SCAN LINE [(LOT),\",\",(TONS)] /,NEXT\n         N=N+NUMBER(TONS)\n"
-                               "         PRINT LOT,\" \",STRING(4,N)\n         GO TO NEXT\nDONE     END\n";
-    length = 0;
-    put_bytes(text, strlen(text));
-}
-
 static void comments(void)
 {
     begin();
@@ -161,31 +96,16 @@ static void comments(void)
     put("", "END");
 }
 
-static void many_numbers(void) { begin(); long_statement("NUMBER A", ",%s", ""); }
-static void many_strings(void) { begin(); long_statement("PRINT A", ",%s", ""); }
-static void one_string(void) { begin(); long_statement("PRINT A", ",A", ""); }
-static void substrings(void) { begin(); long_statement("PRINT A", ",%s$1", ""); }
-static void fillers(void) { begin(); long_statement("SCAN REF [(A)", ",(%.3s)", "]"); }
-static void strings_and_fillers(void) { begin(); long_statement("SCAN REF [A", ",(%1$s),B%1$s", "]"); }
-static void filler_and_string(void) { begin(); long_statement("SCAN REF [A", ",(B),A", "]"); }
-static void operands(void) { begin(); put("", "NUMBER N"); long_statement("N=1", "+1", ""); }
-static void lengths(void) { begin(); put("", "NUMBER N"); long_statement("N=1", "+LENGTH(%s)", ""); }
-static void parentheses(void) { begin(); put("", "NUMBER N"); long_statement("N=", "(", ""); }
-static void flat_parentheses(void) { begin(); put("", "NUMBER N"); long_statement("N=1", "+(1)", ""); }
-static void zeros(void) { begin(); put("", "NUMBER N"); long_statement("N=", "00000000", ""); }
-static void long_literal(void) { begin(); long_statement("PRINT \"", "ABCDEFGH", "\""); }
-static void short_literals(void) { begin(); long_statement("PRINT \"A\"", ",\"A\"", ""); }
-static void quotes(void) { begin(); long_statement("PRINT \"A\"", ",\"\"\"", ""); }
-static void blanks(void) { begin(); long_statement("PRINT A", "          ", ",,"); }
 static void lines(void)
 {
     begin();
-    while (left() > 0) put_bytes("\n", 1);
+    while (deck.length < STRIGOL_DECK_MOST) put_byte(&deck, 10);
 }
 static void short_joins(void)
 {
     begin();
-    while (left() > 40) put_card("", 1, "A", 1);
+    while (STRIGOL_DECK_MOST - deck.length > 40)
+        for (const char *card = "        +A\n"; *card != 0; card++) put_byte(&deck, (uint8_t)*card);
     put("", "B");
 }
 static void routines(void)
@@ -199,33 +119,20 @@ static void routines(void)
 static void undefined_labels(void)
 {
     begin();
-    for (int i = 0; i < 250; i++) put("", "IF ( LENGTH(STR) <> %d ) / Y%s , Z%s", i, name(i), name(i));
+    for (int i = 0; i < 250; i++) put("", "IF ( LENGTH(STR) <> %d ) / Y%s , Z%s", i, made_name(i), made_name(i));
     fill(13);
     put("", "END");
 }
 
-static const struct { const char *what; void (*make)(void); } cases[] = {
-    {"LOTS", lots},
+/* Decks that are made here; those that one statement fills are timed between them. */
+struct made { const char *name; void (*make)(void); };
+static const struct made full_decks[] = {
     {"a full deck, accepted", full_deck},
     {"comments up to the last byte, accepted", comments},
     {"the full deck with a recursion", full_recursive},
     {"the full deck, its last statement broken", full_broken},
-    {"a NUMBER statement with thousands of names", many_numbers},
-    {"PRINT of thousands of strings", many_strings},
-    {"PRINT of one string thousands of times", one_string},
-    {"PRINT of thousands of substrings", substrings},
-    {"a pattern of thousands of fillers", fillers},
-    {"a pattern of fillers and strings in turn", strings_and_fillers},
-    {"a pattern of a filler and a string in turn", filler_and_string},
-    {"a sum of thousands of ones", operands},
-    {"a sum of thousands of LENGTHs", lengths},
-    {"thousands of opening parentheses", parentheses},
-    {"thousands of pairs of parentheses", flat_parentheses},
-    {"a constant of thousands of digits", zeros},
-    {"a literal of thousands of bytes", long_literal},
-    {"thousands of literals of one byte", short_literals},
-    {"thousands of literals of one quote", quotes},
-    {"a statement of blanks, broken at its end", blanks},
+};
+static const struct made other_decks[] = {
     {"empty lines up to the last byte", lines},
     {"thousands of joined cards of one byte", short_joins},
     {"250 EXECUTEs of undefined routines", routines},
@@ -243,9 +150,9 @@ struct timed {
 
 static void time_round(struct timed *r)
 {
-    double from = now(CLOCK_PROCESS_CPUTIME_ID), t;
-    for (int i = 0; i < r->calls; i++) r->number = r->read((const uint8_t *)deck, length, r->table, STRIGOL_TABLE_SIZE, &r->card);
-    t = (now(CLOCK_PROCESS_CPUTIME_ID) - from) / r->calls / 1e3;
+    double t;
+    BEST_NS(t, 1, r->calls, r->number = r->read(deck.bytes, deck.length, r->table, STRIGOL_TABLE_SIZE, &r->card));
+    t /= 1e3;
     if (t < r->best) r->best = t;
     r->calls = t > 2000 ? 1 : (int)(2000 / t) + 1;
 }
@@ -274,31 +181,51 @@ static void show_demand(const char *which, struct reading r)
     printf("| %s%s | %.2f | %s |\n", which, r.what, times(r), met(times(r) <= 2));
 }
 
-int main(void)
+/* The full deck's reading, and of refused ones those two that take longest and the one that is furthest behind. */
+static struct reading full = {"", 0, 1}, costliest = {"", 0, 1}, next = {"", 0, 1}, furthest = {"", 0, 1};
+
+static void time_deck(const char *what)
 {
     static struct timed call = {.read = strigol_read}, plain = {.read = oracle_read_call};
-    struct reading full = {"", 0, 1}, costliest = full, next = full, furthest = full;
-    printf("| deck | bytes | number | call, us | plain reader, us | ratio |\n|---|---|---|---|---|---|\n");
-    for (size_t i = 0; i < sizeof cases / sizeof cases[0]; i++) {
-        struct reading r;
-        cases[i].make();
-        time_both(&call, &plain);
-        r = (struct reading){cases[i].what, call.best, plain.best};
-        if (call.number != plain.number || call.card != plain.card || memcmp(call.table, plain.table, sizeof call.table) != 0) {
-            fprintf(stderr, "%s: the two disagree: %u %u, %u %u\n", r.what, call.number, call.card, plain.number, plain.card);
-            return 1;
-        }
-        printf("| %s | %s | %u | %s | %s | %.2f |\n", r.what, whole(length), call.number, figure(r.call), figure(r.plain), r.plain / r.call);
-        if (cases[i].make == full_deck) full = r;
-        if (call.number == 0) continue;
-        if (times(r) > times(furthest)) furthest = r;
-        if (r.call > costliest.call) {
-            next = costliest;
-            costliest = r;
-        } else if (r.call > next.call) {
-            next = r;
-        }
+    struct reading r;
+    time_both(&call, &plain);
+    r = (struct reading){what, call.best, plain.best};
+    if (call.number != plain.number || call.card != plain.card || memcmp(call.table, plain.table, sizeof call.table) != 0) {
+        fprintf(stderr, "%s: the two disagree: %u %u, %u %u\n", what, call.number, call.card, plain.number, plain.card);
+        exit(1);
     }
+    printf("| %s | %s | %u | %s | %s | %.2f |\n", what, whole(deck.length), call.number, figure(r.call), figure(r.plain), r.plain / r.call);
+    if (what == full_decks[0].name) full = r;
+    if (call.number == 0) return;
+    if (times(r) > times(furthest)) furthest = r;
+    if (r.call > costliest.call) {
+        next = costliest;
+        costliest = r;
+    } else if (r.call > next.call) {
+        next = r;
+    }
+}
+
+static void time_made(const struct made *decks, size_t count)
+{
+    for (size_t i = 0; i < count; i++) {
+        decks[i].make();
+        time_deck(decks[i].name);
+    }
+}
+
+int main(int argc, char **argv)
+{
+    if (argc != 2) {
+        fprintf(stderr, "usage: read_bench LOTS\n");
+        return 2;
+    }
+    printf("| deck | bytes | number | call, us | plain reader, us | ratio |\n|---|---|---|---|---|---|\n");
+    deck.length = load(argv[1], deck.bytes, STRIGOL_DECK_MOST);
+    time_deck("LOTS");
+    time_made(full_decks, sizeof full_decks / sizeof full_decks[0]);
+    for (int i = 0; i < COSTLY_DECKS && long_deck(i, &deck); i++) time_deck(deck.name);
+    time_made(other_decks, sizeof other_decks / sizeof other_decks[0]);
     printf("\n| demanded: at most 2 times the plain reader's time | times | |\n|---|---|---|\n");
     show_demand("", full);
     show_demand("the refused deck that takes longest: ", costliest);

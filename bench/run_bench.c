@@ -11,12 +11,11 @@
 
 #include <inttypes.h>
 #include <stdio.h>
-#include <stdlib.h>
 #include <string.h>
 
-enum { STEPS = 1000000, ROUNDS = 200, CALLS = 100, STRINGS_AT = 4, NUMBERS_AT = 6 };
+enum { STEPS = 1000000, ROUNDS = 200, CALLS = 100 };
 
-static uint8_t deck[STRIGOL_DECK_MOST], table[STRIGOL_TABLE_SIZE], store[STRIGOL_STORE_SIZE], output[16384];
+static uint8_t table[STRIGOL_TABLE_SIZE], store[STRIGOL_STORE_SIZE], output[16384];
 static uint64_t state[STRIGOL_STATE_SIZE];
 static const uint8_t input[1];
 static volatile uint32_t sink;
@@ -25,14 +24,7 @@ static uint32_t wanted;              /* the number that steps get */
 
 static void read_deck(const char *name)
 {
-    FILE *file = fopen(name, "rb");
-    uint32_t card;
-    size_t n = file == NULL ? 0 : fread(deck, 1, sizeof deck, file);
-    if (file != NULL) fclose(file);
-    if (strigol_read(deck, n, table, sizeof table, &card) != 0) {
-        fprintf(stderr, "run_bench: %s is no deck\n", name);
-        exit(1);
-    }
+    load_table(name, table);
     strigol_start(store, sizeof store, state);
 }
 
@@ -41,12 +33,12 @@ static void values(const char *name)
     uint64_t result[STRIGOL_RESULT_SIZE];
     read_deck(name);
     strigol_run(table, sizeof table, store, sizeof store, state, input, 0, output, sizeof output, STEPS, result);
-    for (unsigned i = 0; i < table[STRINGS_AT]; i++) {
+    for (unsigned i = 0; i < table[STRIGOL_STRING_COUNT_AT]; i++) {
         size_t n;
         const uint8_t *s = strigol_string_in(store, i, &n);
         printf("%.*s\n", (int)n, s);
     }
-    for (unsigned i = 0; i < table[NUMBERS_AT]; i++) printf("%" PRId64 "\n", strigol_number_in(state, i));
+    for (unsigned i = 0; i < table[STRIGOL_NUMBER_COUNT_AT]; i++) printf("%" PRId64 "\n", strigol_number_in(state, i));
 }
 
 /* One step. */
@@ -54,41 +46,27 @@ static void step(void)
 {
     uint32_t answer[STRIGOL_ANSWER_SIZE];
     if (state[STRIGOL_STATUS] == STRIGOL_ENDED) strigol_start(store, sizeof store, state);
-    if (strigol_step(table, sizeof table, store, stored, state, input, 0, output, sizeof output, answer) != wanted) {
-        fprintf(stderr, "run_bench: a step gets another number than %u\n", wanted);
-        exit(1);
-    }
+    if (strigol_step(table, sizeof table, store, stored, state, input, 0, output, sizeof output, answer) != wanted)
+        give_up("a step gets another number than it should");
 }
 
-/* One pass over table and store, a byte at a time. */
-__attribute__((optimize("no-tree-vectorize"))) static void pass(void)
-{
-    uint32_t sum = 0;
-    for (size_t i = 0; i < sizeof table; i++) sum += table[i];
-    for (size_t i = 0; i < stored; i++) sum += store[i];
+/* One pass over table and store. */
+#define PASS                                                                                                                                   \
+    uint32_t sum = 0;                                                                                                                          \
+    for (size_t i = 0; i < sizeof table; i++) sum += table[i];                                                                                 \
+    for (size_t i = 0; i < stored; i++) sum += store[i];                                                                                       \
     sink = sum;
-}
 
-/* The same with vector instructions. */
-__attribute__((optimize("O3"))) static void vector_pass(void)
-{
-    uint32_t sum = 0;
-    for (size_t i = 0; i < sizeof table; i++) sum += table[i];
-    for (size_t i = 0; i < stored; i++) sum += store[i];
-    sink = sum;
-}
+/* A byte at a time, and with vector instructions. */
+__attribute__((optimize("no-tree-vectorize"))) static void pass(void) { PASS }
+__attribute__((optimize("O3"))) static void vector_pass(void) { PASS }
 
 /* Microseconds for one. */
 static double time_one(void (*one)(void))
 {
-    double best = 1e18;
-    for (int round = 0; round < ROUNDS; round++) {
-        double from = now(CLOCK_PROCESS_CPUTIME_ID), t;
-        for (int i = 0; i < CALLS; i++) one();
-        t = (now(CLOCK_PROCESS_CPUTIME_ID) - from) / CALLS / 1e3;
-        if (t < best) best = t;
-    }
-    return best;
+    double best;
+    BEST_NS(best, ROUNDS, CALLS, one());
+    return best / 1e3;
 }
 
 /* Steps of decks, given as a name and a file each, on the bytes lent, beside passes over these bytes. */

@@ -11,9 +11,9 @@
 #include <stdlib.h>
 #include <string.h>
 
-enum { STRING = 1, FREE = 3, ROW = 12, ROUNDS = 40 };
+enum { ROUNDS = 40 };
 
-static uint8_t rows[20 * ROW], values[256];
+static uint8_t rows[STRIGOL_ELEMENTS_MOST * STRIGOL_ROW_SIZE], values[256];
 static size_t rows_len, values_len;
 
 /* The pattern: a free filler for each '.', else the literal up to the next one. */
@@ -21,36 +21,26 @@ static void pattern(const char *s)
 {
     rows_len = values_len = 0;
     while (*s) {
-        uint8_t *row = rows + rows_len;
-        memset(row, 0, ROW);
-        rows_len += ROW;
+        size_t from = values_len;
         if (*s == '.') {
-            row[0] = FREE;
+            strigol_put_element(rows + rows_len, STRIGOL_FREE, 0, 0);
             s++;
-            continue;
+        } else {
+            while (*s && *s != '.') values[values_len++] = (uint8_t)*s++;
+            strigol_put_element(rows + rows_len, STRIGOL_STRING, (uint32_t)from, (uint32_t)values_len);
         }
-        row[0] = STRING;
-        row[4] = (uint8_t)values_len;
-        while (*s && *s != '.') values[values_len++] = (uint8_t)*s++;
-        row[8] = (uint8_t)values_len;
+        rows_len += STRIGOL_ROW_SIZE;
     }
 }
 
-static uint32_t answer[24];
+static uint32_t answer[STRIGOL_ANSWER_SIZE];
 static volatile uint32_t sink;
 
 static double time_scan(const char *r, size_t n, int calls)
 {
-    double best = 1e18;
-    for (int round = 0; round < ROUNDS; round++) {
-        double from = now(CLOCK_PROCESS_CPUTIME_ID);
-        for (int i = 0; i < calls; i++) {
-            strigol_scan((const uint8_t *)r, n, values, values_len, rows, rows_len, answer);
-            sink = answer[1];
-        }
-        double t = (now(CLOCK_PROCESS_CPUTIME_ID) - from) / calls;
-        if (t < best) best = t;
-    }
+    double best;
+    BEST_NS(best, ROUNDS, calls, strigol_scan((const uint8_t *)r, n, values, values_len, rows, rows_len, answer);
+            sink = answer[STRIGOL_START]);
     return best;
 }
 
@@ -66,16 +56,9 @@ static double time_pcre2(matcher match, const char *regex, const char *r, size_t
         exit(1);
     }
     pcre2_match_data *data = pcre2_match_data_create_from_pattern(code, NULL);
-    double best = 1e18;
-    for (int round = 0; round < ROUNDS; round++) {
-        double from = now(CLOCK_PROCESS_CPUTIME_ID);
-        for (int i = 0; i < calls; i++) {
-            *found = match(code, (PCRE2_SPTR)r, n, 0, 0, data, NULL) > 0;
-            sink = (uint32_t)pcre2_get_ovector_pointer(data)[0];
-        }
-        double t = (now(CLOCK_PROCESS_CPUTIME_ID) - from) / calls;
-        if (t < best) best = t;
-    }
+    double best;
+    BEST_NS(best, ROUNDS, calls, *found = match(code, (PCRE2_SPTR)r, n, 0, 0, data, NULL) > 0;
+            sink = (uint32_t)pcre2_get_ovector_pointer(data)[0]);
     pcre2_match_data_free(data);
     pcre2_code_free(code);
     return best;
@@ -98,7 +81,7 @@ static void compare(const char *what, const char *words, const char *p, const ch
     double checked = time_pcre2(pcre2_match, regex, r, n, calls, &found);
     double unchecked = time_pcre2(pcre2_jit_match, regex, r, n, calls, &found);
     double ours = time_scan(r, n, calls);
-    if ((int)answer[0] != found) {
+    if ((int)answer[STRIGOL_SPLIT] != found) {
         fprintf(stderr, "%s: the two disagree\n", what);
         exit(1);
     }

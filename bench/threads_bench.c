@@ -25,27 +25,11 @@ struct own {
     double from, to;
 };
 
-static uint8_t deck[STRIGOL_DECK_MOST], table[STRIGOL_TABLE_SIZE], input[MOST_INPUT];
-static size_t deck_len, input_len;
+static uint8_t table[STRIGOL_TABLE_SIZE], input[MOST_INPUT];
+static size_t input_len;
 static struct own own[MOST_THREADS];
 static const struct work *work;
 static pthread_barrier_t at_once;
-
-static void give_up(const char *what)
-{
-    fprintf(stderr, "threads_bench: %s\n", what);
-    exit(1);
-}
-
-static size_t load(const char *name, uint8_t *to, size_t most)
-{
-    FILE *file = fopen(name, "rb");
-    size_t n;
-    if (file == NULL) give_up(name);
-    n = fread(to, 1, most, file);
-    fclose(file);
-    return n;
-}
 
 /* Steps one by one, with all checks each time; the trials are counted. */
 static void step_along(struct own *o)
@@ -165,11 +149,9 @@ static const char *counted(double x)
 static struct rate show(const struct work *of, const char *deck_name, const char *input_name)
 {
     struct rate alone = {0, 0, 0};
-    uint32_t card;
     uint64_t tried;
-    deck_len = load(deck_name, deck, sizeof deck);
+    load_table(deck_name, table);
     input_len = input_name == NULL ? 0 : load(input_name, input, sizeof input);
-    if (strigol_read(deck, deck_len, table, sizeof table, &card) != 0) give_up(deck_name);
     tried = trials(of);
     work = of;
     for (int threads = 1; threads <= MOST_THREADS; threads++) {

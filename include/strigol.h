@@ -13,7 +13,7 @@
      with its own store, state and output, in threads of their own.
    - A pointer must not be NULL, not even with length 0, and two buffers lent to one call must not overlap. A buffer may be longer than it
      need be; the bytes past its size stay.
-   - The numbers are those of document 01, the layouts those of docs/TABLE.md. */
+   - The numbers are those of document 01, the layouts those of docs/TABLE.md, installed as share/doc/strigol/TABLE.md. */
 #ifndef STRIGOL_H
 #define STRIGOL_H
 
@@ -68,8 +68,10 @@ extern "C" {
       "an element has no known kind, a fixed filler's length is negative, or a string isn't a part of the values lent")
 
 #define STRIGOL_NAMED(name, number, words) name = number,
-enum strigol_number { STRIGOL_OK = 0, STRIGOL_NUMBER_LIST(STRIGOL_NAMED) STRIGOL_LAST_NUMBER = 24 };
+#define STRIGOL_COUNTED(name, number, words) + 1
+enum strigol_number { STRIGOL_OK = 0, STRIGOL_NUMBER_LIST(STRIGOL_NAMED) STRIGOL_LAST_NUMBER = 0 STRIGOL_NUMBER_LIST(STRIGOL_COUNTED) };
 #undef STRIGOL_NAMED
+#undef STRIGOL_COUNTED
 
 /* Document 01's words for a number of the list; "" for any other. */
 #define STRIGOL_WORDS(name, number, words)                                                                                                     \
@@ -102,7 +104,9 @@ enum strigol_size {
     STRIGOL_ELEMENTS_MOST = 20, /* elements of a pattern */
     STRIGOL_ROW_SIZE = 12,      /* an element lent to the scan call */
 
-    STRIGOL_STEPS_AT = 64,      /* the table's steps: from this byte on, */
+    STRIGOL_STRING_COUNT_AT = 4, /* the table's count of strings that the deck names, 2 bytes, low byte first */
+    STRIGOL_NUMBER_COUNT_AT = 6, /* its count of numbers declared */
+    STRIGOL_STEPS_AT = 64,      /* its steps: from this byte on, */
     STRIGOL_STEP_SIZE = 24,     /* a row of this size for each, */
     STRIGOL_STEPS_MOST = 256,   /* and at most so many */
     STRIGOL_CARD_AT = 2         /* in a row: the card of the statement, 2 bytes, low byte first */
@@ -162,7 +166,7 @@ STRIGOL_CHECK(STRIGOL_STEPS_AT + STRIGOL_STEPS_MOST * STRIGOL_STEP_SIZE <= STRIG
 STRIGOL_CHECK(STRIGOL_TABLE_SIZE + STRIGOL_STORE_SIZE == 61504, "what a step checks of table and store");
 
 /* Reads a deck into the table: 0, or 1 to 12. `card` is set to the line that a refusal is about, counted from 1; 0 for an accepted deck, for
-   1, 2, 11 and 12, and where END is missing. An accepted deck's table is for strigol_step and strigol_run; its layout is in docs/TABLE.md. */
+   1, 2, 11 and 12, and where END is missing. An accepted deck's table is for strigol_step and strigol_run; its layout is in TABLE.md. */
 uint32_t strigol_read(const uint8_t *deck, size_t deck_len, uint8_t *table, size_t table_len, uint32_t *card);
 
 /* Makes the store's first 32,832 bytes zero and the state that before the first step: 0. Of the store it looks at the size alone: 14 if it is

@@ -174,12 +174,13 @@ void lay_again(struct buffer *b, enum side side, size_t length)
 /* What a step answered and left, beside the oracle's machine. */
 static int step_right(struct lent *l, const struct oracle_program *p, struct machine *m)
 {
-    static const enum which left[] = {ANSWER, STATE, OUTPUT};
+    static const enum which left[] = {ANSWER, STATE, OUTPUT, STORE};
     struct answer a;
     uint32_t number;
     oracle_step(p, m, l->b[INPUT].at, l->b[INPUT].length, kept(&l->b[OUTPUT]), l->b[OUTPUT].length, &a);
     oracle_answer(&a, COPIED_32(l, ANSWER));
     oracle_state(m, COPIED_64(l, STATE));
+    oracle_store(m, kept(&l->b[STORE]));
     number = make(l, STEP);
     calls[STEP].met[a.number]++;
     if (number != (uint32_t)a.number) {
@@ -191,15 +192,9 @@ static int step_right(struct lent *l, const struct oracle_program *p, struct mac
     return 1;
 }
 
-static int store_right(struct lent *l, const struct machine *m)
+long list_right(struct lent *l, const struct oracle_program *p, long most)
 {
-    oracle_store(m, kept(&l->b[STORE]));
-    return same(l, STORE);
-}
-
-long list_right(struct lent *l, const struct oracle_program *p, long most, long every)
-{
-    static struct machine m;
+    static _Alignas(MACHINE_ALIGNED) struct machine m;
     long steps = 0;
     int ended = 0, right = 1;
     make_right(l, START);
@@ -209,9 +204,9 @@ long list_right(struct lent *l, const struct oracle_program *p, long most, long 
     keep(&l->b[INPUT]);
     keep(&l->b[TABLE]);
     for (; steps < most && ended < 2 && right; steps++) {
-        right = step_right(l, p, &m) && (steps % every != 0 || store_right(l, &m));
+        right = step_right(l, p, &m);
         ended += m.status != RUNNING;
     }
-    if (right && store_right(l, &m) && same(l, INPUT)) same(l, TABLE);
+    if (right && same(l, INPUT)) same(l, TABLE);
     return steps - (ended == 2);
 }

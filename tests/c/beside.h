@@ -62,8 +62,8 @@ void lay_scan(struct lent *l, enum side side, const struct scan *s);
 /* Lays the bytes of a buffer again, in another length: the bytes that fit, and others behind them. */
 void lay_again(struct buffer *b, enum side side, size_t length);
 
-/* A list of at most so many steps from a fresh start, beside the oracle's own machine: number, answer, state and output after each, the store
-   after every so many and at the end. Behind its end one step more is turned down by 16. Answers how many were carried out. */
-long list_right(struct lent *l, const struct oracle_program *p, long most, long every);
+/* A list of at most so many steps from a fresh start, beside the oracle's own machine: number, answer, state, output and store after each.
+   Behind its end one step more is turned down by 16. Answers how many were carried out. */
+long list_right(struct lent *l, const struct oracle_program *p, long most);
 
 #endif

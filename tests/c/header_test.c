@@ -1,9 +1,44 @@
-/* Tries what include/strigol.h says beyond the calls themselves: the words for the numbers, and the functions that read and write the buffers'
-   layouts, on document 01's deck LOTS and line P1. */
+/* Tries what include/strigol.h says beyond the calls themselves: its sizes and places beside those of the oracle, the words for the numbers, and
+   the functions that read and write the buffers' layouts, on document 01's deck LOTS and line P1. */
+#include "decks.h"
+#include "oracle.h"
 #include "strigol.h"
 
 #include <stdio.h>
 #include <string.h>
+
+#define SAME(ours, theirs) _Static_assert((int)(ours) == (int)(theirs), #ours " is " #theirs)
+SAME(STRIGOL_DECK_MOST, MOST_DECK);
+SAME(STRIGOL_TABLE_SIZE, TABLE_SIZE);
+SAME(STRIGOL_STORE_SIZE, STORE_SIZE);
+SAME(STRIGOL_STATE_SIZE, STATE_SIZE);
+SAME(STRIGOL_ANSWER_SIZE, ANSWER_SIZE);
+SAME(STRIGOL_RESULT_SIZE, RESULT_SIZE);
+SAME(STRIGOL_STRING_MOST, MOST_STRING);
+SAME(STRIGOL_STRINGS, MOST_STRINGS);
+SAME(STRIGOL_CELL_SIZE, CELL_SIZE);
+SAME(STRIGOL_NUMBERS, MOST_NUMBERS);
+SAME(STRIGOL_LIMIT, LIMIT);
+SAME(STRIGOL_HELD_MOST, MOST_HELD);
+SAME(STRIGOL_ELEMENTS_MOST, MOST_ROW);
+SAME(STRIGOL_ROW_SIZE, SCAN_ROW);
+SAME(STRIGOL_STRING_COUNT_AT, COUNTS_AT + 2 * STRING_COUNT);
+SAME(STRIGOL_NUMBER_COUNT_AT, COUNTS_AT + 2 * NUMBER_COUNT);
+SAME(STRIGOL_STEPS_AT, STEPS_AT);
+SAME(STRIGOL_STEP_SIZE, ROW_SIZE);
+SAME(STRIGOL_STEPS_MOST, MOST_STEPS);
+SAME(STRIGOL_CARD_AT, CARD_AT);
+SAME(STRIGOL_STATUS, STATUS_AT);
+SAME(STRIGOL_NEXT, NEXT_AT);
+SAME(STRIGOL_HELD, HELD_AT);
+SAME(STRIGOL_TAKEN, TAKEN_AT);
+SAME(STRIGOL_PUT, PUT_AT);
+SAME(STRIGOL_HELD_AT, RETURNS_AT);
+SAME(STRIGOL_NUMBERS_AT, NUMBERS_AT);
+SAME(STRIGOL_STRING, SCAN_STRING);
+SAME(STRIGOL_FIXED, SCAN_FIXED);
+SAME(STRIGOL_FREE, SCAN_FREE);
+_Static_assert(STRIGOL_BIAS == (uint64_t)BIAS, "STRIGOL_BIAS is BIAS");
 
 static int failures;
 
@@ -46,15 +81,16 @@ static int is_string(const uint8_t *store, unsigned place, const char *right)
 
 static void buffers(void)
 {
-    static const char deck[] = "         PROGRAM LOTS\n         NUMBER N\nNEXT     READ LINE /,DONE\n"
-                               "         SCAN LINE [(LOT),\",\",(TONS)] /,NEXT\n         N=N+NUMBER(TONS)\n"
-                               "         PRINT LOT,\" \",STRING(4,N)\n         GO TO NEXT\nDONE     END\n";
+    static uint8_t deck[STRIGOL_DECK_MOST];
     static const uint8_t input[] = "W7,120\nNOTE\nB2,-250\n";
     static uint8_t table[STRIGOL_TABLE_SIZE], store[STRIGOL_STORE_SIZE], output[100];
     uint64_t state[STRIGOL_STATE_SIZE], result[STRIGOL_RESULT_SIZE];
     uint32_t answer[STRIGOL_ANSWER_SIZE], card;
     const size_t taken = sizeof input - 1;
-    expect(strigol_read((const uint8_t *)deck, sizeof deck - 1, table, sizeof table, &card) == STRIGOL_OK && card == 0, "LOTS is refused");
+    long deck_len = file_bytes("examples/lots", ".deck", deck, sizeof deck);
+    expect(deck_len >= 0, "LOTS isn't there");
+    expect(strigol_read(deck, (size_t)deck_len, table, sizeof table, &card) == STRIGOL_OK && card == 0, "LOTS is refused");
+    expect(table[STRIGOL_STRING_COUNT_AT] == 3 && table[STRIGOL_NUMBER_COUNT_AT] == 1, "its strings and numbers");
     expect(strigol_start(store, sizeof store, state) == STRIGOL_OK && state[STRIGOL_STATUS] == STRIGOL_RUNNING, "starting");
     for (uint64_t step = 0; step < 6; step++) expect(strigol_card_of(table, step) == step + 3, "a card");
     expect(strigol_run(table, sizeof table, store, sizeof store, state, input, taken, output, sizeof output, 4, result) == 0, "a run");

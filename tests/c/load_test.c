@@ -20,7 +20,7 @@
 #include <sys/mman.h>
 
 enum {
-    STEPS = 1000000, RUNS_OF_A_DECK = 4, MOST_LIST = 120, STORES_EVERY = 10,
+    STEPS = 1000000, RUNS_OF_A_DECK = 4, MOST_LIST = 120,
     FAULTS = 12000, FAULTY_STEPS = 6, INTERLEAVED = 1500, PAIRS = 800, SHARED = 40, PROBED = 200,
     SECONDS = 170
 };
@@ -71,7 +71,7 @@ static void steps_on(enum side side)
         for (int run = 0; run < RUNS_OF_A_DECK; run++) {
             lay_random_run(&first, side, &d);
             lock(&first.b[INPUT]);
-            steps += list_right(&first, &p, MOST_LIST, STORES_EVERY);
+            steps += list_right(&first, &p, MOST_LIST);
             unlock(&first.b[INPUT]);
         }
         unlock(&first.b[DECK]);

@@ -54,7 +54,7 @@ static uint32_t try_list(const struct oracle_program *p)
 {
     static const enum which left[] = {STORE, STATE, OUTPUT};
     doing.part = "list";
-    lent.count = (uint32_t)list_right(&lent, p, MOST_LIST, 1);
+    lent.count = (uint32_t)list_right(&lent, p, MOST_LIST);
     for (int i = 0; i < 3; i++) keep(&lent.b[left[i]]);
     doing.part = "run like a list";
     lay_empty(&lent, side, OUTPUT, lent.b[OUTPUT].length);

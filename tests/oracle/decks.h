@@ -40,7 +40,8 @@ size_t random_input(struct draws *d, uint8_t input[INPUT_ROOM]);
 int edge_deck(int place, struct deck *deck);
 
 /* A deck near 32,768 bytes that one statement fills, on joined cards, from place 0 on: sums, rows, parentheses and others of thousands. 0 if
-   there is none. */
+   there is none. bench/read times the first ones, which are made to cost much. */
+enum { COSTLY_DECKS = 16 };
 int long_deck(int place, struct deck *deck);
 
 /* A deck in the short notation of edges.c. */

@@ -9,11 +9,11 @@ struct value { int length; uint8_t bytes[MOST_VALUE]; };
 
 /* One step's work: on a copy of the machine, which counts only if nothing stops the step. */
 struct work {
-    const struct oracle_program *p;
+    uint8_t record[MOST_STRING + 1];
     struct machine m;
+    const struct oracle_program *p;
     const uint8_t *input;
     size_t input_len, output_len;
-    uint8_t record[MOST_STRING + 1];
     int record_length;
     uint32_t notes;
     int stop;
@@ -495,7 +495,7 @@ void oracle_fresh(struct machine *m)
 void oracle_step(const struct oracle_program *p, struct machine *m, const uint8_t *input, size_t input_len, uint8_t *output,
                  size_t output_len, struct answer *a)
 {
-    static struct work w;
+    static _Alignas(MACHINE_ALIGNED) struct work w;
     int next;
     memset(a, 0, sizeof *a);
     a->number = turned_down(p, m, input_len, output_len);
