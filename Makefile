@@ -31,16 +31,18 @@ test:
 bench: build
 	bench/pages docs/BENCH.md docs/GATEWAY.md
 
-# header, static library, program, pkg-config file
+# header, static library, program, pkg-config file, and the page of the layouts that the header names
 install: build
-	install -d $(to)/include $(to)/lib/pkgconfig $(to)/bin
+	install -d $(to)/include $(to)/lib/pkgconfig $(to)/bin $(to)/share/doc/strigol
 	install -m 644 include/strigol.h $(to)/include/strigol.h
 	install -m 644 $(library) $(to)/lib/libstrigol.a
 	install -m 755 $(program) $(to)/bin/strigol
+	install -m 644 docs/TABLE.md $(to)/share/doc/strigol/TABLE.md
 	sed 's,@PREFIX@,$(PREFIX),' program/strigol.pc >$(to)/lib/pkgconfig/strigol.pc
 
 uninstall:
-	rm -f $(to)/include/strigol.h $(to)/lib/libstrigol.a $(to)/bin/strigol $(to)/lib/pkgconfig/strigol.pc
+	rm -f $(to)/include/strigol.h $(to)/lib/libstrigol.a $(to)/bin/strigol $(to)/lib/pkgconfig/strigol.pc $(to)/share/doc/strigol/TABLE.md
+	rmdir $(to)/share/doc/strigol 2>/dev/null || true
 
 clean:
 	rm -rf target

@@ -1,5 +1,5 @@
-/* The numbers that a deck doesn't get through the program `strigol`: 1, 2, 13 to 16 and 22 to 24, each by a call that a gateway could make by
-   mistake; and 21 with little output lent. Prints a line for each call: its number, the call, what was lent. docs/DECKS.md says what to do. */
+/* The numbers that no deck gets through the program `strigol`, 2, 13 to 16 and 22 to 24, each by a call that a gateway could make by mistake;
+   and 1, 4 and 21 by such calls too. Prints a line for each call: its number, the call, what was lent. docs/DECKS.md says what to do. */
 #include "strigol.h"
 
 #include <stdio.h>
