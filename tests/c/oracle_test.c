@@ -310,14 +310,15 @@ static void check_first_fit(void)
         if (splits_of(&s) > MOST_SPLITS) continue;
         if (oracle_scan_call(s.reference, s.reference_len, s.values, s.values_len, s.rows, s.rows_len, answer) != 0) continue;
         tried++;
-        for (uint64_t at = 0; at <= s.reference_len && right[0] == 0; at++) {
-            right[0] = (uint32_t)pieces_fit(&s, s.rows, at, right + 4);
-            right[1] = right[0] ? (uint32_t)at : 0;
+        for (uint64_t at = 0; at <= s.reference_len && right[SPLIT_AT] == 0; at++) {
+            right[SPLIT_AT] = (uint32_t)pieces_fit(&s, s.rows, at, right + LENGTHS_AT);
+            right[START_AT] = (uint32_t)at;
         }
-        if (right[0] == 0) memset(right, 0, sizeof right);
-        right[2] = answer[2];
+        if (right[SPLIT_AT] == 0) memset(right, 0, sizeof right);
+        right[TRIALS_AT] = answer[TRIALS_AT];
         if (memcmp(answer, right, sizeof right) == 0) continue;
-        printf("oracle test: seed %llu: split %u at %u, not %u at %u\n", (unsigned long long)seed, answer[0], answer[1], right[0], right[1]);
+        printf("oracle test: scan of seed %llu: split %u at %u, not %u at %u\n", (unsigned long long)seed, answer[SPLIT_AT], answer[START_AT],
+               right[SPLIT_AT], right[START_AT]);
         failures++;
     }
 }
@@ -329,13 +330,14 @@ static void printed_table(uint8_t table[TABLE_SIZE])
     char line[512];
     int inside = 0;
     while (page && fgets(line, sizeof line, page)) {
-        char *at = line, *end;
-        unsigned long place, byte;
-        if (strncmp(line, "## ", 3) == 0) inside = strcmp(line, "## An example\n") == 0;
-        place = strtoul(at, &end, 10);
-        if (!inside || end == at) continue;
-        for (at = end; (byte = strtoul(at, &end, 16)) < 256 && end - at >= 3 && end[-3] == ' ' && *end <= ' ' && place < TABLE_SIZE; at = end)
-            table[place++] = (uint8_t)byte;
+        const char *word;
+        size_t place;
+        if (line[0] == '#') inside = strcmp(line, "## An example\n") == 0;
+        word = strtok(line, " \n");
+        if (!inside || !word || strspn(word, "0123456789") != strlen(word)) continue;
+        place = strtoul(word, NULL, 10);
+        while ((word = strtok(NULL, " \n")) && strlen(word) == 2 && strspn(word, "0123456789ABCDEF") == 2 && place < TABLE_SIZE)
+            from_hex(word, table + place++);
     }
     if (page) fclose(page);
 }

@@ -26,12 +26,12 @@ void oracle_state(const struct machine *m, uint64_t state[STATE_SIZE])
 void oracle_answer(const struct answer *a, uint32_t numbers[ANSWER_SIZE])
 {
     memset(numbers, 0, ANSWER_SIZE * sizeof numbers[0]);
-    numbers[2] = a->trials;
-    numbers[3] = a->notes;
+    numbers[TRIALS_AT] = a->trials;
+    numbers[NOTES_AT] = a->notes;
     if (!a->found) return;
-    numbers[0] = 1;
-    numbers[1] = (uint32_t)a->start;
-    for (int i = 0; i < a->pieces; i++) numbers[4 + i] = (uint32_t)a->lengths[i];
+    numbers[SPLIT_AT] = 1;
+    numbers[START_AT] = (uint32_t)a->start;
+    for (int i = 0; i < a->pieces; i++) numbers[LENGTHS_AT + i] = (uint32_t)a->lengths[i];
 }
 
 static int cell_keeps(const uint8_t *cell)
@@ -113,20 +113,20 @@ void oracle_run_call(const uint8_t *table, size_t table_len, uint8_t *store, siz
 {
     enum { OUTCOME_FINISHED, OUTCOME_STOPPED, OUTCOME_SPENT, OUTCOME_REFUSED };
     uint32_t answer[ANSWER_SIZE];
-    result[0] = OUTCOME_SPENT;
-    result[1] = result[2] = result[3] = 0;
-    while (result[0] == OUTCOME_SPENT && result[2] < count) {
+    result[OUTCOME_AT] = OUTCOME_SPENT;
+    result[BY_AT] = result[DONE_AT] = result[NOTED_AT] = 0;
+    while (result[OUTCOME_AT] == OUTCOME_SPENT && result[DONE_AT] < count) {
         uint32_t number =
             oracle_step_call(table, table_len, store, store_len, state, input, input_len, output, output_len, answer);
-        result[1] = number;
+        result[BY_AT] = number;
         if (number != 0 && number < 17) {
-            result[0] = OUTCOME_REFUSED;
+            result[OUTCOME_AT] = OUTCOME_REFUSED;
             return;
         }
-        result[2]++;
-        result[3] += answer[3];
-        if (number != 0) result[0] = OUTCOME_STOPPED;
-        else if (state[0] == FINISHED) result[0] = OUTCOME_FINISHED;
+        result[DONE_AT]++;
+        result[NOTED_AT] += answer[NOTES_AT];
+        if (number != 0) result[OUTCOME_AT] = OUTCOME_STOPPED;
+        else if (state[STATUS_AT] == FINISHED) result[OUTCOME_AT] = OUTCOME_FINISHED;
     }
 }
 

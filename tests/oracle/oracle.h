@@ -13,11 +13,14 @@ enum {
     TABLE_SIZE = 28672, STORE_SIZE = 32832, CELL_SIZE = 1026, STATE_SIZE = 64, ANSWER_SIZE = 24, RESULT_SIZE = 4
 };
 
-/* The layouts of docs/TABLE.md: the table's counts and regions, its rows and cells; places in a state; a row lent to the scan call. */
+/* The layouts of docs/TABLE.md: the table's counts and regions, its rows and cells; places in a state, an answer and a result; a row lent to the
+   scan call. */
 enum {
     COUNTS_AT = 2, COUNTS_END = 14, STEPS_AT = 64, ELEMENTS_AT = 6208, ITEMS_AT = 14400, LITERALS_AT = 22592, LITERALS_END = 26688,
     ROW_SIZE = 24, CARD_AT = 2, SUCCESS_AT = 4, FAILURE_AT = 6, CELL = 8,
     STATUS_AT = 0, NEXT_AT, HELD_AT, TAKEN_AT, PUT_AT, RETURNS_AT, NUMBERS_AT = 21, NUMBERS_END = 53,
+    SPLIT_AT = 0, START_AT, TRIALS_AT, NOTES_AT, LENGTHS_AT,
+    OUTCOME_AT = 0, BY_AT, DONE_AT, NOTED_AT,
     SCAN_ROW = 12, SCAN_FIRST_AT = 4, SCAN_SECOND_AT = 8
 };
 enum count { STEP_COUNT, STRING_COUNT, NUMBER_COUNT, ELEMENT_COUNT, ITEM_COUNT, LITERAL_COUNT, COUNTS };
