@@ -41,7 +41,9 @@ uint32_t make_right(struct lent *l, enum call call);
 /* How often the call got each number; if all are wanted, one that was never met is a failure. */
 void show_met(enum call call, int all);
 
-/* Laying out what is lent. A buffer with nothing in it yet. */
+/* Laying out what is lent, flush against one fence or the other. */
+
+/* A buffer with nothing in it yet. */
 void lay_empty(struct lent *l, enum side side, enum which which, size_t length);
 
 /* The small buffers, which have one size. */
@@ -50,11 +52,11 @@ void lay_small(struct lent *l, enum side side);
 /* A deck, a table of this length with nothing in it yet, and the small buffers. */
 void lay_deck(struct lent *l, enum side side, const struct deck *deck, size_t table_len);
 
-/* Input, with nothing in them yet output and store. */
-enum { MOST_OUTPUT = 2000, MORE = 64 };
+/* An input; an output and a store with nothing in them yet. */
 void lay_run(struct lent *l, enum side side, const uint8_t *input, size_t input_len, size_t output_len, size_t store_len);
 
 /* The same, random: the output short or long, the store sometimes longer than it need be. */
+enum { MOST_OUTPUT = 2000, MORE = 64 };
 void lay_random_run(struct lent *l, enum side side, struct draws *d);
 
 void lay_scan(struct lent *l, enum side side, const struct scan *s);

@@ -21,7 +21,7 @@
 
 enum {
     STEPS = 1000000, RUNS_OF_A_DECK = 4, MOST_LIST = 120,
-    FAULTS = 12000, FAULTY_STEPS = 6, INTERLEAVED = 1500, PAIRS = 800, SHARED = 40, PROBED = 200,
+    FAULTS = 20000, FAULTY_STEPS = 6, INTERLEAVED = 1500, PAIRS = 800, SHARED = 40, PROBED = 200,
     SECONDS = 170
 };
 
@@ -143,16 +143,18 @@ static void damage_lent(struct draws *d, enum side side)
 {
     struct buffer *b = first.b;
     uint64_t steps = count_in(b[TABLE].at, STEP_COUNT);
-    switch (draw(d, 8)) {
+    switch (draw(d, 16)) {
     case 0: garbage(d, b[TABLE].at, STRIGOL_TABLE_SIZE); break;
     case 1: memset(b[TABLE].at, 0, STRIGOL_TABLE_SIZE); break;
-    case 2: case 3:
-        for (uint32_t times = 1 + draw(d, 2); times > 0; times--) damage_table(d, b[TABLE].at);
+    case 2: lay_again(&b[TABLE], side, a_length(d, STRIGOL_TABLE_SIZE, STRIGOL_TABLE_SIZE + PAGE)); break;
+    case 3: case 4: case 5: case 6: damage_table(d, b[TABLE].at); break;
+    case 7: case 8: case 9: case 10:
+        damage_table(d, b[TABLE].at);
+        damage_table(d, b[TABLE].at);
         break;
-    case 4: lay_again(&b[TABLE], side, a_length(d, STRIGOL_TABLE_SIZE, STRIGOL_TABLE_SIZE + PAGE)); break;
     default: break;
     }
-    switch (draw(d, 8)) {
+    switch (draw(d, 6)) {
     case 0: garbage(d, b[STORE].at, STRIGOL_STORE_SIZE); break;
     case 1: damage_store(d, b[STORE].at); break;
     case 2: lay_again(&b[STORE], side, a_length(d, STRIGOL_STORE_SIZE, STRIGOL_STORE_SIZE + PAGE)); break;
@@ -182,7 +184,7 @@ static void fault_step(struct draws *d, enum side side)
     make(&first, START);
     first.count = draw(d, 20);
     make(&first, RUN);
-    if (draw(d, 3) > 0) damage_lent(d, side);
+    if (draw(d, 4) > 0) damage_lent(d, side);
     kept_damaged += table->length >= sizeof sound && memcmp(sound, table->at, sizeof sound) != 0 && oracle_keeps(table->at);
     for (int step = 0; step < FAULTY_STEPS && make_right(&first, STEP) == 0; step++) continue;
     first.count = draw(d, 4) == 0 ? draw(d, 3) : draw(d, 60);
