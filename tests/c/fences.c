@@ -27,6 +27,10 @@ const char *test = "a test";
 _Thread_local struct doing doing = {"nothing", "no call", 0, NULL};
 int failures;
 
+/* How a message begins. */
+#define WHERE "%s: %s, seed %llu, %s: "
+#define DOING test, doing.part, (unsigned long long)doing.seed, doing.call
+
 static struct lent *all_lent[MOST_LENT];
 static int lents;
 
@@ -35,7 +39,7 @@ void fail(const char *form, ...)
     va_list values;
     if (__atomic_add_fetch(&failures, 1, __ATOMIC_SEQ_CST) > MOST_SHOWN) return;
     flockfile(stdout);
-    printf("%s: %s, seed %llu, %s: ", test, doing.part, (unsigned long long)doing.seed, doing.call);
+    printf(WHERE, DOING);
     va_start(values, form);
     vprintf(form, values);
     va_end(values);
@@ -113,7 +117,7 @@ static void faulted(int number, siginfo_t *info, void *context)
 {
     const uint8_t *address = info->si_addr;
     (void)context;
-    dprintf(1, "%s: %s, seed %llu, %s: ", test, doing.part, (unsigned long long)doing.seed, doing.call);
+    dprintf(1, WHERE, DOING);
     for (int i = 0; i < lents; i++)
         for (int k = 0; k < BUFFERS; k++) {
             const struct buffer *b = &all_lent[i]->b[k];
@@ -144,7 +148,7 @@ void catch_faults(void)
 static void too_late(int number)
 {
     (void)number;
-    dprintf(1, "%s: %s, seed %llu, %s: the test isn't done in time\n", test, doing.part, (unsigned long long)doing.seed, doing.call);
+    dprintf(1, WHERE "the test isn't done in time\n", DOING);
     _exit(1);
 }
 
