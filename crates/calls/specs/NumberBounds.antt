@@ -48,12 +48,12 @@ module _ (e : Edition) where
       (λ q. held-ranged (signedBy (begins (bytes "-") s) (decimal 0 (unsignedPart s))))
       (λ q. ends (omega arith))
 
-  operation-ranged : (m : Memory) (o : Operator) (a b : ℤ) → Ends (Ranged e) (operation e m o a b)
+  operation-ranged : (o : Operator) (a b : ℤ) → Ends (Ranged e) (operation e o a b)
   unfolding operation sum difference product quotient
-  operation-ranged m plus a b = held-ranged (a +ℤ b)
-  operation-ranged m minus a b = held-ranged (a -ℤ b)
-  operation-ranged m times a b = held-ranged (a *ℤ b)
-  operation-ranged m over a b =
+  operation-ranged plus a b = held-ranged (a +ℤ b)
+  operation-ranged minus a b = held-ranged (a -ℤ b)
+  operation-ranged times a b = held-ranged (a *ℤ b)
+  operation-ranged over a b =
       cond-cases (Ends (Ranged e)) (eqb (natAbs b) 0) (λ q. stops (omega arith) (omega arith)) (λ q. held-ranged (quotZ a b))
 
   negative-ranged : (z : ℤ) → Ranged e z → Ranged e (negℤ z)
@@ -69,23 +69,23 @@ module _ (e : Edition) where
   known-cons z known h k zero = h
   known-cons z known h k (suc i) = k i
 
-  combined-known : (m : Memory) (o : Operator) (known : List ℤ) → Known known → Ends Known (combined e m (operation e m o) known)
+  combined-known : (o : Operator) (known : List ℤ) → Known known → Ends Known (combined (operation e o) known)
   unfolding combined quietly
-  combined-known m o [] k = ends k
-  combined-known m o (b ∷ []) k = ends k
-  combined-known m o (b ∷ (a ∷ known)) k =
-      ends-bind (operation-ranged m o a b) (λ z h. ends (known-cons z known h (λ i. k (suc (suc i)))))
+  combined-known o [] k = ends k
+  combined-known o (b ∷ []) k = ends k
+  combined-known o (b ∷ (a ∷ known)) k =
+      ends-bind (operation-ranged o a b) (λ z h. ends (known-cons z known h (λ i. k (suc (suc i)))))
 
-  sign-known : (m : Memory) (s : Sign) (known : List ℤ) → Known known → Known (signIn e m s known)
+  sign-known : (s : Sign) (known : List ℤ) → Known known → Known (signIn s known)
   unfolding signIn
-  sign-known m positive known k = k
-  sign-known m negative [] k = k
-  sign-known m negative (a ∷ known) k = known-cons (negℤ a) known (negative-ranged a (k 0)) (λ i. k (suc i))
+  sign-known positive known k = k
+  sign-known negative [] k = k
+  sign-known negative (a ∷ known) k = known-cons (negℤ a) known (negative-ranged a (k 0)) (λ i. k (suc i))
 
-  latest-known : (m : Memory) (known : List ℤ) → Known known → Ranged e (latest e m known)
+  latest-known : (known : List ℤ) → Known known → Ranged e (latest known)
   unfolding latest
-  latest-known m [] k = omega arith
-  latest-known m (z ∷ known) k = k 0
+  latest-known [] k = omega arith
+  latest-known (z ∷ known) k = k 0
 
 -- a string's length is a number in range, and the memory is within its bounds
 module _ (e : Edition) (wide : longestString ≤ e .limit) (strings numbers steps : ℕ) (m : Memory) (b : Bounded e m) where
@@ -100,8 +100,8 @@ module _ (e : Edition) (wide : longestString ≤ e .limit) (strings numbers step
       → Ends (Known e) (itemIn e m known x)
   unfolding itemHolds itemIn quietly
   item-known known (operand a) h k = ends-bind (operand-ranged a h) (λ z g. ends (known-cons e z known g k))
-  item-known known (operator o) h k = combined-known e m o known k
-  item-known known (sign s) h k = ends (sign-known e m s known k)
+  item-known known (operator o) h k = combined-known e o known k
+  item-known known (sign s) h k = ends (sign-known e s known k)
 
   items-known : (known : List ℤ) (xs : List Item) → all (itemHolds e strings numbers steps) xs ≡ true → Known e known
       → Ends (Known e) (itemsIn e m known xs)
@@ -114,7 +114,7 @@ module _ (e : Edition) (wide : longestString ≤ e .limit) (strings numbers step
   -- the value of a numeric expression
   pub expression-ranged : (xs : List Item) → all (itemHolds e strings numbers steps) xs ≡ true → Ends (Ranged e) (numericIn e m xs)
   unfolding numericIn quietly
-  expression-ranged xs h = ends-bind (items-known [] xs h (λ i. omega arith)) (λ known k. ends (latest-known e m known k))
+  expression-ranged xs h = ends-bind (items-known [] xs h (λ i. omega arith)) (λ known k. ends (latest-known e known k))
 
   -- a test
   pub test-ends : (t : Test) → testHolds e strings numbers steps t ≡ true → Ends Any (testIn e m t)

@@ -7,7 +7,6 @@ ghost use lib.IntN.{pos, negℤ, natAbs};
 ghost use lib.ListN.{length, drop, replicate};
 ghost use Rattle.base.specs.Edition.{edition1};
 ghost use Rattle.machine.specs.Expressions.{compared};
-ghost use Rattle.machine.specs.State.{Memory};
 ghost use Rattle.values.specs.Conversion.{isDigitOrBlank, digitOf, decimal, digits, isNumeric, numberOf, signOf};
 ghost use Rattle.values.specs.Numbers.{isNegative, sum, difference, product, quotient};
 ghost use Rattle.values.specs.Numbers as Numbers;
@@ -131,7 +130,7 @@ pub fn divide(a: Int, b: Int) -> Number
 }
 
 pub fn compare(c: Comparison, a: Int, b: Int) -> bool
-    ensures { λ r. ⌜ ((m : Memory) → r ≡ compared edition1 m (comparison c) (a .value) (b .value)) ⌝ }
+    ensures { λ r. ⌜ r ≡ compared (comparison c) (a .value) (b .value) ⌝ }
 {
     match c {
         Comparison::Equal => a.value == b.value,

@@ -138,7 +138,7 @@ module _ (m : Memory) (a b : Operand) (o : Operator) where
   operand-stops c known e = ap (λ (w : Work ℤ). w >>= λ z. quietly (z ∷ known)) e
 
   -- the operator makes what is left of two numbers
-  operator-works : (x y : ℤ) (notes : ℕ) (w : Work ℤ) → operation edition1 m o x y ≡ w
+  operator-works : (x y : ℤ) (notes : ℕ) (w : Work ℤ) → operation edition1 o x y ≡ w
       → numericFrom m notes (y ∷ (x ∷ [])) (operator o ∷ []) ≡ noting notes w
   unfolding itemIn combined _>>=_ noting quietly
   operator-works x y notes (done z n) e =
@@ -160,13 +160,13 @@ module _ (m : Memory) (a b : Operand) (o : Operator) where
         ∙ ap (λ (k : ℕ). numericFrom m k (x ∷ []) (operand b ∷ (operator o ∷ []))) count
 
     pub pair-works : {y : ℤ} {k : ℕ} → operandIn edition1 m b ≡ done y k
-        → numericIn edition1 m pair ≡ noting (n + k) (operation edition1 m o x y)
+        → numericIn edition1 m pair ≡ noting (n + k) (operation edition1 o x y)
     pair-works {y} {k} two =
         let count : n + (k + 0) ≡ n + k = omega arith in
         first-known
         ∙ numeric-more m n (k + 0) (x ∷ []) (y ∷ (x ∷ [])) (operand b) (operator o ∷ []) (operand-known b (x ∷ []) two)
         ∙ ap (λ (l : ℕ). numericFrom m l (y ∷ (x ∷ [])) (operator o ∷ [])) count
-        ∙ operator-works x y (n + k) (operation edition1 m o x y) refl
+        ∙ operator-works x y (n + k) (operation edition1 o x y) refl
 
     pub pair-second-stops : {k : ℕ} → operandIn edition1 m b ≡ stop k → numericIn edition1 m pair ≡ stop k
     pair-second-stops {k} two =

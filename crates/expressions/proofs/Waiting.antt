@@ -131,17 +131,17 @@ waiting-gives w at h =
 -- what an item makes of the numbers waiting is put in front of the others
 module _ (m : Memory) (w : List ℤ) (known : ℕ) where
   pub operator-takes : (o : Program.Operator) → 2 ≤ known
-      → pushed (waitingIn w (known - 2)) (operation edition1 m o (getD w (known - 2) (pos 0)) (getD w (known - 1) (pos 0)))
+      → pushed (waitingIn w (known - 2)) (operation edition1 o (getD w (known - 2) (pos 0)) (getD w (known - 1) (pos 0)))
       ≡ itemIn edition1 m (waitingIn w known) (Program.operator o)
   unfolding itemIn combined
-  operator-takes o h = sym (ap (combined edition1 m (operation edition1 m o)) (waiting-two w known h))
+  operator-takes o h = sym (ap (combined (operation edition1 o)) (waiting-two w known h))
 
   pub sign-takes : (s : Program.Sign) → 1 ≤ known
       → pushed (waitingIn w (known - 1)) (done (signedAs s (getD w (known - 1) (pos 0))) 0)
       ≡ itemIn edition1 m (waitingIn w known) (Program.sign s)
   unfolding itemIn signIn quietly _>>=_ noting
   sign-takes Program.positive h = ap (λ l. done l 0) (sym (waiting-one w known h))
-  sign-takes Program.negative h = ap (λ l. done (signIn edition1 m Program.negative l) 0) (sym (waiting-one w known h))
+  sign-takes Program.negative h = ap (λ l. done (signIn Program.negative l) 0) (sym (waiting-one w known h))
 
 -- what was taken, otherwise written
 pub taken-as : {r : Known} {after : List ℤ} {n k : ℕ} {w v : Work (List ℤ)} → n ≡ k → w ≡ v → Taken r after n w → Taken r after k v

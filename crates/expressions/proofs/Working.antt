@@ -41,17 +41,17 @@ quiet-front u v (stop k) = refl
 module _ (m : Memory) where
   -- what a numeric expression comes to from its waiting numbers and the items that are left, with the notes so far
   unfoldable pub numericFrom : ℕ → List ℤ → List Item → Work ℤ
-  numericFrom notes known is = noting notes (itemsIn edition1 m known is >>= λ more. quietly (latest edition1 m more))
+  numericFrom notes known is = noting notes (itemsIn edition1 m known is >>= λ more. quietly (latest more))
 
   pub numeric-begins : (is : List Item) → numericIn edition1 m is ≡ numericFrom 0 [] is
   unfolding numericIn numericFrom
-  numeric-begins is = sym (noting-none (itemsIn edition1 m [] is >>= λ more. quietly (latest edition1 m more)))
+  numeric-begins is = sym (noting-none (itemsIn edition1 m [] is >>= λ more. quietly (latest more)))
 
   pub numeric-more : (notes more : ℕ) (known next : List ℤ) (x : Item) (is : List Item) → itemIn edition1 m known x ≡ done next more
       → numericFrom notes known (x ∷ is) ≡ numericFrom (notes + more) next is
   unfolding numericFrom itemsIn _>>=_
   numeric-more notes more known next x is e =
-      let rest : (z : List ℤ) → Work ℤ = λ z. quietly (latest edition1 m z) in
+      let rest : (z : List ℤ) → Work ℤ = λ z. quietly (latest z) in
       ap (λ w. noting notes ((w >>= λ z. itemsIn edition1 m z is) >>= rest)) e
       ∙ ap (noting notes) (bind-noting more (itemsIn edition1 m next is) rest)
       ∙ noting-more notes more (itemsIn edition1 m next is >>= rest)
@@ -60,7 +60,7 @@ module _ (m : Memory) where
       → numericFrom notes known (x ∷ is) ≡ stop k
   unfolding numericFrom itemsIn _>>=_ noting
   numeric-stops notes k known x is e =
-      ap (λ w. noting notes ((w >>= λ z. itemsIn edition1 m z is) >>= λ z. quietly (latest edition1 m z))) e
+      ap (λ w. noting notes ((w >>= λ z. itemsIn edition1 m z is) >>= λ z. quietly (latest z))) e
 
   pub numeric-ends : (notes : ℕ) (z : ℤ) (known : List ℤ) → numericFrom notes (z ∷ known) [] ≡ done z notes
   unfolding numericFrom itemsIn _>>=_ noting quietly latest

@@ -78,6 +78,19 @@ few-text n m =
     cond-cases (Few 1) (ltb longestString (natAbs n)) (λ _. tt) (λ _.
     cond-cases (Few 1) (leb (length (signOf m) + length (digits (natAbs m))) (natAbs n)) (λ _. omega arith) (λ _. omega arith)))
 
+pub few-operation : (e : Edition) (o : Operator) (a b : ℤ) → Few 0 (operation e o a b)
+unfolding operation sum difference product quotient
+few-operation e plus a b = few-held e _
+few-operation e minus a b = few-held e _
+few-operation e times a b = few-held e _
+few-operation e over a b = cond-cases (Few 0) (eqb (natAbs b) 0) (λ _. tt) (λ _. few-held e _)
+
+few-combined : (f : ℤ → ℤ → Work ℤ) → ((a b : ℤ) → Few 0 (f a b)) → (known : List ℤ) → Few 0 (combined f known)
+unfolding combined quietly
+few-combined f h [] = omega arith
+few-combined f h (b ∷ []) = omega arith
+few-combined f h (b ∷ (a ∷ known)) = few-quiet 0 (f a b) (λ z. z ∷ known) (h a b)
+
 module _ (e : Edition) (m : Memory) where
   pub few-operand : (a : Operand) → Few 2 (operandIn e m a)
   unfolding operandIn quietly
@@ -86,24 +99,11 @@ module _ (e : Edition) (m : Memory) where
   few-operand (lengthOf s) = omega arith
   few-operand (numberOf p) = few-bind 1 1 (partIn m p) (λ s. Conversion.numberOf e s) (few-part m p) (few-number e)
 
-  pub few-operation : (o : Operator) (a b : ℤ) → Few 0 (operation e m o a b)
-  unfolding operation sum difference product quotient
-  few-operation plus a b = few-held e _
-  few-operation minus a b = few-held e _
-  few-operation times a b = few-held e _
-  few-operation over a b = cond-cases (Few 0) (eqb (natAbs b) 0) (λ _. tt) (λ _. few-held e _)
-
-  few-combined : (f : ℤ → ℤ → Work ℤ) → ((a b : ℤ) → Few 0 (f a b)) → (known : List ℤ) → Few 0 (combined e m f known)
-  unfolding combined quietly
-  few-combined f h [] = omega arith
-  few-combined f h (b ∷ []) = omega arith
-  few-combined f h (b ∷ (a ∷ known)) = few-quiet 0 (f a b) (λ z. z ∷ known) (h a b)
-
   pub few-item : (known : List ℤ) (x : Item) → Few 2 (itemIn e m known x)
   unfolding itemIn quietly
   few-item known (operand a) = few-quiet 2 (operandIn e m a) (λ z. z ∷ known) (few-operand a)
   few-item known (operator o) =
-      few-more 0 2 (combined e m (operation e m o) known) (omega arith) (few-combined (operation e m o) (few-operation o) known)
+      few-more 0 2 (combined (operation e o) known) (omega arith) (few-combined (operation e o) (few-operation e o) known)
   few-item known (sign s) = omega arith
 
   -- at most one for each element

@@ -204,7 +204,7 @@ fn quick_value(store: &[u8], state: &[u64; 64], a: Operand) -> Number
 // what an operator makes of two numbers
 fn operation(o: Operator, a: Int, b: Int) -> Number
     requires { ⌜ BothInRange a b ⌝ }
-    ensures { λ r. ⌜ ((m : Memory) → Answers r (Expressions.operation edition1 m (operatorMeaning o) (a .value) (b .value))) ⌝ }
+    ensures { λ r. ⌜ Answers r (Expressions.operation edition1 (operatorMeaning o) (a .value) (b .value)) ⌝ }
 {
     match o {
         Operator::Plus => convert::add(a, b),

@@ -299,11 +299,11 @@ module _ (bs : List ℕ) where
       (λ _. agree-next _ _ (leaves-plainFactor e at bs) (λ _ _ l. both l))
 
 module _ (e : Edition) (at : Places) where
-  -- any two amounts of fuel above a measure
+  -- any two amounts of fuel above a measure read the same, and leave fewer bytes than there were, or no more where none need be read
   mutual
     unfolding expressionAt expressionBy moreTermsBy termBy moreFactorsBy factorBy
 
-    agree-expression : (k k′ d : ℕ) (bs : List ℕ) → 4 * length bs + 3 ≤ k → 4 * length bs + 3 ≤ k′
+    pub agree-expression : (k k′ d : ℕ) (bs : List ℕ) → 4 * length bs + 3 ≤ k → 4 * length bs + 3 ≤ k′
         → Agree (length bs) (expressionAt e at k d bs) (expressionAt e at k′ d bs)
     agree-expression zero k′ d bs h h′ = absurd (omega arith)
     agree-expression (suc k) zero d bs h h′ = absurd (omega arith)
@@ -322,7 +322,7 @@ module _ (e : Edition) (at : Places) where
         (λ rest l. agree-term k k′ d rest (omega arith) (omega arith))
         before
 
-    agree-term : (k k′ d : ℕ) (bs : List ℕ) → 4 * length bs + 2 ≤ k → 4 * length bs + 2 ≤ k′
+    pub agree-term : (k k′ d : ℕ) (bs : List ℕ) → 4 * length bs + 2 ≤ k → 4 * length bs + 2 ≤ k′
         → Agree (length bs) (termAt e at k d bs) (termAt e at k′ d bs)
     agree-term zero k′ d bs h h′ = absurd (omega arith)
     agree-term (suc k) zero d bs h h′ = absurd (omega arith)
@@ -341,7 +341,7 @@ module _ (e : Edition) (at : Places) where
         (λ rest l. agree-factor k k′ d rest (omega arith) (omega arith))
         before
 
-    agree-factor : (k k′ d : ℕ) (bs : List ℕ) → 4 * length bs + 1 ≤ k → 4 * length bs + 1 ≤ k′
+    pub agree-factor : (k k′ d : ℕ) (bs : List ℕ) → 4 * length bs + 1 ≤ k → 4 * length bs + 1 ≤ k′
         → Agree (length bs) (factorAt e at k d bs) (factorAt e at k′ d bs)
     agree-factor zero k′ d bs h h′ = absurd (omega arith)
     agree-factor (suc k) zero d bs h h′ = absurd (omega arith)
@@ -351,19 +351,19 @@ module _ (e : Edition) (at : Places) where
 
   -- ---- the readers with no fuel: each has what is always enough
   unfoldable pub expressionFrom : (depth : ℕ) → Reader
-  expressionFrom d bs = expressionAt e at (fuelFor e at bs) d bs
+  expressionFrom d bs = expressionAt e at (fuelFor bs) d bs
 
   unfoldable pub moreTermsFrom : (depth : ℕ) → More
-  moreTermsFrom d before bs = moreTerms e at (fuelFor e at bs) d before bs
+  moreTermsFrom d before bs = moreTerms e at (fuelFor bs) d before bs
 
   unfoldable pub termFrom : (depth : ℕ) → Reader
-  termFrom d bs = termAt e at (fuelFor e at bs) d bs
+  termFrom d bs = termAt e at (fuelFor bs) d bs
 
   unfoldable pub moreFactorsFrom : (depth : ℕ) → More
-  moreFactorsFrom d before bs = moreFactors e at (fuelFor e at bs) d before bs
+  moreFactorsFrom d before bs = moreFactors e at (fuelFor bs) d before bs
 
   unfoldable pub factorFrom : (depth : ℕ) → Reader
-  factorFrom d bs = factorAt e at (fuelFor e at bs) d bs
+  factorFrom d bs = factorAt e at (fuelFor bs) d bs
 
   pub numeric-from : (bs : List ℕ) → numericExpression e at bs ≡ expressionFrom 0 bs
   unfolding numericExpression expressionFrom
@@ -371,66 +371,45 @@ module _ (e : Edition) (at : Places) where
 
   module _ (d : ℕ) (bs : List ℕ) where
     -- more fuel changes nothing
-    module _ (fuel : ℕ) (enough : fuelFor e at bs ≤ fuel) where
+    module _ (fuel : ℕ) (enough : fuelFor bs ≤ fuel) where
       pub expression-fuel : expressionAt e at fuel d bs ≡ expressionFrom d bs
       unfolding expressionFrom fuelFor
-      expression-fuel = agree-same (agree-expression fuel (fuelFor e at bs) d bs (omega arith) (omega arith))
+      expression-fuel = agree-same (agree-expression fuel (fuelFor bs) d bs (omega arith) (omega arith))
 
       pub moreTerms-fuel : (before : List Item) → moreTerms e at fuel d before bs ≡ moreTermsFrom d before bs
       unfolding moreTermsFrom fuelFor
-      moreTerms-fuel before = agree-same (agree-moreTerms fuel (fuelFor e at bs) d before bs (omega arith) (omega arith))
+      moreTerms-fuel before = agree-same (agree-moreTerms fuel (fuelFor bs) d before bs (omega arith) (omega arith))
 
       pub term-fuel : termAt e at fuel d bs ≡ termFrom d bs
       unfolding termFrom fuelFor
-      term-fuel = agree-same (agree-term fuel (fuelFor e at bs) d bs (omega arith) (omega arith))
+      term-fuel = agree-same (agree-term fuel (fuelFor bs) d bs (omega arith) (omega arith))
 
       pub moreFactors-fuel : (before : List Item) → moreFactors e at fuel d before bs ≡ moreFactorsFrom d before bs
       unfolding moreFactorsFrom fuelFor
-      moreFactors-fuel before = agree-same (agree-moreFactors fuel (fuelFor e at bs) d before bs (omega arith) (omega arith))
+      moreFactors-fuel before = agree-same (agree-moreFactors fuel (fuelFor bs) d before bs (omega arith) (omega arith))
 
       pub factor-fuel : factorAt e at fuel d bs ≡ factorFrom d bs
       unfolding factorFrom fuelFor
-      factor-fuel = agree-same (agree-factor fuel (fuelFor e at bs) d bs (omega arith) (omega arith))
-
-    -- how many bytes are left
-    pub expression-leaves : Leaves (length bs) (expressionFrom d bs)
-    unfolding expressionFrom fuelFor
-    expression-leaves = agree-expression _ _ d bs (omega arith) (omega arith)
-
-    pub moreTerms-leaves : (before : List Item) → Leaves (suc (length bs)) (moreTermsFrom d before bs)
-    unfolding moreTermsFrom fuelFor
-    moreTerms-leaves before = agree-moreTerms _ _ d before bs (omega arith) (omega arith)
-
-    pub term-leaves : Leaves (length bs) (termFrom d bs)
-    unfolding termFrom fuelFor
-    term-leaves = agree-term _ _ d bs (omega arith) (omega arith)
-
-    pub moreFactors-leaves : (before : List Item) → Leaves (suc (length bs)) (moreFactorsFrom d before bs)
-    unfolding moreFactorsFrom fuelFor
-    moreFactors-leaves before = agree-moreFactors _ _ d before bs (omega arith) (omega arith)
-
-    pub factor-leaves : Leaves (length bs) (factorFrom d bs)
-    unfolding factorFrom fuelFor
-    factor-leaves = agree-factor _ _ d bs (omega arith) (omega arith)
+      factor-fuel = agree-same (agree-factor fuel (fuelFor bs) d bs (omega arith) (omega arith))
 
     -- the fuel of these bytes is enough for those behind them
-    terms-agree : AgreeBelow (suc (length bs)) (termAt e at (fuelFor e at bs) d) (termFrom d)
+    terms-agree : AgreeBelow (suc (length bs)) (termAt e at (fuelFor bs) d) (termFrom d)
     unfolding termFrom fuelFor
     terms-agree rest l = agree-term _ _ d rest (omega arith) (omega arith)
 
-    moreTerms-agree : AgreeMore (length bs) (moreTerms e at (fuelFor e at bs) d) (moreTermsFrom d)
+    moreTerms-agree : AgreeMore (length bs) (moreTerms e at (fuelFor bs) d) (moreTermsFrom d)
     unfolding moreTermsFrom fuelFor
     moreTerms-agree before rest l = agree-moreTerms _ _ d before rest (omega arith) (omega arith)
 
-    factors-agree : AgreeBelow (suc (length bs)) (factorAt e at (fuelFor e at bs) d) (factorFrom d)
+    factors-agree : AgreeBelow (suc (length bs)) (factorAt e at (fuelFor bs) d) (factorFrom d)
     unfolding factorFrom fuelFor
     factors-agree rest l = agree-factor _ _ d rest (omega arith) (omega arith)
 
-    moreFactors-agree : AgreeMore (length bs) (moreFactors e at (fuelFor e at bs) d) (moreFactorsFrom d)
+    moreFactors-agree : AgreeMore (length bs) (moreFactors e at (fuelFor bs) d) (moreFactorsFrom d)
     unfolding moreFactorsFrom fuelFor
     moreFactors-agree before rest l = agree-moreFactors _ _ d before rest (omega arith) (omega arith)
 
-    expressions-agree : AgreeBelow (length bs) (expressionAt e at (fuelFor e at bs) (suc d)) (expressionFrom (suc d))
+    expressions-agree : AgreeBelow (length bs) (expressionAt e at (fuelFor bs) (suc d)) (expressionFrom (suc d))
     unfolding expressionFrom fuelFor
     expressions-agree rest l = agree-expression _ _ (suc d) rest (omega arith) (omega arith)
 
@@ -438,27 +417,27 @@ module _ (e : Edition) (at : Places) where
     pub expression-is : expressionFrom d bs ≡ expressionBy bs (termFrom d) (moreTermsFrom d)
     unfolding expressionAt expressionBy
     expression-is =
-        sym (expression-fuel (suc (fuelFor e at bs)) (omega arith))
+        sym (expression-fuel (suc (fuelFor bs)) (omega arith))
         ∙ agree-same (expression-step bs _ _ _ _ moreTerms-agree terms-agree)
 
     pub moreTerms-is : (before : List Item) → moreTermsFrom d before bs ≡ moreTermsBy bs (termFrom d) (moreTermsFrom d) before
     unfolding moreTerms moreTermsBy
     moreTerms-is before =
-        sym (moreTerms-fuel (suc (fuelFor e at bs)) (omega arith) before)
+        sym (moreTerms-fuel (suc (fuelFor bs)) (omega arith) before)
         ∙ agree-same (moreTerms-step bs _ _ _ _ moreTerms-agree (λ rest l. terms-agree rest (omega arith)) before)
 
     pub term-is : termFrom d bs ≡ termBy bs (factorFrom d) (moreFactorsFrom d)
     unfolding termAt termBy
     term-is =
-        sym (term-fuel (suc (fuelFor e at bs)) (omega arith)) ∙ agree-same (term-step bs _ _ _ _ moreFactors-agree factors-agree)
+        sym (term-fuel (suc (fuelFor bs)) (omega arith)) ∙ agree-same (term-step bs _ _ _ _ moreFactors-agree factors-agree)
 
     pub moreFactors-is : (before : List Item) → moreFactorsFrom d before bs ≡ moreFactorsBy bs (factorFrom d) (moreFactorsFrom d) before
     unfolding moreFactors moreFactorsBy
     moreFactors-is before =
-        sym (moreFactors-fuel (suc (fuelFor e at bs)) (omega arith) before)
+        sym (moreFactors-fuel (suc (fuelFor bs)) (omega arith) before)
         ∙ agree-same (moreFactors-step bs _ _ _ _ moreFactors-agree (λ rest l. factors-agree rest (omega arith)) before)
 
     pub factor-is : factorFrom d bs ≡ factorBy bs e at d (expressionFrom (suc d))
     unfolding factorAt factorBy
     factor-is =
-        sym (factor-fuel (suc (fuelFor e at bs)) (omega arith)) ∙ agree-same (factor-step bs e at d _ _ expressions-agree)
+        sym (factor-fuel (suc (fuelFor bs)) (omega arith)) ∙ agree-same (factor-step bs e at d _ _ expressions-agree)

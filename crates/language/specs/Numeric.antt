@@ -46,6 +46,10 @@ use Rattle.language.specs.Words.{Places, unsigned, signed, isSign, noRol
 unfoldable pub deepest : ℕ
 deepest = Limits.parentheses
 
+-- fuel that is always enough for the readers of numeric expressions
+unfoldable pub fuelFor : List ℕ → ℕ
+fuelFor bs = 4 * length bs + 4
+
 -- an operator with the bytes behind it, read where more terms or more factors may follow
 unfoldable pub sumOperator : List ℕ → Read Operator
 sumOperator bs = elim (begins (bytes "+") bs) [
@@ -197,9 +201,6 @@ module _ (e : Edition) (at : Places) where
         (a, rest) ← plainFactor bs
         got (operand a ∷ []) anItem rest
     ]
-
-  unfoldable pub fuelFor : List ℕ → ℕ
-  fuelFor bs = 4 * length bs + 4
 
   unfoldable pub numericExpression : List ℕ → Read (List Item)
   numericExpression bs = expressionAt (fuelFor bs) 0 bs

@@ -62,6 +62,36 @@ unfoldable pub partIn : Memory → Part → Work (List ℕ)
 partIn m (whole s) = quietly (stringAt m s)
 partIn m (first s n) = substring (stringAt m s) (lengthIn m n)
 
+-- Q18, Q19 each operator's result is held to the range at once
+unfoldable pub operation : Edition → Operator → ℤ → ℤ → Work ℤ
+operation e plus a b = sum e a b
+operation e minus a b = difference e a b
+operation e times a b = product e a b
+operation e over a b = quotient e a b
+
+-- an item adds to the numbers known, the latest first: an operand its value, an operator what it makes of the latest two
+unfoldable pub combined : (ℤ → ℤ → Work ℤ) → List ℤ → Work (List ℤ)
+combined f [] = quietly []
+combined f (b ∷ []) = quietly (b ∷ [])
+combined f (b ∷ (a ∷ known)) = f a b >>= λ z. quietly (z ∷ known)
+
+unfoldable pub signIn : Sign → List ℤ → List ℤ
+signIn positive known = known
+signIn negative [] = []
+signIn negative (a ∷ known) = negℤ a ∷ known
+
+unfoldable pub latest : List ℤ → ℤ
+latest [] = pos 0
+latest (z ∷ known) = z
+
+unfoldable pub compared : Comparison → ℤ → ℤ → Bool
+compared equal a b = leZ a b && leZ b a
+compared unequal a b = ltZ a b || ltZ b a
+compared less a b = ltZ a b
+compared greater a b = ltZ b a
+compared atMost a b = leZ a b
+compared atLeast a b = leZ b a
+
 module _ (e : Edition) (m : Memory) where
   unfoldable pub operandIn : Operand → Work ℤ
   operandIn (constant z) = quietly z
@@ -71,27 +101,9 @@ module _ (e : Edition) (m : Memory) where
     s ← partIn m p
     Conversion.numberOf e s
 
-  -- Q18, Q19 each operator's result is held to the range at once
-  unfoldable pub operation : Operator → ℤ → ℤ → Work ℤ
-  operation plus a b = sum e a b
-  operation minus a b = difference e a b
-  operation times a b = product e a b
-  operation over a b = quotient e a b
-
-  -- an item adds to the numbers known, the latest first: an operand its value, an operator what it makes of the latest two
-  unfoldable pub combined : (ℤ → ℤ → Work ℤ) → List ℤ → Work (List ℤ)
-  combined f [] = quietly []
-  combined f (b ∷ []) = quietly (b ∷ [])
-  combined f (b ∷ (a ∷ known)) = f a b >>= λ z. quietly (z ∷ known)
-
-  unfoldable pub signIn : Sign → List ℤ → List ℤ
-  signIn positive known = known
-  signIn negative [] = []
-  signIn negative (a ∷ known) = negℤ a ∷ known
-
   unfoldable pub itemIn : List ℤ → Item → Work (List ℤ)
   itemIn known (operand a) = operandIn a >>= λ z. quietly (z ∷ known)
-  itemIn known (operator o) = combined (operation o) known
+  itemIn known (operator o) = combined (operation e o) known
   itemIn known (sign s) = quietly (signIn s known)
 
   unfoldable pub itemsIn : List ℤ → List Item → Work (List ℤ)
@@ -99,10 +111,6 @@ module _ (e : Edition) (m : Memory) where
   itemsIn known (i ∷ is) = do
     more ← itemIn known i
     itemsIn more is
-
-  unfoldable pub latest : List ℤ → ℤ
-  latest [] = pos 0
-  latest (z ∷ known) = z
 
   -- V2 "Operators go left to right, * and / first, each once its right side is known"
   unfoldable pub numericIn : List Item → Work ℤ
@@ -121,14 +129,6 @@ module _ (e : Edition) (m : Memory) where
     v ← elementIn x
     vs ← stringIn xs
     quietly (v ++ vs)
-
-  unfoldable pub compared : Comparison → ℤ → ℤ → Bool
-  compared equal a b = leZ a b && leZ b a
-  compared unequal a b = ltZ a b || ltZ b a
-  compared less a b = ltZ a b
-  compared greater a b = ltZ b a
-  compared atMost a b = leZ a b
-  compared atLeast a b = leZ b a
 
   -- V7 "a negative substring" is not numeric, V4 with a note
   unfoldable pub numericPart : Part → Work Bool

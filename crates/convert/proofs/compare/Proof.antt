@@ -27,7 +27,7 @@ enum-told-6 c = search needs
 
 returns : tie.Need-returns
 unfolding compared
-returns c m =
+returns c =
     let s = c .before .before .before .before .before .before in
     let a = s .args .a .value in
     let b = s .args .b .value in
@@ -36,7 +36,7 @@ returns c m =
 
 returns-2 : tie.Need-returns-2
 unfolding compared
-returns-2 c m =
+returns-2 c =
     let s = c .before .before .before .before .before .before in
     let a = s .args .a .value in
     let b = s .args .b .value in
@@ -45,7 +45,7 @@ returns-2 c m =
 
 returns-3 : tie.Need-returns-3
 unfolding compared
-returns-3 c m =
+returns-3 c =
     let s = c .before .before .before .before .before .before in
     let a = s .args .a .value in
     let b = s .args .b .value in
@@ -54,7 +54,7 @@ returns-3 c m =
 
 returns-4 : tie.Need-returns-4
 unfolding compared
-returns-4 c m =
+returns-4 c =
     let s = c .before .before .before .before .before .before in
     let a = s .args .a .value in
     let b = s .args .b .value in
@@ -63,7 +63,7 @@ returns-4 c m =
 
 returns-5 : tie.Need-returns-5
 unfolding compared
-returns-5 c m =
+returns-5 c =
     let s = c .before .before .before .before .before .before in
     let a = s .args .a .value in
     let b = s .args .b .value in
@@ -72,7 +72,7 @@ returns-5 c m =
 
 returns-6 : tie.Need-returns-6
 unfolding compared
-returns-6 c m =
+returns-6 c =
     let s = c .before .before .before .before .before .before in
     let a = s .args .a .value in
     let b = s .args .b .value in

@@ -1,14 +1,12 @@
 -- `expressions::combine` meets its contract. What the operator makes of the latest two numbers is put where the first of them stood.
 -- Assumes nothing.
 use borrow.Author.Needs.{needs}
-use mathlib.Core.List.{[]}
 use mathlib.Core.Path.{_≡_, ap, ap₂, _∙_}
 use Prim.Native.Nat.{_+_, _-_}
 use native.Mathlib.Omega.{arith}
 use Rattle.base.specs.Edition.{edition1}
 use Rattle.machine.specs.Expressions.{operation}
 use Rattle.rows.specs.Meaning.{operatorMeaning}
-use Rattle.expressions.specs.Memory.{memoryIn}
 use Rattle.expressions.specs.Waiting.{pushed, waitingIn}
 use Rattle.expressions.proofs.Waiting.{operator-takes, taken-as}
 use Rattle.expressions.proofs.combine.Statement.{statement}
@@ -35,7 +33,7 @@ sub-keep c = search needs
 keep-requires : tie.Need-keep-requires
 keep-requires c κs =
     let s = c .before .before .before .before .before .before in
-    record { waits = s .pre .0; place = omega arith; range = c .before .operation .ensures (memoryIn [] []) .range }
+    record { waits = s .pre .0; place = omega arith; range = c .before .operation .ensures .range }
 
 returns : tie.Need-returns
 returns c m =
@@ -47,7 +45,7 @@ returns c m =
     let b = c .before .before .before .before .before .waiting-at .ensures .value in
     let one : known - 2 + 1 ≡ known - 1 = omega arith in
     taken-as one
-    (ap (pushed (waitingIn w (known - 2))) (c .before .before .operation .ensures m .work ∙ ap₂ (operation edition1 m o) a b)
+    (ap (pushed (waitingIn w (known - 2))) (c .before .before .operation .ensures .work ∙ ap₂ (operation edition1 o) a b)
     ∙ operator-takes m w known o (s .pre .1 .0))
     (c .keep .ensures)
 

@@ -60,8 +60,8 @@ returns c =
     let b = c .before .before .b .given in
     let left = number-is (c .before .before .before .before .before .before .before .before .quick-value .ensures) (a .1) in
     let right = number-is (c .before .before .before .before .quick-value2 .ensures) (b .1) in
-    ap (λ (t : Bool). done t (a .0 .1 .0 + b .0 .1 .0)) (c .compare .ensures m)
-    ∙ sym (both-done (compared edition1 m (comparison (s .args .x .sign))) left right)
+    ap (λ (t : Bool). done t (a .0 .1 .0 + b .0 .1 .0)) (c .compare .ensures)
+    ∙ sym (both-done (compared (comparison (s .args .x .sign))) left right)
 
 returns-2 : tie.Need-returns-2
 unfolding testIn
@@ -71,7 +71,7 @@ returns-2 c =
     let left = number-is (c .before .before .before .before .before .before .before .quick-value .ensures)
     (c .before .before .before .before .before .a .given .1) in
     let right = number-stops (c .before .before .before .quick-value2 .ensures) (c .before .k .given .1) in
-    sym (second-stops (compared edition1 m (comparison (s .args .x .sign))) left right)
+    sym (second-stops (compared (comparison (s .args .x .sign))) left right)
 
 returns-3 : tie.Need-returns-3
 unfolding testIn
@@ -79,7 +79,7 @@ returns-3 c =
     let s = c .before .before .before .before .before in
     let m = memoryIn (s .args .store .now) (s .args .state .now) in
     let left = number-stops (c .before .before .before .quick-value .ensures) (c .before .k2 .given .1) in
-    sym (first-stops (compared edition1 m (comparison (s .args .x .sign))) (operandIn edition1 m (operandMeaning (s .args .x .right))) left)
+    sym (first-stops (compared (comparison (s .args .x .sign))) (operandIn edition1 m (operandMeaning (s .args .x .right))) left)
 
 pub compares-value-spec : {M : Type 1} → statement M
 compares-value-spec =

@@ -31,19 +31,19 @@ divide-requires c κs = search needs
 
 returns : tie.Need-returns
 unfolding Expressions.operation
-returns c m = rw (c .before .enum-told .given .1) (c .add .ensures)
+returns c = rw (c .before .enum-told .given .1) (c .add .ensures)
 
 returns-2 : tie.Need-returns-2
 unfolding Expressions.operation
-returns-2 c m = rw (c .before .enum-told2 .given .1) (c .subtract .ensures)
+returns-2 c = rw (c .before .enum-told2 .given .1) (c .subtract .ensures)
 
 returns-3 : tie.Need-returns-3
 unfolding Expressions.operation
-returns-3 c m = rw (c .before .enum-told3 .given .1) (c .multiply .ensures)
+returns-3 c = rw (c .before .enum-told3 .given .1) (c .multiply .ensures)
 
 returns-4 : tie.Need-returns-4
 unfolding Expressions.operation
-returns-4 c m = rw (c .before .enum-told4 .given .1) (c .divide .ensures)
+returns-4 c = rw (c .before .enum-told4 .given .1) (c .divide .ensures)
 
 pub operation-spec : {M : Type 1} → statement M
 operation-spec =

@@ -83,10 +83,10 @@ noted-requires c κs =
     let a = operandMeaning (c .before .before .before .before .before .before .before .before .before .before .before .before .operand-at .result) in
     let b = operandMeaning (c .before .before .before .before .before .before .before .operand-at2 .result) in
     let o = operatorMeaning (c .before .operator-of .result) in
-    let made = operation edition1 m o (x .0 .0 .value) (y .0 .0 .value) in
-    let few = few-more 0 2 made (omega arith) (few-operation edition1 m o (x .0 .0 .value) (y .0 .0 .value)) in (
+    let made = operation edition1 o (x .0 .0 .value) (y .0 .0 .value) in
+    let few = few-more 0 2 made (omega arith) (few-operation edition1 o (x .0 .0 .value) (y .0 .0 .value)) in (
       omega (arith, few-done (few-operand edition1 m a) left, few-done (few-operand edition1 m b) right),
-      subst (λ (w : Work ℤ). Few 2 w) (sym (c .operation .ensures m .work)) few,
+      subst (λ (w : Work ℤ). Few 2 w) (sym (c .operation .ensures .work)) few,
     )
 
 enum-known-k : tie.Need-enum-known-k
@@ -111,10 +111,10 @@ returns c =
     let right = ap (operandIn edition1 m) (sym (c .before .before .before .before .before .before .before .before .operand-at2 .ensures)) ∙ number-is (c .before .before .before .before .before .before .before .quick-value2 .ensures) (y .1) in
     let sign = c .before .before .operator-of .ensures ∙ ap operatorOfKind (c .before .before .before .item-kind .ensures) in
     let made =
-    subst (λ (q : Operator). Answers (c .before .operation .result) (operation edition1 m q (x .0 .0 .value) (y .0 .0 .value))) sign
-    (c .before .operation .ensures m) in
+    subst (λ (q : Operator). Answers (c .before .operation .result) (operation edition1 q (x .0 .0 .value) (y .0 .0 .value))) sign
+    (c .before .operation .ensures) in
     subst (Answers (c .noted .result)) (sym (items ∙ pair-works m a b o left right))
-    (c .noted .ensures (operation edition1 m o (x .0 .0 .value) (y .0 .0 .value)) made)
+    (c .noted .ensures (operation edition1 o (x .0 .0 .value) (y .0 .0 .value)) made)
 
 returns-2 : tie.Need-returns-2
 returns-2 c =
