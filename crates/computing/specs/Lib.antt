@@ -44,7 +44,6 @@ unfolding
     Rattle.scanning.specs.Trials.match
     Rattle.scanning.specs.Trials.answered
     Rattle.scanning.specs.Trials.scan
-    Rattle.scanning.specs.Trials.backscan
     Rattle.cards.specs.Bytes.between
     Rattle.cards.specs.Bytes.marks
     Rattle.cards.specs.Bytes.isLetter

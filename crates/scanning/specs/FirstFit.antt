@@ -1,6 +1,6 @@
--- The scan answers the first fit, for every pattern and reference, and so does BACKSCAN. Assumes nothing.
+-- The scan answers the first fit, for every pattern and reference, that of a BACKSCAN too. Assumes nothing.
 use mathlib.Core.Bool.{Bool, true, false, false≢true}
-use mathlib.Core.List.{List, [], _∷_, reverse}
+use mathlib.Core.List.{List, [], _∷_}
 use mathlib.Core.Logic.{_⊎_, inl, inr, ⊎-elim, _↔_}
 use mathlib.Core.Option.{none, some, Option·none-ne-some, Option·some-ne-none, Option·some-injective}
 use mathlib.Core.Path.{_≡_, refl, sym, _∙_, ap, subst}
@@ -16,7 +16,7 @@ use Rattle.base.specs.ListLaws.{begins-iff}
 use Rattle.scanning.specs.Splits.{Element, string, fixed, free, Split, Suits, PiecesFit, Fits, Longer, Later, FirstFit}
 use Rattle.scanning.specs.Splits.{AnswersFirstFit}
 use Rattle.scanning.specs.Trials.{Tried, found, other, few, passed, tested, moved, settled, slide, match, answered}
-use Rattle.scanning.specs.Trials.{scan, backscan}
+use Rattle.scanning.specs.Trials.{scan}
 use Rattle.scanning.specs.Laws.{row, row-injective, first-fit-unique}
 
 -- which rows of lengths fit at a place
@@ -213,12 +213,7 @@ module _ (p : List Element) (r : List ℕ) where
   answered-first (other n) h = answers-none (λ s. h (row s))
   answered-first (few n) h = answers-none (λ s. h 0 (row s))
 
--- demand 3 of SCAN: it fails exactly when no split fits, and otherwise answers the first fit
+-- demand 3 of SCAN, and of BACKSCAN with r turned round: it fails exactly when no split fits, and otherwise answers the first fit
 pub scan-first-fit : (p : List Element) (r : List ℕ) → AnswersFirstFit p r (scan p r .split)
 unfolding scan
 scan-first-fit p r = answered-first p r (slide (match p) r) (slide-says (PiecesFit p) (match p) (match-says p) r)
-
--- demand 3 of BACKSCAN: the same of the reference turned round
-pub backscan-first-fit : (p : List Element) (r : List ℕ) → AnswersFirstFit p (reverse r) (backscan p r .split)
-unfolding backscan
-backscan-first-fit p r = scan-first-fit p (reverse r)

@@ -1,13 +1,11 @@
--- The order of splits is strict and total, a first fit is unique, and turning the reference round twice changes nothing.
--- Assumes nothing.
-use mathlib.Core.List.{List, [], _∷_, reverse, reverse-reverse}
+-- The order of splits is strict and total, and a first fit is unique. Assumes nothing.
+use mathlib.Core.List.{List, [], _∷_}
 use mathlib.Core.Logic.{_⊎_, inl, inr, ⊎-elim, ⊎-map, _≢_}
 use mathlib.Core.Path.{_≡_, refl, sym, _∙_, ap}
 use Prim.Native.Nat.{ℕ, zero, suc, _<_}
 use native.Mathlib.Omega.{arith}
 use lib.ListN.{length, drop}
 use Rattle.scanning.specs.Splits.{Element, Split, PiecesFit, Fits, Longer, Later, FirstFit}
-use Rattle.scanning.specs.Trials.{scan, backscan}
 
 -- two numbers are equal or one is greater
 number-total : (l m : ℕ) → (l ≡ m) ⊎ ((m < l) ⊎ (l < m))
@@ -106,8 +104,3 @@ unfolding FirstFit
 first-fit-unique p r s t f g =
     let never = ⊎-elim (first-fit-least p r s t f (g .0)) (first-fit-least p r t s g (f .0)) in
     ⊎-elim (λ e. e) (λ later. absurd (never later)) (fits-total p r s t (f .0) (g .0))
-
--- N7: turned round twice the reference is as it was
-pub backscan-turned : (p : List Element) (r : List ℕ) → backscan p (reverse r) ≡ scan p r
-unfolding backscan
-backscan-turned p r = rw (reverse-reverse r)

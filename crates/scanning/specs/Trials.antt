@@ -1,7 +1,7 @@
 -- Document 01, "Scan": the scan step by step, with the trials it makes. A place is what is left of the reference from there.
 -- Assumes nothing.
 use mathlib.Core.Bool.{Bool, true, false}
-use mathlib.Core.List.{List, [], _∷_, reverse}
+use mathlib.Core.List.{List, [], _∷_}
 use mathlib.Core.Option.{Option, none, some}
 use Prim.Native.Nat.{ℕ, suc, _+_}
 use lib.Dec.{leb}
@@ -22,7 +22,7 @@ passed l (found ls n) = found (l ∷ ls) (suc n)
 passed l (other n) = other (suc n)
 passed l (few n) = few (suc n)
 
--- N11 "the first that fails ends it"; N12: too few bytes are looked at before other bytes
+-- N11 "the first that fails ends it"; decided for N12: too few bytes are looked at before other bytes
 unfoldable pub tested : (enough equal : Bool) → ℕ → Tried → Tried
 tested false equal l next = few 1
 tested true false l next = other 1
@@ -65,6 +65,7 @@ pub record Scanned : Type 0 where
   pub split : Option Split
   pub trials : ℕ
 
+-- a row found has a gap in front (slide), so it is never []
 unfoldable pub answered : Tried → Scanned
 answered (found [] n) = record { split = none; trials = n }
 answered (found (start ∷ ls) n) = record { split = some (record { start = start; lengths = ls }); trials = n }
@@ -74,7 +75,3 @@ answered (few n) = record { split = none; trials = n }
 -- N10 "The first group is tried from place 0"
 unfoldable pub scan : List Element → List ℕ → Scanned
 scan p r = answered (slide (match p) r)
-
--- N7 "BACKSCAN: the reference is turned round, scanned"
-unfoldable pub backscan : List Element → List ℕ → Scanned
-backscan p r = scan p (reverse r)
