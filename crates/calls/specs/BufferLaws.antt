@@ -13,6 +13,7 @@ use lib.ListN.{replicate-append-replicate, take-append-drop}
 use lib.Seq.{drop-at, drop-cons, drop-drop, length-take-le, take-add}
 use borrow.Author.Tests.{leb-true, ltb-true, eqb-true, le-leb, lt-ltb}
 use Rattle.base.specs.Lists.{all}
+use Rattle.machine.specs.Bounds.{set-everywhere}
 use Rattle.machine.specs.State.{mostStrings}
 use Rattle.values.specs.Conversion.{longestString}
 use Rattle.calls.specs.Buffers.{
@@ -326,11 +327,7 @@ image-set (w ∷ vs) (suc i) v h s k =
     ∙ ap (λ (j : ℕ). splice (cellImage w ++ storeImage vs) j (cellImage v)) place
 
 short-set : (vs : List (List ℕ)) (i : ℕ) (v : List ℕ) → Short vs → length v ≤ 1024 → Short (set vs i v)
-short-set [] i v s k j = s j
-short-set (w ∷ vs) zero v s k zero = k
-short-set (w ∷ vs) zero v s k (suc j) = s (suc j)
-short-set (w ∷ vs) (suc i) v s k zero = s 0
-short-set (w ∷ vs) (suc i) v s k (suc j) = short-set vs i v (λ n. s (suc n)) k j
+short-set vs i v s k = set-everywhere (λ w. length w ≤ 1024) vs i v [] k s
 
 -- the store with a string set
 unfoldable pub storeWith : List ℕ → ℕ → List ℕ → List ℕ

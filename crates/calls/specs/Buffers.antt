@@ -39,7 +39,8 @@ stringsFrom store at (suc n) = stringIn store at ∷ stringsFrom store (at + cel
 unfoldable pub stringsIn : List ℕ → List (List ℕ)
 stringsIn store = stringsFrom store 0 mostStrings
 
--- Q14 "a length exceeds 1,024, or a byte behind it isn't zero": neither is so of the cell that starts at a place
+-- Q14 "a length exceeds 1,024, or a byte behind it isn't zero": neither is so of the cell that starts at a place; lists are of naturals,
+-- so that the length's low byte is one is said too
 unfoldable pub cellKeeps : List ℕ → ℕ → Bool
 cellKeeps store at =
     let n = numberAt 2 store at in

@@ -44,11 +44,15 @@ readJudged e table (accepted p) = record { number = 0; card = 0; table = image e
 readJudged e table (refused n card) =
     record { number = n; card = card; table = replicate (e .tableSize) 0 ++ drop (e .tableSize) table }
 
+-- the deck call, by how its two sizes and its deck come out
+abbrev pub readBy : Edition → List ℕ → (long short : Bool) → Judgement → ReadCalled
+readBy e table long short j =
+    cond long (record { number = 1; card = 0; table = table })
+    (cond short (record { number = 2; card = 0; table = table })
+    (readJudged e table j))
+
 unfoldable pub readCall : Edition → (deck table : List ℕ) → ReadCalled
-readCall e deck table =
-    cond (ltb longestDeck (length deck)) (record { number = 1; card = 0; table = table })
-    (cond (ltb (length table) (e .tableSize)) (record { number = 2; card = 0; table = table })
-    (readJudged e table (judge e deck)))
+readCall e deck table = readBy e table (ltb longestDeck (length deck)) (ltb (length table) (e .tableSize)) (judge e deck)
 
 -- the starting call: number, and the store and state left
 pub record StartCalled : Type 0 where
@@ -69,6 +73,15 @@ pub record Buffers : Type 0 where
   pub store : List ℕ
   pub state : List ℕ
   pub output : List ℕ
+
+-- what is left in buffers of a machine
+abbrev pub leftOf : List ℕ → Buffers → State → Buffers
+leftOf input b c =
+    record {
+      store = storeLeft (b .store) c;
+      state = stateLeft (b .state) input c;
+      output = outputLeft (b .output) c;
+    }
 
 -- the step call: number, the numbers of the answer, and the buffers left
 pub record StepCalled : Type 0 where
@@ -98,12 +111,7 @@ module _ (e : Edition) (table input : List ℕ) where
       record {
         number = s .answer .number;
         answer = answerNumbers (s .answer .notes) (s .answer .scanned);
-        left =
-            record {
-              store = storeLeft (b .store) (s .state);
-              state = stateLeft (b .state) input (s .state);
-              output = outputLeft (b .output) (s .state);
-            };
+        left = leftOf input b (s .state);
       }
 
   -- D5 "A step turned down by 2 or 13 to 16 hands its state back unchanged"

@@ -1,6 +1,6 @@
 -- The customer's third demand, proved; with it, that the table of an accepted deck holds its program, and that a run of calls is the run
 -- of the machine. Assumes nothing; every edition whose sizes fit is covered, and edition 1 is one.
-use mathlib.Core.Bool.{Bool, true, false, not, _&&_, and-eq-true-iff}
+use mathlib.Core.Bool.{true, false, not, _&&_, and-eq-true-iff}
 use mathlib.Core.List.{List, [], _∷_}
 use mathlib.Core.Option.{Option, none}
 use mathlib.Core.Path.{_≡_, refl, sym, _∙_, ap, ap₂, subst, subst₂}
@@ -10,6 +10,7 @@ use lib.Dec.{leb, ltb, eqb, lit<, lit≤}
 use lib.ListN.{length, getD}
 use lib.Seq.{getD-set-other}
 use borrow.Author.Tests.{ltb-true, ltb-false, eqb-true, eqb-false, not-true}
+use Rattle.base.specs.Choice.{test-cases}
 use Rattle.base.specs.Edition.{Edition, edition1}
 use Rattle.base.specs.Lists.{all}
 use Rattle.judgement.specs.Deck.{accepted, judge}
@@ -85,26 +86,24 @@ module _ (e : Edition) (limit : e .limit < bias) (wide : longestString ≤ e .li
         → stepCall e table input b .number ≡ 0
         → Scans e (c .memory) d q xs r (stepCall e table input b .answer) (givenIn e table input (stepCall e table input b .left) .memory)
     unfolding step carried givenIn
-    scans-held d q xs r f is passes = either (eqb (turnedDownBy p c) 0) refl
-      where
-        Claim : Type 0
-        Claim = Scans e (c .memory) d q xs r (stepCall e table input b .answer) (givenIn e table input (stepCall e table input b .left) .memory)
-
-        either : (goes : Bool) → eqb (turnedDownBy p c) 0 ≡ goes → Claim
-        either true goes =
-            let w = carrying e lent (Program.scan d q xs r f) c in
-            let stepped : step e p lent c ≡ concluded c w = rw (goes, is) in
-            let called : stepCall e table input b ≡ carried e table input b (concluded c w) =
-            call-held e p table input t lent c b h true goes ∙ ap (carried e table input b) stepped in
-            let ended = rw is at (next-sound e wide p runs lent input c s (returns-enough p c (eqb-true (turnedDownBy p c) 0 goes))) in
-            let number : concluded c w .answer .number ≡ 0 = sym (ap (λ x. x .number) called) ∙ passes in
-            let held = step-holds e p table input t limit wide runs lent c b s h .given in
-            subst₂ (Scans e (c .memory) d q xs r) (sym (ap (λ x. x .answer) called))
-            (sym (ap (λ x. x .memory) held ∙ ap (λ x. x .state .memory) stepped))
-            (concluded-scans e lent c d q xs r f w refl ended number)
-        either false goes =
-            let number : turnedDownBy p c ≡ 0 = sym (ap (λ x. x .number) (call-held e p table input t lent c b h false goes)) ∙ passes in
-            absurd (eqb-false (turnedDownBy p c) 0 goes number)
+    scans-held d q xs r f is passes =
+        let left = stepCall e table input b .left in
+        test-cases (λ _. Scans e (c .memory) d q xs r (stepCall e table input b .answer) (givenIn e table input left .memory))
+        (eqb (turnedDownBy p c) 0)
+        (λ goes.
+        let w = carrying e lent (Program.scan d q xs r f) c in
+        let stepped : step e p lent c ≡ concluded c w = rw (goes, is) in
+        let called : stepCall e table input b ≡ carried e table input b (concluded c w) =
+        call-held e p table input t lent c b h true goes ∙ ap (carried e table input b) stepped in
+        let ended = rw is at (next-sound e wide p runs lent input c s (returns-enough p c (eqb-true (turnedDownBy p c) 0 goes))) in
+        let number : concluded c w .answer .number ≡ 0 = sym (ap (λ x. x .number) called) ∙ passes in
+        let held = step-holds e p table input t limit wide runs lent c b s h .given in
+        subst₂ (Scans e (c .memory) d q xs r) (sym (ap (λ x. x .answer) called))
+        (sym (ap (λ x. x .memory) held ∙ ap (λ x. x .state .memory) stepped))
+        (concluded-scans e lent c d q xs r f w refl ended number))
+        (λ goes.
+        let number : turnedDownBy p c ≡ 0 = sym (ap (λ x. x .number) (call-held e p table input t lent c b h false goes)) ∙ passes in
+        absurd (eqb-false (turnedDownBy p c) 0 goes number))
 
     -- where such a step finds no split, the string searched is as before
     failure-held : (d : Direction) (q : Part) (xs : List PatternElement) (r : Option (List Program.Element)) (f : Branch)
@@ -161,27 +160,22 @@ module _ (e : Edition) (limit : e .limit < bias) (wide : longestString ≤ e .li
   -- the claim of the step behind k steps, by the size of the store lent
   claim-after : (store output : List ℕ) (k : ℕ)
       → StepClaim e p table store input (after e p (length output) k (fresh input)) (buffersAfter e table input k (startedWith store output))
-  claim-after store output k = by-size (ltb (length store) storeSize) refl
-    where
-      c : State
-      c = after e p (length output) k (fresh input)
-
-      b : Buffers
-      b = buffersAfter e table input k (startedWith store output)
-
-      by-size : (small : Bool) → ltb (length store) storeSize ≡ small → StepClaim e p table store input c b
-      by-size true q =
-          let small = ltb-true (length store) storeSize q in
-          let same = started-small store output q in
-          let left : length (startedWith store output .store) < storeSize = rw same small in
-          let after-same = small-after e p table input t k (startedWith store output) left in
-          claim-small store c b small (subst (λ (x : Buffers). length (x .store) < storeSize) (sym after-same) left)
-      by-size false q =
-          let lent = length output in
-          let sound = fresh-sound e wide p runs lent input in
-          let started = started-holds e limit wide p runs store input output (ltb-false (length store) storeSize q) in
-          let both = after-holds e p table input t limit wide runs lent k (fresh input) (startedWith store output) sound started in
-          claim-held lent c b (both .0) (both .1) store (ltb-false (length store) storeSize q)
+  claim-after store output k =
+      let lent = length output in
+      let c = after e p lent k (fresh input) in
+      let b = buffersAfter e table input k (startedWith store output) in
+      test-cases (λ _. StepClaim e p table store input c b) (ltb (length store) storeSize)
+      (λ q.
+      let small = ltb-true (length store) storeSize q in
+      let same = started-small store output q in
+      let left : length (startedWith store output .store) < storeSize = rw same small in
+      let after-same = small-after e p table input t k (startedWith store output) left in
+      claim-small store c b small (subst (λ (x : Buffers). length (x .store) < storeSize) (sym after-same) left))
+      (λ q.
+      let sound = fresh-sound e wide p runs lent input in
+      let started = started-holds e limit wide p runs store input output (ltb-false (length store) storeSize q) in
+      let both = after-holds e p table input t limit wide runs lent k (fresh input) (startedWith store output) sound started in
+      claim-held lent c b (both .0) (both .1) store (ltb-false (length store) storeSize q))
 
 -- what holds of the step behind any count of steps holds along the list
 list-claim : (e : Edition) (p : Program) (table store input : List ℕ) (lent k : ℕ) (c : State) (b : Buffers)

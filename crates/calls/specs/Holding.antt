@@ -20,7 +20,7 @@ use Rattle.values.specs.Numbers.{isInRange}
 use Rattle.calls.specs.BufferLaws.{Good, image-strings, image-good}
 use Rattle.calls.specs.Buffers.{storeSize, storeKeeps, storeImage, stateSize, returnsAt, numbersAt, statusNumber, statusOf}
 use Rattle.calls.specs.Buffers.{returnsIn, numbersIn, stateKeeps, stateIn, storeLeft, stateLeft, outputLeft}
-use Rattle.calls.specs.Calls.{Buffers}
+use Rattle.calls.specs.Calls.{Buffers, leftOf}
 use Rattle.calls.specs.Invariant.{Sound}
 use Rattle.calls.specs.NumeralLaws.{unbiased-biased}
 use Rattle.calls.specs.Numerals.{bias, biased, unbiased}
@@ -32,15 +32,6 @@ pub record Holding (e : Edition) (p : Program) (lent : ℕ) (input : List ℕ) (
   pub stateGood : stateKeeps e (length (p .steps)) (length input) lent (b .state) ≡ true
   pub stateLength : length (b .state) ≡ stateSize
   pub outputLength : length (b .output) ≡ lent
-
--- what is left in buffers of a machine
-abbrev pub leftOf : List ℕ → Buffers → State → Buffers
-leftOf input b c =
-    record {
-      store = storeLeft (b .store) c;
-      state = stateLeft (b .state) input c;
-      output = outputLeft (b .output) c;
-    }
 
 -- a status is read back from its number
 pub status-back : (x : Status) → statusOf (statusNumber x) ≡ x

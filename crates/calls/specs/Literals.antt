@@ -7,6 +7,7 @@ use Prim.Native.Nat.{ℕ, suc, _+_}
 use native.Mathlib.Numerals.{add-one}
 use lib.Dec.{leb, ltb, eqb}
 use lib.ListN.{length, take, drop, getD}
+use lib.Seq.{length-take-le}
 use borrow.Author.Tests.{eqb-true, not-true}
 use Rattle.base.specs.Choice.{test-cases, cond-cases}
 use Rattle.base.specs.Lists.{same, begins, all, isNil}
@@ -25,6 +26,7 @@ use Rattle.cards.specs.Packing.{
   literalsFrom,
   literalsWhole,
 }
+use Rattle.language.specs.Fuel.{run-within}
 use Rattle.language.specs.Keywords.{Kind, UNKNOWN, keywords, Leading, longest, isReplacement, leading}
 use Rattle.language.specs.Reading.{Read, got, aLiteral}
 use Rattle.language.specs.Strings.{literalAt}
@@ -129,12 +131,7 @@ whole-leading bs whole =
 
 -- bytes that pass a test are as many as they are counted
 run-length : (f : ℕ → Bool) (bs : List ℕ) → length (take (run f bs) bs) ≡ run f bs
-unfolding run
-run-length f [] = refl
-run-length f (b ∷ bs) =
-    test-cases
-    (λ t. length (take (elim t [ true ↦ suc (run f bs) | false ↦ 0 ]) (b ∷ bs)) ≡ (elim t [ true ↦ suc (run f bs) | false ↦ 0 ])) (f b)
-    (λ _. ap suc (run-length f bs)) (λ _. refl)
+run-length f bs = length-take-le (run f bs) bs (run-within f bs)
 
 -- a literal is closed by the next quote
 whole-closed : (bs : List ℕ) → literalsFrom inside bs ≡ true → Whole (drop (suc (run isPlain bs)) bs)

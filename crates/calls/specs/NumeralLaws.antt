@@ -43,12 +43,6 @@ byte-read t at b bs s = ap (λ (n : ℕ). getD t n 0) (sym (add-zero at)) ∙ sy
 pub bytes-read : (t : List ℕ) (at : ℕ) (bs : List ℕ) → Stands t at bs → take (length bs) (drop at t) ≡ bs
 bytes-read t at bs s = rw (s .here) (take-append-seam bs (s .behind))
 
--- as many bytes as asked for
-pub length-inBytes : (k n : ℕ) → length (inBytes k n) ≡ k
-unfolding inBytes
-length-inBytes zero n = refl
-length-inBytes (suc k) n = ap suc (length-inBytes k (n / 256))
-
 -- a number that its bytes can hold is read where they stand
 pub number-read : (k : ℕ) (t : List ℕ) (at n : ℕ) → n < 256 ^ k → Stands t at (inBytes k n) → numberAt k t at ≡ n
 unfolding inBytes numberAt

@@ -9,7 +9,7 @@ use native.Mathlib.Omega.{arith}
 use lib.Dec.{ltb, eqb}
 use lib.ListN.{getD}
 use borrow.Author.Tests.{eqb-true, eqb-false, lt-ltb}
-use Rattle.base.specs.Choice.{cond-cases}
+use Rattle.base.specs.Choice.{test-cases, cond-cases}
 use Rattle.base.specs.Edition.{Edition}
 use Rattle.language.specs.Program as Program
 use Rattle.language.specs.Program.{Statement}
@@ -98,11 +98,6 @@ ended e p lent input n z y h no-notes r k true met is =
 ended e p lent input n z y h no-notes r k false true is = record { outcome = refl; number = refl; steps = refl; notes = refl; holds = h }
 ended e p lent input n z y h no-notes r k false false is = absurd (false≢true is)
 
--- a number other than 0
-positive : (n : ℕ) → ¬ (n ≡ 0) → 0 < n
-positive zero h = absurd (h refl)
-positive (suc n) h = omega arith
-
 -- the notes among an answer's numbers
 notes-at : (notes : ℕ) (s : Option Split) (trials : ℕ) → getD (splitNumbers s trials notes) 3 0 ≡ notes
 unfolding splitNumbers
@@ -141,20 +136,20 @@ module _ (e : Edition) (limit : e .limit < bias) (wide : longestString ≤ e .li
     call-numbers : (stepCall e table input b .number ≡ step e p lent c .answer .number)
         × (getD (stepCall e table input b .answer) 3 0 ≡ step e p lent c .answer .notes)
     unfolding carried step answerNumbers noAnswer splitNumbers
-    call-numbers = either (eqb (turnedDownBy p c) 0) refl
-      where
-        either : (goes : Bool) → eqb (turnedDownBy p c) 0 ≡ goes → (stepCall e table input b .number ≡ step e p lent c .answer .number)
-            × (getD (stepCall e table input b .answer) 3 0 ≡ step e p lent c .answer .notes)
-        either true q =
-            let called = call-held e p table input t lent c b h true q in
-            let a = step e p lent c .answer in
-            (ap (λ k. k .number) called, ap (λ k. getD (k .answer) 3 0) called ∙ notes-at (a .notes) (a .scanned .split) (a .scanned .trials))
-        either false q =
-            let called = call-held e p table input t lent c b h false q in
-            let turned = step-turned e p lent c q in (
-              ap (λ k. k .number) called ∙ ap (λ s. s .answer .number) (sym turned),
-              ap (λ k. getD (k .answer) 3 0) called ∙ ap (λ s. s .answer .notes) (sym turned),
-            )
+    call-numbers =
+        let a = step e p lent c .answer in
+        test-cases
+        (λ _. (stepCall e table input b .number ≡ a .number) × (getD (stepCall e table input b .answer) 3 0 ≡ a .notes))
+        (eqb (turnedDownBy p c) 0)
+        (λ q.
+        let called = call-held e p table input t lent c b h true q in
+        (ap (λ k. k .number) called, ap (λ k. getD (k .answer) 3 0) called ∙ notes-at (a .notes) (a .scanned .split) (a .scanned .trials)))
+        (λ q.
+        let called = call-held e p table input t lent c b h false q in
+        let turned = step-turned e p lent c q in (
+          ap (λ k. k .number) called ∙ ap (λ s. s .answer .number) (sym turned),
+          ap (λ k. getD (k .answer) 3 0) called ∙ ap (λ s. s .answer .notes) (sym turned),
+        ))
 
     -- the runs behind the step, r of the machine and k of the calls
     module _ (r : Ran) (k : RunCalled) (s : Sound e p lent input c) (rest : RunSame e p lent input r k) where
@@ -191,7 +186,7 @@ module _ (e : Edition) (limit : e .limit < bias) (wide : longestString ≤ e .li
           let no-notes = call-numbers .1 ∙ undone-notes e p lent c some-met in
           subst (λ (y : StepCalled). RunSame e p lent input (goingOn machine r) (runBehind y k))
           (λ i. record { number = sym (call-numbers .0) i; answer = called .answer; left = called .left })
-          (ended e p lent input n (machine .state) behind left no-notes _ _ (ltb 16 n) (ltb 0 n) (lt-ltb 0 n (positive n some-met)))
+          (ended e p lent input n (machine .state) behind left no-notes _ _ (ltb 16 n) (ltb 0 n) (lt-ltb 0 n (omega (arith, some-met))))
 
   -- a run of calls is the run of the machine
   pub run-same : (k : ℕ) (c : State) (b : Buffers) → Sound e p lent input c → Holding e p lent input c b
@@ -203,9 +198,6 @@ module _ (e : Edition) (limit : e .limit < bias) (wide : longestString ≤ e .li
       (step-holds e p table input t limit wide runs lent c b s h) in
       let r = run e p lent k (step e p lent c .state) in
       let q = runCall e table input k (stepCall e table input b .left) in
-      either (eqb (step e p lent c .answer .number) 0) refl r q rest
-    where
-      either : (none-met : Bool) → eqb (step e p lent c .answer .number) 0 ≡ none-met → (r : Ran) (q : RunCalled) → RunSame e p lent input r q
-          → RunSame e p lent input (goingOn (step e p lent c) r) (runBehind (stepCall e table input b) q)
-      either true e₁ r q rest = done-same c b h r q s rest (eqb-true _ 0 e₁)
-      either false e₁ r q rest = undone-same c b h r q s rest (eqb-false _ 0 e₁)
+      test-cases (λ _. RunSame e p lent input (goingOn (step e p lent c) r) (runBehind (stepCall e table input b) q))
+      (eqb (step e p lent c .answer .number) 0) (λ e₁. done-same c b h r q s rest (eqb-true _ 0 e₁))
+      (λ e₁. undone-same c b h r q s rest (eqb-false _ 0 e₁))

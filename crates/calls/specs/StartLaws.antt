@@ -9,16 +9,16 @@ use lib.Dec.{ltb}
 use lib.ListN.{length, drop, replicate, length-append, length-replicate}
 use borrow.Author.Tests.{ltb-false, le-ltb}
 use Rattle.base.specs.Edition.{Edition}
-use Rattle.judgement.specs.Deck.{Judgement, accepted, judge}
+use Rattle.judgement.specs.Deck.{accepted, judge}
 use Rattle.language.specs.Program as Program
 use Rattle.language.specs.Program.{Program}
 use Rattle.machine.specs.State.{freshMemory, fresh, mostStrings}
 use Rattle.values.specs.Conversion.{longestString}
 use Rattle.calls.specs.BufferLaws.{fresh-image}
 use Rattle.calls.specs.Buffers.{storeSize, stateSize, storeLeft, stateLeft, outputLeft, firstState}
-use Rattle.calls.specs.Calls.{longestDeck, ReadCalled, readJudged, readCall, StartCalled, startCall, Buffers}
+use Rattle.calls.specs.Calls.{longestDeck, readJudged, readBy, readCall, StartCalled, startCall, Buffers, leftOf}
 use Rattle.calls.specs.Demands.{startedWith}
-use Rattle.calls.specs.Holding.{Holding, leftOf, left-holds}
+use Rattle.calls.specs.Holding.{Holding, left-holds}
 use Rattle.calls.specs.Invariant.{fresh-sound}
 use Rattle.calls.specs.ProgramLaws.{Runs}
 use Rattle.calls.specs.Numerals.{bias}
@@ -26,13 +26,6 @@ use Rattle.calls.specs.Rules.{isProgram}
 use Rattle.calls.specs.StepLaws.{Tabled}
 use Rattle.calls.specs.Table.{image, literalsAt}
 use Rattle.calls.specs.TableLaws.{image-length, programIn-image, image-keeps}
-
--- the deck call, by how its two sizes and its deck come out
-abbrev readBy : Edition → List ℕ → (long short : Bool) → Judgement → ReadCalled
-readBy e table long short j =
-    cond long (record { number = 1; card = 0; table = table })
-    (cond short (record { number = 2; card = 0; table = table })
-    (readJudged e table j))
 
 -- of an accepted deck, with both sizes right
 accepted-table : (e : Edition) (table : List ℕ) (long short : Bool) (p : Program) → readBy e table long short (accepted p) .number ≡ 0

@@ -7,6 +7,7 @@ use Prim.Native.Nat.{ℕ, zero, suc, _≤_, _<_}
 use lib.Dec.{ltb, eqb}
 use lib.ListN.{length}
 use borrow.Author.Tests.{le-ltb, lt-leb}
+use Rattle.base.specs.Choice.{test-cases}
 use Rattle.base.specs.Edition.{Edition}
 use Rattle.language.specs.Program.{Program}
 use Rattle.machine.specs.Run.{after}
@@ -97,16 +98,15 @@ module _ (e : Edition) (p : Program) (table input : List ℕ) (t : Tabled e p ta
     pub step-holds : (c : State) (b : Buffers) → Sound e p lent input c → Holding e p lent input c b
         → Holding e p lent input (step e p lent c .state) (stepCall e table input b .left)
     unfolding carried
-    step-holds c b s h = either (eqb (turnedDownBy p c) 0) refl
-      where
-        either : (goes : Bool) → eqb (turnedDownBy p c) 0 ≡ goes
-            → Holding e p lent input (step e p lent c .state) (stepCall e table input b .left)
-        either true q =
-            subst (λ (x : StepCalled). Holding e p lent input (step e p lent c .state) (x .left)) (sym (call-held lent c b h true q))
-            (left-holds e limit p lent input (step e p lent c .state) (step-sound e wide p runs lent input c s) b (h .stateLength) (h .outputLength))
-        either false q =
-            subst (λ (x : StepCalled). Holding e p lent input (step e p lent c .state) (x .left)) (sym (call-held lent c b h false q))
-            (subst (λ x. Holding e p lent input x b) (sym (ap (λ s. s .state) (step-turned e p lent c q))) h)
+    step-holds c b s h =
+        let Held : StepCalled → Type 0 = λ x. Holding e p lent input (step e p lent c .state) (x .left) in
+        test-cases (λ _. Held (stepCall e table input b)) (eqb (turnedDownBy p c) 0)
+        (λ q.
+        subst Held (sym (call-held lent c b h true q))
+        (left-holds e limit p lent input (step e p lent c .state) (step-sound e wide p runs lent input c s) b (h .stateLength) (h .outputLength)))
+        (λ q.
+        subst Held (sym (call-held lent c b h false q))
+        (subst (λ x. Holding e p lent input x b) (sym (ap (λ s. s .state) (step-turned e p lent c q))) h))
 
     -- and so behind every list of steps
     pub after-holds : (k : ℕ) (c : State) (b : Buffers) → Sound e p lent input c → Holding e p lent input c b

@@ -20,9 +20,8 @@ use Rattle.scanning.specs.Call.{noAnswer}
 use Rattle.calls.specs.BufferLaws.{good-image, keeps-good}
 use Rattle.calls.specs.Buffers.{storeKeeps, stateSize, returnsAt, numbersAt, statusNumber, returnsIn, numbersIn}
 use Rattle.calls.specs.Buffers.{stateKeeps, stateIn, storeLeft, stateLeft, outputLeft}
-use Rattle.calls.specs.Calls.{Buffers, StepCalled, givenIn, outOfRange, stepRefusal, carried, stepCall}
+use Rattle.calls.specs.Calls.{Buffers, leftOf, StepCalled, givenIn, outOfRange, stepRefusal, carried, stepCall}
 use Rattle.calls.specs.GivenLaws.{StateInRange, state-in-range, Unrefused, unrefused}
-use Rattle.calls.specs.Holding.{leftOf}
 use Rattle.calls.specs.Rules.{keepsRules}
 use Rattle.calls.specs.TableReading.{programIn}
 

@@ -6,8 +6,7 @@ use Prim.Native.Nat.{ℕ}
 use lib.ListN.{length, getD, set}
 use Rattle.base.specs.Edition.{edition1}
 use Rattle.calls.specs.Buffers.{storeKeeps, stateKeeps, stateIn}
-use Rattle.calls.specs.Calls.{Buffers}
-use Rattle.calls.specs.Holding.{leftOf}
+use Rattle.calls.specs.Calls.{Buffers, leftOf}
 use Rattle.language.specs.Program.{Program, Statement}
 use Rattle.machine.specs.State.{State}
 use Rattle.machine.specs.Step.{Done, noScan, carrying}

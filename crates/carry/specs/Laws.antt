@@ -10,9 +10,8 @@ use lib.Seq.{length-take-le, drop-set-lt, getD-set-same}
 use Rattle.base.specs.Edition.{edition1}
 use Rattle.calls.specs.BufferLaws.{Good, keeps-good}
 use Rattle.calls.specs.Buffers.{stringsIn, numbersIn, numbersAt, returnsIn, returnsAt, statusOf, stateIn, storeImage, storeLeft, outputLeft, storeSize, stateSize}
-use Rattle.calls.specs.Calls.{Buffers}
+use Rattle.calls.specs.Calls.{Buffers, leftOf}
 use Rattle.calls.specs.GivenLaws.{StateInRange, state-in-range, given-holds}
-use Rattle.calls.specs.Holding.{leftOf}
 use Rattle.expressions.specs.Memory.{memoryIn}
 use Rattle.language.specs.Program as Program
 use Rattle.language.specs.Program.{Program, Branch, Part}

@@ -26,7 +26,7 @@ use Rattle.machine.specs.State.{Memory, stringAt, numberAt, withString, 
 use Rattle.machine.specs.Step.{setStringIn}
 
 -- what holds of every element, and of what is read behind the last, holds behind a set of an element of which it holds
-set-everywhere : {A : Type 0} (P : A → Type 0) (l : List A) (i : ℕ) (a d : A) → P a → ((j : ℕ) → P (getD l j d)) → (j : ℕ)
+pub set-everywhere : {A : Type 0} (P : A → Type 0) (l : List A) (i : ℕ) (a d : A) → P a → ((j : ℕ) → P (getD l j d)) → (j : ℕ)
     → P (getD (set l i a) j d)
 set-everywhere P [] i a d h g j = g j
 set-everywhere P (x ∷ l) zero a d h g zero = h
@@ -45,6 +45,12 @@ pub record Bounded (e : Edition) (m : Memory) : Type 0 where
   pub short : (s : ℕ) → length (stringAt m s) ≤ longestString
   pub numbers : length (m .numbers) ≡ mostNumbers
   pub held : (i : ℕ) → natAbs (numberAt m i) ≤ e .limit
+
+-- turned round it is as long
+pub turned-length : (d : Direction) (r : List ℕ) → length (turned d r) ≡ length r
+unfolding turned
+turned-length forward r = refl
+turned-length backward r = length-reverse r
 
 module _ (e : Edition) where
   -- the memory before the first step
@@ -164,11 +170,6 @@ module _ (e : Edition) where
       let z = lengthIn m n in
       cond-cases (Ends Within) (isNegative z) (λ q. stops (omega arith) (omega arith))
       (λ q. ends (restricted-within d s (natAbs z) (stringAt m s) (b .short s)))
-
-  turned-length : (d : Direction) (r : List ℕ) → length (turned d r) ≡ length r
-  unfolding turned
-  turned-length forward r = refl
-  turned-length backward r = length-reverse r
 
   replacing-bounded : (d : Direction) (x : Searched) (s : Split) (r : Option (List Program.Element)) (m : Memory) → Bounded e m
       → Ends (Bounded e) (replacing e d x s r m)

@@ -39,7 +39,8 @@ counted steps notes r =
 unfoldable pub endedWith : Outcome → ℕ → State → Ran
 endedWith o n c = record { outcome = o; number = n; steps = 0; notes = 0; state = c }
 
--- a step by how it ended: it was turned down (15, 16), it stopped (17 to 21), it finished, or the run goes on
+-- a step by how it ended: it was turned down (15, 16), it stopped (17 to 21), it finished, or the run goes on; a step with number 0
+-- never leaves the status stopped
 unfoldable pub goingOn : Stepped → Ran → Ran
 goingOn s rest =
     cond (ltb 16 (s .answer .number)) (counted 1 0 (endedWith STOPPED (s .answer .number) (s .state)))

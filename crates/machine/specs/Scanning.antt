@@ -124,7 +124,8 @@ leaving e d x vs r m a (some s) = do
   left ← replacing e d x s r (naming vs (drop (s .start) (turned d (x .reference))) (s .lengths) m)
   quietly (record { memory = left; scanned = a })
 
--- N5 "Order of work: reference length; pattern values; fillers made null; scan; naming ..; replacement"
+-- N5 "Order of work: reference length; pattern values; fillers made null; scan; naming ..; replacement". The reference's bytes are taken
+-- with its length: no filler is the string searched (Q8).
 unfoldable pub scanningIn : Edition → Memory → Direction → Part → List PatternElement → Option (List Program.Element) → Work Left
 scanningIn e m d p xs r = do
   x ← searchedIn m d p

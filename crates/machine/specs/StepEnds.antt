@@ -31,10 +31,12 @@ pub step-turned : (e : Edition) (p : Program) (lent : ℕ) (c : State) → eqb (
 unfolding step
 step-turned e p lent c q = rw q
 
-concluded-stopped : (c : State) (w : Work Done) → ¬ (concluded c w .answer .number ≡ 0) → concluded c w .state ≡ withStatus stopped c
+-- a statement's work that stops changes the status alone, and gives no notes
+concluded-undone : (c : State) (w : Work Done) → ¬ (concluded c w .answer .number ≡ 0)
+    → (concluded c w .state ≡ withStatus stopped c) × (concluded c w .answer .notes ≡ 0)
 unfolding concluded
-concluded-stopped c (done d n) h = absurd (h refl)
-concluded-stopped c (stop k) h = refl
+concluded-undone c (done d n) h = absurd (h refl)
+concluded-undone c (stop k) h = (refl, refl)
 
 -- a step that is not turned down and has a number stops the machine and changes nothing else
 pub stopped-step : (e : Edition) (p : Program) (lent : ℕ) (c : State) → turnedDownBy p c ≡ 0 → ¬ (step e p lent c .answer .number ≡ 0)
@@ -42,7 +44,7 @@ pub stopped-step : (e : Edition) (p : Program) (lent : ℕ) (c : State) → turn
 unfolding step
 stopped-step e p lent c goes =
     cond-cases (λ (s : Stepped). ¬ (s .answer .number ≡ 0) → s .state ≡ withStatus stopped c) (eqb (turnedDownBy p c) 0)
-    (λ q. concluded-stopped c (carrying e lent (statementAt p (c .next)) c))
+    (λ q h. concluded-undone c (carrying e lent (statementAt p (c .next)) c) h .0)
     (λ q h. absurd (h goes))
 
 -- the machine turns down by 16 at most
@@ -52,18 +54,13 @@ turned-down-small p c =
     cond-cases (λ n. n ≤ 16) (lacksReturn (statementAt p (c .next)) (c .returns)) (λ q. omega arith)
     (λ q. cond-cases (λ n. n ≤ 16) (isRunning (c .status)) (λ q. omega arith) (λ q. omega arith))
 
-concluded-notes : (c : State) (w : Work Done) → ¬ (concluded c w .answer .number ≡ 0) → concluded c w .answer .notes ≡ 0
-unfolding concluded
-concluded-notes c (done d n) h = absurd (h refl)
-concluded-notes c (stop k) h = refl
-
 -- a step that is not done gives no notes
 pub undone-notes : (e : Edition) (p : Program) (lent : ℕ) (c : State) → ¬ (step e p lent c .answer .number ≡ 0)
     → step e p lent c .answer .notes ≡ 0
 unfolding step
 undone-notes e p lent c =
     cond-cases (λ (s : Stepped). ¬ (s .answer .number ≡ 0) → s .answer .notes ≡ 0) (eqb (turnedDownBy p c) 0)
-    (λ q. concluded-notes c (carrying e lent (statementAt p (c .next)) c)) (λ q h. refl)
+    (λ q h. concluded-undone c (carrying e lent (statementAt p (c .next)) c) h .1) (λ q h. refl)
 
 -- a machine that doesn't turn its step down is running
 pub still-running : (p : Program) (c : State) → turnedDownBy p c ≡ 0 → ¬ (c .status ≡ stopped)

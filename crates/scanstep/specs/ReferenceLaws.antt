@@ -9,6 +9,7 @@ use Rattle.calls.specs.BufferLaws.{Good, good-short}
 use Rattle.calls.specs.Splices.{splice, length-splice, take-front}
 use Rattle.cells.specs.Contracts.{stringOf}
 use Rattle.expressions.specs.Memory.{memoryIn}
+use Rattle.machine.specs.Bounds.{turned-length}
 use Rattle.machine.specs.Scanning.{leaving, patternIn, scanningIn, searchedIn, turned, withoutFillers}
 use Rattle.rows.specs.Meaning.{directionMeaning, partMeaning, patternsMeaning, replacementMeaning}
 use Rattle.rows.specs.declared.Direction.{Direction}
@@ -19,7 +20,7 @@ use Rattle.values.specs.Work.{done, stop, _>>=_}
 use Rattle.values.specs.WorkLaws.{stopped, noting-none}
 use Rattle.scanstep.specs.Scans.{scanningOf}
 use Rattle.scanstep.specs.Searches.{scanOf}
-use Rattle.scanstep.specs.StageLaws.{reference-length, turned-length}
+use Rattle.scanstep.specs.StageLaws.{reference-length}
 use Rattle.scanstep.specs.Stages.{searchedRest}
 use Rattle.scanstep.specs.declared.Span.{Span}
 

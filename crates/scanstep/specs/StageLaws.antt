@@ -2,12 +2,12 @@
 use mathlib.Core.Bool.{true, false}
 use mathlib.Core.List.{List, _++_}
 use mathlib.Core.Option.{Option, none, some}
-use mathlib.Core.Path.{_≡_, refl, sym, ap, ap₂, subst, _∙_}
+use mathlib.Core.Path.{_≡_, sym, ap, ap₂, subst, _∙_}
 use Prim.Native.Nat.{ℕ, _+_, _-_, _≤_}
 use native.Mathlib.Nat.{add-zero}
 use native.Mathlib.Omega.{arith}
 use lib.Dec.{leb}
-use lib.ListN.{length, take, drop, getD, set, length-drop, length-reverse, take-append-drop}
+use lib.ListN.{length, take, drop, getD, set, length-drop, take-append-drop}
 use lib.Seq.{drop-drop, length-take-le}
 use Rattle.base.specs.Choice.{cond-cases}
 use Rattle.base.specs.Edition.{edition1}
@@ -18,8 +18,8 @@ use Rattle.cells.specs.Contracts.{stringOf, replaced}
 use Rattle.expressions.specs.Memory.{memoryIn}
 use Rattle.expressions.specs.Notes.{Few, few-bind, few-done, few-elements-spelt}
 use Rattle.language.specs.Program as Program
-use Rattle.language.specs.Program.{forward, backward}
 use Rattle.machine.specs.Expressions.{stringIn}
+use Rattle.machine.specs.Bounds.{turned-length}
 use Rattle.machine.specs.Scanning.{Left, Searched, Valued, leaving, naming, replacing, storing, turned, withoutFillers}
 use Rattle.machine.specs.State.{Memory}
 use Rattle.rows.specs.Meaning.{directionMeaning, elementsMeaning, patternsMeaning}
@@ -43,12 +43,6 @@ use Rattle.scanstep.specs.Searches.{Finds, Named, Searchable, scanOf}
 use Rattle.scanstep.specs.Stages.{Counting, Findable, searchedRest, valuedRest}
 use Rattle.scanstep.specs.declared.Scanned.the-variants as scans
 use Rattle.scanstep.specs.declared.Span.{Span}
-
--- a list turned round is as long
-pub turned-length : (d : Program.Direction) (l : List ℕ) → length (turned d l) ≡ length l
-unfolding turned
-turned-length forward l = refl
-turned-length backward l = length-reverse l
 
 -- a stretch is as long as its ends say
 pub reference-length : (store : List ℕ) (at : Span) → Between store (at .place) (at .from) (at .to)

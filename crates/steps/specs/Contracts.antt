@@ -7,8 +7,7 @@ use lib.Dec.{ltb}
 use lib.ListN.{length, getD, set, replicate}
 use Rattle.base.specs.Edition.{edition1}
 use Rattle.calls.specs.Buffers.{storeKeeps, stateKeeps}
-use Rattle.calls.specs.Calls.{Buffers, StepCalled, carried}
-use Rattle.calls.specs.Holding.{leftOf}
+use Rattle.calls.specs.Calls.{Buffers, leftOf, StepCalled, carried}
 use Rattle.calls.specs.Numerals.{numberAt}
 use Rattle.calls.specs.Rules.{keepsRules}
 use Rattle.calls.specs.TableReading.{programIn}
