@@ -5,10 +5,9 @@ use mathlib.Core.Option.{Option, none, some}
 use mathlib.Core.Path.{_≡_, refl, sym, _∙_, ap, subst}
 use Prim.Native.Nat.{ℕ, suc, _+_, _^_, _≤_}
 use native.Mathlib.Omega.{arith}
-use lib.Dec.{ltb}
 use lib.ListN.{length, length-append}
-use borrow.Author.Tests.{ltb-false, lt-ltb, le-leb, ne-eqb}
-use Rattle.base.specs.Choice.{test-cases, neither-true, both-pass}
+use borrow.Author.Tests.{lt-ltb, le-leb, ne-eqb}
+use Rattle.base.specs.Choice.{test-cases, both-pass}
 use Rattle.base.specs.Edition.{Edition}
 use Rattle.base.specs.Limits as Limits
 use Rattle.base.specs.Lists.{same, any, all, total}
@@ -17,18 +16,18 @@ use Rattle.cards.specs.Cards.{Entry, entries}
 use Rattle.cards.specs.Packing.{packed}
 use Rattle.judgement.specs.Deck.{indexOf, placesOf, stepRead, stepsFrom, programOf, accepted, judge}
 use Rattle.judgement.specs.Known.{Known, nothingKnown, strings, numbers, namesFor, isStep, learn}
-use Rattle.judgement.specs.Laws.{LastFinishes, accepted-counts, accepted-finishes}
+use Rattle.judgement.specs.Laws.{not10-few, accepted-counts, accepted-finishes}
 use Rattle.judgement.specs.Laws.Cards.{deck-counts, accepted-cards}
-use Rattle.judgement.specs.Names.{Has, names-for}
-use Rattle.judgement.specs.Placed.Again.{IsStep, Again, ends, past, reads, deckSizes, passed-again}
-use Rattle.judgement.specs.Refusals.{is8, is10}
+use Rattle.judgement.specs.Names.{names-for}
+use Rattle.judgement.specs.Placed.{NamesOf, deckSizes}
+use Rattle.judgement.specs.Placed.Again.{IsStep, Again, ends, past, reads, passed-again}
+use Rattle.judgement.specs.Refusals.{is8}
 use Rattle.judgement.specs.Rules.{accepted-program}
-use Rattle.language.specs.Alike.{PlacedBy}
 use Rattle.language.specs.Keywords.{leading}
-use Rattle.language.specs.Placed.{Each}
+use Rattle.language.specs.Placed.{Each, PlacedBy}
 use Rattle.language.specs.Program.{Statement, Step, Program}
 use Rattle.language.specs.Reading.{string, Met, Read, got}
-use Rattle.calls.specs.Rules.{statementHolds, stepHolds, isFinish, lastFinishes, isProgram}
+use Rattle.calls.specs.Rules.{statementHolds, stepHolds, isProgram}
 use Rattle.calls.specs.Table.{elementsOf, itemsOf, allElements, allItems, allLiterals}
 use Rattle.calls.specs.Yielding.{viewOf, Fit}
 use Rattle.calls.specs.YieldingForms.{FormedOrNone, Distinct, literals-append, statement-yields}
@@ -53,7 +52,7 @@ index-injective (w ∷ ws) m n h g q =
     h q
 
 -- strings of other names have other places
-places-distinct : (k : Known) (i : ℕ) → Distinct (λ x. Has x (k .names)) (placesOf k i)
+places-distinct : (k : Known) (i : ℕ) → Distinct (NamesOf k) (placesOf k i)
 unfolding placesOf strings
 places-distinct k i m n h g differ =
     let ws = namesFor string (k .names) in
@@ -61,26 +60,8 @@ places-distinct k i m n h g differ =
     let equal = index-injective ws m n (names-for string m (k .names) ∙ h) (names-for string n (k .names) ∙ g) q in
     true≢false (sym (same-refl n) ∙ ap (same n) (sym equal) ∙ differ))
 
--- rows that do not pass their limit
-rows-few : (ns : List ℕ) → any (ltb Limits.row) ns ≡ false → Each (λ n. n ≤ Limits.row) ns
-unfolding any Each
-rows-few [] h = tt
-rows-few (n ∷ ns) h =
-    let parts = neither-true (ltb Limits.row n) (any (ltb Limits.row) ns) h in
-    (ltb-false Limits.row n (parts .0), rows-few ns (parts .1))
-
--- where 10 does not apply no expression has too many elements
-not10-rows : (k : Known) (m : Met) → is10 k m ≡ false → Each (λ n. n ≤ Limits.row) (m .rows)
-unfolding is10
-not10-rows k m h =
-    let h1 = neither-true (ltb Limits.statements (k .statements)) _ h .1 in
-    let h2 = neither-true (ltb Limits.strings (length (strings k))) _ h1 .1 in
-    let h3 = neither-true (ltb Limits.numbers (length (numbers k))) _ h2 .1 in
-    let h4 = neither-true (ltb Limits.labels (length (k .labels))) _ h3 .1 in
-    let h5 = neither-true (ltb Limits.routines (length (k .routines))) _ h4 .1 in
-    rows-few (m .rows) (neither-true (any (ltb Limits.row) (m .rows)) _ h5 .0)
-
-abbrev StatementsHold : Edition → (strings numbers steps : ℕ) → List Step → Type 0
+-- statements name only strings, numbers and steps of which there are so many, and are in range
+abbrev pub StatementsHold : Edition → (strings numbers steps : ℕ) → List Step → Type 0
 StatementsHold e s n k ss = all (λ (a : Step). statementHolds e s n k (a .statement)) ss ≡ true
 
 -- steps that come behind these counts, make up the deck's and hold
@@ -124,7 +105,7 @@ statement-sound e whole false (some a) m rest card n el it li more step h not8 s
 
 -- entries that pass make steps that hold, with as many elements, items and literal bytes as were counted
 again-sound : {e : Edition} {whole k : Known} {es : List Entry}
-    → ((n : ℕ) → PlacedBy (λ x. Has x (whole .names)) (deckSizes whole) (placesOf whole n)) → Again e whole k es
+    → ((n : ℕ) → PlacedBy (NamesOf whole) (deckSizes whole) (placesOf whole n)) → Again e whole k es
     → Sound e whole (k .steps) (k .elements) (k .items) (k .literals) (stepsFrom e whole (k .steps) es)
 unfolding stepsFrom learn placesOf allElements allItems allLiterals all
 again-sound placed ends =
@@ -132,7 +113,7 @@ again-sound placed ends =
 again-sound placed (past j) = again-sound placed j
 again-sound {e} {whole} placed (reads {k} {card} {label} {text} {es} s m rest q step p used next j) =
     let kind = leading (packed text) .kind in
-    let fit : Fit (λ x. Has x (whole .names)) m = record { used = used; rows = not10-rows (learn k kind m) m (p .not10) } in
+    let fit : Fit (NamesOf whole) m = record { used = used; rows = not10-few (learn k kind m) m (p .not10) .1 } in
     let form = statement-yields e (placed (suc (k .steps))) _ label text s m rest next (places-distinct whole (suc (k .steps))) q fit in
     subst
     (λ (read : Read (Option Statement)).
@@ -143,17 +124,17 @@ again-sound {e} {whole} placed (reads {k} {card} {label} {text} {es} s m rest q 
     step form (p .not8) (again-sound placed j))
 
 -- a program's totals and statements are in range
-record InRange (e : Edition) (p : Program) : Type 0 where
-  elements : length (allElements (p .steps)) ≤ Limits.elements
-  items : length (allItems (p .steps)) ≤ Limits.items
-  literals : length (allLiterals (allElements (p .steps))) ≤ Limits.literals
-  holds : StatementsHold e (p .strings) (p .numbers) (length (p .steps)) (p .steps)
+pub record Totals (e : Edition) (p : Program) : Type 0 where
+  pub elements : length (allElements (p .steps)) ≤ Limits.elements
+  pub items : length (allItems (p .steps)) ≤ Limits.items
+  pub literals : length (allLiterals (allElements (p .steps))) ≤ Limits.literals
+  pub holds : StatementsHold e (p .strings) (p .numbers) (length (p .steps)) (p .steps)
 
 -- those of an accepted program are
-accepted-inRange : (e : Edition) (deck : List ℕ) (p : Program) → judge e deck ≡ accepted p → InRange e p
+pub accepted-totals : (e : Edition) (deck : List ℕ) (p : Program) → judge e deck ≡ accepted p → Totals e p
 unfolding programOf nothingKnown
-accepted-inRange e deck p q =
-    accepted-program e deck p q (InRange e) (λ k j _ _.
+accepted-totals e deck p q =
+    accepted-program e deck p q (Totals e) (λ k j _ _.
     let again = passed-again j in
     let few = deck-counts j in
     let sound = again-sound (again .0) (again .1) in
@@ -165,13 +146,6 @@ accepted-inRange e deck p q =
       literals = omega arith;
       holds = subst (λ n. StatementsHold e (length (strings k)) (length (numbers k)) n ss) count (sound .holds);
     })
-
--- the test that a last step finishes
-finishes-test : (ss : List Step) → LastFinishes ss → lastFinishes ss ≡ true
-unfolding LastFinishes lastFinishes isFinish
-finishes-test [] h = absurd h
-finishes-test (s ∷ []) h = ap isFinish h
-finishes-test (s ∷ (t ∷ ss)) h = finishes-test (t ∷ ss) h
 
 -- steps hold where their cards are below 2 ^ 16 and their statements hold
 steps-hold : (e : Edition) (s n k size : ℕ) → size ≤ 32768 → (ss : List Step) → Each (λ (a : Step). a .card ≤ size) ss
@@ -189,9 +163,9 @@ pub accepted-isProgram : (e : Edition) (deck : List ℕ) (p : Program) → lengt
 unfolding isProgram
 accepted-isProgram e deck p short q =
     let counts = accepted-counts e deck p q in
-    let range = accepted-inRange e deck p q in
+    let range = accepted-totals e deck p q in
     let steps =
     steps-hold e (p .strings) (p .numbers) (length (p .steps)) (length deck) short (p .steps) (accepted-cards e deck p q) (range .holds) in
     both-pass (le-leb _ _ (counts .1)) (both-pass (le-leb _ _ (counts .2)) (both-pass (le-leb _ _ (counts .0))
     (both-pass (le-leb _ _ (range .elements)) (both-pass (le-leb _ _ (range .items)) (both-pass (le-leb _ _ (range .literals))
-    (both-pass (finishes-test (p .steps) (accepted-finishes e deck p q)) steps))))))
+    (both-pass (accepted-finishes e deck p q) steps))))))

@@ -6,10 +6,11 @@ use mathlib.Core.Path.{_≡_, refl}
 use Prim.Native.Nat.{ℕ, zero, suc, _+_, _-_, _^_, _≤_, _<_}
 use native.Mathlib.Omega.{arith}
 use lib.Dec.{leb, ltb, eqb}
-use lib.ListN.{length, getD, replicate}
+use lib.ListN.{length, replicate}
 use borrow.Author.Tests.{ltb-true}
 use Rattle.base.specs.Edition.{Edition}
 use Rattle.base.specs.Lists.{all}
+use Rattle.language.specs.Placed.{Each, each-join}
 use Rattle.language.specs.Program.{Part, whole, first, Operand, constant, number, lengthOf, numberOf}
 use Rattle.language.specs.Program.{plus, minus, times, over, positive, negative, Item, operand, operator, sign}
 use Rattle.language.specs.Program.{Element, literal, part, text, PatternElement, value, freeFiller, fixedFiller}
@@ -27,28 +28,17 @@ use Rattle.calls.specs.Table.{allLiterals, literalIn, elementRows, itemR
 use Rattle.calls.specs.Table.{literalsAt, format, header, image}
 use Rattle.calls.specs.TableLaws.{in-range}
 
--- a property of the elements of a row
-module _ {A : Type 0} (P : A → Type 0) where
-  -- each element has it
-  abbrev pub All : List A → Type 0
-  All [] = Unit {0}
-  All (x ∷ xs) = P x × All xs
-
-  -- two rows that have it have it one behind the other
-  pub all-append : (xs ys : List A) → All xs → All ys → All (xs ++ ys)
-  all-append [] ys h g = g
-  all-append (x ∷ xs) ys h g = (h .0, all-append xs ys (h .1) g)
-
-  -- a row whose elements pass a test has it, where the test tells it of each
-  pub all-tested : (f : A → Bool) → ((x : A) → f x ≡ true → P x) → (xs : List A) → all f xs ≡ true → All xs
-  unfolding all
-  all-tested f g [] h = tt
-  all-tested f g (x ∷ xs) h =
-      let both = and-eq-true-iff (f x) (all f xs) .0 h in
-      (g x (both .0), all-tested f g xs (both .1))
+-- each element of a row has a property, where a test that all pass tells it
+all-tested : {A : Type 0} (P : A → Type 0) (f : A → Bool) → ((x : A) → f x ≡ true → P x) → (xs : List A) → all f xs ≡ true → Each P xs
+unfolding all Each
+all-tested P f g [] h = tt
+all-tested P f g (x ∷ xs) h =
+    let both = and-eq-true-iff (f x) (all f xs) .0 h in
+    (g x (both .0), all-tested P f g xs (both .1))
 
 -- what the elements have by way of a function, their images have
-all-map : {A B : Type 0} (P : B → Type 0) (f : A → B) (xs : List A) → All (λ x. P (f x)) xs → All P (map f xs)
+all-map : {A B : Type 0} (P : B → Type 0) (f : A → B) (xs : List A) → Each (λ x. P (f x)) xs → Each P (map f xs)
+unfolding Each
 all-map P f [] h = tt
 all-map P f (x ∷ xs) h = (h .0, all-map P f xs (h .1))
 
@@ -56,24 +46,18 @@ all-map P f (x ∷ xs) h = (h .0, all-map P f xs (h .1))
 abbrev pub IsByte : ℕ → Type 0
 IsByte b = b < 256
 
--- a list of bytes has a byte at each place
-pub byte-at : (bs : List ℕ) → All IsByte bs → (i : ℕ) → getD bs i 0 < 256
-byte-at [] h i = omega arith
-byte-at (b ∷ bs) h zero = h .0
-byte-at (b ∷ bs) h (suc i) = byte-at bs (h .1) i
-
 -- bytes filled up with zeros
-filled-bytes : (n : ℕ) (bs : List ℕ) → All IsByte bs → All IsByte (filledTo n bs)
-unfolding filledTo
-filled-bytes n bs h = all-append IsByte bs (replicate (n - length bs) 0) h (zeros (n - length bs))
+filled-bytes : (n : ℕ) (bs : List ℕ) → Each IsByte bs → Each IsByte (filledTo n bs)
+unfolding filledTo Each
+filled-bytes n bs h = each-join IsByte bs (replicate (n - length bs) 0) h (zeros (n - length bs))
   where
-    zeros : (k : ℕ) → All IsByte (replicate k 0)
+    zeros : (k : ℕ) → Each IsByte (replicate k 0)
     zeros zero = tt
     zeros (suc k) = (omega arith, zeros k)
 
 -- bytes filled up, and bytes behind them
-region-bytes : (n : ℕ) (bs rest : List ℕ) → All IsByte bs → All IsByte rest → All IsByte (filledTo n bs ++ rest)
-region-bytes n bs rest h g = all-append IsByte (filledTo n bs) rest (filled-bytes n bs h) g
+region-bytes : (n : ℕ) (bs rest : List ℕ) → Each IsByte bs → Each IsByte rest → Each IsByte (filledTo n bs ++ rest)
+region-bytes n bs rest h g = each-join IsByte (filledTo n bs) rest (filled-bytes n bs h) g
 
 -- the kind and the place of a cell are bytes
 record SmallCell (c : Cell) : Type 0 where
@@ -81,8 +65,8 @@ record SmallCell (c : Cell) : Type 0 where
   place : c .place < 256
 
 -- such a cell is made of bytes
-cell-bytes : (c : Cell) → SmallCell c → All IsByte (cellBytes c)
-unfolding inBytes cellBytes
+cell-bytes : (c : Cell) → SmallCell c → Each IsByte (cellBytes c)
+unfolding inBytes cellBytes Each
 cell-bytes c s = omega arith
 
 -- the kind and the flag of a row are bytes, and so are those of its cells
@@ -93,8 +77,8 @@ record SmallRow (r : Row) : Type 0 where
   right : SmallCell (r .right)
 
 -- such a row is made of bytes
-row-bytes : (card : ℕ) (r : Row) → SmallRow r → All IsByte (rowBytes card r)
-unfolding rowBytes inBytes cellBytes
+row-bytes : (card : ℕ) (r : Row) → SmallRow r → Each IsByte (rowBytes card r)
+unfolding rowBytes inBytes cellBytes Each
 row-bytes card r s = omega arith
 
 -- the number of a sign of comparison is a byte
@@ -126,14 +110,14 @@ SmallItem x = SmallCell (itemCell x)
 -- the row of a statement, its elements and its items
 record SmallStatement (s : Statement) : Type 0 where
   row : (element item : ℕ) → SmallRow (rowOf element item s)
-  elements : All SmallElement (elementsOf s)
-  items : All SmallItem (itemsOf s)
+  elements : Each SmallElement (elementsOf s)
+  items : Each SmallItem (itemsOf s)
 
 -- the rows of steps, their elements and their items
 record SmallSteps (ss : List Step) : Type 0 where
-  rows : (element item : ℕ) → All IsByte (stepRows element item ss)
-  elements : All SmallElement (allElements ss)
-  items : All SmallItem (allItems ss)
+  rows : (element item : ℕ) → Each IsByte (stepRows element item ss)
+  elements : Each SmallElement (allElements ss)
+  items : Each SmallItem (allItems ss)
 
 -- the place of a string or substring
 part-place : (shift : ℕ) (p : Part) → partCell shift p .place ≡ placeOf p
@@ -190,7 +174,7 @@ module _ (e : Edition) (strings numbers steps : ℕ) (short : strings ≤ 32) (f
       omega (arith, length-kinds 20 s n, length-place 20 s n, ltb-true s strings (holds .0))
 
   -- the elements of a row that holds
-  row-elements-small : (xs : List Element) → rowHolds e strings numbers steps xs ≡ true → All SmallElement (map value xs)
+  row-elements-small : (xs : List Element) → rowHolds e strings numbers steps xs ≡ true → Each SmallElement (map value xs)
   unfolding rowHolds patternCell
   row-elements-small xs h =
       let holds = and-eq-true-iff (leb (length xs) 20) (all (elementHolds e strings numbers steps) xs) .0 h in
@@ -209,7 +193,7 @@ module _ (e : Edition) (strings numbers steps : ℕ) (short : strings ≤ 32) (f
 
   -- what a statement that holds gives
   statement-small : (s : Statement) → statementHolds e strings numbers steps s ≡ true → SmallStatement s
-  unfolding statementHolds elementsOf itemsOf rowOf row rangeCell noCell cell
+  unfolding statementHolds elementsOf itemsOf rowOf row rangeCell noCell cell Each
   statement-small (setNumber i x) h =
       let one = and-eq-true-iff (ltb i numbers) (balanced 0 x && all (itemHolds e strings numbers steps) x) .0 h in
       let two = and-eq-true-iff (balanced 0 x) (all (itemHolds e strings numbers steps) x) .0 (one .1) in
@@ -240,7 +224,7 @@ module _ (e : Edition) (strings numbers steps : ℕ) (short : strings ≤ 32) (f
       all-tested SmallElement (patternHolds e strings numbers steps (placeOf p)) (pattern-small (placeOf p)) xs (three .0) in
       record {
         row = λ element item. omega (arith, flag-small d r);
-        elements = all-append SmallElement xs (map value more) pattern (row-elements-small more (four .0));
+        elements = each-join SmallElement xs (map value more) pattern (row-elements-small more (four .0));
         items = tt;
       }
   statement-small (read p b) h =
@@ -253,7 +237,7 @@ module _ (e : Edition) (strings numbers steps : ℕ) (short : strings ≤ 32) (f
 
   -- what steps that hold give
   steps-small : (ss : List Step) → all (stepHolds e strings numbers steps) ss ≡ true → SmallSteps ss
-  unfolding all stepHolds stepRows allElements allItems
+  unfolding all stepHolds stepRows allElements allItems Each
   steps-small [] h = record { rows = λ element item. tt; elements = tt; items = tt }
   steps-small (x ∷ xs) h =
       let y = x .statement in
@@ -268,36 +252,36 @@ module _ (e : Edition) (strings numbers steps : ℕ) (short : strings ≤ 32) (f
             let nextElement = element + length (elementsOf y) in
             let nextItem = item + length (itemsOf y) in
             let ownBytes = row-bytes (x .card) r (own .row element item) in
-            all-append IsByte (rowBytes (x .card) r) (stepRows nextElement nextItem xs) ownBytes (rest .rows nextElement nextItem);
-        elements = all-append SmallElement (elementsOf y) (allElements xs) (own .elements) (rest .elements);
-        items = all-append SmallItem (itemsOf y) (allItems xs) (own .items) (rest .items);
+            each-join IsByte (rowBytes (x .card) r) (stepRows nextElement nextItem xs) ownBytes (rest .rows nextElement nextItem);
+        elements = each-join SmallElement (elementsOf y) (allElements xs) (own .elements) (rest .elements);
+        items = each-join SmallItem (itemsOf y) (allItems xs) (own .items) (rest .items);
       }
 
 -- the bytes of the rows of elements
-element-bytes : (at : ℕ) (xs : List PatternElement) → All SmallElement xs → All IsByte (elementRows at xs)
-unfolding elementRows
+element-bytes : (at : ℕ) (xs : List PatternElement) → Each SmallElement xs → Each IsByte (elementRows at xs)
+unfolding elementRows Each
 element-bytes at [] h = tt
 element-bytes at (x ∷ xs) h =
     let c = patternCell at x in
     let next = at + length (literalIn x) in
-    all-append IsByte (cellBytes c) (elementRows next xs) (cell-bytes c (h .0 at)) (element-bytes next xs (h .1))
+    each-join IsByte (cellBytes c) (elementRows next xs) (cell-bytes c (h .0 at)) (element-bytes next xs (h .1))
 
 -- the bytes of the rows of items
-item-bytes : (xs : List Item) → All SmallItem xs → All IsByte (itemRows xs)
-unfolding itemRows
+item-bytes : (xs : List Item) → Each SmallItem xs → Each IsByte (itemRows xs)
+unfolding itemRows Each
 item-bytes [] h = tt
 item-bytes (x ∷ xs) h =
     let c = itemCell x in
-    all-append IsByte (cellBytes c) (itemRows xs) (cell-bytes c (h .0)) (item-bytes xs (h .1))
+    each-join IsByte (cellBytes c) (itemRows xs) (cell-bytes c (h .0)) (item-bytes xs (h .1))
 
 -- the bytes of the header
-header-bytes : (p : Program) → All IsByte (header p)
-unfolding header format inBytes
+header-bytes : (p : Program) → Each IsByte (header p)
+unfolding header format inBytes Each
 header-bytes p = omega arith
 
 -- R14 the table that holds a program is made of bytes, where its literals are
-pub image-bytes : (e : Edition) (p : Program) → isProgram e p ≡ true → All IsByte (allLiterals (allElements (p .steps)))
-    → All IsByte (image e p)
+pub image-bytes : (e : Edition) (p : Program) → isProgram e p ≡ true → Each IsByte (allLiterals (allElements (p .steps)))
+    → Each IsByte (image e p)
 unfolding image
 image-bytes e p h w =
     let ok = in-range e p h in

@@ -16,7 +16,7 @@ use Rattle.base.specs.Lists.{all, isNil}
 use Rattle.cards.specs.Bytes.{newline}
 use Rattle.language.specs.Program as Program
 use Rattle.language.specs.Program.{Part, whole, first, PatternElement, Direction, Branch, Statement, setNumber, setString, goto}
-use Rattle.language.specs.Program.{finish, ifTest, read, write, execute, return, Program}
+use Rattle.language.specs.Program.{finish, ifTest, read, write, execute, return, Program, isFinish}
 use Rattle.machine.specs.Bounds.{Bounded, fresh-bounded, string-bounded, number-bounded, expression-ends, replacement-bounded, scanning-bounded}
 use Rattle.machine.specs.Ends.{Ends, ends, stops, Any, ends-bind}
 use Rattle.machine.specs.Expressions.{lengthIn}
@@ -31,7 +31,7 @@ use Rattle.values.specs.Work.{Work, done, stop, quietly}
 use Rattle.calls.specs.NumberBounds.{expression-ranged, test-ends}
 use Rattle.calls.specs.ProgramLaws.{Runs, right-true, statement-holds, step-behind, first-step}
 use Rattle.calls.specs.Rules.{balanced, itemHolds, partHolds, rowHolds, branchHolds, testHolds, patternHolds, statementHolds}
-use Rattle.calls.specs.Rules.{isFinish, placeOf}
+use Rattle.calls.specs.Rules.{placeOf}
 use Rattle.calls.specs.Table.{replacementOf}
 
 -- every step, held return, string, number, and the places in input and output, are in range

@@ -5,13 +5,13 @@ use mathlib.Core.List.{List, [], _∷_, map}
 use mathlib.Core.Path.{_≡_, refl, sym, _∙_}
 use Prim.Native.Nat.{ℕ, zero, suc, _<_}
 use native.Mathlib.Omega.{arith}
-use lib.Dec.{leb, ltb}
+use lib.Dec.{ltb}
 use lib.ListN.{length, getD}
 use Rattle.base.specs.Edition.{Edition}
 use Rattle.base.specs.Lists.{all}
-use Rattle.language.specs.Program.{finish, Step, Program}
-use Rattle.calls.specs.Rules.{statementHolds, stepHolds, isFinish, lastFinishes, isProgram}
-use Rattle.calls.specs.Table.{allElements, allItems, allLiterals}
+use Rattle.language.specs.Program.{finish, Step, Program, isFinish, lastFinishes}
+use Rattle.calls.specs.Rules.{statementHolds, stepHolds, isProgram}
+use Rattle.calls.specs.TableLaws.{in-range}
 
 -- the statement of every step is in range
 pub statement-holds : (e : Edition) (strings numbers steps : ℕ) (ss : List Step) (k : ℕ)
@@ -55,20 +55,4 @@ pub record Runs (e : Edition) (p : Program) : Type 0 where
 
 -- a program in range runs
 pub program-runs : (e : Edition) (p : Program) → isProgram e p ≡ true → Runs e p
-unfolding isProgram
-program-runs e p h =
-    let strings = leb (p .strings) 32 in
-    let numbers = leb (p .numbers) 32 in
-    let steps = leb (length (p .steps)) 256 in
-    let elements = leb (length (allElements (p .steps))) 1024 in
-    let items = leb (length (allItems (p .steps))) 1024 in
-    let literals = leb (length (allLiterals (allElements (p .steps)))) 4096 in
-    let last = lastFinishes (p .steps) in
-    let hold = all (stepHolds e (p .strings) (p .numbers) (length (p .steps))) (p .steps) in
-    let one = literals && (last && hold) in
-    let three = elements && (items && one) in
-    let five = numbers && (steps && three) in
-    let h₃ = right-true steps three (right-true numbers (steps && three) (right-true strings five h)) in
-    let h₁ = right-true items one (right-true elements (items && one) h₃) in
-    let both = and-eq-true-iff last hold .0 (right-true literals (last && hold) h₁) in
-    record { last = both .0; hold = both .1 }
+program-runs e p h = let ok = in-range e p h in record { last = ok .last; hold = ok .hold }

@@ -1,5 +1,5 @@
 -- The table's rules (docs/TABLE.md): a table keeps them when it is the image of a program that is in range. Assumes nothing.
-use mathlib.Core.Bool.{Bool, true, false, not, _&&_}
+use mathlib.Core.Bool.{Bool, true, not, _&&_}
 use mathlib.Core.List.{List, [], _∷_}
 use mathlib.Core.Option.{Option, none, some}
 use Prim.Native.Nat.{ℕ, zero, suc, _-_, _^_}
@@ -51,6 +51,7 @@ use Rattle.language.specs.Program.{
   return,
   Step,
   Program,
+  lastFinishes,
 }
 use Rattle.values.specs.Numbers.{isNegative, isInRange}
 use Rattle.calls.specs.Table.{image, replacementOf, allElements, allItems, allLiterals}
@@ -134,24 +135,6 @@ module _ (e : Edition) (strings numbers steps : ℕ) where
 
   unfoldable pub stepHolds : Step → Bool
   stepHolds s = ltb (s .card) (2 ^ 16) && statementHolds (s .statement)
-
-unfoldable pub isFinish : Statement → Bool
-isFinish (setNumber i x) = false
-isFinish (setString p xs) = false
-isFinish (goto k) = false
-isFinish finish = true
-isFinish (ifTest t b) = false
-isFinish (scan d p xs r b) = false
-isFinish (read p b) = false
-isFinish (write xs) = false
-isFinish (execute k) = false
-isFinish return = false
-
--- there is a last step, and it finishes
-unfoldable pub lastFinishes : List Step → Bool
-lastFinishes [] = false
-lastFinishes (s ∷ []) = isFinish (s .statement)
-lastFinishes (s ∷ (t ∷ ss)) = lastFinishes (t ∷ ss)
 
 -- Q10's counts of what a program keeps, and every place in it in range
 unfoldable pub isProgram : Edition → Program → Bool

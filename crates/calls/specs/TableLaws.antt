@@ -12,18 +12,19 @@ use borrow.Author.Tests.{leb-true}
 use Rattle.base.specs.Edition.{Edition}
 use Rattle.base.specs.ListLaws.{same-true, same-refl}
 use Rattle.base.specs.Lists.{all, same}
-use Rattle.language.specs.Program.{Item, PatternElement, Step, Program}
+use Rattle.language.specs.Program.{Item, PatternElement, Step, Program, lastFinishes}
 use Rattle.calls.specs.CellLaws.{length-cellBytes}
 use Rattle.calls.specs.NumeralLaws.{Stands, stands-moved, stands-front, stands-back, number-behind}
 use Rattle.calls.specs.Numerals.{inBytes, bias}
 use Rattle.calls.specs.RowLaws.{Each, ItemStands, ElementStands, length-rowBytes, steps-read}
-use Rattle.calls.specs.Rules.{stepHolds, lastFinishes, isProgram, keepsRules}
+use Rattle.calls.specs.Rules.{stepHolds, isProgram, keepsRules}
 use Rattle.calls.specs.Table.{cellBytes, itemCell, patternCell, literalIn, elementsOf, itemsOf, stepRows}
 use Rattle.calls.specs.Table.{allElements, allItems, allLiterals, elementRows, itemRows, filledTo, stepsAt, elementsAt, itemsAt}
 use Rattle.calls.specs.Table.{literalsAt, format, header, image}
 use Rattle.calls.specs.TableReading.{stepsFrom, programIn}
 
--- Limits that the table's layout rests on: so few strings, numbers, steps, elements, items and literal bytes, and steps that hold.
+-- Limits that the table's layout rests on: so few strings, numbers, steps, elements, items and literal bytes, and steps that hold, of
+-- which the last finishes.
 pub record InRange (e : Edition) (p : Program) : Type 0 where
   pub strings : p .strings ≤ 32
   pub numbers : p .numbers ≤ 32
@@ -31,6 +32,7 @@ pub record InRange (e : Edition) (p : Program) : Type 0 where
   pub elements : length (allElements (p .steps)) ≤ 1024
   pub items : length (allItems (p .steps)) ≤ 1024
   pub literals : length (allLiterals (allElements (p .steps))) ≤ 4096
+  pub last : lastFinishes (p .steps) ≡ true
   pub hold : all (stepHolds e (p .strings) (p .numbers) (length (p .steps))) (p .steps) ≡ true
 
 -- which a program in range has
@@ -59,6 +61,7 @@ in-range e p h =
       elements = leb-true (length es) 1024 (four .0);
       items = leb-true (length (allItems ss)) 1024 (five .0);
       literals = leb-true (length (allLiterals es)) 4096 (six .0);
+      last = seven .0;
       hold = seven .1;
     }
 

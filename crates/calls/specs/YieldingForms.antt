@@ -1,6 +1,6 @@
 -- What a statement yields: as many elements, items and literal bytes as were met, and it holds where the names met are known, no
 -- expression has too many elements and 8 does not apply. Assumes nothing.
-use mathlib.Core.Bool.{Bool, true, false, not, _&&_, _||_}
+use mathlib.Core.Bool.{Bool, true, false}
 use mathlib.Core.List.{List, [], _∷_, _++_, map, append-assoc}
 use mathlib.Core.Option.{Option, none, some}
 use mathlib.Core.Path.{_≡_, refl, sym, _∙_, ap, subst}
@@ -18,7 +18,6 @@ use Rattle.cards.specs.Packing.{packed, literalsFrom, literalsWhole}
 use Rattle.judgement.specs.Known.{isOneOf, isStep}
 use Rattle.judgement.specs.Refusals.{clashes, labelForm, labelled, readStatement}
 use Rattle.judgement.specs.Targets.{isInner}
-use Rattle.language.specs.Alike.{PlacedBy}
 use Rattle.language.specs.Forms.{stepEnd, noStepEnd, withoutUnit, labelName, branch, branchIfAny, setsNumber, replacement, ifForm}
 use Rattle.language.specs.Forms.{replacementIfAny, scanForm, readForm, writeForm, gotoForm, routineForm, executeForm, programForm}
 use Rattle.language.specs.Forms.{numberForm, formOf, statementForm}
@@ -45,7 +44,7 @@ use Rattle.language.specs.Keywords.{
   sameKind,
   leading,
 }
-use Rattle.language.specs.Placed.{Each, Sizes}
+use Rattle.language.specs.Placed.{Each, Sizes, PlacedBy}
 use Rattle.language.specs.Program.{PatternElement, value, Branch, Direction, forward, backward, Statement}
 use Rattle.language.specs.Program.{setNumber, setString, goto, finish, ifTest, scan, read, write, execute, return}
 use Rattle.language.specs.Reading.{program, label, routine, number, string, Naming, Role, reference, sought, filler, declaring}
@@ -260,9 +259,8 @@ module _ {K : Naming → Type 0} {z : Sizes} (e : Edition) {at : Places} (placed
 
   -- the form of each kind, where the next step is one of the steps if another comes behind, and strings of other names have other places
   yields-formOf : (kind : Kind) (bs : List ℕ) → Whole bs
-      → (not (sameKind kind PROGRAM || sameKind kind NUMBER) && not (sameKind kind END) ≡ true → at .next < z .steps)
-      → Distinct K at → Yields K (FormedOrNone e z) (formOf e isNumber at kind bs)
-  unfolding formOf sameKind kindNumber elementsOf itemsOf allLiterals statementHolds
+      → (isInner kind ≡ true → at .next < z .steps) → Distinct K at → Yields K (FormedOrNone e z) (formOf e isNumber at kind bs)
+  unfolding formOf isStep sameKind kindNumber elementsOf itemsOf allLiterals statementHolds
   yields-formOf REPLACEMENT bs whole next distinct = yields-replacement bs whole
   yields-formOf NUMBER bs whole next distinct = yields-numberForm bs whole
   yields-formOf PROGRAM bs whole next distinct = yields-programForm bs whole
@@ -307,7 +305,7 @@ pub statement-yields : {K : Naming → Type 0} {z : Sizes} (e : Edition) {at : P
     (labelBytes text : List ℕ) (a : Option Statement) (m : Met) (rest : List ℕ)
     → (isInner (leading (packed text) .kind) ≡ true → at .next < z .steps)
     → Distinct K at → readStatement e isNumber at labelBytes text ≡ got a m rest → Fit K m → FormedOrNone e z a (viewOf m)
-unfolding readStatement statementForm isStep
+unfolding readStatement statementForm
 statement-yields {K} {z} e {at} placed isNumber labelBytes text a m rest next distinct q fit =
     let bs = packed text in
     let form : literalsWhole text ≡ true → Yields K (FormedOrNone e z) (statementForm e isNumber at bs) = λ h.

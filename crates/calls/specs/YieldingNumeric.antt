@@ -14,10 +14,9 @@ use Rattle.base.specs.Edition.{Edition}
 use Rattle.base.specs.Lists.{all, begins, total}
 use Rattle.base.specs.Text.{bytes}
 use Rattle.cards.specs.Bytes.{quote}
-use Rattle.language.specs.Alike.{PlacedBy}
 use Rattle.language.specs.Numeric.{deepest, sumOperator, productOperator, leadingSign, expressionAt, moreTerms, termAt, moreFactors}
 use Rattle.language.specs.Numeric.{factorAt, fuelFor, numericExpression}
-use Rattle.language.specs.Placed.{Sizes}
+use Rattle.language.specs.Placed.{Sizes, PlacedBy}
 use Rattle.language.specs.Program.{Operator, Sign, positive, negative, Item, operator, sign}
 use Rattle.language.specs.Reading.{Naming, anItem}
 use Rattle.language.specs.Words.{Places, isSign}

@@ -15,8 +15,7 @@ use Rattle.base.specs.Limits as Limits
 use Rattle.base.specs.Lists.{all, begins, total, isNil}
 use Rattle.base.specs.Text.{bytes}
 use Rattle.cards.specs.Bytes.{isDigit, quote}
-use Rattle.language.specs.Alike.{PlacedBy}
-use Rattle.language.specs.Placed.{Each, each-map, each-join, each-part, Sizes}
+use Rattle.language.specs.Placed.{Each, each-map, each-join, each-part, Sizes, PlacedBy}
 use Rattle.language.specs.Program.{constantly, numbered, Element, literal, part, text, PatternElement, value, freeFiller, fixedFiller}
 use Rattle.language.specs.Reading.{string, Naming, Role, reference, sought, filler, aRow, aLiteral, Read}
 use Rattle.language.specs.Strings.{nothingHere, moreOf, listOf, rowOf, textCall, element, stringExpression, fillerAt}

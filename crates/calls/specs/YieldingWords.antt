@@ -13,9 +13,8 @@ use Rattle.base.specs.Edition.{Edition}
 use Rattle.base.specs.Lists.{all, begins, total}
 use Rattle.base.specs.Text.{bytes}
 use Rattle.cards.specs.Bytes.{isDigit, quote}
-use Rattle.language.specs.Alike.{PlacedBy}
 use Rattle.language.specs.Numeric.{comparison, calledOrNumber, plainFactor, ifOperand, test}
-use Rattle.language.specs.Placed.{Each, Sizes}
+use Rattle.language.specs.Placed.{Each, Sizes, PlacedBy}
 use Rattle.language.specs.Program as Program
 use Rattle.language.specs.Program.{Length, constantly, numbered, Part, first, Operand, Test}
 use Rattle.language.specs.Program.{constant, lengthOf, numberOf, isNull, isNumeric, compares}

@@ -94,6 +94,16 @@ unfolding
     Rattle.language.specs.Forms.numberForm
     Rattle.language.specs.Forms.formOf
     Rattle.language.specs.Forms.statementForm
+    Rattle.language.specs.Fuel.expressionBy
+    Rattle.language.specs.Fuel.moreTermsBy
+    Rattle.language.specs.Fuel.termBy
+    Rattle.language.specs.Fuel.moreFactorsBy
+    Rattle.language.specs.Fuel.factorBy
+    Rattle.language.specs.Fuel.expressionFrom
+    Rattle.language.specs.Fuel.moreTermsFrom
+    Rattle.language.specs.Fuel.termFrom
+    Rattle.language.specs.Fuel.moreFactorsFrom
+    Rattle.language.specs.Fuel.factorFrom
     Rattle.language.specs.Keywords.kindNumber
     Rattle.language.specs.Keywords.sameKind
     Rattle.language.specs.Keywords.keywords
@@ -102,6 +112,7 @@ unfolding
     Rattle.language.specs.Keywords.isReplacement
     Rattle.language.specs.Keywords.leading
     Rattle.language.specs.Numeric.deepest
+    Rattle.language.specs.Numeric.fuelFor
     Rattle.language.specs.Numeric.sumOperator
     Rattle.language.specs.Numeric.productOperator
     Rattle.language.specs.Numeric.leadingSign
@@ -110,7 +121,6 @@ unfolding
     Rattle.language.specs.Numeric.plainFactor
     Rattle.language.specs.Numeric.ifOperand
     Rattle.language.specs.Numeric.test
-    Rattle.language.specs.Numeric.fuelFor
     Rattle.language.specs.Numeric.numericExpression
     Rattle.language.specs.Numeric.expressionAt
     Rattle.language.specs.Numeric.moreTerms
@@ -118,16 +128,8 @@ unfolding
     Rattle.language.specs.Numeric.moreFactors
     Rattle.language.specs.Numeric.factorAt
     Rattle.language.specs.Placed.Each
-    Rattle.language.specs.Placed.LengthPlaced
-    Rattle.language.specs.Placed.PartPlaced
-    Rattle.language.specs.Placed.OperandPlaced
-    Rattle.language.specs.Placed.ItemPlaced
-    Rattle.language.specs.Placed.ElementPlaced
-    Rattle.language.specs.Placed.PatternPlaced
-    Rattle.language.specs.Placed.TestPlaced
-    Rattle.language.specs.Placed.BranchPlaced
-    Rattle.language.specs.Placed.ReplacementPlaced
-    Rattle.language.specs.Placed.StatementPlaced
+    Rattle.language.specs.Program.isFinish
+    Rattle.language.specs.Program.lastFinishes
     Rattle.language.specs.Reading.purposeNumber
     Rattle.language.specs.Reading.samePurpose
     Rattle.language.specs.Reading.nothing
@@ -199,7 +201,6 @@ unfolding
     Rattle.judgement.specs.Known.closed
     Rattle.judgement.specs.Known.scopeAfter
     Rattle.judgement.specs.Known.learn
-    Rattle.judgement.specs.Laws.LastFinishes
     Rattle.judgement.specs.Refusals.isMisplaced
     Rattle.judgement.specs.Refusals.labelForm
     Rattle.judgement.specs.Refusals.labelled
@@ -243,17 +244,17 @@ unfolding
     Rattle.values.specs.Work._>>=_
     Rattle.machine.specs.Expressions.lengthIn
     Rattle.machine.specs.Expressions.partIn
-    Rattle.machine.specs.Expressions.operandIn
     Rattle.machine.specs.Expressions.operation
     Rattle.machine.specs.Expressions.combined
     Rattle.machine.specs.Expressions.signIn
+    Rattle.machine.specs.Expressions.latest
+    Rattle.machine.specs.Expressions.compared
+    Rattle.machine.specs.Expressions.operandIn
     Rattle.machine.specs.Expressions.itemIn
     Rattle.machine.specs.Expressions.itemsIn
-    Rattle.machine.specs.Expressions.latest
     Rattle.machine.specs.Expressions.numericIn
     Rattle.machine.specs.Expressions.elementIn
     Rattle.machine.specs.Expressions.stringIn
-    Rattle.machine.specs.Expressions.compared
     Rattle.machine.specs.Expressions.numericPart
     Rattle.machine.specs.Expressions.testIn
     Rattle.machine.specs.Run.after
@@ -347,6 +348,7 @@ unfolding
     Rattle.calls.specs.Calls.runBehind
     Rattle.calls.specs.Calls.runCall
     Rattle.calls.specs.Demands.LeftBy
+    Rattle.calls.specs.Demands.ListClaim
     Rattle.calls.specs.Demands.HoldsProgram
     Rattle.calls.specs.Demands.startedWith
     Rattle.calls.specs.Demands.Demand3
@@ -370,8 +372,6 @@ unfolding
     Rattle.calls.specs.Rules.testHolds
     Rattle.calls.specs.Rules.statementHolds
     Rattle.calls.specs.Rules.stepHolds
-    Rattle.calls.specs.Rules.isFinish
-    Rattle.calls.specs.Rules.lastFinishes
     Rattle.calls.specs.Rules.isProgram
     Rattle.calls.specs.Rules.keepsRules
     Rattle.calls.specs.Splices.splice
@@ -449,4 +449,5 @@ unfolding
     Rattle.calls.specs.TableReading.stepIn
     Rattle.calls.specs.TableReading.stepsFrom
     Rattle.calls.specs.TableReading.programIn
+    Rattle.calls.specs.Yielding.viewOf
 everything = tt

@@ -10,6 +10,7 @@ use lib.ListN.{length, drop, length-append}
 use borrow.Author.Tests.{ltb-false}
 use Rattle.base.specs.Choice.{test-cases, cond-cases, neither-true}
 use Rattle.base.specs.Edition.{Edition}
+use Rattle.base.specs.Limits as Limits
 use Rattle.base.specs.Lists.{any, keep}
 use Rattle.cards.specs.Bytes.{isBlank, slash}
 use Rattle.cards.specs.Cards.{lines, Entry, skipped, statement, isComment, isBlankLine, column9, joined, entriesFrom, entries}
@@ -17,7 +18,8 @@ use Rattle.cards.specs.Packing.{packed, literalsWhole}
 use Rattle.language.specs.Forms.{statementForm, formOf, stepEnd}
 use Rattle.language.specs.Keywords.{END, sameKind, leading}
 use Rattle.language.specs.Laws.{same-kind}
-use Rattle.language.specs.Program.{Statement, finish, Step, Program}
+use Rattle.language.specs.Placed.{Each}
+use Rattle.language.specs.Program.{Statement, finish, Step, Program, isFinish, lastFinishes}
 use Rattle.language.specs.Reading.{Met, Read, got, broken, meeting, give, finished, _>>=_}
 use Rattle.language.specs.Words.{Places}
 use Rattle.judgement.specs.Known.{Known, nothingKnown, strings, numbers, namesFor, isOneOf, learn}
@@ -98,46 +100,49 @@ judge-answers e deck n c q =
     let cards = entries-cards e (length (lines deck)) 1 (lines deck) (omega arith) (omega arith) in
     deck-answers cards (subst (Concluding e (entries e deck)) q (concluding e deck))
 
--- a deck's number is one of 3 to 12, and its card at most the number of its lines
-pub judge-range : (e : Edition) (deck : List ℕ) (n c : ℕ) → judge e deck ≡ Judgement.refused n c
-    → (3 ≤ n) × (n ≤ 12) × (c ≤ length (lines deck))
-judge-range e deck n c q =
-    let h = judge-answers e deck n c q in
-    (h .low, h .high, h .line)
-
 -- Q10 the counts of a deck behind some statements
 pub record Counts (k : Known) : Type 0 where
-  pub statements : k .statements ≤ 256
-  pub strings : length (strings k) ≤ 32
-  pub numbers : length (numbers k) ≤ 32
-  pub labels : length (k .labels) ≤ 64
-  pub routines : length (k .routines) ≤ 16
-  pub elements : k .elements ≤ 1024
-  pub items : k .items ≤ 1024
-  pub literals : k .literals ≤ 4096
+  pub statements : k .statements ≤ Limits.statements
+  pub strings : length (strings k) ≤ Limits.strings
+  pub numbers : length (numbers k) ≤ Limits.numbers
+  pub labels : length (k .labels) ≤ Limits.labels
+  pub routines : length (k .routines) ≤ Limits.routines
+  pub elements : k .elements ≤ Limits.elements
+  pub items : k .items ≤ Limits.items
+  pub literals : k .literals ≤ Limits.literals
 
--- where 10 does not apply the counts hold
-not10-counts : (k : Known) (m : Met) → is10 k m ≡ false → Counts k
+-- rows that do not pass their limit
+rows-few : (ns : List ℕ) → any (ltb Limits.row) ns ≡ false → Each (λ n. n ≤ Limits.row) ns
+unfolding any Each
+rows-few [] h = tt
+rows-few (n ∷ ns) h =
+    let parts = neither-true (ltb Limits.row n) (any (ltb Limits.row) ns) h in
+    (ltb-false Limits.row n (parts .0), rows-few ns (parts .1))
+
+-- where 10 does not apply the counts hold, and no expression has too many elements
+pub not10-few : (k : Known) (m : Met) → is10 k m ≡ false → Counts k × Each (λ n. n ≤ Limits.row) (m .rows)
 unfolding is10
-not10-counts k m h =
+not10-few k m h =
     let h1 = neither-true _ _ h in
     let h2 = neither-true _ _ (h1 .1) in
     let h3 = neither-true _ _ (h2 .1) in
     let h4 = neither-true _ _ (h3 .1) in
     let h5 = neither-true _ _ (h4 .1) in
-    let h6 = neither-true (any (ltb 20) (m .rows)) _ (h5 .1) in
+    let h6 = neither-true (any (ltb Limits.row) (m .rows)) _ (h5 .1) in
     let h7 = neither-true _ _ (h6 .1) in
-    let h8 = neither-true _ _ (h7 .1) in
-    record {
-      statements = ltb-false _ _ (h1 .0);
-      strings = ltb-false _ _ (h2 .0);
-      numbers = ltb-false _ _ (h3 .0);
-      labels = ltb-false _ _ (h4 .0);
-      routines = ltb-false _ _ (h5 .0);
-      elements = ltb-false _ _ (h7 .0);
-      items = ltb-false _ _ (h8 .0);
-      literals = ltb-false _ _ (h8 .1);
-    }
+    let h8 = neither-true _ _ (h7 .1) in (
+      record {
+        statements = ltb-false _ _ (h1 .0);
+        strings = ltb-false _ _ (h2 .0);
+        numbers = ltb-false _ _ (h3 .0);
+        labels = ltb-false _ _ (h4 .0);
+        routines = ltb-false _ _ (h5 .0);
+        elements = ltb-false _ _ (h7 .0);
+        items = ltb-false _ _ (h8 .0);
+        literals = ltb-false _ _ (h8 .1);
+      },
+      rows-few (m .rows) (h6 .0),
+    )
 
 -- at first nothing is counted
 nothing-counted : Counts nothingKnown
@@ -148,7 +153,7 @@ nothing-counted = omega arith
 passed-counts : {e : Edition} {k after : Known} {es : List Entry} → Counts k → Judging e k es (passed after) → Counts after
 passed-counts h (ended _) = h
 passed-counts h (skips j) = passed-counts h j
-passed-counts h (learns {k} {text} s m rest q p j) = passed-counts (not10-counts (learn k (leading (packed text) .kind) m) m (p .not10)) j
+passed-counts h (learns {k} {text} s m rest q p j) = passed-counts (not10-few (learn k (leading (packed text) .kind) m) m (p .not10) .0) j
 
 -- a statement read is at most one step
 one-step : (card : ℕ) (read : Read (Option Statement)) → length (stepRead card read) ≤ 1
@@ -188,17 +193,11 @@ end-step e isNumber isNumber′ at at′ card label text s m rest end q =
     let bs = drop (leading (packed text) .size) (packed text) in
     rw end (finish-step card (labelForm label) (literalsWhole text) bs s m rest (rw end at q))
 
--- the last step finishes
-unfoldable pub LastFinishes : List Step → Type 0
-LastFinishes [] = ⊥
-LastFinishes (s ∷ []) = s .statement ≡ finish
-LastFinishes (s ∷ (t ∷ ss)) = LastFinishes (t ∷ ss)
-
--- it does whatever stands before it
-last-behind : (ss ts : List Step) → LastFinishes ts → LastFinishes (ss ++ ts)
-unfolding LastFinishes
+-- a last step finishes whatever stands before it
+last-behind : (ss ts : List Step) → lastFinishes ts ≡ true → lastFinishes (ss ++ ts) ≡ true
+unfolding lastFinishes
 last-behind [] ts h = h
-last-behind (s ∷ []) [] h = absurd h
+last-behind (s ∷ []) [] h = absurd (false≢true h)
 last-behind (s ∷ []) (t ∷ ts) h = h
 last-behind (s ∷ (r ∷ ss)) ts h = last-behind (r ∷ ss) ts h
 
@@ -214,8 +213,8 @@ passed-nothing h (learns {k} s m rest q p j) whole n = absurd (false≢true (sym
 -- entries that pass with no END before them make steps whose last finishes
 passed-finishes : {e : Edition} {k after : Known} {es : List Entry} → k .ended ≡ false → Judging e k es (passed after)
     → (whole : Known) (n : ℕ)
-    → LastFinishes (stepsFrom e whole n es)
-unfolding stepsFrom learn LastFinishes
+    → lastFinishes (stepsFrom e whole n es) ≡ true
+unfolding stepsFrom learn lastFinishes isFinish
 passed-finishes before (ended h) whole n = absurd (false≢true (sym before ∙ h))
 passed-finishes before (skips j) whole n = passed-finishes before j whole n
 passed-finishes {e} before (learns {k} {card} {label} {text} {es} s m rest q p j) whole n =
@@ -224,32 +223,25 @@ passed-finishes {e} before (learns {k} {card} {label} {text} {es} s m rest q p j
     let at = placesOf whole (suc n) in
     let read = stepRead card (readStatement e isNumber at label text) in
     let next : ℕ = elim read [ [] ↦ n | s ∷ ss ↦ suc n ] in
-    test-cases (λ _. LastFinishes (read ++ stepsFrom e whole next es)) (sameKind kind END)
+    test-cases (λ _. lastFinishes (read ++ stepsFrom e whole next es) ≡ true) (sameKind kind END)
     (λ end.
     let here = end-step e (isOneOf (numbers k)) isNumber unplaced at card label text s m rest (same-kind kind END end) q in
-    subst₂ (λ ss ts. LastFinishes (ss ++ ts)) (sym here) (sym (passed-nothing end j whole next)) refl)
+    subst₂ (λ ss ts. lastFinishes (ss ++ ts) ≡ true) (sym here) (sym (passed-nothing end j whole next)) refl)
     (λ inner. last-behind read (stepsFrom e whole next es) (passed-finishes inner j whole next))
 
 -- Q10 an accepted program has at most 256 steps, 32 strings and 32 numbers
 pub accepted-counts : (e : Edition) (deck : List ℕ) (p : Program) → judge e deck ≡ accepted p
-    → (length (p .steps) ≤ 256) × (p .strings ≤ 32) × (p .numbers ≤ 32)
+    → (length (p .steps) ≤ Limits.statements) × (p .strings ≤ Limits.strings) × (p .numbers ≤ Limits.numbers)
 unfolding programOf nothingKnown
 accepted-counts e deck p q =
-    accepted-program e deck p q (λ p. (length (p .steps) ≤ 256) × (p .strings ≤ 32) × (p .numbers ≤ 32)) (λ k j _ _.
+    accepted-program e deck p q
+    (λ p. (length (p .steps) ≤ Limits.statements) × (p .strings ≤ Limits.strings) × (p .numbers ≤ Limits.numbers)) (λ k j _ _.
     let counts = passed-counts nothing-counted j in
     let steps = passed-steps j k 0 in
     (omega arith, counts .strings, counts .numbers))
 
 -- the last step of an accepted program finishes: it is that of END
-pub accepted-finishes : (e : Edition) (deck : List ℕ) (p : Program) → judge e deck ≡ accepted p → LastFinishes (p .steps)
+pub accepted-finishes : (e : Edition) (deck : List ℕ) (p : Program) → judge e deck ≡ accepted p → lastFinishes (p .steps) ≡ true
 unfolding programOf nothingKnown
-accepted-finishes e deck p q = accepted-program e deck p q (λ p. LastFinishes (p .steps)) (λ k j _ _. passed-finishes refl j k 0)
-
--- an accepted program has a step
-pub accepted-step : (e : Edition) (deck : List ℕ) (p : Program) → judge e deck ≡ accepted p → 1 ≤ length (p .steps)
-unfolding LastFinishes
-accepted-step e deck p q = some-step (p .steps) (accepted-finishes e deck p q)
-  where
-    some-step : (ss : List Step) → LastFinishes ss → 1 ≤ length ss
-    some-step [] h = absurd h
-    some-step (s ∷ ss) h = omega arith
+accepted-finishes e deck p q =
+    accepted-program e deck p q (λ p. lastFinishes (p .steps) ≡ true) (λ k j _ _. passed-finishes refl j k 0)

@@ -1,10 +1,9 @@
--- Every place that a statement of an accepted program names is below the program's counts: its strings, its numbers, and the steps that
--- it leads to. Assumes nothing.
-use mathlib.Core.Bool.{Bool, true, false, cond, not, _&&_, _||_, false≢true, and-eq-true-iff}
-use mathlib.Core.List.{List, [], _∷_, _++_}
-use mathlib.Core.Option.{Option, none, some}
+-- The places of a deck that passes are below its counts, and its statements are read alike with these places. Assumes nothing.
+use mathlib.Core.Bool.{Bool, true, false, not, _&&_, _||_, false≢true, and-eq-true-iff}
+use mathlib.Core.List.{List, [], _∷_}
+use mathlib.Core.Option.{Option}
 use mathlib.Core.Path.{_≡_, refl, sym, _∙_, ap, subst}
-use Prim.Native.Nat.{ℕ, suc, _+_, _<_}
+use Prim.Native.Nat.{ℕ, suc, _<_}
 use native.Mathlib.Omega.{arith}
 use lib.Dec.{leb}
 use lib.ListN.{length, take, drop}
@@ -13,14 +12,14 @@ use Rattle.base.specs.Choice.{test-cases, true-behind}
 use Rattle.base.specs.Edition.{Edition}
 use Rattle.base.specs.Lists.{same, any, begins}
 use Rattle.base.specs.Text.{bytes}
-use Rattle.cards.specs.Cards.{Entry, entries}
+use Rattle.cards.specs.Cards.{Entry}
 use Rattle.cards.specs.Packing.{packed, literalsWhole}
-use Rattle.language.specs.Alike.{Alike, both, neither, SameStep, StepPlaced, PlacedBy, alike-meeting, alike-map, alike-formOf}
+use Rattle.language.specs.Alike.{Alike, both, neither, SameStep, alike-meeting, alike-formOf}
 use Rattle.language.specs.Forms.{statementForm, formOf, setsNumber, replacement}
 use Rattle.language.specs.Keywords.{Kind, REPLACEMENT, END, sameKind, leading}
 use Rattle.language.specs.Laws.{same-kind}
-use Rattle.language.specs.Placed.{Each, Sizes, AllPlaced, programSizes}
-use Rattle.language.specs.Program.{Statement, Step, Program}
+use Rattle.language.specs.Placed.{Each, Sizes, PlacedBy}
+use Rattle.language.specs.Program.{Statement}
 use Rattle.language.specs.Reading as Reading
 use Rattle.language.specs.Reading.{
   Purpose,
@@ -41,12 +40,10 @@ use Rattle.language.specs.Reading.{
 use Rattle.language.specs.Words.{Places, nameLength, name, nameAs, noRole, stringName, partName}
 use Rattle.judgement.specs.Known.{Label, Routine, Known, nothingKnown, sameNaming, strings, numbers, namesFor, isOneOf, isStep, learn}
 use Rattle.judgement.specs.Refusals.{labelForm, labelled, readStatement, statementNumber, formNumber}
-use Rattle.judgement.specs.Deck.{unplaced, passed, indexOf, stepOf, routineNamed, placesOf, stepRead, stepsFrom, programOf}
-use Rattle.judgement.specs.Deck.{accepted, judge, metBy}
+use Rattle.judgement.specs.Deck.{unplaced, passed, metBy, indexOf, stepOf, routineNamed, placesOf}
 use Rattle.judgement.specs.Names.{Has, same-naming-refl, any-append, names-for, passed-keeps, learn-keeps, learn-adds, OnePurpose}
-use Rattle.judgement.specs.Names.{passed-one-purpose, used-known}
-use Rattle.judgement.specs.Targets.{isInner, LabelBelow, RoutineBelow, TargetsBelow, passed-goes-on, passed-below}
-use Rattle.judgement.specs.Rules.{Judging, ended, skips, learns, accepted-program}
+use Rattle.judgement.specs.Targets.{isInner, LabelBelow, RoutineBelow, TargetsBelow, passed-goes-on}
+use Rattle.judgement.specs.Rules.{Judging}
 pub mod Again
 
 -- what is read uses a name
@@ -101,10 +98,10 @@ uses-labelled x (got u m rest) false form h = tt
 uses-labelled x broken whole form h = tt
 
 -- labelled alike what is read alike stays so
-alike-labelled : {K : Naming → Type 0} {A : Type 0} {R : A → A → Type 0} {P : A → Type 0} {x y : Read A} (label : Read (Unit {0}))
-    (whole : Bool) → Alike K R P x y → Alike K R P (labelled label whole x) (labelled label whole y)
+alike-labelled : {A : Type 0} {R : A → A → Type 0} {x y : Read A} (label : Read (Unit {0})) (whole : Bool) → Alike R x y
+    → Alike R (labelled label whole x) (labelled label whole y)
 unfolding labelled
-alike-labelled (got u m rest) true h = alike-meeting {Q = Unit {0}} m (λ _. tt) (alike-map (λ _ p _. p) h)
+alike-labelled (got u m rest) true h = alike-meeting m h
 alike-labelled (got u m rest) false h = neither
 alike-labelled broken whole h = neither
 
@@ -149,17 +146,13 @@ numbers-agree e k after label text s m rest at kind q keeps adds one =
     string-not-number (one w string number known (sym (names-for number w (after .names)) ∙ g)))
 
 -- a statement is read alike with any places
-alike-readStatement : (K : Naming → Type 0) (z : Sizes) (e : Edition) (at at′ : Places) (isNumber isNumber′ : List ℕ → Bool)
-    (label text : List ℕ) → PlacedBy K z at′
+alike-readStatement : (e : Edition) (at at′ : Places) (isNumber isNumber′ : List ℕ → Bool) (label text : List ℕ)
     → (kindOf text ≡ REPLACEMENT → setsNumber e isNumber at (bodyOf text) ≡ setsNumber e isNumber′ at′ (bodyOf text))
-    → (isInner (kindOf text) ≡ true → at′ .next < z .steps)
-    → Alike K (SameStep (isStep (kindOf text))) (StepPlaced z) (readStatement e isNumber at label text)
-    (readStatement e isNumber′ at′ label text)
+    → Alike (SameStep (isStep (kindOf text))) (readStatement e isNumber at label text) (readStatement e isNumber′ at′ label text)
 unfolding readStatement statementForm isStep
-alike-readStatement K z e at at′ isNumber isNumber′ label text placed agree next =
+alike-readStatement e at at′ isNumber isNumber′ label text agree =
     alike-labelled (labelForm label) (literalsWhole text)
-    (alike-formOf K z e at at′ placed isNumber isNumber′ (kindOf text) (bodyOf text) (λ h. agree (same-kind (kindOf text) REPLACEMENT h))
-    next)
+    (alike-formOf e at at′ isNumber isNumber′ (kindOf text) (bodyOf text) (λ h. agree (same-kind (kindOf text) REPLACEMENT h)))
 
 -- a name in a list stands at a place in it
 index-below : (w : List ℕ) (ws : List (List ℕ)) → any (same w) ws ≡ true → indexOf w ws < length ws
@@ -185,16 +178,16 @@ routine-below b (r ∷ rs) n h g =
     (λ _. routine-below b rs n h (g .1))
 
 -- the names of a deck
-abbrev NamesOf : Known → Naming → Type 0
+abbrev pub NamesOf : Known → Naming → Type 0
 NamesOf k x = Has x (k .names)
 
 -- the counts of a deck
-sizesOf : Known → Sizes
-sizesOf k = record { strings = length (strings k); numbers = length (numbers k); steps = k .steps }
+abbrev pub deckSizes : Known → Sizes
+deckSizes k = record { strings = length (strings k); numbers = length (numbers k); steps = k .steps }
 
 -- the places of a deck that passes are below its counts
-deck-placed : (k : Known) (n : ℕ) → 0 < k .steps → TargetsBelow (k .steps) k → PlacedBy (NamesOf k) (sizesOf k) (placesOf k n)
-unfolding sizesOf placesOf strings numbers
+deck-placed : (k : Known) (n : ℕ) → 0 < k .steps → TargetsBelow (k .steps) k → PlacedBy (NamesOf k) (deckSizes k) (placesOf k n)
+unfolding placesOf strings numbers
 deck-placed k n h t =
     record {
       string = λ w g. index-below w (namesFor string (k .names)) (names-for string w (k .names) ∙ g);
@@ -203,23 +196,6 @@ deck-placed k n h t =
       entry = λ w. routine-below (k .steps) (k .routines) w h (t .routines) .0;
       exit = λ w. routine-below (k .steps) (k .routines) w h (t .routines) .1;
     }
-
--- steps from number n on, up to the count, all placed
-StepsPlaced : Sizes → ℕ → List Step → Type 0
-StepsPlaced z n ss = AllPlaced z ss × (length ss + n ≡ z .steps)
-
--- a statement read alike goes before the steps that are placed behind it
-statement-placed : {K : Naming → Type 0} {z : Sizes} {s : Option Statement} {m : Met} {rest : List ℕ} {read : Read (Option Statement)}
-    (step : Bool) → Alike K (SameStep step) (StepPlaced z) (got s m rest) read → Each K (m .used) → (card n : ℕ) (more : ℕ → List Step)
-    → StepsPlaced z (cond step (suc n) n) (more (cond step (suc n) n))
-    → StepsPlaced z n (stepRead card read ++ more (elim (stepRead card read) [ [] ↦ n | s ∷ ss ↦ suc n ]))
-unfolding StepsPlaced stepRead Each
-statement-placed true (both {a = some a} {b = some b} r p) known card n more h = ((p known, h .0), omega arith)
-statement-placed true (both {a = some a} {b = none} r p) known card n more h = absurd r
-statement-placed true (both {a = none} r p) known card n more h = absurd r
-statement-placed false (both {a = none} {b = none} r p) known card n more h = h
-statement-placed false (both {a = none} {b = some b} r p) known card n more h = absurd r
-statement-placed false (both {a = some a} r p) known card n more h = absurd r
 
 -- behind a step that is not END's another comes
 next-below : {e : Edition} {after : Known} {es : List Entry} (k : Known) (kind : Kind) (m : Met)
@@ -230,35 +206,20 @@ next-below k kind m j inner =
     let below = passed-goes-on (not-true (sameKind kind END) (parts .1)) j in
     rw (parts .0) at below
 
--- a deck that passes, each name of it with one purpose and a place
-module _ (e : Edition) (after : Known) (one : OnePurpose (after .names))
-    (placed : (n : ℕ) → PlacedBy (NamesOf after) (sizesOf after) (placesOf after n)) where
-  -- a statement that passes is read alike with the places of the deck
-  passed-alike : (k : Known) (label text : List ℕ) {es : List Entry} (s : Option Statement) (m : Met) (rest : List ℕ)
-      → readStatement e (isOneOf (numbers k)) unplaced label text ≡ got s m rest
-      → Judging e (learn k (kindOf text) m) es (passed after)
-      → Alike (NamesOf after) (SameStep (isStep (kindOf text))) (StepPlaced (sizesOf after)) (got s m rest)
-      (readStatement e (isOneOf (numbers after)) (placesOf after (suc (k .steps))) label text)
-  unfolding sizesOf placesOf
-  passed-alike k label text s m rest q j =
-      let z = sizesOf after in
-      let at = placesOf after (suc (k .steps)) in
-      let isNumber = isOneOf (numbers after) in
-      let keeps : (x : Naming) → Has x (k .names) → Has x (after .names) = λ x h. passed-keeps j x (learn-keeps x k (kindOf text) m h) in
-      let adds : (x : Naming) → Has x (m .used) → Has x (after .names) = λ x h. passed-keeps j x (learn-adds x k (kindOf text) m h) in
-      subst (λ r. Alike (NamesOf after) (SameStep (isStep (kindOf text))) (StepPlaced z) r (readStatement e isNumber at label text)) q
-      (alike-readStatement (NamesOf after) z e unplaced at (isOneOf (numbers k)) isNumber label text (placed (suc (k .steps)))
-      (λ h. numbers-agree e k after label text s m rest at h q keeps adds one) (next-below k (kindOf text) m j))
-
-  -- entries that pass make steps that are placed, as many as were counted
-  passed-placed : {k : Known} {es : List Entry} → Judging e k es (passed after)
-      → StepsPlaced (sizesOf after) (k .steps) (stepsFrom e after (k .steps) es)
-  unfolding stepsFrom StepsPlaced Each sizesOf learn
-  passed-placed (ended _) = (tt, omega arith)
-  passed-placed (skips j) = passed-placed j
-  passed-placed (learns {k} {card} {label} {text} {es} s m rest q p j) =
-      statement-placed (isStep (kindOf text)) (passed-alike k label text s m rest q j) (used-known k (kindOf text) m j) card (k .steps)
-      (λ n. stepsFrom e after n es) (passed-placed j)
+-- a statement that passes is read alike with the places of the deck, each name of which has one purpose
+passed-alike : (e : Edition) (after : Known) → OnePurpose (after .names) → (k : Known) (label text : List ℕ) {es : List Entry}
+    (s : Option Statement) (m : Met) (rest : List ℕ) → readStatement e (isOneOf (numbers k)) unplaced label text ≡ got s m rest
+    → Judging e (learn k (kindOf text) m) es (passed after)
+    → Alike (SameStep (isStep (kindOf text))) (got s m rest)
+    (readStatement e (isOneOf (numbers after)) (placesOf after (suc (k .steps))) label text)
+passed-alike e after one k label text s m rest q j =
+    let at = placesOf after (suc (k .steps)) in
+    let isNumber = isOneOf (numbers after) in
+    let keeps : (x : Naming) → Has x (k .names) → Has x (after .names) = λ x h. passed-keeps j x (learn-keeps x k (kindOf text) m h) in
+    let adds : (x : Naming) → Has x (m .used) → Has x (after .names) = λ x h. passed-keeps j x (learn-adds x k (kindOf text) m h) in
+    subst (λ r. Alike (SameStep (isStep (kindOf text))) r (readStatement e isNumber at label text)) q
+    (alike-readStatement e unplaced at (isOneOf (numbers k)) isNumber label text
+    (λ h. numbers-agree e k after label text s m rest at h q keeps adds one))
 
 -- before the first statement no label or routine is known
 nothing-below : TargetsBelow 1 nothingKnown
@@ -270,45 +231,23 @@ nothing-one-purpose : OnePurpose (nothingKnown .names)
 unfolding nothingKnown any
 nothing-one-purpose w p q x y = absurd (false≢true x)
 
--- every statement of an accepted program names strings, numbers and steps that the program has
-pub accepted-placed : (e : Edition) (deck : List ℕ) (p : Program) → judge e deck ≡ accepted p → AllPlaced (programSizes p) (p .steps)
-unfolding programOf sizesOf StepsPlaced nothingKnown
-accepted-placed e deck p q =
-    accepted-program e deck p q (λ p. AllPlaced (programSizes p) (p .steps)) (λ k j _ _.
-    let one = passed-one-purpose j nothing-one-purpose in
-    let targets = passed-below j nothing-below in
-    let steps = passed-placed e k one (λ n. deck-placed k n (passed-goes-on refl j) targets) j in
-    let ss = stepsFrom e k 0 (entries e deck) in
-    let count : k .steps ≡ length ss = omega (arith, steps .1) in
-    let sizes : ℕ → Sizes = λ n. record { strings = length (strings k); numbers = length (numbers k); steps = n } in
-    subst (λ n. AllPlaced (sizes n) ss) count (steps .0))
-
--- sizes above every place of unplaced
-abbrev one : Sizes
-one = record { strings = 1; numbers = 1; steps = 1 }
-
-alike-number : {K : Naming → Type 0} {R : Option Statement → Option Statement → Type 0} {P : Option Statement → Type 0}
-    {x y : Read (Option Statement)} (k : Known) (kind : Kind) (sound : Bool) → Alike K R P x y
-    → statementNumber k kind sound y ≡ statementNumber k kind sound x
+alike-number : {R : Option Statement → Option Statement → Type 0} {x y : Read (Option Statement)} (k : Known) (kind : Kind)
+    (sound : Bool) → Alike R x y → statementNumber k kind sound y ≡ statementNumber k kind sound x
 unfolding statementNumber formNumber
-alike-number k kind sound (both r p) = refl
+alike-number k kind sound (both r) = refl
 alike-number k kind sound neither = refl
 
-alike-met : {K : Naming → Type 0} {R : Option Statement → Option Statement → Type 0} {P : Option Statement → Type 0}
-    {x y : Read (Option Statement)} → Alike K R P x y → metBy y ≡ metBy x
+alike-met : {R : Option Statement → Option Statement → Type 0} {x y : Read (Option Statement)} → Alike R x y → metBy y ≡ metBy x
 unfolding metBy
-alike-met (both r p) = refl
+alike-met (both r) = refl
 alike-met neither = refl
 
 -- what a statement meets, and its number, are the same with any places
 module _ (e : Edition) (isNumber : List ℕ → Bool) (at : Places) (label text : List ℕ) where
-  anywhere : Alike (λ _. Unit {0}) (SameStep (isStep (kindOf text))) (StepPlaced one) (readStatement e isNumber at label text)
+  anywhere : Alike (SameStep (isStep (kindOf text))) (readStatement e isNumber at label text)
       (readStatement e isNumber unplaced label text)
-  unfolding unplaced setsNumber
-  anywhere =
-      alike-readStatement (λ _. Unit {0}) one e at unplaced isNumber isNumber label text
-      (record { string = λ _ _. omega arith; number = λ _ _. omega arith; label = λ _. omega arith; entry = λ _. omega arith; exit = λ _. omega arith })
-      (λ _. refl) (λ _. omega arith)
+  unfolding setsNumber
+  anywhere = alike-readStatement e at unplaced isNumber isNumber label text (λ _. refl)
 
   pub number-anywhere : (k : Known) (kind : Kind) (sound : Bool)
       → statementNumber k kind sound (readStatement e isNumber unplaced label text)

@@ -1,7 +1,7 @@
 -- The language: what a program is (Program), how a form is read (Reading), names and constants (Words), numeric expressions (Numeric),
 -- string expressions and patterns (Strings), kinds of statements (Keywords), their forms (Forms). Of these: kinds and purposes are told
--- apart (Laws), what it is for the places in a program to be places of it (Placed), a form is read alike with any places (Alike), the
--- readers of numeric expressions have fuel enough (Fuel).
+-- apart (Laws), lists of which each element is so, and places below the counts of a program (Placed), a form is read alike with any places
+-- (Alike), the readers of numeric expressions have fuel enough (Fuel).
 pub mod Alike
 pub mod Forms
 pub mod Fuel

@@ -1,51 +1,8 @@
--- The places that a statement names are below the counts of its program: strings, numbers, and the steps it leads to. Assumes nothing.
+-- Lists of which each element is so; places of names that are below the counts of a program. Assumes nothing.
 use mathlib.Core.List.{List, [], _∷_, _++_}
-use mathlib.Core.Option.{Option, none, some}
 use Prim.Native.Nat.{ℕ, _<_}
-use lib.ListN.{length}
-use Rattle.language.specs.Program.{
-  Length,
-  constantly,
-  numbered,
-  Part,
-  whole,
-  first,
-  Operand,
-  constant,
-  number,
-  lengthOf,
-  numberOf,
-  Item,
-  operand,
-  operator,
-  sign,
-  Element,
-  literal,
-  part,
-  text,
-  PatternElement,
-  value,
-  freeFiller,
-  fixedFiller,
-  Test,
-  isNull,
-  isNumeric,
-  compares,
-  Branch,
-  Statement,
-  setNumber,
-  setString,
-  goto,
-  finish,
-  ifTest,
-  scan,
-  read,
-  write,
-  execute,
-  return,
-  Step,
-  Program,
-}
+use Rattle.language.specs.Reading.{Naming, number, string}
+use Rattle.language.specs.Words.{Places}
 
 module _ {A : Type 0} where
   -- every element of a list is so
@@ -81,64 +38,10 @@ pub record Sizes : Type 0 where
   pub numbers : ℕ
   pub steps : ℕ
 
-module _ (z : Sizes) where
-  unfoldable pub LengthPlaced : Length → Type 0
-  LengthPlaced (constantly c) = Unit
-  LengthPlaced (numbered i) = i < z .numbers
-
-  unfoldable pub PartPlaced : Part → Type 0
-  PartPlaced (whole s) = s < z .strings
-  PartPlaced (first s n) = (s < z .strings) × LengthPlaced n
-
-  unfoldable pub OperandPlaced : Operand → Type 0
-  OperandPlaced (constant c) = Unit
-  OperandPlaced (number i) = i < z .numbers
-  OperandPlaced (lengthOf s) = s < z .strings
-  OperandPlaced (numberOf p) = PartPlaced p
-
-  unfoldable pub ItemPlaced : Item → Type 0
-  ItemPlaced (operand a) = OperandPlaced a
-  ItemPlaced (operator o) = Unit
-  ItemPlaced (sign s) = Unit
-
-  unfoldable pub ElementPlaced : Element → Type 0
-  ElementPlaced (literal w) = Unit
-  ElementPlaced (part p) = PartPlaced p
-  ElementPlaced (text n m) = LengthPlaced n × (m < z .numbers)
-
-  unfoldable pub PatternPlaced : PatternElement → Type 0
-  PatternPlaced (value x) = ElementPlaced x
-  PatternPlaced (freeFiller s) = s < z .strings
-  PatternPlaced (fixedFiller s n) = (s < z .strings) × LengthPlaced n
-
-  unfoldable pub TestPlaced : Test → Type 0
-  TestPlaced (isNull s) = s < z .strings
-  TestPlaced (isNumeric p) = PartPlaced p
-  TestPlaced (compares a c b) = OperandPlaced a × OperandPlaced b
-
-  unfoldable pub BranchPlaced : Branch → Type 0
-  BranchPlaced b = (b .success < z .steps) × (b .failure < z .steps)
-
-  unfoldable pub ReplacementPlaced : Option (List Element) → Type 0
-  ReplacementPlaced none = Unit
-  ReplacementPlaced (some xs) = Each ElementPlaced xs
-
-  unfoldable pub StatementPlaced : Statement → Type 0
-  StatementPlaced (setNumber i x) = (i < z .numbers) × Each ItemPlaced x
-  StatementPlaced (setString p xs) = PartPlaced p × Each ElementPlaced xs
-  StatementPlaced (goto s) = s < z .steps
-  StatementPlaced finish = Unit
-  StatementPlaced (ifTest t b) = TestPlaced t × BranchPlaced b
-  StatementPlaced (scan d p xs r b) = PartPlaced p × Each PatternPlaced xs × ReplacementPlaced r × BranchPlaced b
-  StatementPlaced (read p b) = PartPlaced p × BranchPlaced b
-  StatementPlaced (write xs) = Each ElementPlaced xs
-  StatementPlaced (execute s) = s < z .steps
-  StatementPlaced return = Unit
-
--- every statement of some steps
-abbrev pub AllPlaced : Sizes → List Step → Type 0
-AllPlaced z ss = Each (λ (s : Step). StatementPlaced z (s .statement)) ss
-
--- the counts of a program
-abbrev pub programSizes : Program → Sizes
-programSizes p = record { strings = p .strings; numbers = p .numbers; steps = length (p .steps) }
+-- a name has a place below the counts where it is known; every step named is one of the steps
+pub record PlacedBy (K : Naming → Type 0) (z : Sizes) (at : Places) : Type 0 where
+  pub string : (n : List ℕ) → K (record { purpose = string; name = n }) → at .string n < z .strings
+  pub number : (n : List ℕ) → K (record { purpose = number; name = n }) → at .number n < z .numbers
+  pub label : (n : List ℕ) → at .label n < z .steps
+  pub entry : (n : List ℕ) → at .entry n < z .steps
+  pub exit : (n : List ℕ) → at .exit n < z .steps

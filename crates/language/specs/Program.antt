@@ -1,6 +1,7 @@
 -- A program: what the run of a deck needs of it. Strings are numbered in order of first appearance, numbers in order of declaration,
 -- steps in order of their statements, each from 0. Assumes nothing.
-use mathlib.Core.List.{List}
+use mathlib.Core.Bool.{Bool, true, false}
+use mathlib.Core.List.{List, [], _∷_}
 use mathlib.Core.Option.{Option}
 use Prim.Native.Nat.{ℕ}
 use lib.IntN.{ℤ}
@@ -90,3 +91,22 @@ pub record Program : Type 0 where
   pub strings : ℕ
   pub numbers : ℕ
   pub steps : List Step
+
+-- END and EXIT
+unfoldable pub isFinish : Statement → Bool
+isFinish (setNumber i x) = false
+isFinish (setString p xs) = false
+isFinish (goto k) = false
+isFinish finish = true
+isFinish (ifTest t b) = false
+isFinish (scan d p xs r b) = false
+isFinish (read p b) = false
+isFinish (write xs) = false
+isFinish (execute k) = false
+isFinish return = false
+
+-- there is a last step, and it finishes
+unfoldable pub lastFinishes : List Step → Bool
+lastFinishes [] = false
+lastFinishes (s ∷ []) = isFinish (s .statement)
+lastFinishes (s ∷ (t ∷ ss)) = lastFinishes (t ∷ ss)

@@ -13,12 +13,13 @@ use Rattle.base.specs.Edition.{edition1}
 use Rattle.base.specs.Limits as Limits
 use Rattle.base.specs.Lists.{all, isNil}
 use Rattle.language.specs.Program as Program
+use Rattle.language.specs.Program.{isFinish}
 use Rattle.machine.specs.Step.{statementAt}
 use Rattle.calls.specs.NumeralLaws.{Stands}
 use Rattle.calls.specs.Numerals.{numberAt}
 use Rattle.calls.specs.ProgramLaws.{program-runs, statement-holds, step-behind, first-step}
 use Rattle.calls.specs.Rules as Rules
-use Rattle.calls.specs.Rules.{keepsRules, balanced, placeOf, isFinish}
+use Rattle.calls.specs.Rules.{keepsRules, balanced, placeOf}
 use Rattle.calls.specs.Table as Table
 use Rattle.calls.specs.Table.{stepsAt, elementsAt, itemsAt, literalsAt, elementsOf, itemsOf, replacementOf, rowBytes, rowOf, row}
 use Rattle.calls.specs.Table.{rangeCell, allElements, allItems}

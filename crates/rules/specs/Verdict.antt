@@ -11,10 +11,11 @@ use Rattle.base.specs.Choice.{test-cases, same-truth}
 use Rattle.base.specs.Edition.{edition1}
 use Rattle.base.specs.ListLaws.{length-stretch}
 use Rattle.base.specs.Lists.{all}
+use Rattle.language.specs.Program.{isFinish, lastFinishes}
 use Rattle.calls.specs.BufferLaws.{zeros-are, all-zeros}
 use Rattle.calls.specs.Numerals.{numberAt}
 use Rattle.calls.specs.ProgramLaws.{program-runs, first-step}
-use Rattle.calls.specs.Rules.{isFinish, lastFinishes, stepHolds, isProgram, keepsRules}
+use Rattle.calls.specs.Rules.{stepHolds, isProgram, keepsRules}
 use Rattle.calls.specs.Table.{Row, row, allElements, allItems, allLiterals, stepsAt}
 use Rattle.calls.specs.TableLaws.{in-range}
 use Rattle.calls.specs.TableReading.{rowAt, statementOfRow, stepIn, stepsFrom, programIn}

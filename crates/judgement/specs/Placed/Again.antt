@@ -5,20 +5,19 @@ use mathlib.Core.List.{List, [], _∷_}
 use mathlib.Core.Option.{Option, none, some}
 use mathlib.Core.Path.{_≡_, refl}
 use Prim.Native.Nat.{ℕ, suc, _<_}
-use lib.ListN.{length}
 use Rattle.base.specs.Edition.{Edition}
 use Rattle.cards.specs.Cards.{Entry, skipped, statement}
 use Rattle.cards.specs.Packing.{packed}
-use Rattle.language.specs.Alike.{Alike, both, SameStep, StepPlaced, PlacedBy}
+use Rattle.language.specs.Alike.{Alike, both, SameStep}
 use Rattle.language.specs.Keywords.{leading}
-use Rattle.language.specs.Placed.{Each, Sizes}
+use Rattle.language.specs.Placed.{Each, PlacedBy}
 use Rattle.language.specs.Program.{Statement}
-use Rattle.language.specs.Reading.{Naming, Met, Read, got}
-use Rattle.judgement.specs.Known.{Known, nothingKnown, strings, numbers, isOneOf, isStep, learn}
+use Rattle.language.specs.Reading.{Met, Read, got}
+use Rattle.judgement.specs.Known.{Known, nothingKnown, numbers, isOneOf, isStep, learn}
 use Rattle.judgement.specs.Refusals.{readStatement}
 use Rattle.judgement.specs.Deck.{passed, placesOf}
-use Rattle.judgement.specs.Names.{Has, OnePurpose, passed-one-purpose, used-known}
-use Rattle.judgement.specs.Placed.{NamesOf, sizesOf, deck-placed, next-below, passed-alike, nothing-below, nothing-one-purpose}
+use Rattle.judgement.specs.Names.{OnePurpose, passed-one-purpose, used-known}
+use Rattle.judgement.specs.Placed.{NamesOf, deckSizes, deck-placed, next-below, passed-alike, nothing-below, nothing-one-purpose}
 use Rattle.judgement.specs.Rules.{Passes, Judging, ended, skips, learns}
 use Rattle.judgement.specs.Targets.{isInner, passed-goes-on, passed-below}
 
@@ -37,40 +36,36 @@ pub data Again (e : Edition) (whole : Known) : Known → List Entry → Type 0 w
       → readStatement e (isOneOf (numbers whole)) (placesOf whole (suc (k .steps))) label text ≡ got s m rest
       → IsStep (isStep (leading (packed text) .kind)) s
       → Passes k (leading (packed text) .kind) m
-      → Each (λ x. Has x (whole .names)) (m .used)
+      → Each (NamesOf whole) (m .used)
       → (isInner (leading (packed text) .kind) ≡ true → suc (k .steps) < whole .steps)
       → Again e whole (learn k (leading (packed text) .kind) m) es
       → Again e whole k (statement card true label text ∷ es)
 
--- the counts of a deck
-abbrev pub deckSizes : Known → Sizes
-deckSizes k = record { strings = length (strings k); numbers = length (numbers k); steps = k .steps }
-
 -- a statement read alike is read again
-again-reads : {K : Naming → Type 0} {z : Sizes} {e : Edition} {whole k : Known} {card : ℕ} {label text : List ℕ} {es : List Entry}
+again-reads : {e : Edition} {whole k : Known} {card : ℕ} {label text : List ℕ} {es : List Entry}
     {s : Option Statement} {m : Met} {rest : List ℕ} {read : Read (Option Statement)} (step : Bool)
-    → Alike K (SameStep step) (StepPlaced z) (got s m rest) read
+    → Alike (SameStep step) (got s m rest) read
     → readStatement e (isOneOf (numbers whole)) (placesOf whole (suc (k .steps))) label text ≡ read
     → isStep (leading (packed text) .kind) ≡ step
     → Passes k (leading (packed text) .kind) m
-    → Each (λ x. Has x (whole .names)) (m .used)
+    → Each (NamesOf whole) (m .used)
     → (isInner (leading (packed text) .kind) ≡ true → suc (k .steps) < whole .steps)
     → Again e whole (learn k (leading (packed text) .kind) m) es
     → Again e whole k (statement card true label text ∷ es)
-again-reads true (both {a = some a} {b = some b} {m} {rest} r _) q step p used next j = reads (some b) m rest q (rw step tt) p used next j
-again-reads true (both {a = some a} {b = none} r _) q step p used next j = absurd r
-again-reads true (both {a = none} r _) q step p used next j = absurd r
-again-reads false (both {a = none} {b = none} {m} {rest} r _) q step p used next j = reads none m rest q (rw step tt) p used next j
-again-reads false (both {a = none} {b = some b} r _) q step p used next j = absurd r
-again-reads false (both {a = some a} r _) q step p used next j = absurd r
+again-reads true (both {a = some a} {b = some b} {m} {rest} r) q step p used next j = reads (some b) m rest q (rw step tt) p used next j
+again-reads true (both {a = some a} {b = none} r) q step p used next j = absurd r
+again-reads true (both {a = none} r) q step p used next j = absurd r
+again-reads false (both {a = none} {b = none} {m} {rest} r) q step p used next j = reads none m rest q (rw step tt) p used next j
+again-reads false (both {a = none} {b = some b} r) q step p used next j = absurd r
+again-reads false (both {a = some a} r) q step p used next j = absurd r
 
 -- the places of a deck that passes are below its counts, and its statements are read again with them
 pub passed-again : {e : Edition} {whole : Known} {es : List Entry} → Judging e nothingKnown es (passed whole)
-    → ((n : ℕ) → PlacedBy (λ x. Has x (whole .names)) (deckSizes whole) (placesOf whole n)) × Again e whole nothingKnown es
-unfolding nothingKnown sizesOf
+    → ((n : ℕ) → PlacedBy (NamesOf whole) (deckSizes whole) (placesOf whole n)) × Again e whole nothingKnown es
+unfolding nothingKnown
 passed-again {e} {whole} j = (placed, further j)
   where
-    placed : (n : ℕ) → PlacedBy (NamesOf whole) (sizesOf whole) (placesOf whole n)
+    placed : (n : ℕ) → PlacedBy (NamesOf whole) (deckSizes whole) (placesOf whole n)
     placed n = deck-placed whole n (passed-goes-on refl j) (passed-below j nothing-below)
 
     one : OnePurpose (whole .names)
@@ -81,5 +76,5 @@ passed-again {e} {whole} j = (placed, further j)
     further (skips j) = past (further j)
     further (learns {k} {card} {label} {text} s m rest q p j) =
         again-reads (isStep (leading (packed text) .kind))
-        (passed-alike e whole one placed k label text s m rest q j) refl refl p
+        (passed-alike e whole one k label text s m rest q j) refl refl p
         (used-known k (leading (packed text) .kind) m j) (next-below k (leading (packed text) .kind) m j) (further j)
