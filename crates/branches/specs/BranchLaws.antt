@@ -2,26 +2,23 @@
 use mathlib.Core.Bool.{true, false}
 use mathlib.Core.List.{List, [], _∷_}
 use mathlib.Core.Logic.{⊎-elim}
-use mathlib.Core.Path.{_≡_, refl, sym, ap, subst, _∙_}
-use Prim.Native.Nat.{ℕ, _+_}
-use native.Mathlib.Omega.{arith}
+use mathlib.Core.Path.{_≡_, refl, sym, ap, ap₂, subst, _∙_}
+use Prim.Native.Nat.{ℕ}
 use lib.ListN.{drop}
-use lib.Seq.{drop-drop}
 use Rattle.base.specs.Edition.{edition1}
 use Rattle.base.specs.Lists.{begins, all}
 use Rattle.base.specs.Text.{bytes}
 use Rattle.language.specs.Forms.{labelName, branch}
 use Rattle.language.specs.Program as Program
-use Rattle.language.specs.Reading.{label, routine, purposeNumber, Met}
-use Rattle.language.specs.Reading.{Read, got, broken, _>>=_, meeting, give, skip}
+use Rattle.language.specs.Reading.{label, routine, purposeNumber, Read, broken, _>>=_, skip}
 use Rattle.language.specs.Words as Words
 use Rattle.language.specs.Words.{nameAs}
 use Rattle.met.specs.Entries.{entry, nameOf, metIn}
-use Rattle.met.specs.EntryLaws.{name-key, used-met, declared-met}
+use Rattle.met.specs.EntryLaws.{used-met, declared-met}
 use Rattle.met.specs.Known.{placesIn}
-use Rattle.met.specs.ReadingLaws.{nothing-met, skip-then, skip-broken}
+use Rattle.met.specs.ReadingLaws.{give-then, skip-then, skip-broken, got-broken, bind-assoc, bind-same}
 use Rattle.met.specs.declared.Cursor.{Cursor}
-use Rattle.numeric.specs.OperandLaws.{met-nothing, name-placed, gets-give, gets-then, gets-skip, skipped, then-broken, chosen}
+use Rattle.numeric.specs.OperandLaws.{gets-give, gets-then, gets-skip, skipped, drop-moved, named-by, name-placed, then-broken, name-as-broken, chosen}
 use Rattle.numeric.specs.Operands.{Ready, Gets, Names, Skips, moved}
 use Rattle.packer.specs.Keys.{keyOf, isKeyByte}
 use Rattle.branches.specs.Branches.{TargetTag, metAs, targetIn, TargetAnswer, TargetRead}
@@ -49,42 +46,6 @@ module _ {text keys tags : List ℕ} {c : Cursor} {x : Read Program.Branch} {r :
   pub branch-none : r ≡ BranchingCode.the-variants.Broken → x ≡ broken
   branch-none e = subst (λ z. BranchAnswer text keys tags c x z k t) e (a .answer)
 
-module _ {text keys tags : List ℕ} {c : Cursor} {tag key : ℕ} {k t : List ℕ} {d : Cursor} where
-  -- the name that a key shows
-  pub named-by : (n : Names text keys tags c tag key k t d) → nameOf key ≡ n .bytes
-  named-by n = ap nameOf (n .keyed) ∙ name-key (n .bytes) (n .shown)
-
-  -- a name, by what it leads to
-  pub name-met : {W : Type 0} (meets : List ℕ → Met) (f : List ℕ → W) (v : W) (n : Names text keys tags c tag key k t d)
-      → metIn (entry key tag ∷ []) 0 [] 0 ≡ meets (n .bytes) → f (n .bytes) ≡ v
-      → Gets f v text keys tags c (nameAs meets (drop (c .at) text)) k t d
-  unfolding _>>=_ meeting give nameAs
-  name-met meets f v n met made =
-      record {
-        value = n .bytes;
-        entries = entry key tag ∷ [];
-        is =
-            ap (λ (y : Read (List ℕ)). y >>= λ (n, rest). got n (meets n) rest) (n .is)
-            ∙ ap (λ (m : Met). got (n .bytes) m (drop (d .at) text)) (nothing-met (meets (n .bytes)) ∙ sym met);
-        made = made;
-        noting = n .noting;
-        goes = n .goes;
-        ready = n .ready;
-        few = omega (arith, n .further);
-        further = n .further;
-      }
-
-pub name-as-broken : (meets : List ℕ → Met) (bs : List ℕ) → Words.name bs ≡ broken → nameAs meets bs ≡ broken
-unfolding nameAs
-name-as-broken meets bs e = then-broken _ e
-
--- what reads behind a value made of another
-give-behind : {A B C : Type 0} (f : A → B) (next : B × List ℕ → Read C) (x : Read A)
-    → (x >>= (λ (a, rest). give (f a) rest) >>= next) ≡ (x >>= λ (a, rest). next (f a, rest))
-unfolding _>>=_ meeting give
-give-behind f next (got a m rest) = ap (λ (n : Met). meeting n (next (f a, rest))) (met-nothing m)
-give-behind f next broken = refl
-
 -- a name that leads to a step, by its tag
 target-met : (tag : ℕ) → TargetTag tag → (n : List ℕ) → all isKeyByte n ≡ true → metIn (entry (keyOf n) tag ∷ []) 0 [] 0 ≡ metAs tag n
 unfolding purposeNumber
@@ -111,7 +72,8 @@ target-broken known tag bs e = then-broken _ (name-as-broken (metAs tag) bs e)
 pub target-then : (known : List ℕ) (tag : ℕ) (bs : List ℕ) {A : Type 0} (next : ℕ × List ℕ → Read A)
     → (targetIn known tag bs >>= next) ≡ (nameAs (metAs tag) bs >>= λ (n, rest). next (stepTo known tag n, rest))
 unfolding targetIn
-target-then known tag bs next = give-behind (stepTo known tag) next (nameAs (metAs tag) bs)
+target-then known tag bs next =
+    let name = nameAs (metAs tag) bs in bind-assoc name _ next ∙ bind-same name _ _ (λ n rest. give-then (stepTo known tag n) rest next)
 
 -- a label on failure
 module _ (known : List ℕ) (s : ℕ) {text keys tags : List ℕ} {c : Cursor} where
@@ -136,12 +98,13 @@ pub branching-then : {A C : Type 0} {f : A → C} {v : C} {text keys tags : List
     (next : A × List ℕ → Read Program.Branch) (r : Branching) {k′ t′ : List ℕ} → Ready text keys tags c
     → (a : Gets f v text keys tags c x k t d) → BranchingRead text k t d (next (a .value, drop (d .at) text)) r k′ t′
     → BranchingRead text keys tags c (x >>= next) r k′ t′
-unfolding _>>=_ meeting
 branching-then next (BranchingCode.the-variants.Got v e) ready a b = record { answer = gets-then next (λ z. z) (branchOf v) ready a (b .answer) }
-branching-then {A} next BranchingCode.the-variants.Broken ready a b =
-    record {
-      answer = ap (λ (y : Read A). y >>= next) (a .is) ∙ ap (meeting (metIn (a .entries) 0 [] 0)) (b .answer);
-    }
+branching-then next BranchingCode.the-variants.Broken ready a b = record { answer = got-broken next (a .is) (b .answer) }
+
+-- by the same reading
+branching-same : {text keys tags : List ℕ} {c : Cursor} {x y : Read Program.Branch} {r : Branching} {k t : List ℕ} → x ≡ y
+    → BranchingRead text keys tags c y r k t → BranchingRead text keys tags c x r k t
+branching-same {text} {keys} {tags} {c} {r = r} {k} {t} e a = subst (λ z. BranchingRead text keys tags c z r k t) (sym e) a
 
 module _ (known bs : List ℕ) where
   pub targets-broken : begins (44 ∷ []) bs ≡ false → labelIn known bs ≡ broken
@@ -162,47 +125,42 @@ module _ (known bs : List ℕ) where
 
 module _ (known : List ℕ) {text keys tags : List ℕ} {c : Cursor} where
   -- `/,f`
-  pub targets-failing : begins (44 ∷ []) (drop (c .at) text) ≡ true → (r : Branching) {k t : List ℕ}
-      → BranchingRead text keys tags (moved c 1) (failingTo known (placesIn known .next) (drop (c .at + 1) text)) r k t
+  pub targets-failing : begins (44 ∷ []) (drop (c .at) text) ≡ true → {n : ℕ} → n ≡ placesIn known .next → (r : Branching) {b : Cursor}
+      {k t : List ℕ} → b ≡ moved c 1 → BranchingRead text keys tags b (failingTo known n (drop (b .at) text)) r k t
       → BranchingRead text keys tags c (targets known (drop (c .at) text)) r k t
   unfolding targets bytes
-  targets-failing e r {k} {t} a =
-      subst (λ y. BranchingRead text keys tags c y r k t)
-      (sym (chosen _ _ e ∙ ap (failingTo known (placesIn known .next)) (drop-drop 1 (c .at) text)))
-      (branching-skip 1 r (skipped c 1 refl) a)
+  targets-failing e next r m a =
+      branching-same (chosen _ _ e ∙ ap₂ (failingTo known) (sym next) (sym (drop-moved text c 1 m))) (branching-skip 1 r (skipped c 1 m) a)
 
   module _ (e : begins (44 ∷ []) (drop (c .at) text) ≡ false) {s : ℕ} {k t : List ℕ} {d : Cursor}
       (a : Gets (λ n. n) s text keys tags c (labelIn known (drop (c .at) text)) k t d) where
     -- `/s,f`
-    pub targets-both : Ready text keys tags c → begins (44 ∷ []) (drop (d .at) text) ≡ true → (r : Branching) {k′ t′ : List ℕ}
-        → BranchingRead text k t (moved d 1) (failingTo known s (drop (d .at + 1) text)) r k′ t′
+    pub targets-both : Ready text keys tags c → begins (44 ∷ []) (drop (d .at) text) ≡ true → (r : Branching) {b : Cursor} {k′ t′ : List ℕ}
+        → b ≡ moved d 1 → BranchingRead text k t b (failingTo known s (drop (b .at) text)) r k′ t′
         → BranchingRead text keys tags c (targets known (drop (c .at) text)) r k′ t′
     unfolding targets bytes
-    targets-both ready g r {k′} {t′} b =
-        subst (λ y. BranchingRead text keys tags c y r k′ t′) (sym (chosen _ _ e))
+    targets-both ready g r m b =
+        branching-same (chosen _ _ e)
         (branching-then _ r ready a
-        (subst (λ y. BranchingRead text k t d y r k′ t′)
-        (sym
-        (chosen {b = true} (failingTo known (a .value) (drop 1 (drop (d .at) text)))
-        (give (record { success = a .value; failure = placesIn known .next }) (drop (d .at) text)) g
-        ∙ ap (λ j. failingTo known j (drop 1 (drop (d .at) text))) (a .made)
-        ∙ ap (failingTo known s) (drop-drop 1 (d .at) text)))
-        (branching-skip 1 r (skipped d 1 refl) b)))
+        (branching-same (chosen _ _ g ∙ ap₂ (failingTo known) (a .made) (sym (drop-moved text d 1 m))) (branching-skip 1 r (skipped d 1 m) b)))
 
     -- `/s`
-    pub targets-success : begins (44 ∷ []) (drop (d .at) text) ≡ false
-        → Gets (λ z. z) (record { success = s; failure = placesIn known .next }) text keys tags c (targets known (drop (c .at) text)) k t d
+    pub targets-success : begins (44 ∷ []) (drop (d .at) text) ≡ false → {n : ℕ} → n ≡ placesIn known .next
+        → Gets (λ z. z) (record { success = s; failure = n }) text keys tags c (targets known (drop (c .at) text)) k t d
     unfolding targets bytes
-    targets-success g =
-        subst (λ y. Gets (λ z. z) (record { success = s; failure = placesIn known .next }) text keys tags c y k t d) (sym (chosen _ _ e))
+    targets-success g {n} next =
+        let branch : Program.Branch = record { success = s; failure = n } in
+        subst (λ y. Gets (λ z. z) branch text keys tags c y k t d) (sym (chosen _ _ e))
         (gets-give _ (λ z. z) _ (record { success = a .value; failure = placesIn known .next }) a (chosen _ _ g)
-        (ap {B = Program.Branch} (λ j. record { success = j; failure = placesIn known .next }) (a .made)))
+        (ap₂ {C = Program.Branch} (λ i j. record { success = i; failure = j }) (a .made) (sym next)))
 
-  pub branch-targets : begins (47 ∷ []) (drop (c .at) text) ≡ true → (r : Branching) {k t : List ℕ}
-      → BranchingRead text keys tags (moved c 1) (targets known (drop (c .at + 1) text)) r k t
+  pub branch-targets : begins (47 ∷ []) (drop (c .at) text) ≡ true → (r : Branching) {b : Cursor} {k t : List ℕ} → b ≡ moved c 1
+      → BranchingRead text keys tags b (targets known (drop (b .at) text)) r k t
       → BranchingRead text keys tags c (branch edition1 (numberIn known) (placesIn known) (drop (c .at) text)) r k t
   unfolding bytes
-  branch-targets e r {k} {t} a =
-      subst (λ y. BranchingRead text keys tags c y r k t)
-      (sym (branch-is known (drop (c .at) text) ∙ skip-then (47 ∷ []) (drop (c .at) text) _ e ∙ ap (targets known) (drop-drop 1 (c .at) text)))
-      (branching-skip 1 r (skipped c 1 refl) a)
+  branch-targets e r m a =
+      branching-same
+      (branch-is known (drop (c .at) text)
+      ∙ skip-then (47 ∷ []) (drop (c .at) text) (λ (_, rest). targets known rest) e
+      ∙ ap (targets known) (sym (drop-moved text c 1 m)))
+      (branching-skip 1 r (skipped c 1 m) a)

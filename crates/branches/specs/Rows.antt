@@ -1,6 +1,6 @@
 -- The code's rows as the table has them, and readings answered by one. Assumes nothing.
 use mathlib.Core.List.{List}
-use mathlib.Core.Path.{_≡_, subst}
+use mathlib.Core.Path.{_≡_, sym, subst}
 use Prim.Native.Nat.{ℕ}
 use Rattle.calls.specs.Table as Table
 use Rattle.language.specs.Reading.{Read, broken}
@@ -31,3 +31,12 @@ module _ {A : Type 0} {f : A → Table.Row} {text keys tags : List ℕ} {c : Cur
 
   pub draft-none : r ≡ DraftCode.the-variants.Broken → x ≡ broken
   draft-none e = subst (λ z. DraftAnswer f text keys tags c x z k t) e (a .answer)
+
+-- by the same answer, and by the same reading
+pub draft-ends : {A : Type 0} {f : A → Table.Row} {text keys tags : List ℕ} {c : Cursor} {x : Read A} {q r : Draft} {k t : List ℕ} → q ≡ r
+    → DraftRead f text keys tags c x r k t → DraftRead f text keys tags c x q k t
+draft-ends {f = f} {text} {keys} {tags} {c} {x} {k = k} {t} e a = subst (λ z. DraftRead f text keys tags c x z k t) (sym e) a
+
+pub draft-same : {A : Type 0} {f : A → Table.Row} {text keys tags : List ℕ} {c : Cursor} {x y : Read A} {r : Draft} {k t : List ℕ} → x ≡ y
+    → DraftRead f text keys tags c y r k t → DraftRead f text keys tags c x r k t
+draft-same {f = f} {text} {keys} {tags} {c} {r = r} {k} {t} e a = subst (λ z. DraftRead f text keys tags c z r k t) (sym e) a

@@ -2,82 +2,49 @@
 use mathlib.Core.Bool.{Bool, true, false, _||_}
 use mathlib.Core.List.{List, [], _∷_}
 use mathlib.Core.Path.{_≡_, refl, sym, ap, ap₂, subst, _∙_}
-use Prim.Native.Nat.{ℕ, suc, _+_, _-_, _≤_, _<_}
+use Prim.Native.Nat.{ℕ, suc, _+_, _<_}
 use native.Mathlib.Omega.{arith}
 use lib.ListN.{length, drop, getD, length-drop}
 use lib.Seq.{drop-drop}
 use Rattle.base.specs.Edition.{edition1}
 use Rattle.base.specs.Lists.{begins}
 use Rattle.base.specs.Text.{bytes}
-use Rattle.calls.specs.Splices.{splice-nil}
 use Rattle.calls.specs.Table as Table
 use Rattle.calls.specs.Table.{partCell, operandCell, comparisonNumber, testRow, noCell}
 use Rattle.cards.specs.Bytes.{isDigit}
 use Rattle.language.specs.Numeric.{calledOrNumber, comparison, ifOperand, test}
 use Rattle.language.specs.Program as Program
 use Rattle.language.specs.Program.{Comparison, equal, unequal, less, greater, atMost, atLeast, Test, isNull, isNumeric, compares}
-use Rattle.language.specs.Reading.{Met, nothing, Read, got, broken, _>>=_, meeting, give, skip}
+use Rattle.language.specs.Reading.{Read, broken, _>>=_, give, skip}
 use Rattle.language.specs.Words.{Places, isSign, noRole, stringName, partName}
-use Rattle.met.specs.Entries.{gather, roleOf, metIn}
-use Rattle.met.specs.ReadingLaws.{give-then}
+use Rattle.met.specs.Entries.{roleOf}
+use Rattle.met.specs.ReadingLaws.{give-then, got-broken}
 use Rattle.met.specs.declared.Cursor.{Cursor}
-use Rattle.numeric.specs.OperandLaws.{met-nothing, gets-give, gets-then, gets-skip, skipped, then-broken, chosen, begins-room, ready-moved}
-use Rattle.numeric.specs.OperandLaws.{closed-given, closed-broken, cell-made, place-cell, cell-skip}
-use Rattle.numeric.specs.Operands.{Ready, Gets, Skips, moved, meaning, CellRead, PlaceRead, placedIn}
+use Rattle.numeric.specs.OperandLaws.{gets-give, gets-then, gets-skip, skipped, drop-moved, begins-room, then-broken, chosen}
+use Rattle.numeric.specs.OperandLaws.{cell-same, cell-made, place-cell, cell-skip, gets-closed, gets-open}
+use Rattle.numeric.specs.Operands.{Ready, Gets, moved, meaning, CellRead, PlaceRead, placedIn}
 use Rattle.numeric.specs.declared.operands.Cell.{Cell}
 use Rattle.numeric.specs.declared.operands.Operand as OperandCode
 use Rattle.numeric.specs.declared.operands.Operand.{Operand}
 use Rattle.numeric.specs.declared.operands.Place.{Place}
-use Rattle.branches.specs.Rows.{rowMeaning, DraftRead}
+use Rattle.branches.specs.Rows.{rowMeaning, DraftRead, draft-same}
 use Rattle.branches.specs.Tests.{SignStands, ComparisonAt, SignedRead, testAlone, testedBy, comparedTo, comparingAt}
 use Rattle.branches.specs.declared.Draft as DraftCode
 use Rattle.branches.specs.declared.Draft.{Draft}
 use Rattle.branches.specs.declared.tests.Sign.{Sign}
-
--- a value that is given from a place on
-pub value-got : {A C : Type 0} (f : A → C) (v : A) (w : C) (next : ℕ) {text keys tags : List ℕ} {c : Cursor} {x : Read A} {d : Cursor}
-    → Ready text keys tags c → x ≡ give v (drop next text) → c .at < next → next ≤ length text → f v ≡ w → d ≡ moved c (next - c .at)
-    → Gets f w text keys tags c x keys tags d
-unfolding give nothing metIn gather
-value-got f v w next {text} {keys} {tags} {c} {x} {d} ready is h g made e =
-    let at : d .at ≡ next = ap (λ (z : Cursor). z .at) e ∙ omega arith in
-    let s = skipped c (next - c .at) e in
-    record {
-      value = v;
-      entries = [];
-      is = is ∙ ap (λ j. give v (drop j text)) (sym at);
-      made = made;
-      noting = record { keyed = sym (splice-nil keys (c .names)); tagged = sym (splice-nil tags (c .names)) };
-      goes = s .goes;
-      ready =
-          record {
-            textSize = ready .textSize;
-            inside = omega arith;
-            names = omega (arith, ready .names, s .goes);
-            items = omega (arith, ready .items, s .goes);
-            elements = omega (arith, ready .elements, s .goes);
-            literals = omega (arith, ready .literals, s .goes);
-            keysSize = ready .keysSize;
-            tagsSize = ready .tagsSize;
-          };
-      few = omega arith;
-      further = omega arith;
-    }
 
 -- an operand of IF
 module _ (p : Places) {text keys tags : List ℕ} {c : Cursor} where
   pub if-signed : {r : Operand} → (isDigit (getD (drop (c .at) text) 0 0) || isSign (drop (c .at) text)) ≡ true → SignedRead text keys tags c r
       → CellRead operandCell text keys tags c (ifOperand edition1 p (drop (c .at) text)) r keys tags
   unfolding ifOperand operandCell
-  if-signed {r} e a =
-      subst (λ y. CellRead operandCell text keys tags c y r keys tags) (sym (chosen _ _ e))
-      (cell-made Program.constant operandCell r (λ _. refl) a)
+  if-signed {r} e a = cell-same (chosen _ _ e) (cell-made Program.constant operandCell r (λ _. refl) a)
 
   pub if-called : {r : Operand} {k t : List ℕ} → (isDigit (getD (drop (c .at) text) 0 0) || isSign (drop (c .at) text)) ≡ false
       → CellRead operandCell text keys tags c (calledOrNumber edition1 p (drop (c .at) text)) r k t
       → CellRead operandCell text keys tags c (ifOperand edition1 p (drop (c .at) text)) r k t
   unfolding ifOperand
-  if-called {r} {k} {t} e a = subst (λ y. CellRead operandCell text keys tags c y r k t) (sym (chosen _ _ e)) a
+  if-called e a = cell-same (chosen _ _ e) a
 
 -- the signs, one test behind the other
 module _ (text : List ℕ) (at : ℕ) where
@@ -143,44 +110,37 @@ module _ (p : Places) (a : Program.Operand) where
   unfolding comparedTo
   compared-none bs e = then-broken _ e
 
-  module _ {text : List ℕ} (c : Cursor) {r : Sign} (s : SignStands text (c .at) r) where
+  module _ {text : List ℕ} (c : Cursor) {r : Sign} (s : SignStands text (c .at) r) {b : Cursor} (m : b ≡ moved c (r .size)) where
     compared-is : comparedTo p a (drop (c .at) text)
-        ≡ (ifOperand edition1 p (drop (c .at + r .size) text) >>= λ (b, rest). give (compares a (s .which) b) rest)
+        ≡ (ifOperand edition1 p (drop (b .at) text) >>= λ (b, rest). give (compares a (s .which) b) rest)
     unfolding comparedTo
     compared-is =
         let next : Comparison × List ℕ → Read Test = λ (w, rest). ifOperand edition1 p rest >>= λ (b, rest). give (compares a w b) rest in
-        ap (λ (y : Read Comparison). y >>= next) (s .is) ∙ give-then (s .which) (drop (c .at + r .size) text) next
+        ap (λ (y : Read Comparison). y >>= next) (s .is)
+        ∙ give-then (s .which) (drop (c .at + r .size) text) next
+        ∙ ap (λ (z : Cursor). next (s .which, drop (z .at) text)) (sym m)
 
-    pub compared-broken : ifOperand edition1 p (drop (c .at + r .size) text) ≡ broken → comparedTo p a (drop (c .at) text) ≡ broken
+    pub compared-broken : ifOperand edition1 p (drop (b .at) text) ≡ broken → comparedTo p a (drop (c .at) text) ≡ broken
     compared-broken e = compared-is ∙ then-broken _ e
 
     pub compared-got : (left right : Cell) {keys tags : List ℕ} {k t : List ℕ} {d : Cursor} → operandCell a ≡ meaning left
-        → Gets operandCell (meaning right) text keys tags (moved c (r .size)) (ifOperand edition1 p (drop (c .at + r .size) text)) k t d
+        → Gets operandCell (meaning right) text keys tags b (ifOperand edition1 p (drop (b .at) text)) k t d
         → Gets testAlone (Table.row 7 (r .number) 0 0 (meaning left) (meaning right)) text keys tags c (comparedTo p a (drop (c .at) text)) k t d
     unfolding testRow
-    compared-got left right {keys} {tags} {k} {t} {d} e b =
+    compared-got left right {keys} {tags} {k} {t} {d} e g =
         let row = Table.row 7 (r .number) 0 0 (meaning left) (meaning right) in
         subst (λ y. Gets testAlone row text keys tags c y k t d) (sym compared-is)
-        (gets-skip (r .size) (skipped c (r .size) refl)
-        (gets-give _ testAlone row (compares a (s .which) (b .value)) b refl
-        (ap (λ n. Table.row 7 n 0 0 (operandCell a) (operandCell (b .value))) (s .made)
-        ∙ ap₂ (λ (x y : Table.Cell). Table.row 7 (r .number) 0 0 x y) e (b .made))))
+        (gets-skip (r .size) (skipped c (r .size) m)
+        (gets-give _ testAlone row (compares a (s .which) (g .value)) g refl
+        (ap (λ n. Table.row 7 n 0 0 (operandCell a) (operandCell (g .value))) (s .made)
+        ∙ ap₂ (λ (x y : Table.Cell). Table.row 7 (r .number) 0 0 x y) e (g .made))))
 
--- a draft behind skipped bytes, and behind another reading
-pub draft-skip : {A : Type 0} {f : A → Table.Row} {text keys tags : List ℕ} (n : ℕ) {b c : Cursor} {x : Read A} {k t : List ℕ} (r : Draft)
-    → Skips b n c → DraftRead f text keys tags c x r k t → DraftRead f text keys tags b x r k t
-draft-skip n (DraftCode.the-variants.Got v d) s a = record { answer = gets-skip n s (a .answer) }
-draft-skip n DraftCode.the-variants.Broken s a = record { answer = a .answer }
-
+-- a draft behind another reading
 pub draft-then : {A B C : Type 0} {f : A → C} {v : C} (h : B → Table.Row) {text keys tags : List ℕ} {c : Cursor} {x : Read A} {k t : List ℕ}
     {d : Cursor} (next : A × List ℕ → Read B) (r : Draft) {k′ t′ : List ℕ} → Ready text keys tags c → (a : Gets f v text keys tags c x k t d)
     → DraftRead h text k t d (next (a .value, drop (d .at) text)) r k′ t′ → DraftRead h text keys tags c (x >>= next) r k′ t′
-unfolding _>>=_ meeting
 draft-then h next (DraftCode.the-variants.Got v e) ready a b = record { answer = gets-then next h (rowMeaning v) ready a (b .answer) }
-draft-then {A} h next DraftCode.the-variants.Broken ready a b =
-    record {
-      answer = ap (λ (y : Read A). y >>= next) (a .is) ∙ ap (meeting (metIn (a .entries) 0 [] 0)) (b .answer);
-    }
+draft-then h next DraftCode.the-variants.Broken ready a b = record { answer = got-broken next (a .is) (b .answer) }
 
 -- two operands and a sign
 module _ (p : Places) {text keys tags : List ℕ} {c : Cursor} where
@@ -208,39 +168,10 @@ module _ {A : Type 0} {f : A → Table.Cell} (g : A → Test) (kind : ℕ) (same
         | false ↦ DraftCode.the-variants.Broken
       ])
       k t
-  unfolding _>>=_ meeting give noCell
+  unfolding noCell
   tested-case v d true e a =
-      record {
-        answer =
-            record {
-              value = g (a .value);
-              entries = a .entries;
-              is =
-                  ap (λ (y : Read A). y >>= λ (a, rest). skip (bytes ")") rest >>= λ (_, rest). give (g a) rest) (a .is)
-                  ∙ ap (meeting (metIn (a .entries) 0 [] 0))
-                  (closed-given g (drop (d .at) text) (a .value) e ∙ ap (give (g (a .value))) (drop-drop 1 (d .at) text))
-                  ∙ ap (λ (m : Met). got (g (a .value)) m (drop (d .at + 1) text)) (met-nothing (metIn (a .entries) 0 [] 0));
-              made = same (a .value) ∙ ap (λ (z : Table.Cell). Table.row kind 0 0 0 z noCell) (a .made);
-              noting = a .noting;
-              goes =
-                  record {
-                    names = a .goes .names;
-                    items = a .goes .items;
-                    elements = a .goes .elements;
-                    literals = a .goes .literals;
-                    longest = a .goes .longest;
-                  };
-              ready = ready-moved (41 ∷ []) (a .ready) e;
-              few = omega (arith, a .few);
-              further = omega (arith, a .further);
-            };
-      }
-  tested-case v d false e a =
-      record {
-        answer =
-            ap (λ (y : Read A). y >>= λ (a, rest). skip (bytes ")") rest >>= λ (_, rest). give (g a) rest) (a .is)
-            ∙ ap (meeting (metIn (a .entries) 0 [] 0)) (closed-broken g (drop (d .at) text) (a .value) e);
-      }
+      record { answer = gets-closed g a testAlone e (same (a .value) ∙ ap (λ (z : Table.Cell). Table.row kind 0 0 0 z noCell) (a .made)) }
+  tested-case v d false e a = record { answer = gets-open g a e }
 
   tested-cell : (r : Operand) → CellRead f text keys tags c x r k t
       → DraftRead testAlone text keys tags c (x >>= λ (a, rest). skip (bytes ")") rest >>= λ (_, rest). give (g a) rest) (testedBy text kind r) k t
@@ -250,34 +181,30 @@ module _ {A : Type 0} {f : A → Table.Cell} (g : A → Test) (kind : ℕ) (same
 module _ (p : Places) {text keys tags : List ℕ} {c : Cursor} {k t : List ℕ} where
   pub test-null : {d : Cursor} → d ≡ moved c 5 → begins (bytes "NULL(") (drop (c .at) text) ≡ true → (q : Place)
       → PlaceRead text keys tags d (stringName edition1 p (roleOf 0) (drop (d .at) text)) q k t
-      → DraftRead testAlone text keys tags c (test edition1 p (drop (c .at) text)) (testedBy text 5 (placedIn 1 q)) k t
+      → DraftRead testAlone text keys tags c (test edition1 p (drop (c .at) text)) (testedBy text 5 (placedIn 1 0 q)) k t
   unfolding test testRow roleOf noRole
-  test-null {d} s e q a =
-      let from : drop (d .at) text ≡ drop 5 (drop (c .at) text) =
-      ap (λ (z : Cursor). drop (z .at) text) s ∙ sym (drop-drop 5 (c .at) text) in
-      subst (λ y. DraftRead testAlone text keys tags c y (testedBy text 5 (placedIn 1 q)) k t)
-      (ap (λ (l : List ℕ). stringName edition1 p noRole l >>= λ (s, rest). skip (bytes ")") rest >>= λ (_, rest). give (isNull s) rest) from
-      ∙ sym (chosen _ _ e))
-      (tested-cell isNull 5 (λ _. refl) (placedIn 1 q) (cell-skip 5 (placedIn 1 q) (skipped c 5 s) (place-cell 1 q a)))
+  test-null s e q a =
+      let closes : List ℕ → Read Test =
+      λ l. stringName edition1 p noRole l >>= λ (s, rest). skip (bytes ")") rest >>= λ (_, rest). give (isNull s) rest in
+      draft-same (chosen _ _ e ∙ ap closes (sym (drop-moved text c 5 s)))
+      (tested-cell isNull 5 (λ _. refl) (placedIn 1 0 q) (cell-skip 5 (placedIn 1 0 q) (skipped c 5 s) (place-cell 1 0 q a)))
 
   pub test-numeric : {d : Cursor} → d ≡ moved c 8 → begins (bytes "NULL(") (drop (c .at) text) ≡ false
       → begins (bytes "NUMERIC(") (drop (c .at) text) ≡ true → (q : Operand)
       → CellRead (partCell 0) text keys tags d (partName edition1 p (roleOf 0) (drop (d .at) text)) q k t
       → DraftRead testAlone text keys tags c (test edition1 p (drop (c .at) text)) (testedBy text 6 q) k t
   unfolding test testRow roleOf noRole
-  test-numeric {d} s e₁ e q a =
-      let from : drop (d .at) text ≡ drop 8 (drop (c .at) text) =
-      ap (λ (z : Cursor). drop (z .at) text) s ∙ sym (drop-drop 8 (c .at) text) in
-      subst (λ y. DraftRead testAlone text keys tags c y (testedBy text 6 q) k t)
-      (ap (λ (l : List ℕ). partName edition1 p noRole l >>= λ (s, rest). skip (bytes ")") rest >>= λ (_, rest). give (isNumeric s) rest) from
-      ∙ sym (chosen _ _ e₁ ∙ chosen _ _ e))
+  test-numeric s e₁ e q a =
+      let closes : List ℕ → Read Test =
+      λ l. partName edition1 p noRole l >>= λ (s, rest). skip (bytes ")") rest >>= λ (_, rest). give (isNumeric s) rest in
+      draft-same (chosen _ _ e₁ ∙ chosen _ _ e ∙ ap closes (sym (drop-moved text c 8 s)))
       (tested-cell isNumeric 6 (λ _. refl) q (cell-skip 8 q (skipped c 8 s) a))
 
   pub test-compares : begins (bytes "NULL(") (drop (c .at) text) ≡ false → begins (bytes "NUMERIC(") (drop (c .at) text) ≡ false → (r : Draft)
       → DraftRead testAlone text keys tags c (comparingAt p (drop (c .at) text)) r k t
       → DraftRead testAlone text keys tags c (test edition1 p (drop (c .at) text)) r k t
   unfolding test comparingAt comparedTo
-  test-compares e₁ e₂ r a = subst (λ y. DraftRead testAlone text keys tags c y r k t) (sym (chosen _ _ e₁ ∙ chosen _ _ e₂)) a
+  test-compares e₁ e₂ r a = draft-same (chosen _ _ e₁ ∙ chosen _ _ e₂) a
 
 -- the code's answer behind `)`, and where there is none
 module _ (text : List ℕ) (kind : ℕ) {r : Operand} {v : Cell} {d : Cursor} (e : r ≡ OperandCode.the-variants.Got v d) where
@@ -288,12 +215,7 @@ module _ (text : List ℕ) (kind : ℕ) {r : Operand} {v : Cell} {d : Cursor} (e
       f
 
   pub tested-here : begins (41 ∷ []) (drop (d .at) text) ≡ true → {f : Cursor} → f ≡ moved d 1 → testedRow f ≡ testedBy text kind r
-  tested-here h g =
-      ap testedRow g
-      ∙ ap {B = Draft} (λ t. elim t [ true ↦ testedRow (moved d 1) | false ↦ DraftCode.the-variants.Broken ]) (sym h)
-      ∙ ap (testedBy text kind) (sym e)
+  tested-here h g = ap testedRow g ∙ sym (chosen _ _ h) ∙ ap (testedBy text kind) (sym e)
 
   pub tested-not : begins (41 ∷ []) (drop (d .at) text) ≡ false → DraftCode.the-variants.Broken ≡ testedBy text kind r
-  tested-not h =
-      ap {B = Draft} (λ t. elim t [ true ↦ testedRow (moved d 1) | false ↦ DraftCode.the-variants.Broken ]) (sym h)
-      ∙ ap (testedBy text kind) (sym e)
+  tested-not h = sym (chosen _ _ h) ∙ ap (testedBy text kind) (sym e)

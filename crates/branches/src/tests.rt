@@ -193,7 +193,11 @@ pub fn read_test(
         return tested(
             text,
             5,
-            placed(1, read_string(text, known, keys, tags, skip(c, 5), STRING)),
+            placed(
+                1,
+                0,
+                read_string(text, known, keys, tags, skip(c, 5), STRING),
+            ),
         );
     }
     if begins_at(text, at, b"NUMERIC(") {

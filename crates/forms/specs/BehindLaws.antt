@@ -15,7 +15,6 @@ use Rattle.base.specs.Edition.{edition1}
 use Rattle.base.specs.Limits as Limits
 use Rattle.base.specs.Lists.{all, any, begins, total}
 use Rattle.base.specs.Text.{bytes}
-use Rattle.branches.specs.BranchLaws.{name-met, name-as-broken}
 use Rattle.branches.specs.Places.{numberIn}
 use Rattle.branches.specs.declared.Row.{Row}
 use Rattle.calls.specs.Table as Table
@@ -25,7 +24,7 @@ use Rattle.language.specs.Fuel.{expressionFrom, numeric-from}
 use Rattle.language.specs.Keywords as Keywords
 use Rattle.language.specs.Keywords.{Leading, keywords, longest, isReplacement, leading}
 use Rattle.language.specs.Program.{Item, Statement, setNumber}
-use Rattle.language.specs.Reading.{program, number, declaring, purposeNumber, Met, Read, got, broken, _>>=_, meeting, give, skip}
+use Rattle.language.specs.Reading.{Purpose, program, number, declaring, purposeNumber, Met, Read, got, broken, _>>=_, meeting, give, skip}
 use Rattle.language.specs.Strings.{moreOf, listOf}
 use Rattle.language.specs.Words as Words
 use Rattle.language.specs.Words.{nameAs, numberName}
@@ -34,9 +33,9 @@ use Rattle.met.specs.Entries.{entry, nameOf, metIn}
 use Rattle.met.specs.EntryLaws.{met-both, name-key, declared-met}
 use Rattle.met.specs.Items.{withItems}
 use Rattle.met.specs.Known.{placesIn}
-use Rattle.met.specs.ReadingLaws.{give-then, skip-then, skip-broken}
+use Rattle.met.specs.ReadingLaws.{give-then, skip-then, skip-broken, got-broken, bind-assoc, bind-same}
 use Rattle.met.specs.declared.Cursor.{Cursor}
-use Rattle.numeric.specs.OperandLaws.{noting-more, met-nothing, then-broken, chosen, begins-room, ready-moved, skipped}
+use Rattle.numeric.specs.OperandLaws.{noting-more, met-nothing, then-broken, chosen, begins-room, ready-moved, skipped, drop-moved, named-by, name-met, name-as-broken}
 use Rattle.numeric.specs.Operands.{Ready, Gets, Names, Skips, moved, meaning}
 use Rattle.numeric.specs.Reads.{GetsItems}
 use Rattle.numeric.specs.declared.operands.Cell.{Cell}
@@ -49,7 +48,7 @@ use Rattle.words.specs.Places.{NameAt}
 use Rattle.words.specs.declared.keywords.Keyword.{Keyword}
 use Rattle.forms.specs.Contracts.{itemsIn, elementsIn, Formed, FormRead}
 use Rattle.forms.specs.Ends.{unsteppedAt}
-use Rattle.forms.specs.FormLaws.{bind-assoc, bind-same, drop-nothing, step-here, step-not, no-step-here, no-step-not, formed-elements}
+use Rattle.forms.specs.FormLaws.{drop-nothing, step-here, step-not, no-step-here, no-step-not, formed-elements}
 use Rattle.forms.specs.Rows.{rangeIn}
 use Rattle.forms.specs.Steps.{FormAt, BehindUnit, stringSet, assignedTo, numberSet, numbersLeft}
 use Rattle.forms.specs.declared.Form as FormCode
@@ -193,23 +192,20 @@ module _ (known : List ℕ) where
   module _ {place : ℕ} {text keys tags : List ℕ} {c : Cursor} {k g : List ℕ} {d : Cursor}
       (a : Gets (λ j. j) place text keys tags c (numberName edition1 (placesIn known) (drop (c .at) text)) k g d) where
     pub number-open : begins (61 ∷ []) (drop (d .at) text) ≡ false → numberSet known (drop (c .at) text) ≡ broken
-    unfolding numberSet bytes _>>=_ meeting
-    number-open e =
-        ap (λ (y : Read ℕ). y >>= λ (i, rest). skip (61 ∷ []) rest >>= λ (_, l). assignedTo known i l) (a .is)
-        ∙ ap (meeting (metIn (a .entries) 0 [] 0)) (skip-broken (61 ∷ []) (drop (d .at) text) (λ (_, l). assignedTo known (a .value) l) e)
+    unfolding numberSet bytes
+    number-open e = got-broken _ (a .is) (skip-broken (61 ∷ []) (drop (d .at) text) (λ (_, l). assignedTo known (a .value) l) e)
 
-    pub number-then : (table : List ℕ) → Ready text keys tags c → begins (61 ∷ []) (drop (d .at) text) ≡ true → (q : Form) {t k′ g′ : List ℕ}
-        → FormAt (assignedTo known place (drop (d .at + 1) text)) text table k g (moved d 1) q t k′ g′
+    pub number-then : (table : List ℕ) → Ready text keys tags c → begins (61 ∷ []) (drop (d .at) text) ≡ true → (q : Form) {b : Cursor} {t k′ g′ : List ℕ}
+        → b ≡ moved d 1 → FormAt (assignedTo known place (drop (b .at) text)) text table k g b q t k′ g′
         → FormAt (numberSet known (drop (c .at) text)) text table keys tags c q t k′ g′
     unfolding numberSet bytes
-    number-then table ready e q {t} {k′} {g′} f =
+    number-then table ready e q {b} {t} {k′} {g′} m f =
         form-behind ready (names-elements table a) (λ (i, rest). skip (61 ∷ []) rest >>= λ (_, l). assignedTo known i l) q
         (subst (λ z. FormRead (length text - d .at) table k g d z q t k′ g′)
         (sym
         (skip-then (61 ∷ []) (drop (d .at) text) (λ (_, l). assignedTo known (a .value) l) e
-        ∙ ap (assignedTo known (a .value)) (drop-drop 1 (d .at) text)
-        ∙ ap (λ i. assignedTo known i (drop (d .at + 1) text)) (a .made)))
-        (form-skip 1 (skipped d 1 refl) (a .ready) (ready-moved (61 ∷ []) (a .ready) e) (assignedTo known place) q f))
+        ∙ ap₂ (assignedTo known) (a .made) (sym (drop-moved text d 1 m))))
+        (form-skip 1 (skipped d 1 m) (a .ready) (ready-moved (61 ∷ []) (a .ready) m e) (assignedTo known place) q f))
 
   -- a name known as a number before `=`
   pub sets-is : {text : List ℕ} {at n key : ℕ} → NameAt text at n → key ≡ keyOf (take n (drop at text))
@@ -283,25 +279,17 @@ unstepped-read {text} {c = c} ready = unstepped-case ready (ltb (c .at) (length 
 
 -- a name that is declared
 module _ {text keys tags : List ℕ} {c : Cursor} {key : ℕ} {k g : List ℕ} {d : Cursor} where
-  program-name : Names text keys tags c 8 key k g d → Gets (λ n. n) (nameOf key) text keys tags c (nameAs (declaring program) (drop (c .at) text)) k g d
-  unfolding purposeNumber
-  program-name n =
-      name-met (declaring program) (λ w. w) (nameOf key) n
-      (ap (λ j. metIn (entry j 8 ∷ []) 0 [] 0) (n .keyed) ∙ declared-met (n .bytes) (n .shown) program)
-      (sym (ap nameOf (n .keyed) ∙ name-key (n .bytes) (n .shown)))
-
-  number-name : Names text keys tags c 11 key k g d → Gets (λ n. n) (nameOf key) text keys tags c (nameAs (declaring number) (drop (c .at) text)) k g d
-  unfolding purposeNumber
-  number-name n =
-      name-met (declaring number) (λ w. w) (nameOf key) n
-      (ap (λ j. metIn (entry j 11 ∷ []) 0 [] 0) (n .keyed) ∙ declared-met (n .bytes) (n .shown) number)
-      (sym (ap nameOf (n .keyed) ∙ name-key (n .bytes) (n .shown)))
+  declared-name : (p : Purpose) → Names text keys tags c (purposeNumber p + 8) key k g d
+      → Gets (λ n. n) (nameOf key) text keys tags c (nameAs (declaring p) (drop (c .at) text)) k g d
+  declared-name p n =
+      name-met (declaring p) (λ w. w) (nameOf key) n
+      (ap (λ j. metIn (entry j (purposeNumber p + 8) ∷ []) 0 [] 0) (n .keyed) ∙ declared-met (n .bytes) (n .shown) p) (sym (named-by n))
 
   pub program-read : (known table : List ℕ) → Ready text keys tags c → Names text keys tags c 8 key k g d
       → FormAt (programForm edition1 (numberIn known) (placesIn known) (drop (c .at) text)) text table keys tags c (unsteppedAt text d) table k g
-  unfolding programForm
+  unfolding programForm purposeNumber
   program-read known table ready n =
-      form-behind ready (names-elements table (program-name n)) (λ (_, rest). noStepEnd rest) (unsteppedAt text d) (unstepped-read (n .ready))
+      form-behind ready (names-elements table (declared-name program n)) (λ (_, rest). noStepEnd rest) (unsteppedAt text d) (unstepped-read (n .ready))
 
 pub program-broken : (known bs : List ℕ) → Words.name bs ≡ broken → programForm edition1 (numberIn known) (placesIn known) bs ≡ broken
 unfolding programForm
@@ -347,37 +335,41 @@ module _ {text : List ℕ} (table : List ℕ) {keys tags : List ℕ} {c : Cursor
   pub numbers-first : (known : List ℕ) {key : ℕ} {k g : List ℕ} {d : Cursor} → Names text keys tags c 11 key k g d → (q : Form) {k′ g′ : List ℕ}
       → FormAt (numbersLeft (length (drop (d .at) text)) (drop (d .at) text)) text table k g d q table k′ g′
       → FormAt (numberForm edition1 (numberIn known) (placesIn known) (drop (c .at) text)) text table keys tags c q table k′ g′
+  unfolding purposeNumber
   numbers-first known {key} {k} {g} {d} n q {k′} {g′} f =
       subst (λ z. FormRead (length text - c .at) table keys tags c z q table k′ g′) (sym (numbers-is known (drop (c .at) text)))
-      (form-behind ready (names-elements table (number-name n)) (λ (_, rest). numbersLeft (length rest) rest) q f)
+      (form-behind ready (names-elements table (declared-name number n)) (λ (_, rest). numbersLeft (length rest) rest) q f)
 
   -- behind a comma
   module _ (comma : begins (44 ∷ []) (drop (c .at) text) ≡ true) where
     fuel : (k : ℕ) → length (drop (c .at) text) ≤ k → 0 < k
     fuel k h = omega (arith, begins-room (44 ∷ []) (drop (c .at) text) comma)
 
-    pub numbers-more : {key : ℕ} {k g : List ℕ} {d : Cursor} → Names text keys tags (moved c 1) 11 key k g d → (q : Form) {k′ g′ : List ℕ}
+    pub numbers-more : {b : Cursor} → b ≡ moved c 1 → {key : ℕ} {k g : List ℕ} {d : Cursor} → Names text keys tags b 11 key k g d → (q : Form)
+        {k′ g′ : List ℕ}
         → ((m : ℕ) → length (drop (d .at) text) ≤ m → FormAt (numbersLeft m (drop (d .at) text)) text table k g d q table k′ g′) → (m : ℕ)
         → length (drop (c .at) text) ≤ m → FormAt (numbersLeft m (drop (c .at) text)) text table keys tags c q table k′ g′
-    numbers-more n q f zero h = absurd (omega (arith, fuel 0 h))
-    numbers-more {key} {k} {g} {d} n q {k′} {g′} f (suc m) h =
+    unfolding purposeNumber
+    numbers-more s n q f zero h = absurd (omega (arith, fuel 0 h))
+    numbers-more {b} s {key} {k} {g} {d} n q {k′} {g′} f (suc m) h =
+        let skips = skipped c 1 s in
         let enough : length (drop (d .at) text) ≤ m =
-        omega (arith, length-drop (d .at) text, length-drop (c .at) text, n .further, n .ready .inside) in
-        let on = ready-moved (44 ∷ []) ready comma in
+        omega (arith, length-drop (d .at) text, length-drop (c .at) text, n .further, n .ready .inside, skips .at) in
+        let on = ready-moved (44 ∷ []) ready s comma in
         subst (λ z. FormRead (length text - c .at) table keys tags c z q table k′ g′)
         (sym
         (left-more (drop (c .at) text) m comma
-        ∙ ap (λ (l : List ℕ). nameAs (declaring number) l >>= λ (_, rest). numbersLeft m rest) (drop-drop 1 (c .at) text)))
-        (form-skip 1 (skipped c 1 refl) ready on (λ l. nameAs (declaring number) l >>= λ (_, rest). numbersLeft m rest) q
-        (form-behind on (names-elements table (number-name n)) (λ (_, rest). numbersLeft m rest) q (f m enough)))
+        ∙ ap (λ (l : List ℕ). nameAs (declaring number) l >>= λ (_, rest). numbersLeft m rest) (sym (drop-moved text c 1 s))))
+        (form-skip 1 skips ready on (λ l. nameAs (declaring number) l >>= λ (_, rest). numbersLeft m rest) q
+        (form-behind on (names-elements table (declared-name number n)) (λ (_, rest). numbersLeft m rest) q (f m enough)))
 
-    pub numbers-broken : Words.name (drop (c .at + 1) text) ≡ broken → (m : ℕ) → length (drop (c .at) text) ≤ m
+    pub numbers-broken : {b : Cursor} → b ≡ moved c 1 → Words.name (drop (b .at) text) ≡ broken → (m : ℕ) → length (drop (c .at) text) ≤ m
         → numbersLeft m (drop (c .at) text) ≡ broken
-    numbers-broken e zero h = absurd (omega (arith, fuel 0 h))
-    numbers-broken e (suc m) h =
+    numbers-broken s e zero h = absurd (omega (arith, fuel 0 h))
+    numbers-broken {b} s e (suc m) h =
         left-more (drop (c .at) text) m comma
         ∙ then-broken _
-        (ap (nameAs (declaring number)) (drop-drop 1 (c .at) text) ∙ name-as-broken (declaring number) (drop (c .at + 1) text) e)
+        (ap (nameAs (declaring number)) (sym (drop-moved text c 1 s)) ∙ name-as-broken (declaring number) (drop (b .at) text) e)
 
 pub numbers-none : (known bs : List ℕ) → Words.name bs ≡ broken → numberForm edition1 (numberIn known) (placesIn known) bs ≡ broken
 numbers-none known bs e = numbers-is known bs ∙ then-broken _ (name-as-broken (declaring number) bs e)

@@ -10,6 +10,7 @@ use Rattle.branches.specs.declared.Draft as DraftCode
 use Rattle.branches.specs.declared.Draft.{Draft}
 use Rattle.branches.specs.declared.Row.{Row}
 use Rattle.met.specs.declared.Cursor.{Cursor}
+use Rattle.numeric.specs.OperandLaws.{chosen}
 use Rattle.forms.specs.declared.Form as FormCode
 use Rattle.forms.specs.declared.Form.{Form}
 
@@ -32,24 +33,14 @@ unsteppedAt text d = elim (ltb (d .at) (length text)) [
 module _ (text : List ℕ) where
   module _ {r : Draft} {row : Row} {d : Cursor} (e : r ≡ DraftCode.the-variants.Got row d) where
     pub ended-behind : d .at < length text → FormCode.the-variants.Broken ≡ endedBy text r
-    ended-behind h =
-        ap {B = Form} (λ b. elim b [ true ↦ FormCode.the-variants.Broken | false ↦ FormCode.the-variants.Step row d ])
-        (sym (lt-ltb (d .at) (length text) h))
-        ∙ ap (endedBy text) (sym e)
+    ended-behind h = sym (chosen _ _ (lt-ltb (d .at) (length text) h)) ∙ ap (endedBy text) (sym e)
 
     pub ended-here : length text ≤ d .at → FormCode.the-variants.Step row d ≡ endedBy text r
-    ended-here h =
-        ap {B = Form} (λ b. elim b [ true ↦ FormCode.the-variants.Broken | false ↦ FormCode.the-variants.Step row d ])
-        (sym (le-ltb (d .at) (length text) h))
-        ∙ ap (endedBy text) (sym e)
+    ended-here h = sym (chosen _ _ (le-ltb (d .at) (length text) h)) ∙ ap (endedBy text) (sym e)
 
   module _ (d : Cursor) where
     pub unstepped-behind : d .at < length text → FormCode.the-variants.Broken ≡ unsteppedAt text d
-    unstepped-behind h =
-        ap {B = Form} (λ b. elim b [ true ↦ FormCode.the-variants.Broken | false ↦ FormCode.the-variants.NoStep d ])
-        (sym (lt-ltb (d .at) (length text) h))
+    unstepped-behind h = sym (chosen _ _ (lt-ltb (d .at) (length text) h))
 
     pub unstepped-here : length text ≤ d .at → FormCode.the-variants.NoStep d ≡ unsteppedAt text d
-    unstepped-here h =
-        ap {B = Form} (λ b. elim b [ true ↦ FormCode.the-variants.Broken | false ↦ FormCode.the-variants.NoStep d ])
-        (sym (le-ltb (d .at) (length text) h))
+    unstepped-here h = sym (chosen _ _ (le-ltb (d .at) (length text) h))

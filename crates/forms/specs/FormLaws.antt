@@ -1,10 +1,10 @@
 -- Forms read part by part: what is read so far and what is still to be read, up to the end of the statement. Assumes nothing.
 use mathlib.Core.Bool.{Bool, true, false}
-use mathlib.Core.List.{List, [], _∷_, _++_, append-assoc}
+use mathlib.Core.List.{List, [], _∷_, _++_}
 use mathlib.Core.Option.{Option, none, some}
 use mathlib.Core.Path.{_≡_, refl, sym, ap, ap₂, subst, _∙_}
 use Prim.Native.Nat.{ℕ, _+_, _-_, _≤_, _<_}
-use native.Mathlib.Nat.{add-zero, add-assoc}
+use native.Mathlib.Nat.{add-zero}
 use native.Mathlib.Omega.{arith}
 use lib.Dec.{ltb}
 use lib.ListN.{length, drop, length-append, length-drop}
@@ -19,12 +19,12 @@ use Rattle.calls.specs.Table.{rowOf, itemsOf, elementsOf, allLiterals}
 use Rattle.calls.specs.Yielding.{total-append}
 use Rattle.language.specs.Forms.{stepEnd, noStepEnd}
 use Rattle.language.specs.Program.{Item, PatternElement, Statement}
-use Rattle.language.specs.Reading.{Met, both, Read, got, broken, _>>=_, meeting, give, finished}
+use Rattle.language.specs.Reading.{Read, got, broken, _>>=_, give, finished}
 use Rattle.met.specs.Elements.{withElements}
 use Rattle.met.specs.Entries.{metIn}
 use Rattle.met.specs.Items.{withItems}
 use Rattle.met.specs.declared.Cursor.{Cursor}
-use Rattle.met.specs.ReadingLaws.{give-then}
+use Rattle.met.specs.ReadingLaws.{give-then, bind-assoc, bind-same}
 use Rattle.numeric.specs.OperandLaws.{then-broken}
 use Rattle.numeric.specs.Operands.{Ready, Skips}
 use Rattle.strings.specs.ElementLaws.{elements-none, elements-give, elements-then, elements-broken, elements-skip}
@@ -33,41 +33,6 @@ use Rattle.forms.specs.Contracts.{itemsIn, elementsIn, Formed, FormRead}
 use Rattle.forms.specs.Ends.{endedBy}
 use Rattle.forms.specs.Stages.{Drawn, StageRead}
 use Rattle.forms.specs.declared.Form as FormCode
-
--- ---- readings behind each other
-both-assoc : (m n k : Met) → both m (both n k) ≡ both (both m n) k
-unfolding both
-both-assoc m n k =
-    λ t.
-    record {
-      declared = sym (append-assoc (m .declared) (n .declared) (k .declared)) t;
-      used = sym (append-assoc (m .used) (n .used) (k .used)) t;
-      items = sym (add-assoc (m .items) (n .items) (k .items)) t;
-      rows = sym (append-assoc (m .rows) (n .rows) (k .rows)) t;
-      literals = sym (add-assoc (m .literals) (n .literals) (k .literals)) t;
-      roles = sym (append-assoc (m .roles) (n .roles) (k .roles)) t;
-    }
-
-meeting-both : {A : Type 0} (m n : Met) (x : Read A) → meeting m (meeting n x) ≡ meeting (both m n) x
-unfolding meeting
-meeting-both m n (got a k rest) = ap (λ (z : Met). got a z rest) (both-assoc m n k)
-meeting-both m n broken = refl
-
-meeting-then : {A B : Type 0} (m : Met) (x : Read A) (next : A × List ℕ → Read B) → (meeting m x >>= next) ≡ meeting m (x >>= next)
-unfolding meeting _>>=_
-meeting-then m (got a n rest) next = sym (meeting-both m n (next (a, rest)))
-meeting-then m broken next = refl
-
-pub bind-assoc : {A B C : Type 0} (x : Read A) (f : A × List ℕ → Read B) (g : B × List ℕ → Read C) → (x >>= f >>= g) ≡ (x >>= λ p. f p >>= g)
-unfolding _>>=_
-bind-assoc (got a m rest) f g = meeting-then m (f (a, rest)) g
-bind-assoc broken f g = refl
-
-pub bind-same : {A B : Type 0} (x : Read A) (f g : A × List ℕ → Read B) → ((a : A) (rest : List ℕ) → f (a, rest) ≡ g (a, rest))
-    → (x >>= f) ≡ (x >>= g)
-unfolding _>>=_
-bind-same (got a m rest) f g h = ap (meeting m) (h a rest)
-bind-same broken f g h = refl
 
 -- ---- a form so far
 pub record Going {A S : Type 0} (form : Read S) (left : A → List ℕ → Read S) (mk : A → Table.Row) (es : A → List PatternElement)

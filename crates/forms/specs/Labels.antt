@@ -2,7 +2,7 @@
 use mathlib.Core.Bool.{Bool, true, false, cond, _&&_, _||_, and-eq-true-iff}
 use mathlib.Core.List.{List, [], _∷_}
 use mathlib.Core.Option.{Option}
-use mathlib.Core.Path.{_≡_, refl, sym, ap, ap₂, subst, _∙_}
+use mathlib.Core.Path.{_≡_, refl, sym, ap, ap₂, _∙_}
 use Prim.Native.Nat.{ℕ, zero, suc, _+_, _*_, _/_, _%_, _≤_}
 use native.Mathlib.Nat.{zero-add}
 use native.Mathlib.Omega.{arith}
@@ -34,8 +34,7 @@ use Rattle.met.specs.Items.{withItems}
 use Rattle.met.specs.ReadingLaws.{meeting-nothing}
 use Rattle.met.specs.Known.{placesIn}
 use Rattle.met.specs.declared.Cursor.{Cursor}
-use Rattle.numeric.specs.KindLaws.{ready-on}
-use Rattle.numeric.specs.OperandLaws.{noting-more}
+use Rattle.numeric.specs.OperandLaws.{noting-more, ready-on}
 use Rattle.numeric.specs.Operands.{Ready, Noting, moved}
 use Rattle.packer.specs.Keys.{keyOf, isKeyByte}
 use Rattle.words.specs.Kinds.{kindOf, leads}
@@ -354,7 +353,7 @@ starts-labelled {keys = keys} {tags = tags} {c = c} {key = key} s first n =
 module _ {text keys tags : List ℕ} {c : Cursor} (lead : Keyword) {d : Cursor} (s : Starts text keys tags c) (is : leads lead ≡ leading text)
     (e : d ≡ moved c (lead .size)) where
   pub lead-ready : Ready text keys tags d
-  lead-ready = subst (Ready text keys tags) (sym e) (ready-on (lead .size) (starts-ready s) (lead-fits text c lead is (s .at)))
+  lead-ready = ready-on (lead .size) (starts-ready s) e (lead-fits text c lead is (s .at))
 
   pub of-lead : (known : List ℕ) {table : List ℕ} (kind : Keywords.Kind) → kindOf (lead .kind) ≡ kind → (q : Form) {t k g : List ℕ}
       → FormAt (formOf edition1 (numberIn known) (placesIn known) kind (drop (d .at) text)) text table keys tags d q t k g

@@ -3,7 +3,7 @@ use mathlib.Core.Bool.{Bool, true, false}
 use mathlib.Core.List.{List, [], _∷_, map}
 use mathlib.Core.Option.{Option, none, some}
 use mathlib.Core.Path.{_≡_, refl, sym, ap, subst, _∙_}
-use Prim.Native.Nat.{ℕ, _+_, _-_, _*_, _≤_}
+use Prim.Native.Nat.{ℕ, _+_, _-_, _*_}
 use native.Mathlib.Omega.{arith}
 use lib.ListN.{length, drop, length-map}
 use lib.Seq.{drop-drop}
@@ -24,7 +24,7 @@ use Rattle.language.specs.Strings.{stringExpression}
 use Rattle.met.specs.Known.{placesIn}
 use Rattle.met.specs.declared.Cursor.{Cursor}
 use Rattle.numeric.specs.OperandLaws.{ready-moved, skipped, chosen, then-broken}
-use Rattle.numeric.specs.Operands.{Ready, Gets, Skips, moved, meaning}
+use Rattle.numeric.specs.Operands.{Ready, Gets, moved, meaning}
 use Rattle.numeric.specs.declared.operands.Cell.{Cell}
 use Rattle.strings.specs.ElementLaws.{names-elements, elements-none, elements-give, elements-skip, rows-total}
 use Rattle.strings.specs.Elements.{GetsElements, GetsRow, rowsOf}
@@ -87,7 +87,7 @@ marked-case : (text : List ℕ) (mark : ℕ) {table keys tags : List ℕ} (row :
     (elim b [ true ↦ DraftCode.the-variants.Got row (moved c 1) | false ↦ DraftCode.the-variants.Broken ]) table keys tags
 unfolding skip total
 marked-case text mark {table} {keys} {tags} row c true ready e =
-    let on = ready-moved (mark ∷ []) ready e in
+    let on = ready-moved (mark ∷ []) ready refl e in
     record {
       stands = on;
       answer =
@@ -117,14 +117,10 @@ module _ (text : List ℕ) (mark : ℕ) {r : Draft} {row : Row} {c : Cursor} (e 
   pub marked-here : begins (mark ∷ []) (drop (c .at) text) ≡ true → {d : Cursor} → d ≡ moved c 1
       → DraftCode.the-variants.Got row d ≡ markedBy text mark r
   marked-here h g =
-      ap (DraftCode.the-variants.Got row) g
-      ∙ ap {B = Draft} (λ t. elim t [ true ↦ DraftCode.the-variants.Got row (moved c 1) | false ↦ DraftCode.the-variants.Broken ]) (sym h)
-      ∙ ap (markedBy text mark) (sym e)
+      ap (DraftCode.the-variants.Got row) g ∙ sym (chosen _ _ h) ∙ ap (markedBy text mark) (sym e)
 
   pub marked-not : begins (mark ∷ []) (drop (c .at) text) ≡ false → DraftCode.the-variants.Broken ≡ markedBy text mark r
-  marked-not h =
-      ap {B = Draft} (λ t. elim t [ true ↦ DraftCode.the-variants.Got row (moved c 1) | false ↦ DraftCode.the-variants.Broken ]) (sym h)
-      ∙ ap (markedBy text mark) (sym e)
+  marked-not h = sym (chosen _ _ h) ∙ ap (markedBy text mark) (sym e)
 
 -- a stage of one reader is that of another that reads the same here
 pub stage-same : {U : Type 0} {y z : List ℕ → Read U} {puts : ℕ → U → Table.Row → Table.Row} {es : U → List PatternElement}
@@ -276,21 +272,6 @@ pub form-same : {most : ℕ} {table keys tags : List ℕ} {c : Cursor} {x y : Re
     → FormRead most table keys tags c y q t k g → FormRead most table keys tags c x q t k g
 form-same {most} {table} {keys} {tags} {c} {q = q} {t = t} {k = k} {g = g} e a =
     subst (λ z. FormRead most table keys tags c z q t k g) (sym e) a
-
--- a cursor further on, still inside
-pub ready-at : {text keys tags : List ℕ} {c : Cursor} {n : ℕ} {d : Cursor} → Skips c n d → Ready text keys tags c → d .at ≤ length text
-    → Ready text keys tags d
-ready-at s ready h =
-    record {
-      textSize = ready .textSize;
-      inside = h;
-      names = omega (arith, ready .names, s .goes .names, s .at);
-      items = omega (arith, ready .items, s .goes .items, s .at);
-      elements = omega (arith, ready .elements, s .goes .elements, s .at);
-      literals = omega (arith, ready .literals, s .goes .literals, s .at);
-      keysSize = ready .keysSize;
-      tagsSize = ready .tagsSize;
-    }
 
 -- behind a reading from a cursor on, a draft stands behind the cursor's elements
 pub following : {U : Type 0} {y : List ℕ → Read U} {puts : ℕ → U → Table.Row → Table.Row} {es : U → List PatternElement}

@@ -26,6 +26,7 @@ use Rattle.language.specs.Words.{noRole, partName}
 use Rattle.met.specs.Entries.{roleOf}
 use Rattle.met.specs.Known.{placesIn}
 use Rattle.met.specs.declared.Cursor.{Cursor}
+use Rattle.numeric.specs.OperandLaws.{onward-none}
 use Rattle.numeric.specs.Operands.{Ready, Skips}
 use Rattle.forms.specs.Ends.{endedBy}
 use Rattle.forms.specs.FormLaws.{going-start, going-more, going-ended}
@@ -36,18 +37,7 @@ use Rattle.forms.specs.Steps.{FormAt, Leads, stringSet}
 
 -- a cursor that stays
 pub stays : (c : Cursor) → Skips c 0 c
-stays c =
-    record {
-      at = sym (add-zero (c .at));
-      goes =
-          record {
-            names = sym (add-zero (c .names));
-            items = sym (add-zero (c .items));
-            elements = refl;
-            literals = refl;
-            longest = refl;
-          };
-    }
+stays c = record { at = sym (add-zero (c .at)); goes = onward-none c }
 
 -- a keyword alone
 pub plain-read : (s : Statement) (kind : ℕ) {text table keys tags : List ℕ} {c : Cursor} → Ready text keys tags c

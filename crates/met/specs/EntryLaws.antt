@@ -61,6 +61,11 @@ met-both es fs i j r q l k =
       roles = sym (gather-append rolesBy es fs) t;
     }
 
+-- and then no more names
+pub met-more : (es : List Entry) (i j : ℕ) (r q : List ℕ) (l k : ℕ)
+    → both (metIn es i r l) (metIn [] j q k) ≡ metIn es (i + j) (r ++ q) (l + k)
+met-more es i j r q l k = met-both es [] i j r q l k ∙ ap (λ (fs : List Entry). metIn fs (i + j) (r ++ q) (l + k)) (append-nil es)
+
 -- the key of the name that a key shows
 key-from : (m k : ℕ) → k ≤ m → keyOf (nameFrom m k) ≡ k
 unfolding nameFrom keyOf

@@ -8,7 +8,6 @@ use native.Mathlib.Nat.{add-zero}
 use native.Mathlib.Omega.{arith}
 use lib.ListN.{length, drop, length-append}
 use Rattle.base.specs.Edition.{edition1}
-use Rattle.calls.specs.Splices.{splice-nil}
 use Rattle.language.specs.Fuel.{Reader, More, expressionFrom, moreTermsFrom, termFrom, moreFactorsFrom, factorFrom}
 use Rattle.language.specs.Fuel.{expressionBy, expression-is, moreTermsBy, moreTerms-is, termBy, term-is, moreFactorsBy, moreFactors-is}
 use Rattle.language.specs.Program.{Item, Operator, operator}
@@ -21,8 +20,8 @@ use Rattle.met.specs.ReadingLaws.{meeting-nothing}
 use Rattle.met.specs.declared.Cursor.{Cursor}
 use Rattle.numeric.specs.Joins.{waited, Joins, WaitedRead, Joining}
 use Rattle.numeric.specs.Kinds.{SignAt, OperatorAt, SumAt, ProductAt, Puts}
-use Rattle.numeric.specs.KindLaws.{items-case, items-none, ready-on}
-use Rattle.numeric.specs.OperandLaws.{noting-more, chosen}
+use Rattle.numeric.specs.KindLaws.{items-case, items-none}
+use Rattle.numeric.specs.OperandLaws.{noting-more, noting-none, onward-none, ready-on, ready-here, chosen}
 use Rattle.numeric.specs.Operands.{moved, Ready}
 use Rattle.numeric.specs.Reads.{GetsItems, ItemsRead, waiting}
 use Rattle.numeric.specs.declared.Outcome as OutcomeCode
@@ -38,9 +37,8 @@ nothing-read before {text} {table} {keys} {tags} {c} ready =
       entries = [];
       is = ap (λ (l : List Item). got l (metIn [] 0 [] 0) (drop (c .at) text)) (sym (append-nil before));
       written = refl;
-      noting = record { keyed = sym (splice-nil keys (c .names)); tagged = sym (splice-nil tags (c .names)) };
-      goes =
-          record { names = sym (add-zero (c .names)); items = sym (add-zero (c .items)); elements = refl; literals = refl; longest = refl };
+      noting = noting-none (c .names);
+      goes = onward-none c;
       ready = ready;
       few = omega arith;
       short = omega arith;
@@ -133,7 +131,7 @@ joining-signed {text = text} {keys = keys} {tags = tags} {n = n} ready s size sk
     let inside = s .inside (ready .inside) in
     let at = ap (λ (z : Cursor). z .at) skips in
     let items = ap (λ (z : Cursor). z .items) skips in
-    joining-begins (subst (Ready text keys tags) (sym skips) (ready-on n ready (omega (arith, inside, size))))
+    joining-begins (ready-on n ready skips (omega (arith, inside, size)))
     (omega (arith, at, items, size, ready .items))
 
 -- a turn: a form is read
@@ -163,16 +161,8 @@ module _ {one : Reader} {more : More} {text table₀ keys₀ tags₀ : List ℕ}
     pub ready-behind : Ready text k₁ g₁ f
     ready-behind =
         let x = items-case a is in
-        record {
-          textSize = x .ready .textSize;
-          inside = omega (arith, x .ready, put .at);
-          names = omega (arith, x .ready, put .goes, put .at);
-          items = omega (arith, i .room, x .goes, x .short, put .goes, put .at);
-          elements = omega (arith, x .ready, put .goes, put .at);
-          literals = omega (arith, x .ready, put .goes, put .at);
-          keysSize = x .ready .keysSize;
-          tagsSize = x .ready .tagsSize;
-        }
+        ready-here (x .ready) (put .at) (omega (arith, put .goes)) (omega (arith, i .room, x .goes, x .short, put .goes, put .at))
+        (omega (arith, x .ready, put .goes, put .at)) (omega (arith, x .ready, put .goes, put .at))
 
     -- by the operator behind the form
     module _ {kind′ : ℕ} (o : Joins one more text (f .at) kind′) where
@@ -192,7 +182,7 @@ module _ {one : Reader} {more : More} {text table₀ keys₀ tags₀ : List ℕ}
             record {
               sameSize = same;
               later = omega (arith, i .later, x .few, put .at, at);
-              ready = subst (Ready text k₁ g₁) (sym skips) (ready-on 1 ready-behind (omega (arith, o .further some)));
+              ready = ready-on 1 ready-behind skips (omega (arith, o .further some));
               room = omega (arith, at, items, ready-behind .items, o .size some);
               goes =
                   λ r {t} {k} {g} p.

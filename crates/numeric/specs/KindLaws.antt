@@ -25,9 +25,9 @@ use Rattle.met.specs.Entries.{gather, metIn}
 use Rattle.met.specs.Items.{withItem, withItems}
 use Rattle.met.specs.declared.Cursor.{Cursor}
 use Rattle.numeric.specs.Kinds.{SignAt, OperatorAt, SumAt, ProductAt, PutsCell, Puts, Within, closes}
-use Rattle.numeric.specs.OperandLaws.{chosen, begins-room, then-broken}
+use Rattle.numeric.specs.OperandLaws.{onward-none, chosen, begins-room, then-broken}
 use Rattle.numeric.specs.Operands.{moved, Ready, Gets, meaning}
-use Rattle.numeric.specs.ReadLaws.{inside-then, inside-open, inside-broken, operand-item}
+use Rattle.numeric.specs.ReadLaws.{inside-then, inside-open, inside-broken}
 use Rattle.numeric.specs.Reads.{GetsItems, ItemsAnswer, ItemsRead, waiting}
 use Rattle.numeric.specs.declared.operands.Cell.{Cell}
 use Rattle.numeric.specs.declared.Outcome as OutcomeCode
@@ -69,24 +69,17 @@ module _ (k : ℕ) where
       (arith, eqb-false k 10 a, eqb-false k 11 b, eqb-false k 12 c, eqb-false k 13 d, eqb-false k 14 e, eqb-false k 15 f))))))))
 
   -- outside of 10 to 15
-  none : (k ≡ 10 → ⊥) → (k ≡ 11 → ⊥) → (k ≡ 12 → ⊥) → (k ≡ 13 → ⊥) → (k ≡ 14 → ⊥) → (k ≡ 15 → ⊥) → 0 ≡ length (waiting k)
+  pub waiting-none : (10 ≤ k → k < 16 → ⊥) → 0 ≡ length (waiting k)
   unfolding waiting
-  none a b c d e f =
+  waiting-none out =
       let P : List Item → Type 0 = λ l. 0 ≡ length l in
-      cond-cases P (eqb k 10) (λ t. absurd (a (eqb-true k 10 t))) (λ _.
-      cond-cases P (eqb k 11) (λ t. absurd (b (eqb-true k 11 t))) (λ _.
-      cond-cases P (eqb k 12) (λ t. absurd (c (eqb-true k 12 t))) (λ _.
-      cond-cases P (eqb k 13) (λ t. absurd (d (eqb-true k 13 t))) (λ _.
-      cond-cases P (eqb k 14) (λ t. absurd (e (eqb-true k 14 t))) (λ _.
-      cond-cases P (eqb k 15) (λ t. absurd (f (eqb-true k 15 t))) (λ _. refl))))))
-
-  pub waiting-none : 16 ≤ k → 0 ≡ length (waiting k)
-  waiting-none h =
-      none (λ e. omega arith) (λ e. omega arith) (λ e. omega arith) (λ e. omega arith) (λ e. omega arith) (λ e. omega arith)
-
-  pub waiting-few : k < 10 → 0 ≡ length (waiting k)
-  waiting-few h =
-      none (λ e. omega arith) (λ e. omega arith) (λ e. omega arith) (λ e. omega arith) (λ e. omega arith) (λ e. omega arith)
+      let no : (n : ℕ) → 10 ≤ n → n < 16 → eqb k n ≡ true → ⊥ = λ n h g t. out (omega (arith, eqb-true k n t)) (omega (arith, eqb-true k n t)) in
+      cond-cases P (eqb k 10) (λ t. absurd (no 10 (omega arith) (omega arith) t)) (λ _.
+      cond-cases P (eqb k 11) (λ t. absurd (no 11 (omega arith) (omega arith) t)) (λ _.
+      cond-cases P (eqb k 12) (λ t. absurd (no 12 (omega arith) (omega arith) t)) (λ _.
+      cond-cases P (eqb k 13) (λ t. absurd (no 13 (omega arith) (omega arith) t)) (λ _.
+      cond-cases P (eqb k 14) (λ t. absurd (no 14 (omega arith) (omega arith) t)) (λ _.
+      cond-cases P (eqb k 15) (λ t. absurd (no 15 (omega arith) (omega arith) t)) (λ _. refl))))))
 
 -- nothing is written where nothing waits
 pub puts-none : (table : List ℕ) (c : Cursor) (l : List Item) → length l ≡ 0 → Puts table c l table c
@@ -94,7 +87,7 @@ unfolding withItems
 puts-none table c [] e =
     record {
       written = refl;
-      goes = record { names = sym (add-zero (c .names)); items = sym (add-zero (c .items)); elements = refl; literals = refl; longest = refl };
+      goes = onward-none c;
       at = refl;
     }
 puts-none table c (x ∷ l) e = absurd (omega arith)
@@ -212,21 +205,7 @@ module _ {before : List Item} {text table keys tags : List ℕ} {c : Cursor} {x 
   pub items-none : r ≡ OutcomeCode.the-variants.Broken → x ≡ broken
   items-none e = subst (λ z. ItemsAnswer before text table keys tags c x z t k g) e (a .answer)
 
--- the cursor n bytes further, still inside
-pub ready-on : {text keys tags : List ℕ} {c : Cursor} (n : ℕ) → Ready text keys tags c → c .at + n ≤ length text
-    → Ready text keys tags (moved c n)
-ready-on n ready h =
-    record {
-      textSize = ready .textSize;
-      inside = h;
-      names = omega (arith, ready .names);
-      items = omega (arith, ready .items);
-      elements = omega (arith, ready .elements);
-      literals = omega (arith, ready .literals);
-      keysSize = ready .keysSize;
-      tagsSize = ready .tagsSize;
-    }
-
+-- where it ends
 pub items-within : {before : List Item} {text table keys tags : List ℕ} {c : Cursor} {x : Read (List Item)} (r : Outcome) {t k g : List ℕ}
     → ItemsRead before text table keys tags c x r t k g → Within text r
 items-within (OutcomeCode.the-variants.Got d) a = (a .answer .ready .inside, a .answer .ready .textSize)
@@ -258,23 +237,14 @@ module _ (text : List ℕ) {r : Outcome} {d : Cursor} (e : r ≡ OutcomeCode.the
   pub closes-here : begins (41 ∷ []) (drop (d .at) text) ≡ true → {f : Cursor} → f ≡ moved d 1
       → OutcomeCode.the-variants.Got f ≡ closes text r
   closes-here h g =
-      ap OutcomeCode.the-variants.Got g
-      ∙ ap {B = Outcome} (λ t. elim t [ true ↦ OutcomeCode.the-variants.Got (moved d 1) | false ↦ OutcomeCode.the-variants.Broken ]) (sym h)
-      ∙ ap (closes text) (sym e)
+      ap OutcomeCode.the-variants.Got g ∙ sym (chosen _ _ h) ∙ ap (closes text) (sym e)
 
   pub closes-not : begins (41 ∷ []) (drop (d .at) text) ≡ false → OutcomeCode.the-variants.Broken ≡ closes text r
   closes-not h =
-      ap {B = Outcome} (λ t. elim t [ true ↦ OutcomeCode.the-variants.Got (moved d 1) | false ↦ OutcomeCode.the-variants.Broken ]) (sym h)
-      ∙ ap (closes text) (sym e)
+      sym (chosen _ _ h) ∙ ap (closes text) (sym e)
 
--- an operand, written or broken
+-- an operand that is broken
 module _ (p : Places) (depth : ℕ) {text table keys tags : List ℕ} {c : Cursor} where
-  pub operand-written : (v : Cell) {k g : List ℕ} {d : Cursor} {t : List ℕ} {e : Cursor} → Ready text keys tags c
-      → begins (bytes "(") (drop (c .at) text) ≡ false
-      → Gets operandCell (meaning v) text keys tags c (plainFactor edition1 p (drop (c .at) text)) k g d → PutsCell table d (meaning v) t e
-      → ItemsRead [] text table keys tags c (factorFrom edition1 p depth (drop (c .at) text)) (OutcomeCode.the-variants.Got e) t k g
-  operand-written v ready open′ a q = record { answer = operand-item p depth v ready open′ a (q .written) (q .goes) (q .at) }
-
   pub operand-broken : {t k g : List ℕ} → begins (bytes "(") (drop (c .at) text) ≡ false → plainFactor edition1 p (drop (c .at) text) ≡ broken
       → ItemsRead [] text table keys tags c (factorFrom edition1 p depth (drop (c .at) text)) OutcomeCode.the-variants.Broken t k g
   unfolding factorBy

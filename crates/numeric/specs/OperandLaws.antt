@@ -3,7 +3,7 @@
 use mathlib.Core.Bool.{Bool, true, false}
 use mathlib.Core.List.{List, [], _∷_, _++_, append-nil, map, map-append}
 use mathlib.Core.Path.{_≡_, refl, sym, ap, ap₂, subst, _∙_}
-use Prim.Native.Nat.{ℕ, _+_, _-_, _/_, _^_, _≤_, _<_}
+use Prim.Native.Nat.{ℕ, _+_, _-_, _/_, _≤_, _<_}
 use native.Mathlib.Nat.{add-zero}
 use native.Mathlib.Omega.{arith}
 use lib.IntN.{pos}
@@ -13,7 +13,6 @@ use Rattle.base.specs.Edition.{edition1}
 use Rattle.base.specs.Lists.{all, begins}
 use Rattle.base.specs.ListLaws.{begins-iff}
 use Rattle.base.specs.Text.{bytes}
-use Rattle.calls.specs.Numerals.{bias, biased}
 use Rattle.calls.specs.Table as Table
 use Rattle.calls.specs.Table.{lengthCell, partCell, operandCell}
 use Rattle.cards.specs.Bytes.{isDigit}
@@ -23,17 +22,17 @@ use Rattle.language.specs.Program.{constantly, numbered, whole, first, lengthOf
 use Rattle.calls.specs.Splices.{splice, splice-nil, splice-behind, length-splice}
 use Rattle.language.specs.Reading.{number, string, purposeNumber, Role, naming, Met, nothing, both, Read, got, broken, _>>=_, meeting, give, skip}
 use Rattle.language.specs.Words as Words
-use Rattle.language.specs.Words.{Places, nameAs, noRole, unsigned, bound, partOf, partName, numberName, stringName}
+use Rattle.language.specs.Words.{Places, nameAs, noRole, bound, partOf, partName, numberName, stringName}
 use Rattle.met.specs.Contracts.{Noted}
-use Rattle.met.specs.Entries.{Entry, entry, roleOf, gather, metIn}
-use Rattle.met.specs.EntryLaws.{met-both, used-met, role-met, string-placed, number-placed}
+use Rattle.met.specs.Entries.{Entry, entry, nameOf, roleOf, gather, metIn}
+use Rattle.met.specs.EntryLaws.{met-both, name-key, used-met, role-met, string-placed, number-placed}
 use Rattle.met.specs.Known.{stringKeys, numberKeys, keyPlace, placesIn}
-use Rattle.met.specs.ReadingLaws.{nothing-met}
+use Rattle.met.specs.ReadingLaws.{nothing-met, got-broken, skip-then, skip-broken}
 use Rattle.met.specs.declared.Cursor.{Cursor}
 use Rattle.packer.specs.Keys.{keyOf, isKeyByte}
 use Rattle.words.specs.Laws.{name-is, name-keys}
 use Rattle.words.specs.Places.{NameAt}
-use Rattle.numeric.specs.Operands.{moved, Skips, Ready, Noting, Gets, StringTag, Names, NameAnswer, NameRead}
+use Rattle.numeric.specs.Operands.{Onward, moved, Skips, Ready, Noting, Gets, StringTag, Names, NameAnswer, NameRead}
 use Rattle.numeric.specs.Operands.{PlaceAnswer, PlaceRead, CellAnswer, CellRead, meaning, placedIn, ConstantRead, Inside, closedBy}
 use Rattle.numeric.specs.declared.operands.Cell.{Cell}
 use Rattle.numeric.specs.declared.operands.Name as NameCode
@@ -59,6 +58,29 @@ noting-more {keys} {tags} {n} {m} {es} {fs} h g e a b =
         ap₂ (λ (x : List ℕ) (j : ℕ). splice x j (map f fs)) p place
         ∙ splice-behind d n (map f es) (map f fs) l
         ∙ ap (splice d n) (sym (map-append f es fs))
+
+-- no entries
+pub noting-none : {keys tags : List ℕ} (n : ℕ) → Noting keys tags n [] keys tags
+noting-none {keys} {tags} n = record { keyed = sym (splice-nil keys n); tagged = sym (splice-nil tags n) }
+
+-- a cursor that stays, one that is moved, and one behind another
+pub onward-none : (c : Cursor) → Onward c 0 0 c
+onward-none c =
+    record { names = sym (add-zero (c .names)); items = sym (add-zero (c .items)); elements = refl; literals = refl; longest = refl }
+
+pub onward-moved : {c d : Cursor} {n i : ℕ} (m : ℕ) → Onward c n i d → Onward c n i (moved d m)
+onward-moved m o =
+    record { names = o .names; items = o .items; elements = o .elements; literals = o .literals; longest = o .longest }
+
+pub onward-then : {c d e : Cursor} {n i m j p l : ℕ} → Onward c n i d → Onward d m j e → p ≡ n + m → l ≡ i + j → Onward c p l e
+onward-then o q names items =
+    record {
+      names = omega (arith, o, q);
+      items = omega (arith, o, q);
+      elements = q .elements ∙ o .elements;
+      literals = q .literals ∙ o .literals;
+      longest = q .longest ∙ o .longest;
+    }
 
 -- nothing more was met
 pub met-nothing : (m : Met) → both m nothing ≡ m
@@ -112,14 +134,7 @@ module _ {A B C W : Type 0} {f : A → C} {v : C} {text keys tags : List ℕ} {c
             ∙ ap (λ (m : Met). got (q .value) m (drop (e .at) text)) (met-both (r .entries) (q .entries) 0 0 [] [] 0 0);
         made = q .made;
         noting = noting-more (omega arith) (omega arith) (r .goes .names) (r .noting) (q .noting);
-        goes =
-            record {
-              names = omega (arith, r .goes, q .goes);
-              items = omega (arith, r .goes, q .goes);
-              elements = q .goes .elements ∙ r .goes .elements;
-              literals = q .goes .literals ∙ r .goes .literals;
-              longest = q .goes .longest ∙ r .goes .longest;
-            };
+        goes = onward-then (r .goes) (q .goes) size refl;
         ready = q .ready;
         few = omega (arith, r .few, q .few);
         further = omega (arith, r .further, q .further);
@@ -136,14 +151,7 @@ module _ {A C : Type 0} {f : A → C} {v : C} {text keys tags : List ℕ} {c : C
         is = r .is;
         made = r .made;
         noting = subst (λ j. Noting keys tags j (r .entries) k t) names (r .noting);
-        goes =
-            record {
-              names = omega (arith, r .goes, s .goes);
-              items = omega (arith, r .goes, s .goes);
-              elements = r .goes .elements ∙ s .goes .elements;
-              literals = r .goes .literals ∙ s .goes .literals;
-              longest = r .goes .longest ∙ s .goes .longest;
-            };
+        goes = onward-then (s .goes) (r .goes) (omega arith) refl;
         ready = r .ready;
         few = omega (arith, r .few, s .at);
         further = omega (arith, r .further, s .at);
@@ -151,18 +159,54 @@ module _ {A C : Type 0} {f : A → C} {v : C} {text keys tags : List ℕ} {c : C
 
 -- the code's cursor, moved
 pub skipped : (c : Cursor) (n : ℕ) {d : Cursor} → d ≡ moved c n → Skips c n d
-skipped c n e =
-    record {
-      at = ap (λ (z : Cursor). z .at) e;
-      goes =
-          record {
-            names = ap (λ (z : Cursor). z .names) e ∙ sym (add-zero (c .names));
-            items = ap (λ (z : Cursor). z .items) e ∙ sym (add-zero (c .items));
-            elements = ap (λ (z : Cursor). z .elements) e;
-            literals = ap (λ (z : Cursor). z .literals) e;
-            longest = ap (λ (z : Cursor). z .longest) e;
-          };
-    }
+skipped c n e = subst (Skips c n) (sym e) (record { at = refl; goes = onward-moved n (onward-none c) })
+
+pub drop-moved : (text : List ℕ) (c : Cursor) (n : ℕ) {d : Cursor} → d ≡ moved c n → drop (d .at) text ≡ drop n (drop (c .at) text)
+drop-moved text c n e = ap (λ (z : Cursor). drop (z .at) text) e ∙ sym (drop-drop n (c .at) text)
+
+-- further on it is ready still, inside the text
+module _ {text keys tags : List ℕ} {c d : Cursor} where
+  pub ready-at : {n : ℕ} → Skips c n d → Ready text keys tags c → d .at ≤ length text → Ready text keys tags d
+  ready-at s ready h =
+      record {
+        textSize = ready .textSize;
+        inside = h;
+        names = omega (arith, ready .names, s .goes .names, s .at);
+        items = omega (arith, ready .items, s .goes .items, s .at);
+        elements = omega (arith, ready .elements, s .goes .elements, s .at);
+        literals = omega (arith, ready .literals, s .goes .literals, s .at);
+        keysSize = ready .keysSize;
+        tagsSize = ready .tagsSize;
+      }
+
+  pub ready-on : (n : ℕ) → Ready text keys tags c → d ≡ moved c n → c .at + n ≤ length text → Ready text keys tags d
+  ready-on n ready e h = let s = skipped c n e in ready-at s ready (omega (arith, s .at))
+
+  -- so it is at the same place of the text, by what it counts there
+  pub ready-here : Ready text keys tags c → d .at ≡ c .at → d .names ≡ c .names → d .items ≤ 4_294_967_296 + d .at
+      → d .elements ≤ 4_294_967_296 + d .at → d .literals ≤ 4_294_967_296 + d .at → Ready text keys tags d
+  ready-here ready at names items elements literals =
+      record {
+        textSize = ready .textSize;
+        inside = omega (arith, ready .inside);
+        names = omega (arith, ready .names);
+        items = items;
+        elements = elements;
+        literals = literals;
+        keysSize = ready .keysSize;
+        tagsSize = ready .tagsSize;
+      }
+
+-- a word that stands at a place is inside the text
+pub begins-room : (w bs : List ℕ) → begins w bs ≡ true → length w ≤ length bs
+begins-room w bs e =
+    let same : length (take (length w) bs) ≡ length w = ap length (begins-iff w bs .0 e) in
+    omega (arith, simp length-take at same)
+
+pub ready-moved : {text keys tags : List ℕ} {c d : Cursor} (w : List ℕ) → Ready text keys tags c → d ≡ moved c (length w)
+    → begins w (drop (c .at) text) ≡ true → Ready text keys tags d
+ready-moved {text} {c = c} w ready m e =
+    ready-on (length w) ready m (omega (arith, ready .inside, begins-room w (drop (c .at) text) e, length-drop (c .at) text))
 
 -- the name at the cursor, noted
 module _ {text keys tags : List ℕ} {c : Cursor} {tag : ℕ} where
@@ -205,26 +249,37 @@ module _ {text keys tags : List ℕ} {c : Cursor} {tag : ℕ} where
         further = omega arith;
       }
 
-  -- its place
-  pub name-placed : {key place : ℕ} {k t : List ℕ} {d : Cursor} (meets : List ℕ → Met) (place-of : List ℕ → ℕ)
-      → (n : Names text keys tags c tag key k t d) → metIn (entry key tag ∷ []) 0 [] 0 ≡ meets (n .bytes) → place-of (n .bytes) ≡ place
-      → Gets (λ j. j) place text keys tags c (nameAs meets (drop (c .at) text) >>= λ (n, rest). give (place-of n) rest) k t d
+module _ {text keys tags : List ℕ} {c : Cursor} {tag key : ℕ} {k t : List ℕ} {d : Cursor} where
+  -- the name that a key shows
+  pub named-by : (n : Names text keys tags c tag key k t d) → nameOf key ≡ n .bytes
+  named-by n = ap nameOf (n .keyed) ∙ name-key (n .bytes) (n .shown)
+
+  -- a name, by what it leads to
+  pub name-met : {W : Type 0} (meets : List ℕ → Met) (f : List ℕ → W) (v : W) (n : Names text keys tags c tag key k t d)
+      → metIn (entry key tag ∷ []) 0 [] 0 ≡ meets (n .bytes) → f (n .bytes) ≡ v
+      → Gets f v text keys tags c (nameAs meets (drop (c .at) text)) k t d
   unfolding _>>=_ meeting give nameAs
-  name-placed {d = d} meets place-of n met placed =
+  name-met meets f v n met made =
       record {
-        value = place-of (n .bytes);
-        entries = entry _ tag ∷ [];
+        value = n .bytes;
+        entries = entry key tag ∷ [];
         is =
-            ap {B = Read ℕ} (λ y. y >>= (λ (n, rest). got n (meets n) rest) >>= λ (n, rest). give (place-of n) rest) (n .is)
-            ∙ ap (λ (m : Met). got (place-of (n .bytes)) m (drop (d .at) text))
-            (met-nothing (both nothing (meets (n .bytes))) ∙ nothing-met (meets (n .bytes)) ∙ sym met);
-        made = placed;
+            ap (λ (y : Read (List ℕ)). y >>= λ (n, rest). got n (meets n) rest) (n .is)
+            ∙ ap (λ (m : Met). got (n .bytes) m (drop (d .at) text)) (nothing-met (meets (n .bytes)) ∙ sym met);
+        made = made;
         noting = n .noting;
         goes = n .goes;
         ready = n .ready;
         few = omega (arith, n .further);
         further = n .further;
       }
+
+  -- its place
+  pub name-placed : {place : ℕ} (meets : List ℕ → Met) (place-of : List ℕ → ℕ) → (n : Names text keys tags c tag key k t d)
+      → metIn (entry key tag ∷ []) 0 [] 0 ≡ meets (n .bytes) → place-of (n .bytes) ≡ place
+      → Gets (λ j. j) place text keys tags c (nameAs meets (drop (c .at) text) >>= λ (n, rest). give (place-of n) rest) k t d
+  name-placed meets place-of n met placed =
+      let r = name-met meets place-of _ n met placed in gets-give _ (λ j. j) _ (place-of (r .value)) r refl (r .made)
 
 module _ {text keys tags : List ℕ} {c : Cursor} (known : List ℕ) {key place : ℕ} {k t : List ℕ} {d : Cursor} where
   pub number-got : Names text keys tags c 3 key k t d → place ≡ keyPlace key (numberKeys known)
@@ -266,19 +321,32 @@ module _ {A : Type 0} {f : A → Table.Cell} {text keys tags : List ℕ} {c : Cu
   pub cell-none : r ≡ OperandCode.the-variants.Broken → x ≡ broken
   cell-none e = subst (λ z. CellAnswer f text keys tags c x z k t) e (a .answer)
 
+-- a cell by the same answer, and by the same reading
+pub cell-ends : {A : Type 0} {f : A → Table.Cell} {text keys tags : List ℕ} {c : Cursor} {x : Read A} {q r : Operand} {k t : List ℕ} → q ≡ r
+    → CellRead f text keys tags c x r k t → CellRead f text keys tags c x q k t
+cell-ends {f = f} {text} {keys} {tags} {c} {x} {k = k} {t} e a = subst (λ z. CellRead f text keys tags c x z k t) (sym e) a
+
+pub cell-same : {A : Type 0} {f : A → Table.Cell} {text keys tags : List ℕ} {c : Cursor} {x y : Read A} {r : Operand} {k t : List ℕ} → x ≡ y
+    → CellRead f text keys tags c y r k t → CellRead f text keys tags c x r k t
+cell-same {f = f} {text} {keys} {tags} {c} {r = r} {k} {t} e a = subst (λ z. CellRead f text keys tags c z r k t) (sym e) a
+
 -- what follows a broken form is broken
 pub then-broken : {A B : Type 0} {x : Read A} (next : A × List ℕ → Read B) → x ≡ broken → x >>= next ≡ broken
 unfolding _>>=_
 then-broken next e = ap (λ y. y >>= next) e
 
+pub name-as-broken : (meets : List ℕ → Met) (bs : List ℕ) → Words.name bs ≡ broken → nameAs meets bs ≡ broken
+unfolding nameAs
+name-as-broken meets bs e = then-broken _ e
+
 module _ (p : Places) (bs : List ℕ) (e : Words.name bs ≡ broken) where
   pub number-broken : numberName edition1 p bs ≡ broken
-  unfolding numberName nameAs
-  number-broken = then-broken _ (then-broken _ e)
+  unfolding numberName
+  number-broken = then-broken _ (name-as-broken _ bs e)
 
   pub string-broken : (roles : List ℕ → List Role) → stringName edition1 p roles bs ≡ broken
-  unfolding stringName nameAs
-  string-broken roles = then-broken _ (then-broken _ e)
+  unfolding stringName
+  string-broken roles = then-broken _ (name-as-broken _ bs e)
 
 -- a cell's value made of another that has the same cell
 pub cell-made : {A B : Type 0} {f : A → Table.Cell} (g : A → B) (h : B → Table.Cell) {text keys tags : List ℕ} {c : Cursor} {x : Read A}
@@ -288,54 +356,65 @@ cell-made g h (OperandCode.the-variants.Got v d) same a =
     record { answer = gets-give _ h (meaning v) (g (a .answer .value)) (a .answer) refl (same (a .answer .value) ∙ a .answer .made) }
 cell-made g h OperandCode.the-variants.Broken same a = record { answer = then-broken _ (a .answer) }
 
--- a place in its cell
-pub place-made : {B : Type 0} (g : ℕ → B) (h : B → Table.Cell) (kind : ℕ) {text keys tags : List ℕ} {c : Cursor} {x : Read ℕ}
-    {k t : List ℕ} (p : Place) → ((n : ℕ) → h (g n) ≡ Table.cell kind n 0) → PlaceRead text keys tags c x p k t
-    → CellRead h text keys tags c (x >>= λ (a, rest). give (g a) rest) (placedIn kind p) k t
-place-made g h kind (PlaceCode.the-variants.Got place d) same a =
+-- a place in a cell of a kind and a value
+pub place-cell : (kind v : ℕ) {text keys tags : List ℕ} {c : Cursor} {x : Read ℕ} {k t : List ℕ} (p : Place)
+    → PlaceRead text keys tags c x p k t → CellRead (λ n. Table.cell kind n v) text keys tags c x (placedIn kind v p) k t
+place-cell kind v (PlaceCode.the-variants.Got place d) a =
+    let r = a .answer in
     record {
       answer =
-          gets-give _ h (Table.cell kind place 0) (g (a .answer .value)) (a .answer) refl
-          (same (a .answer .value) ∙ ap (λ n. Table.cell kind n 0) (a .answer .made));
+          record {
+            value = r .value;
+            entries = r .entries;
+            is = r .is;
+            made = ap (λ n. Table.cell kind n v) (r .made);
+            noting = r .noting;
+            goes = r .goes;
+            ready = r .ready;
+            few = r .few;
+            further = r .further;
+          };
     }
-place-made g h kind PlaceCode.the-variants.Broken same a = record { answer = then-broken _ (a .answer) }
+place-cell kind v PlaceCode.the-variants.Broken a = record { answer = a .answer }
 
--- a constant
-pub constant-got : {text keys tags : List ℕ} {c : Cursor} (v next kind place : ℕ) {value : ℕ} {d : Cursor} → Ready text keys tags c
-    → unsigned edition1 (drop (c .at) text) ≡ give v (drop next text) → c .at < next → next ≤ length text → value ≡ v + 2 ^ 47
-    → d ≡ moved c (next - c .at)
-    → Gets (λ n. Table.cell kind place (biased (pos n))) (Table.cell kind place value) text keys tags c
-    (unsigned edition1 (drop (c .at) text)) keys tags d
-unfolding give nothing metIn gather biased bias
-constant-got {text} {keys} {tags} {c} v next kind place {value} {d} ready is h g big e =
+-- a cell read behind skipped bytes
+pub cell-skip : {A : Type 0} {f : A → Table.Cell} {text keys tags : List ℕ} (n : ℕ) {b c : Cursor} {x : Read A} {k t : List ℕ} (r : Operand)
+    → Skips b n c → CellRead f text keys tags c x r k t → CellRead f text keys tags b x r k t
+cell-skip n (OperandCode.the-variants.Got v d) s a = record { answer = gets-skip n s (a .answer) }
+cell-skip n OperandCode.the-variants.Broken s a = record { answer = a .answer }
+
+-- a cell read behind another reading
+pub cell-then : {A B C : Type 0} {f : A → C} {v : C} {text keys tags : List ℕ} {c : Cursor} {x : Read A} {k t : List ℕ} {d : Cursor}
+    (r : Gets f v text keys tags c x k t d) (next : A × List ℕ → Read B) (h : B → Table.Cell) (q : Operand) {k′ t′ : List ℕ}
+    → Ready text keys tags c → CellRead h text k t d (next (r .value, drop (d .at) text)) q k′ t′
+    → CellRead h text keys tags c (x >>= next) q k′ t′
+cell-then r next h (OperandCode.the-variants.Got w e) ready a = record { answer = gets-then next h (meaning w) ready r (a .answer) }
+cell-then r next h OperandCode.the-variants.Broken ready a = record { answer = got-broken next (r .is) (a .answer) }
+
+-- a value that is given from a place on
+pub value-got : {A C : Type 0} (f : A → C) (v : A) (w : C) (next : ℕ) {text keys tags : List ℕ} {c : Cursor} {x : Read A} {d : Cursor}
+    → Ready text keys tags c → x ≡ give v (drop next text) → c .at < next → next ≤ length text → f v ≡ w → d ≡ moved c (next - c .at)
+    → Gets f w text keys tags c x keys tags d
+unfolding give nothing metIn gather
+value-got f v w next {text} {keys} {tags} {c} {x} {d} ready is h g made e =
     let at : d .at ≡ next = ap (λ (z : Cursor). z .at) e ∙ omega arith in
     let s = skipped c (next - c .at) e in
     record {
       value = v;
       entries = [];
       is = is ∙ ap (λ j. give v (drop j text)) (sym at);
-      made = ap (Table.cell kind place) (sym big);
-      noting = record { keyed = sym (splice-nil keys (c .names)); tagged = sym (splice-nil tags (c .names)) };
+      made = made;
+      noting = noting-none (c .names);
       goes = s .goes;
-      ready =
-          record {
-            textSize = ready .textSize;
-            inside = omega arith;
-            names = omega (arith, ready .names, s .goes);
-            items = omega (arith, ready .items, s .goes);
-            elements = omega (arith, ready .elements, s .goes);
-            literals = omega (arith, ready .literals, s .goes);
-            keysSize = ready .keysSize;
-            tagsSize = ready .tagsSize;
-          };
+      ready = ready-at s ready (omega arith);
       few = omega arith;
       further = omega arith;
     }
 
--- a form that a test chooses
-pub chosen : {A : Type 0} {b : Bool} {test : Bool} (x y : Read A) → test ≡ b
-    → _≡_ {A = Read A} (elim test [ true ↦ x | false ↦ y ]) (elim b [ true ↦ x | false ↦ y ])
-chosen {A} x y e = ap {B = Read A} (λ t. elim t [ true ↦ x | false ↦ y ]) e
+-- what a test chooses
+pub chosen : {A : Type 0} {b : Bool} {test : Bool} (x y : A) → test ≡ b
+    → _≡_ {A = A} (elim test [ true ↦ x | false ↦ y ]) (elim b [ true ↦ x | false ↦ y ])
+chosen {A} x y e = ap {B = A} (λ t. elim t [ true ↦ x | false ↦ y ]) e
 
 module _ (p : Places) {text keys tags : List ℕ} {c : Cursor} where
   module _ (kind place : ℕ) where
@@ -343,8 +422,7 @@ module _ (p : Places) {text keys tags : List ℕ} {c : Cursor} where
         → CellRead (lengthCell kind place) text keys tags c (bound edition1 p (drop (c .at) text)) r keys tags
     unfolding bound lengthCell
     bound-constant {r} e a =
-        subst (λ y. CellRead (lengthCell kind place) text keys tags c y r keys tags) (sym (chosen _ _ e))
-        (cell-made (λ v. constantly (pos v)) (lengthCell kind place) r (λ _. refl) a)
+        cell-same (chosen _ _ e) (cell-made (λ v. constantly (pos v)) (lengthCell kind place) r (λ _. refl) a)
 
     pub bound-number : {n : ℕ} {k t : List ℕ} {d : Cursor} → isDigit (getD (drop (c .at) text) 0 0) ≡ false
         → Gets (λ j. j) n text keys tags c (numberName edition1 p (drop (c .at) text)) k t d
@@ -364,35 +442,15 @@ module _ (p : Places) {text keys tags : List ℕ} {c : Cursor} where
         gets-give (λ (s, rest). partOf edition1 p s rest) (partCell shift) _ (whole (a .value)) a (chosen _ _ e)
         (ap (λ j. Table.cell (shift + 1) j 0) (a .made))
 
-    pub part-first : Ready text keys tags c → begins (36 ∷ []) (drop (d .at) text) ≡ true → (r : Operand) {k′ t′ : List ℕ}
-        → CellRead (lengthCell (shift + 2) s) text k t (moved d 1) (bound edition1 p (drop (d .at + 1) text)) r k′ t′
+    pub part-first : Ready text keys tags c → begins (36 ∷ []) (drop (d .at) text) ≡ true → (r : Operand) {b : Cursor} {k′ t′ : List ℕ}
+        → b ≡ moved d 1 → CellRead (lengthCell (shift + 2) s) text k t b (bound edition1 p (drop (b .at) text)) r k′ t′
         → CellRead (partCell shift) text keys tags c (partName edition1 p roles (drop (c .at) text)) r k′ t′
-    unfolding partName partOf partCell bytes _>>=_ meeting
-    part-first ready e (OperandCode.the-variants.Got v f) {k′} {t′} b =
-        let from : drop 1 (drop (d .at) text) ≡ drop (d .at + 1) text = drop-drop 1 (d .at) text in
-        let inner = gets-skip 1 (skipped d 1 refl) (b .answer) in
-        let chose = chosen {b = true} (bound edition1 p (drop 1 (drop (d .at) text)) >>= λ (n, rest). give (first (a .value) n) rest)
-        (give (whole (a .value)) (drop (d .at) text)) e in
-        record {
-          answer =
-              gets-then (λ (s, rest). partOf edition1 p s rest) (partCell shift) (meaning v) ready a
-              (subst (λ y. Gets (partCell shift) (meaning v) text k t d y k′ t′ f)
-              (sym (chose ∙ ap (λ (l : List ℕ). bound edition1 p l >>= λ (n, rest). give (first (a .value) n) rest) from))
-              (gets-give _ (partCell shift) (meaning v) (first (a .value) (inner .value)) inner refl
-              (ap (λ j. lengthCell (shift + 2) j (inner .value)) (a .made) ∙ inner .made)));
-        }
-    part-first ready e OperandCode.the-variants.Broken {k′} {t′} b =
-        let from : drop 1 (drop (d .at) text) ≡ drop (d .at + 1) text = drop-drop 1 (d .at) text in
-        let chose = chosen {b = true} (bound edition1 p (drop 1 (drop (d .at) text)) >>= λ (n, rest). give (first (a .value) n) rest)
-        (give (whole (a .value)) (drop (d .at) text)) e in
-        record {
-          answer =
-              ap (λ (y : Read ℕ). y >>= λ (s, rest). partOf edition1 p s rest) (a .is)
-              ∙ ap (meeting (metIn (a .entries) 0 [] 0))
-              (chose
-              ∙ ap (λ (l : List ℕ). bound edition1 p l >>= λ (n, rest). give (first (a .value) n) rest) from
-              ∙ then-broken (λ (n, rest). give (first (a .value) n) rest) (b .answer));
-        }
+    unfolding partName partOf partCell bytes
+    part-first ready e r m b =
+        let lengths : List ℕ → Read Program.Part = λ l. bound edition1 p l >>= λ (n, rest). give (first (a .value) n) rest in
+        cell-then a (λ (s, rest). partOf edition1 p s rest) (partCell shift) r ready
+        (cell-same (chosen _ _ e ∙ ap lengths (sym (drop-moved text d 1 m)))
+        (cell-made (first (a .value)) (partCell shift) r (λ n. ap (λ j. lengthCell (shift + 2) j n) (a .made)) (cell-skip 1 r (skipped d 1 m) b)))
 
 module _ (p : Places) (bs : List ℕ) where
   pub bound-broken : isDigit (getD bs 0 0) ≡ false → numberName edition1 p bs ≡ broken → bound edition1 p bs ≡ broken
@@ -403,110 +461,51 @@ module _ (p : Places) (bs : List ℕ) where
   unfolding partName
   part-broken roles h = then-broken _ h
 
--- a word that stands at a place is inside the text
-pub begins-room : (w bs : List ℕ) → begins w bs ≡ true → length w ≤ length bs
-begins-room w bs e =
-    let same : length (take (length w) bs) ≡ length w = ap length (begins-iff w bs .0 e) in
-    omega (arith, simp length-take at same)
+-- a value before `)`
+module _ {A B C : Type 0} {f : A → C} {v : C} (g : A → B) {text keys tags : List ℕ} {c : Cursor} {x : Read A} {k t : List ℕ} {d : Cursor}
+    (r : Gets f v text keys tags c x k t d) where
+  pub gets-closed : {W : Type 0} (h : B → W) {w : W} → begins (41 ∷ []) (drop (d .at) text) ≡ true → h (g (r .value)) ≡ w
+      → Gets h w text keys tags c (x >>= λ (a, rest). skip (bytes ")") rest >>= λ (_, rest). give (g a) rest) k t (moved d 1)
+  unfolding bytes _>>=_ meeting give
+  gets-closed h e made =
+      record {
+        value = g (r .value);
+        entries = r .entries;
+        is =
+            ap (λ (y : Read A). y >>= λ (a, rest). skip (bytes ")") rest >>= λ (_, rest). give (g a) rest) (r .is)
+            ∙ ap (meeting (metIn (r .entries) 0 [] 0))
+            (skip-then (41 ∷ []) (drop (d .at) text) (λ (_, rest). give (g (r .value)) rest) e
+            ∙ ap (give (g (r .value))) (drop-drop 1 (d .at) text))
+            ∙ ap (λ (m : Met). got (g (r .value)) m (drop (d .at + 1) text)) (met-nothing (metIn (r .entries) 0 [] 0));
+        made = made;
+        noting = r .noting;
+        goes = onward-moved 1 (r .goes);
+        ready = ready-moved (41 ∷ []) (r .ready) refl e;
+        few = omega (arith, r .few);
+        further = omega (arith, r .further);
+      }
 
-pub ready-moved : {text keys tags : List ℕ} {c : Cursor} (w : List ℕ) → Ready text keys tags c → begins w (drop (c .at) text) ≡ true
-    → Ready text keys tags (moved c (length w))
-ready-moved {text} {c = c} w ready e =
-    record {
-      textSize = ready .textSize;
-      inside = omega (arith, ready .inside, begins-room w (drop (c .at) text) e, length-drop (c .at) text);
-      names = omega (arith, ready .names);
-      items = omega (arith, ready .items);
-      elements = omega (arith, ready .elements);
-      literals = omega (arith, ready .literals);
-      keysSize = ready .keysSize;
-      tagsSize = ready .tagsSize;
-    }
+  pub gets-open : begins (41 ∷ []) (drop (d .at) text) ≡ false
+      → (x >>= λ (a, rest). skip (bytes ")") rest >>= λ (_, rest). give (g a) rest) ≡ broken
+  unfolding bytes
+  gets-open e = got-broken _ (r .is) (skip-broken (41 ∷ []) (drop (d .at) text) (λ (_, rest). give (g (r .value)) rest) e)
 
 -- an operand before `)`
-pub closed-given : {A B : Type 0} (g : A → B) (bs : List ℕ) (a : A) → begins (41 ∷ []) bs ≡ true
-    → (skip (bytes ")") bs >>= λ (_, rest). give (g a) rest) ≡ give (g a) (drop 1 bs)
-unfolding skip give bytes _>>=_ meeting both nothing
-closed-given {B = B} g bs a e =
-    let here : skip (bytes ")") bs ≡ give tt (drop 1 bs) = chosen _ _ e in
-    ap {B = Read B} (λ y. y >>= λ (_, rest). give (g a) rest) here
-
-pub closed-broken : {A B : Type 0} (g : A → B) (bs : List ℕ) (a : A) → begins (41 ∷ []) bs ≡ false
-    → (skip (bytes ")") bs >>= λ (_, rest). give (g a) rest) ≡ broken
-unfolding skip bytes
-closed-broken g bs a e = then-broken _ (chosen _ _ e)
-
 module _ {A B : Type 0} {f : A → Table.Cell} (g : A → B) (h : B → Table.Cell) (same : (a : A) → h (g a) ≡ f a) {text keys tags : List ℕ}
     {c : Cursor} {x : Read A} {k t : List ℕ} where
   closed-case : (v : Cell) (d : Cursor) (b : Bool) → begins (41 ∷ []) (drop (d .at) text) ≡ b
       → Gets f (meaning v) text keys tags c x k t d
       → CellRead h text keys tags c (x >>= λ (a, rest). skip (bytes ")") rest >>= λ (_, rest). give (g a) rest)
       (elim b [ true ↦ OperandCode.the-variants.Got v (moved d 1) | false ↦ OperandCode.the-variants.Broken ]) k t
-  unfolding _>>=_ meeting give
-  closed-case v d true e a =
-      record {
-        answer =
-            record {
-              value = g (a .value);
-              entries = a .entries;
-              is =
-                  ap (λ (y : Read A). y >>= λ (a, rest). skip (bytes ")") rest >>= λ (_, rest). give (g a) rest) (a .is)
-                  ∙ ap (meeting (metIn (a .entries) 0 [] 0))
-                  (closed-given g (drop (d .at) text) (a .value) e ∙ ap (give (g (a .value))) (drop-drop 1 (d .at) text))
-                  ∙ ap (λ (m : Met). got (g (a .value)) m (drop (d .at + 1) text)) (met-nothing (metIn (a .entries) 0 [] 0));
-              made = same (a .value) ∙ a .made;
-              noting = a .noting;
-              goes =
-                  record {
-                    names = a .goes .names;
-                    items = a .goes .items;
-                    elements = a .goes .elements;
-                    literals = a .goes .literals;
-                    longest = a .goes .longest;
-                  };
-              ready = ready-moved (41 ∷ []) (a .ready) e;
-              few = omega (arith, a .few);
-              further = omega (arith, a .further);
-            };
-      }
-  closed-case v d false e a =
-      record {
-        answer =
-            ap (λ (y : Read A). y >>= λ (a, rest). skip (bytes ")") rest >>= λ (_, rest). give (g a) rest) (a .is)
-            ∙ ap (meeting (metIn (a .entries) 0 [] 0)) (closed-broken g (drop (d .at) text) (a .value) e);
-      }
+  closed-case v d true e a = record { answer = gets-closed g a h e (same (a .value) ∙ a .made) }
+  closed-case v d false e a = record { answer = gets-open g a e }
 
   pub closed-cell : (r : Operand) → CellRead f text keys tags c x r k t
       → CellRead h text keys tags c (x >>= λ (a, rest). skip (bytes ")") rest >>= λ (_, rest). give (g a) rest) (closedBy text r) k t
   closed-cell (OperandCode.the-variants.Got v d) a = closed-case v d (begins (41 ∷ []) (drop (d .at) text)) refl (a .answer)
   closed-cell OperandCode.the-variants.Broken a = record { answer = then-broken _ (a .answer) }
 
--- a place as a cell, a cell read behind skipped bytes, and where an operand ends
-pub place-cell : (kind : ℕ) {text keys tags : List ℕ} {c : Cursor} {x : Read ℕ} {k t : List ℕ} (p : Place)
-    → PlaceRead text keys tags c x p k t → CellRead (λ n. Table.cell kind n 0) text keys tags c x (placedIn kind p) k t
-place-cell kind (PlaceCode.the-variants.Got place d) a =
-    let r = a .answer in
-    record {
-      answer =
-          record {
-            value = r .value;
-            entries = r .entries;
-            is = r .is;
-            made = ap (λ n. Table.cell kind n 0) (r .made);
-            noting = r .noting;
-            goes = r .goes;
-            ready = r .ready;
-            few = r .few;
-            further = r .further;
-          };
-    }
-place-cell kind PlaceCode.the-variants.Broken a = record { answer = a .answer }
-
-pub cell-skip : {A : Type 0} {f : A → Table.Cell} {text keys tags : List ℕ} (n : ℕ) {b c : Cursor} {x : Read A} {k t : List ℕ} (r : Operand)
-    → Skips b n c → CellRead f text keys tags c x r k t → CellRead f text keys tags b x r k t
-cell-skip n (OperandCode.the-variants.Got v d) s a = record { answer = gets-skip n s (a .answer) }
-cell-skip n OperandCode.the-variants.Broken s a = record { answer = a .answer }
-
+-- where an operand ends
 pub cell-inside : {A : Type 0} {f : A → Table.Cell} {text keys tags : List ℕ} {c : Cursor} {x : Read A} {k t : List ℕ} (r : Operand)
     → CellRead f text keys tags c x r k t → Inside text r
 cell-inside (OperandCode.the-variants.Got v d) a = (a .answer .ready .inside, a .answer .ready .textSize)
@@ -521,47 +520,40 @@ role-none = refl
 module _ (p : Places) {text keys tags : List ℕ} {c : Cursor} {k t : List ℕ} where
   pub called-length : {d : Cursor} → d ≡ moved c 7 → begins (bytes "LENGTH(") (drop (c .at) text) ≡ true → (q : Place)
       → PlaceRead text keys tags d (stringName edition1 p (roleOf 0) (drop (d .at) text)) q k t
-      → CellRead operandCell text keys tags c (calledOrNumber edition1 p (drop (c .at) text)) (closedBy text (placedIn 6 q)) k t
+      → CellRead operandCell text keys tags c (calledOrNumber edition1 p (drop (c .at) text)) (closedBy text (placedIn 6 0 q)) k t
   unfolding calledOrNumber operandCell roleOf noRole
-  called-length {d} s e q a =
-      let from : drop (d .at) text ≡ drop 7 (drop (c .at) text) =
-      ap (λ (z : Cursor). drop (z .at) text) s ∙ sym (drop-drop 7 (c .at) text) in
-      subst (λ y. CellRead operandCell text keys tags c y (closedBy text (placedIn 6 q)) k t)
-      (ap (λ (l : List ℕ). stringName edition1 p noRole l >>= λ (s, rest). skip (bytes ")") rest >>= λ (_, rest). give (lengthOf s) rest) from
-      ∙ sym (chosen _ _ e))
-      (closed-cell lengthOf operandCell (λ _. refl) (placedIn 6 q) (cell-skip 7 (placedIn 6 q) (skipped c 7 s) (place-cell 6 q a)))
+  called-length s e q a =
+      let closes : List ℕ → Read Program.Operand =
+      λ l. stringName edition1 p noRole l >>= λ (s, rest). skip (bytes ")") rest >>= λ (_, rest). give (lengthOf s) rest in
+      cell-same (chosen _ _ e ∙ ap closes (sym (drop-moved text c 7 s)))
+      (closed-cell lengthOf operandCell (λ _. refl) (placedIn 6 0 q) (cell-skip 7 (placedIn 6 0 q) (skipped c 7 s) (place-cell 6 0 q a)))
 
   pub called-number : {d : Cursor} → d ≡ moved c 7 → begins (bytes "LENGTH(") (drop (c .at) text) ≡ false
       → begins (bytes "NUMBER(") (drop (c .at) text) ≡ true → (q : Operand)
       → CellRead (partCell 6) text keys tags d (partName edition1 p (roleOf 0) (drop (d .at) text)) q k t
       → CellRead operandCell text keys tags c (calledOrNumber edition1 p (drop (c .at) text)) (closedBy text q) k t
   unfolding calledOrNumber operandCell roleOf noRole
-  called-number {d} s e₁ e q a =
-      let from : drop (d .at) text ≡ drop 7 (drop (c .at) text) =
-      ap (λ (z : Cursor). drop (z .at) text) s ∙ sym (drop-drop 7 (c .at) text) in
-      subst (λ y. CellRead operandCell text keys tags c y (closedBy text q) k t)
-      (ap (λ (l : List ℕ). partName edition1 p noRole l >>= λ (s, rest). skip (bytes ")") rest >>= λ (_, rest). give (numberOf s) rest) from
-      ∙ sym (chosen _ _ e₁ ∙ chosen _ _ e))
+  called-number s e₁ e q a =
+      let closes : List ℕ → Read Program.Operand =
+      λ l. partName edition1 p noRole l >>= λ (s, rest). skip (bytes ")") rest >>= λ (_, rest). give (numberOf s) rest in
+      cell-same (chosen _ _ e₁ ∙ chosen _ _ e ∙ ap closes (sym (drop-moved text c 7 s)))
       (closed-cell numberOf operandCell (λ _. refl) q (cell-skip 7 q (skipped c 7 s) a))
 
   pub called-plain : begins (bytes "LENGTH(") (drop (c .at) text) ≡ false → begins (bytes "NUMBER(") (drop (c .at) text) ≡ false → (q : Place)
       → PlaceRead text keys tags c (numberName edition1 p (drop (c .at) text)) q k t
-      → CellRead operandCell text keys tags c (calledOrNumber edition1 p (drop (c .at) text)) (placedIn 5 q) k t
+      → CellRead operandCell text keys tags c (calledOrNumber edition1 p (drop (c .at) text)) (placedIn 5 0 q) k t
   unfolding calledOrNumber operandCell
   called-plain e₁ e₂ q a =
-      subst (λ y. CellRead operandCell text keys tags c y (placedIn 5 q) k t) (sym (chosen _ _ e₁ ∙ chosen _ _ e₂))
-      (place-made Program.number operandCell 5 q (λ _. refl) a)
+      cell-same (chosen _ _ e₁ ∙ chosen _ _ e₂) (cell-made Program.number operandCell (placedIn 5 0 q) (λ _. refl) (place-cell 5 0 q a))
 
   pub plain-called : {r : Operand} → isDigit (getD (drop (c .at) text) 0 0) ≡ false
       → CellRead operandCell text keys tags c (calledOrNumber edition1 p (drop (c .at) text)) r k t
       → CellRead operandCell text keys tags c (plainFactor edition1 p (drop (c .at) text)) r k t
   unfolding plainFactor
-  plain-called {r} e a = subst (λ y. CellRead operandCell text keys tags c y r k t) (sym (chosen _ _ e)) a
+  plain-called e a = cell-same (chosen _ _ e) a
 
 module _ (p : Places) {text keys tags : List ℕ} {c : Cursor} where
   pub plain-constant : {r : Operand} → isDigit (getD (drop (c .at) text) 0 0) ≡ true → ConstantRead text keys tags c 4 0 r
       → CellRead operandCell text keys tags c (plainFactor edition1 p (drop (c .at) text)) r keys tags
   unfolding plainFactor operandCell
-  plain-constant {r} e a =
-      subst (λ y. CellRead operandCell text keys tags c y r keys tags) (sym (chosen _ _ e))
-      (cell-made (λ v. Program.constant (pos v)) operandCell r (λ _. refl) a)
+  plain-constant {r} e a = cell-same (chosen _ _ e) (cell-made (λ v. Program.constant (pos v)) operandCell r (λ _. refl) a)

@@ -149,11 +149,11 @@ CalledRead text known keys tags c = CellRead operandCell text keys tags c (calle
 abbrev pub PlainRead : (text known keys tags : List ℕ) (c : Cursor) → Operand → (keys′ tags′ : List ℕ) → Type 0
 PlainRead text known keys tags c = CellRead operandCell text keys tags c (plainFactor edition1 (placesIn known) (drop (c .at) text))
 
--- an operand in the cell of a place
-abbrev pub placedIn : ℕ → Place → Operand
-placedIn kind (PlaceCode.the-variants.Got place d) =
-    OperandCode.the-variants.Got (record { kind = kind; place = place; value = 0 }) d
-placedIn kind PlaceCode.the-variants.Broken = OperandCode.the-variants.Broken
+-- a place in a cell of a kind and a value
+abbrev pub placedIn : (kind value : ℕ) → Place → Operand
+placedIn kind value (PlaceCode.the-variants.Got place d) =
+    OperandCode.the-variants.Got (record { kind = kind; place = place; value = value }) d
+placedIn kind value PlaceCode.the-variants.Broken = OperandCode.the-variants.Broken
 
 -- the cursor of an operand is inside the text
 abbrev pub Inside : List ℕ → Operand → Type 0

@@ -1,8 +1,8 @@
 -- How a factor is read: an operand as one item, or an expression in parentheses.
 -- Assumes nothing.
 use mathlib.Core.Bool.{true, false}
-use mathlib.Core.List.{List, [], _∷_, append-nil}
-use mathlib.Core.Path.{_≡_, sym, ap, _∙_}
+use mathlib.Core.List.{List, [], _∷_}
+use mathlib.Core.Path.{_≡_, refl, sym, ap, _∙_}
 use Prim.Native.Nat.{ℕ, suc, _+_}
 use native.Mathlib.Nat.{add-zero}
 use native.Mathlib.Omega.{arith}
@@ -17,64 +17,52 @@ use Rattle.calls.specs.Table.{operandCell, itemCell}
 use Rattle.language.specs.Fuel.{expressionFrom, factorFrom, factorBy, factor-is}
 use Rattle.language.specs.Numeric.{deepest, plainFactor}
 use Rattle.language.specs.Program.{Operand, Item, operand}
-use Rattle.language.specs.Reading.{Met, anItem, give, skip, both, Read, got, broken, _>>=_, meeting}
+use Rattle.language.specs.Reading.{Met, anItem, give, skip, Read, got, broken, _>>=_, meeting}
 use Rattle.language.specs.Words.{Places}
-use Rattle.met.specs.Entries.{Entry, gather, metIn}
-use Rattle.met.specs.EntryLaws.{met-both}
+use Rattle.met.specs.Entries.{gather, metIn}
+use Rattle.met.specs.EntryLaws.{met-more}
 use Rattle.met.specs.Items.{withItem, withItems}
+use Rattle.met.specs.ReadingLaws.{skip-then, skip-broken}
 use Rattle.met.specs.declared.Cursor.{Cursor}
-use Rattle.numeric.specs.OperandLaws.{then-broken, chosen, met-nothing, ready-moved, closed-given, closed-broken}
-use Rattle.numeric.specs.Operands.{Onward, moved, Ready, Gets, meaning}
+use Rattle.numeric.specs.OperandLaws.{onward-moved, onward-then, skipped, ready-here, ready-moved, then-broken, chosen, met-nothing}
+use Rattle.numeric.specs.Kinds.{PutsCell}
+use Rattle.numeric.specs.Operands.{moved, Ready, Gets, meaning}
+use Rattle.numeric.specs.Reads.{GetsItems, ItemsRead}
 use Rattle.numeric.specs.declared.operands.Cell.{Cell}
-use Rattle.numeric.specs.Reads.{GetsItems}
-
-item-met : (es : List Entry) → both (metIn es 0 [] 0) anItem ≡ metIn es 1 [] 0
-unfolding anItem metIn gather
-item-met es = met-both es [] 0 1 [] [] 0 0 ∙ ap (λ (l : List Entry). metIn l 1 [] 0) (append-nil es)
+use Rattle.numeric.specs.declared.Outcome as OutcomeCode
 
 -- an operand is one item
-pub operand-item : (p : Places) (depth : ℕ) {text table keys tags : List ℕ} {c : Cursor} (v : Cell) {k g : List ℕ} {d : Cursor}
+pub operand-written : (p : Places) (depth : ℕ) {text table keys tags : List ℕ} {c : Cursor} (v : Cell) {k g : List ℕ} {d : Cursor}
     → Ready text keys tags c → begins (bytes "(") (drop (c .at) text) ≡ false
     → Gets operandCell (meaning v) text keys tags c (plainFactor edition1 p (drop (c .at) text)) k g d → {t : List ℕ} {e : Cursor}
-    → t ≡ withItem table (d .items) (meaning v) → Onward d 0 1 e → e .at ≡ d .at
-    → GetsItems [] text table keys tags c (factorFrom edition1 p depth (drop (c .at) text)) t k g e
-unfolding factorBy _>>=_ meeting withItems itemCell anItem
-operand-item p depth {text} {table} {c = c} v {d = d} ready open′ a {t} {e} put on at =
+    → PutsCell table d (meaning v) t e
+    → ItemsRead [] text table keys tags c (factorFrom edition1 p depth (drop (c .at) text)) (OutcomeCode.the-variants.Got e) t k g
+unfolding factorBy _>>=_ meeting withItems itemCell anItem metIn gather
+operand-written p depth {text} {table} {c = c} v {d = d} ready open′ a {t} {e} put =
+    let on = put .goes in
     record {
-      items = operand (a .value) ∷ [];
-      entries = a .entries;
-      is =
-          factor-is edition1 p depth (drop (c .at) text)
-          ∙ chosen _ _ open′
-          ∙ ap (λ (z : Read Operand). z >>= λ (x, rest). got (operand x ∷ []) anItem rest) (a .is)
-          ∙ ap (λ (m : Met). got (operand (a .value) ∷ []) m (drop (d .at) text)) (item-met (a .entries))
-          ∙ ap (λ j. got (operand (a .value) ∷ []) (metIn (a .entries) 1 [] 0) (drop j text)) (sym at);
-      written =
-          put
-          ∙ ap (λ (x : Table.Cell). withItem table (d .items) x) (sym (a .made))
-          ∙ ap (λ j. withItem table j (operandCell (a .value))) (a .goes .items ∙ add-zero (c .items));
-      noting = a .noting;
-      goes =
+      answer =
           record {
-            names = omega (arith, a .goes, on);
-            items = omega (arith, a .goes, on);
-            elements = on .elements ∙ a .goes .elements;
-            literals = on .literals ∙ a .goes .literals;
-            longest = on .longest ∙ a .goes .longest;
+            items = operand (a .value) ∷ [];
+            entries = a .entries;
+            is =
+                factor-is edition1 p depth (drop (c .at) text)
+                ∙ chosen _ _ open′
+                ∙ ap (λ (z : Read Operand). z >>= λ (x, rest). got (operand x ∷ []) anItem rest) (a .is)
+                ∙ ap (λ (m : Met). got (operand (a .value) ∷ []) m (drop (d .at) text)) (met-more (a .entries) 0 1 [] [] 0 0)
+                ∙ ap (λ j. got (operand (a .value) ∷ []) (metIn (a .entries) 1 [] 0) (drop j text)) (sym (put .at));
+            written =
+                put .written
+                ∙ ap (λ (x : Table.Cell). withItem table (d .items) x) (sym (a .made))
+                ∙ ap (λ j. withItem table j (operandCell (a .value))) (a .goes .items ∙ add-zero (c .items));
+            noting = a .noting;
+            goes = onward-then (a .goes) on (omega arith) refl;
+            ready =
+                ready-here (a .ready) (put .at) (omega (arith, on)) (omega (arith, ready, on, a .goes, a .further, put .at))
+                (omega (arith, a .ready, on, put .at)) (omega (arith, a .ready, on, put .at));
+            few = omega (arith, a .few, put .at);
+            short = omega (arith, a .further, put .at);
           };
-      ready =
-          record {
-            textSize = a .ready .textSize;
-            inside = omega (arith, a .ready);
-            names = omega (arith, a .ready, on);
-            items = omega (arith, ready, on, a .goes, a .further);
-            elements = omega (arith, a .ready, on);
-            literals = omega (arith, a .ready, on);
-            keysSize = a .ready .keysSize;
-            tagsSize = a .ready .tagsSize;
-          };
-      few = omega (arith, a .few);
-      short = omega (arith, a .further);
     }
 
 -- an expression in parentheses
@@ -111,29 +99,23 @@ module _ (p : Places) (depth : ℕ) (c : Cursor) {text table keys tags : List �
 
   pub inside-then : begins (41 ∷ []) (drop (d .at) text) ≡ true
       → GetsItems [] text table keys tags c (factorFrom edition1 p depth (drop (c .at) text)) t k g (moved d 1)
-  unfolding meeting give
+  unfolding bytes meeting give
   inside-then e =
       record {
         items = a .items;
         entries = a .entries;
         is =
-            closing _ (closed-given (λ x. x) (drop (d .at) text) (a .items) e ∙ ap (give (a .items)) (drop-drop 1 (d .at) text))
+            closing _
+            (skip-then (41 ∷ []) (drop (d .at) text) (λ (_, rest). give (a .items) rest) e ∙ ap (give (a .items)) (drop-drop 1 (d .at) text))
             ∙ ap (λ (m : Met). got (a .items) m (drop (d .at + 1) text)) (met-nothing (metIn (a .entries) (length (a .items)) [] 0));
         written = a .written;
         noting = a .noting;
-        goes =
-            record {
-              names = a .goes .names;
-              items = a .goes .items;
-              elements = a .goes .elements;
-              literals = a .goes .literals;
-              longest = a .goes .longest;
-            };
-        ready = ready-moved (41 ∷ []) (a .ready) e;
+        goes = onward-then (skipped c 1 refl .goes) (onward-moved 1 (a .goes)) (omega arith) (omega arith);
+        ready = ready-moved (41 ∷ []) (a .ready) refl e;
         few = omega (arith, a .few);
         short = omega (arith, a .short);
       }
 
   pub inside-open : begins (41 ∷ []) (drop (d .at) text) ≡ false → factorFrom edition1 p depth (drop (c .at) text) ≡ broken
-  unfolding meeting
-  inside-open e = closing broken (closed-broken (λ x. x) (drop (d .at) text) (a .items) e)
+  unfolding bytes meeting
+  inside-open e = closing broken (skip-broken (41 ∷ []) (drop (d .at) text) (λ (_, rest). give (a .items) rest) e)

@@ -221,20 +221,13 @@ pub fn closed(text: &[u8], r: Operand) -> Operand
     }
 }
 
-// a place, in the cell of a kind
-pub fn placed(kind: u8, p: Place) -> Operand
-    ensures { λ r. ⌜ r ≡ placedIn kind p ⌝ }
+// a place, in a cell of a kind and a value
+pub fn placed(kind: u8, value: usize, p: Place) -> Operand
+    ensures { λ r. ⌜ r ≡ placedIn kind value p ⌝ }
 {
     match p {
         Place::Broken => Operand::Broken,
-        Place::Got(place, d) => Operand::Got(
-            Cell {
-                kind,
-                place,
-                value: 0,
-            },
-            d,
-        ),
+        Place::Got(place, d) => Operand::Got(Cell { kind, place, value }, d),
     }
 }
 
@@ -254,7 +247,11 @@ pub fn read_called(
     if begins_at(text, at, b"LENGTH(") {
         return closed(
             text,
-            placed(6, read_string(text, known, keys, tags, skip(c, 7), STRING)),
+            placed(
+                6,
+                0,
+                read_string(text, known, keys, tags, skip(c, 7), STRING),
+            ),
         );
     }
     if begins_at(text, at, b"NUMBER(") {
@@ -263,7 +260,7 @@ pub fn read_called(
             read_part(text, known, keys, tags, skip(c, 7), 6, STRING),
         );
     }
-    placed(5, read_number(text, known, keys, tags, c))
+    placed(5, 0, read_number(text, known, keys, tags, c))
 }
 
 // a factor but for parentheses

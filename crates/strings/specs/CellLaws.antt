@@ -1,11 +1,10 @@
 -- How STRING calls and fillers are put together from names, constants and marks. Assumes nothing.
 use mathlib.Core.Bool.{Bool, true, false, _||_}
 use mathlib.Core.List.{List, [], _∷_}
-use mathlib.Core.Path.{_≡_, refl, sym, ap, subst, _∙_}
-use Prim.Native.Nat.{ℕ, _+_, _-_}
+use mathlib.Core.Path.{_≡_, refl, sym, ap, _∙_}
+use Prim.Native.Nat.{ℕ, _+_}
 use lib.IntN.{ℤ, pos}
 use lib.ListN.{drop, getD}
-use lib.Seq.{drop-drop}
 use Rattle.base.specs.Edition.{edition1}
 use Rattle.base.specs.Lists.{begins}
 use Rattle.base.specs.Text.{bytes}
@@ -21,27 +20,17 @@ use Rattle.language.specs.Words.{Places, signed, isSign, numberName, bound, str
 use Rattle.met.specs.Entries.{roleOf, metIn}
 use Rattle.met.specs.ReadingLaws.{give-then, skip-then, skip-broken}
 use Rattle.met.specs.declared.Cursor.{Cursor}
-use Rattle.numeric.specs.OperandLaws.{gets-then, then-broken, chosen, skipped, cell-skip, closed-cell}
-use Rattle.numeric.specs.Operands.{moved, Ready, Gets, CellRead, PlaceRead, meaning, closedBy}
+use Rattle.numeric.specs.OperandLaws.{skipped, drop-moved, then-broken, cell-same, place-cell, cell-skip, cell-then, chosen, closed-cell}
+use Rattle.numeric.specs.Operands.{moved, Ready, Gets, CellRead, PlaceRead, placedIn, closedBy}
 use Rattle.numeric.specs.declared.operands.Operand as OperandCode
 use Rattle.numeric.specs.declared.operands.Operand.{Operand}
 use Rattle.numeric.specs.declared.operands.Place as PlaceCode
 use Rattle.numeric.specs.declared.operands.Place.{Place}
-use Rattle.strings.specs.Cells.{bareCell, valuedIn, numberEnd, numberFollows, constantCall, numberOrEnd, numberCall, Standing}
+use Rattle.strings.specs.Cells.{bareCell, numberEnd, numberFollows, constantCall, numberOrEnd, numberCall, Standing}
 
--- a cell read behind another reading
+-- two ways to go on are the same where they are the same behind a reading
 module _ {A B C : Type 0} {f : A → C} {v : C} {text keys tags : List ℕ} {c : Cursor} {x : Read A} {k t : List ℕ} {d : Cursor}
     (r : Gets f v text keys tags c x k t d) where
-  pub cell-then : (next : A × List ℕ → Read B) (h : B → Table.Cell) (q : Operand) {k′ t′ : List ℕ} → Ready text keys tags c
-      → CellRead h text k t d (next (r .value, drop (d .at) text)) q k′ t′ → CellRead h text keys tags c (x >>= next) q k′ t′
-  unfolding _>>=_ meeting
-  cell-then next h (OperandCode.the-variants.Got w e) ready a = record { answer = gets-then next h (meaning w) ready r (a .answer) }
-  cell-then next h OperandCode.the-variants.Broken ready a =
-      record {
-        answer = ap (λ (y : Read A). y >>= next) (r .is) ∙ ap (meeting (metIn (r .entries) 0 [] 0)) (a .answer);
-      }
-
-  -- two ways to go on are the same where they are the same behind it
   pub then-same : (next next′ : A × List ℕ → Read B) → next (r .value, drop (d .at) text) ≡ next′ (r .value, drop (d .at) text)
       → x >>= next ≡ x >>= next′
   unfolding _>>=_ meeting
@@ -50,46 +39,23 @@ module _ {A B C : Type 0} {f : A → C} {v : C} {text keys tags : List ℕ} {c :
       ∙ ap (meeting (metIn (r .entries) 0 [] 0)) e
       ∙ sym (ap (λ (y : Read A). y >>= next′) (r .is))
 
--- a place in a cell of a kind and a value
-pub valued-cell : (kind v : ℕ) {text keys tags : List ℕ} {c : Cursor} {x : Read ℕ} {k t : List ℕ} (p : Place)
-    → PlaceRead text keys tags c x p k t → CellRead (λ n. Table.cell kind n v) text keys tags c x (valuedIn kind v p) k t
-valued-cell kind v (PlaceCode.the-variants.Got place d) a =
-    let r = a .answer in
-    record {
-      answer =
-          record {
-            value = r .value;
-            entries = r .entries;
-            is = r .is;
-            made = ap (λ n. Table.cell kind n v) (r .made);
-            noting = r .noting;
-            goes = r .goes;
-            ready = r .ready;
-            few = r .few;
-            further = r .further;
-          };
-    }
-valued-cell kind v PlaceCode.the-variants.Broken a = record { answer = a .answer }
-
 module _ (p : Places) {text keys tags : List ℕ} {c : Cursor} where
   -- the m of STRING with its `)`
   pub number-ends : (kind v : ℕ) (q : Place) {k t : List ℕ} → PlaceRead text keys tags c (numberName edition1 p (drop (c .at) text)) q k t
       → (n : Length) → Standing n kind v
-      → CellRead bareCell text keys tags c (numberEnd p n (drop (c .at) text)) (closedBy text (valuedIn kind v q)) k t
+      → CellRead bareCell text keys tags c (numberEnd p n (drop (c .at) text)) (closedBy text (placedIn kind v q)) k t
   unfolding patternCell elementCell
   number-ends kind v q a n same =
-      closed-cell (Program.text n) bareCell same (valuedIn kind v q) (valued-cell kind v q a)
+      closed-cell (Program.text n) bareCell same (placedIn kind v q) (place-cell kind v q a)
 
   -- behind a comma
   pub number-follows : (kind v : ℕ) (q : Operand) {d : Cursor} {k t : List ℕ} → d ≡ moved c 1 → begins (44 ∷ []) (drop (c .at) text) ≡ true
       → ((n : Length) → Standing n kind v → CellRead bareCell text keys tags d (numberEnd p n (drop (d .at) text)) q k t) → (n : Length)
       → Standing n kind v → CellRead bareCell text keys tags c (numberFollows p n (drop (c .at) text)) q k t
   unfolding bytes
-  number-follows kind v q {d} {k} {t} s e a n same =
-      let from : drop (d .at) text ≡ drop 1 (drop (c .at) text) =
-      ap (λ (z : Cursor). drop (z .at) text) s ∙ sym (drop-drop 1 (c .at) text) in
-      subst (λ y. CellRead bareCell text keys tags c y q k t)
-      (ap (numberEnd p n) from ∙ sym (skip-then (44 ∷ []) (drop (c .at) text) (λ (_, rest). numberEnd p n rest) e))
+  number-follows kind v q s e a n same =
+      cell-same
+      (skip-then (44 ∷ []) (drop (c .at) text) (λ (_, rest). numberEnd p n rest) e ∙ ap (numberEnd p n) (sym (drop-moved text c 1 s)))
       (cell-skip 1 q (skipped c 1 s) (a n same))
 
   -- STRING with a constant
@@ -97,13 +63,12 @@ module _ (p : Places) {text keys tags : List ℕ} {c : Cursor} where
       → signed edition1 (drop (c .at) text) ≡ give z (drop next text)
       → CellRead bareCell text keys tags d (numberFollows p (constantly z) (drop (d .at) text)) q k t
       → CellRead bareCell text keys tags c (constantCall p (drop (c .at) text)) q k t
-  constant-called q z n next {d} {k} {t} s place is a =
-      let from : drop (d .at) text ≡ drop next text =
-      ap (λ (w : Cursor). drop (w .at) text) s ∙ ap (λ j. drop j text) place in
-      subst (λ y. CellRead bareCell text keys tags c y q k t)
-      (ap (numberFollows p (constantly z)) from
-      ∙ sym (give-then z (drop next text) (λ (n, rest). numberFollows p (constantly n) rest))
-      ∙ ap (λ (y : Read ℤ). y >>= λ (n, rest). numberFollows p (constantly n) rest) (sym is))
+  constant-called q z n next s place is a =
+      let from = ap (λ (w : Cursor). drop (w .at) text) s ∙ ap (λ j. drop j text) place in
+      cell-same
+      (ap (λ (y : Read ℤ). y >>= λ (n, rest). numberFollows p (constantly n) rest) is
+      ∙ give-then z (drop next text) (λ (n, rest). numberFollows p (constantly n) rest)
+      ∙ ap (numberFollows p (constantly z)) (sym from))
       (cell-skip n q (skipped c n s) a)
 
 pub number-alone : (p : Places) (bs : List ℕ) → begins (44 ∷ []) bs ≡ false → (n : Length) → numberFollows p n bs ≡ broken
@@ -126,12 +91,10 @@ module _ (p : Places) {text keys tags : List ℕ} {c : Cursor} (ready : Ready te
         → ((n : Length) → Standing n 18 place → CellRead bareCell text k t e (numberEnd p n (drop (e .at) text)) q k′ t′)
         → CellRead bareCell text keys tags c (numberCall p (drop (c .at) text)) q k′ t′
     unfolding bytes
-    number-comma q {e} {k′} {t′} s comma b =
-        let from : drop (e .at) text ≡ drop 1 (drop (d .at) text) =
-        ap (λ (z : Cursor). drop (z .at) text) s ∙ sym (drop-drop 1 (d .at) text) in
+    number-comma q s comma b =
         let standing : Standing (numbered (a .value)) 18 place = λ m. standing-number (a .value) m ∙ ap (Table.cell 18 m) (a .made) in
         cell-then a (λ (i, rest). numberOrEnd p i rest) bareCell q ready
-        (subst (λ y. CellRead bareCell text k t d y q k′ t′) (ap (numberEnd p (numbered (a .value))) from ∙ sym (chosen _ _ comma))
+        (cell-same (chosen _ _ comma ∙ ap (numberEnd p (numbered (a .value))) (sym (drop-moved text d 1 s)))
         (cell-skip 1 q (skipped d 1 s) (b (numbered (a .value)) standing)))
 
     pub number-only : begins (44 ∷ []) (drop (d .at) text) ≡ false
@@ -142,10 +105,9 @@ module _ (p : Places) {text keys tags : List ℕ} {c : Cursor} (ready : Ready te
         let v : Operand = OperandCode.the-variants.Got (record { kind = 17; place = place; value = 140_737_488_355_328 }) d in
         let only : ℕ × List ℕ → Read Element =
         λ (i, rest). skip (bytes ")") rest >>= λ (_, rest). give (Program.text (constantly (pos 0)) i) rest in
-        subst (λ y. CellRead bareCell text keys tags c y (closedBy text v) k t)
-        (then-same a only (λ (i, rest). numberOrEnd p i rest) (sym (chosen _ _ none)))
+        cell-same (then-same a (λ (i, rest). numberOrEnd p i rest) only (chosen _ _ none))
         (closed-cell (Program.text (constantly (pos 0))) bareCell (λ _. refl) v
-        (valued-cell 17 140_737_488_355_328 (PlaceCode.the-variants.Got place d) (record { answer = a })))
+        (place-cell 17 140_737_488_355_328 (PlaceCode.the-variants.Got place d) (record { answer = a })))
 
   -- a filler: fixed where `$` and a length follow
   module _ (a : Gets (λ j. j) place text keys tags c (stringName edition1 p (roleOf 3) (drop (c .at) text)) k t d) where
@@ -153,13 +115,11 @@ module _ (p : Places) {text keys tags : List ℕ} {c : Cursor} (ready : Ready te
         → CellRead (lengthCell 20 place) text k t e (bound edition1 p (drop (e .at) text)) q k′ t′
         → CellRead (patternCell 0) text keys tags c (fillerAt edition1 p (drop (c .at) text)) (closedBy text q) k′ t′
     unfolding bytes patternCell fillerAt roleOf
-    filler-fixed q {e} {k′} {t′} s dollar b =
-        let from : drop (e .at) text ≡ drop 1 (drop (d .at) text) =
-        ap (λ (z : Cursor). drop (z .at) text) s ∙ sym (drop-drop 1 (d .at) text) in
+    filler-fixed q s dollar b =
         let closes : List ℕ → Read PatternElement =
         λ l. bound edition1 p l >>= λ (n, rest). skip (bytes ")") rest >>= λ (_, rest). give (fixedFiller (a .value) n) rest in
         cell-then a _ (patternCell 0) (closedBy text q) ready
-        (subst (λ y. CellRead (patternCell 0) text k t d y (closedBy text q) k′ t′) (ap closes from ∙ sym (chosen _ _ dollar))
+        (cell-same (chosen _ _ dollar ∙ ap closes (sym (drop-moved text d 1 s)))
         (closed-cell (fixedFiller (a .value)) (patternCell 0) (λ n. ap (λ j. lengthCell 20 j n) (a .made)) q
         (cell-skip 1 q (skipped d 1 s) b)))
 
@@ -171,9 +131,9 @@ module _ (p : Places) {text keys tags : List ℕ} {c : Cursor} (ready : Ready te
         let v : Operand = OperandCode.the-variants.Got (record { kind = 19; place = place; value = 0 }) d in
         let free : ℕ × List ℕ → Read PatternElement =
         λ (s, rest). skip (bytes ")") rest >>= λ (_, rest). give (freeFiller s) rest in
-        subst (λ y. CellRead (patternCell 0) text keys tags c y (closedBy text v) k t) (then-same a free _ (sym (chosen _ _ none)))
+        cell-same (then-same a _ free (chosen _ _ none))
         (closed-cell freeFiller (patternCell 0) (λ _. refl) v
-        (valued-cell 19 0 (PlaceCode.the-variants.Got place d) (record { answer = a })))
+        (place-cell 19 0 (PlaceCode.the-variants.Got place d) (record { answer = a })))
 
 pub filler-broken : (p : Places) (bs : List ℕ) → stringName edition1 p (roleOf 3) bs ≡ broken → fillerAt edition1 p bs ≡ broken
 unfolding fillerAt roleOf
@@ -185,13 +145,13 @@ module _ (p : Places) {text keys tags : List ℕ} {c : Cursor} {q : Operand} {k 
       → CellRead bareCell text keys tags c (constantCall p (drop (c .at) text)) q k t
       → CellRead bareCell text keys tags c (textCall edition1 p (drop (c .at) text)) q k t
   unfolding textCall
-  text-constant e a = subst (λ y. CellRead bareCell text keys tags c y q k t) (sym (chosen _ _ e)) a
+  text-constant e a = cell-same (chosen _ _ e) a
 
   pub text-number : (isDigit (getD (drop (c .at) text) 0 0) || isSign (drop (c .at) text)) ≡ false
       → CellRead bareCell text keys tags c (numberCall p (drop (c .at) text)) q k t
       → CellRead bareCell text keys tags c (textCall edition1 p (drop (c .at) text)) q k t
   unfolding textCall
-  text-number e a = subst (λ y. CellRead bareCell text keys tags c y q k t) (sym (chosen _ _ e)) a
+  text-number e a = cell-same (chosen _ _ e) a
 
 -- an element with no literal bytes, whose cell doesn't depend on those before
 pub record Bare (x : PatternElement) : Type 0 where

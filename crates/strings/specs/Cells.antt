@@ -18,20 +18,11 @@ use Rattle.language.specs.Words.{Places, signed, numberName}
 use Rattle.met.specs.Known.{placesIn}
 use Rattle.met.specs.declared.Cursor.{Cursor}
 use Rattle.numeric.specs.Operands.{CellRead}
-use Rattle.numeric.specs.declared.operands.Operand as OperandCode
 use Rattle.numeric.specs.declared.operands.Operand.{Operand}
-use Rattle.numeric.specs.declared.operands.Place as PlaceCode
-use Rattle.numeric.specs.declared.operands.Place.{Place}
 
 -- the cell of an element that has no literal bytes: it doesn't depend on those before
 abbrev pub bareCell : Element → Table.Cell
 bareCell x = patternCell 0 (Program.value x)
-
--- a place in a cell of a kind and a value
-abbrev pub valuedIn : (kind value : ℕ) → Place → Operand
-valuedIn kind value (PlaceCode.the-variants.Got place d) =
-    OperandCode.the-variants.Got (record { kind = kind; place = place; value = value }) d
-valuedIn kind value PlaceCode.the-variants.Broken = OperandCode.the-variants.Broken
 
 -- the m of STRING(n,m) with the `)`
 abbrev pub numberEnd : Places → Length → List ℕ → Read Element

@@ -1,7 +1,7 @@
 -- How readings of elements follow each other: a value that takes no bytes, a reading behind another, one that meets names alone, one
 -- behind skipped bytes. Assumes nothing.
-use mathlib.Core.Bool.{Bool, true, false, _||_, or-assoc, or-false}
-use mathlib.Core.List.{List, [], _∷_, _++_}
+use mathlib.Core.Bool.{_||_, or-assoc, or-false}
+use mathlib.Core.List.{List, [], _++_}
 use mathlib.Core.Path.{_≡_, refl, sym, ap, ap₂, subst, _∙_}
 use Prim.Native.Nat.{ℕ, _+_}
 use native.Mathlib.Nat.{add-zero}
@@ -12,7 +12,6 @@ use borrow.Author.Tests.{eqb-true}
 use Rattle.base.specs.Choice.{cond-cases}
 use Rattle.base.specs.Limits as Limits
 use Rattle.base.specs.Lists.{any, total}
-use Rattle.calls.specs.Splices.{splice-nil}
 use Rattle.calls.specs.Table.{allLiterals}
 use Rattle.calls.specs.YieldingForms.{literals-append}
 use Rattle.judgement.specs.Names.{any-append}
@@ -21,8 +20,9 @@ use Rattle.language.specs.Reading.{Met, nothing, Read, got, broken, _>>=_, meet
 use Rattle.met.specs.Elements.{withElements, elements-append}
 use Rattle.met.specs.Entries.{gather, metIn}
 use Rattle.met.specs.EntryLaws.{met-both}
+use Rattle.met.specs.ReadingLaws.{got-broken}
 use Rattle.met.specs.declared.Cursor.{Cursor}
-use Rattle.numeric.specs.OperandLaws.{noting-more, met-nothing}
+use Rattle.numeric.specs.OperandLaws.{noting-more, noting-none, met-nothing}
 use Rattle.numeric.specs.Operands.{Skips, Ready, Noting, Gets}
 use Rattle.numeric.specs.declared.Outcome as OutcomeCode
 use Rattle.numeric.specs.declared.Outcome.{Outcome}
@@ -72,12 +72,12 @@ names-elements {c = c} {d = d} table r =
 pub elements-none : {A : Type 0} (a : A) {text table keys tags : List ℕ} {c : Cursor} → Ready text keys tags c
     → GetsElements text table keys tags c (give a (drop (c .at) text)) a [] [] table keys tags c
 unfolding allLiterals withElements any give nothing metIn gather
-elements-none a {text} {table} {keys} {tags} {c} ready =
+elements-none a {c = c} ready =
     record {
       entries = [];
       is = refl;
       written = refl;
-      noting = record { keyed = sym (splice-nil keys (c .names)); tagged = sym (splice-nil tags (c .names)) };
+      noting = noting-none (c .names);
       goes =
           record {
             names = sym (add-zero (c .names));
@@ -152,9 +152,7 @@ module _ {A B : Type 0} {text table keys tags : List ℕ} {c : Cursor} {x : Read
 
   -- what follows is broken
   pub elements-broken : (next : A × List ℕ → Read B) → next (a, drop (d .at) text) ≡ broken → x >>= next ≡ broken
-  unfolding _>>=_ meeting
-  elements-broken next e =
-      ap (λ (y : Read A). y >>= next) (r .is) ∙ ap (meeting (metIn (r .entries) 0 rows (length (allLiterals es)))) e
+  elements-broken next e = got-broken next (r .is) e
 
 module _ {A : Type 0} {text table keys tags : List ℕ} {c : Cursor} {x : Read A} {a : A} {es : List PatternElement} {rows : List ℕ}
     {t k g : List ℕ} {d : Cursor} where

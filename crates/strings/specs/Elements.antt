@@ -120,19 +120,17 @@ pub record Spelt (text table : List ℕ) (c : Cursor) (n size : ℕ) (table′ :
       ≡ withElement (withLiterals table (c .literals) (take n (drop (c .at + 1) text))) (c .elements)
       (Table.cell 16 0 (c .literals + 65_536 * n))
 
--- a literal is read and written
-pub record LiteralRead (text table keys tags : List ℕ) (c : Cursor) (table′ : List ℕ) (d : Cursor) : Type 0 where
-  pub bytes : List ℕ
-  pub gets :
-      GetsElements text table keys tags c (Strings.literalAt (drop (c .at + 1) text)) bytes (value (literal bytes) ∷ []) [] table′ keys tags d
-  pub further : c .at < d .at
-
 -- one value is read, which is this element of a pattern
 pub record GetsOne {A : Type 0} (f : A → PatternElement) (text table keys tags : List ℕ) (c : Cursor) (x : Read A) (table′ keys′ tags′ : List ℕ)
     (d : Cursor) : Type 0 where
   pub element : A
   pub gets : GetsElements text table keys tags c x element (f element ∷ []) [] table′ keys′ tags′ d
   pub further : c .at < d .at
+
+-- a literal is read and written
+abbrev pub LiteralRead : (text table keys tags : List ℕ) (c : Cursor) (table′ : List ℕ) (d : Cursor) → Type 0
+LiteralRead text table keys tags c table′ d =
+    GetsOne (λ w. value (literal w)) text table keys tags c (Strings.literalAt (drop (c .at + 1) text)) table′ keys tags d
 
 abbrev pub OneAnswer : {A : Type 0} (f : A → PatternElement) (text table keys tags : List ℕ) (c : Cursor) → Read A → Outcome
     → (table′ keys′ tags′ : List ℕ) → Type 0

@@ -15,7 +15,6 @@ use Rattle.base.specs.Limits as Limits
 use Rattle.base.specs.Lists.{any, begins}
 use Rattle.base.specs.ListLaws.{begins-iff}
 use Rattle.base.specs.Text.{bytes}
-use Rattle.calls.specs.Splices.{splice-nil}
 use Rattle.calls.specs.Table as Table
 use Rattle.calls.specs.Table.{partCell, range, elementCell, patternCell, literalIn, allLiterals}
 use Rattle.cards.specs.Bytes.{quote}
@@ -26,10 +25,10 @@ use Rattle.language.specs.Strings.{literalAt, nothingHere, moreOf, listOf, rowO
 use Rattle.language.specs.Words.{Places, run, partName}
 use Rattle.met.specs.Elements.{withElement, withLiterals, elements-one}
 use Rattle.met.specs.Entries.{Entry, roleOf, gather, metIn}
-use Rattle.met.specs.EntryLaws.{met-both}
+use Rattle.met.specs.EntryLaws.{met-more}
 use Rattle.met.specs.Known.{placesIn}
 use Rattle.met.specs.declared.Cursor.{Cursor}
-use Rattle.numeric.specs.OperandLaws.{then-broken, chosen, skipped, cell-skip, cell-made, begins-room, role-none}
+use Rattle.numeric.specs.OperandLaws.{noting-none, skipped, drop-moved, ready-here, begins-room, then-broken, cell-made, cell-skip, chosen, role-none}
 use Rattle.numeric.specs.Operands.{moved, Ready, CellRead}
 use Rattle.numeric.specs.declared.operands.Operand as OperandCode
 use Rattle.numeric.specs.declared.operands.Operand.{Operand}
@@ -50,6 +49,17 @@ module _ {A : Type 0} {f : A → PatternElement} {text table keys tags : List �
   pub one-none : r ≡ OutcomeCode.the-variants.Broken → x ≡ broken
   one-none e = subst (λ z. OneAnswer f text table keys tags c x z t k g) e (a .answer)
 
+-- by the same reading, and of a value made of another
+pub one-same : {A : Type 0} {f : A → PatternElement} {text table keys tags : List ℕ} {c : Cursor} {x y : Read A} {r : Outcome}
+    {t k g : List ℕ} → x ≡ y → ReadsOne f text table keys tags c y r t k g → ReadsOne f text table keys tags c x r t k g
+one-same {f = f} {text} {table} {keys} {tags} {c} {r = r} {t} {k} {g} e a = subst (λ z. ReadsOne f text table keys tags c z r t k g) (sym e) a
+
+one-made : {A B : Type 0} (g : A → B) (h : B → PatternElement) {text table keys tags : List ℕ} {c : Cursor} {x : Read A} {t k l : List ℕ}
+    {d : Cursor} → GetsOne (λ a. h (g a)) text table keys tags c x t k l d
+    → GetsOne h text table keys tags c (x >>= λ (a, rest). give (g a) rest) t k l d
+one-made g h a =
+    record { element = g (a .element); gets = elements-give (a .gets) _ (g (a .element)) refl; further = a .further }
+
 -- a literal of n bytes behind the quote at the cursor
 pub literal-spelt : {text table keys tags : List ℕ} {c : Cursor} (n size : ℕ) {t : List ℕ} {d : Cursor} → Ready text keys tags c
     → c .at + 1 + n ≤ length text → c .at + size ≤ length text → n < size
@@ -67,7 +77,7 @@ literal-spelt {text} {table} {keys} {tags} {c} n size {t} {d} ready inside end m
     let elements : d .elements ≡ c .elements + 1 = ap (λ (z : Cursor). z .elements) (s .goes) in
     let literals : d .literals ≡ c .literals + n = ap (λ (z : Cursor). z .literals) (s .goes) in
     record {
-      bytes = w;
+      element = w;
       gets =
           record {
             entries = [];
@@ -78,7 +88,7 @@ literal-spelt {text} {table} {keys} {tags} {c} n size {t} {d} ready inside end m
                 s .written
                 ∙ ap (λ j. withElement (withLiterals table (c .literals) w) (c .elements) (Table.cell 16 0 j)) place
                 ∙ sym (elements-one table (c .elements) (c .literals) (value (literal w)));
-            noting = record { keyed = sym (splice-nil keys (c .names)); tagged = sym (splice-nil tags (c .names)) };
+            noting = noting-none (c .names);
             goes =
                 record {
                   names = names ∙ sym (add-zero (c .names));
@@ -168,16 +178,8 @@ cell-element f {text} table {c = c} {x} (OperandCode.the-variants.Got v d) {k} {
                         longest = ap (ltb Limits.row) (r .goes .longest) ∙ sym (or-false (ltb Limits.row (c .longest)));
                       };
                   ready =
-                      record {
-                        textSize = r .ready .textSize;
-                        inside = r .ready .inside;
-                        names = r .ready .names;
-                        items = r .ready .items;
-                        elements = omega (arith, ready .elements, r .goes, r .further);
-                        literals = r .ready .literals;
-                        keysSize = r .ready .keysSize;
-                        tagsSize = r .ready .tagsSize;
-                      };
+                      ready-here (r .ready) refl refl (r .ready .items) (omega (arith, ready .elements, r .goes, r .further))
+                      (r .ready .literals);
                   few = r .few;
                 };
             further = r .further;
@@ -203,39 +205,25 @@ module _ (p : Places) (roles : List ℕ → List Role) {text table keys tags : L
   pub element-literal : {t : List ℕ} {d : Cursor} → begins (34 ∷ []) (drop (c .at) text) ≡ true → LiteralRead text table keys tags c t d
       → ReadsOne value text table keys tags c (Strings.element edition1 p roles (drop (c .at) text)) (OutcomeCode.the-variants.Got d) t keys tags
   unfolding Strings.element bytes
-  element-literal {t} {d} e a =
-      let from : drop (c .at + 1) text ≡ drop 1 (drop (c .at) text) = sym (drop-drop 1 (c .at) text) in
-      record {
-        answer =
-            record {
-              element = literal (a .bytes);
-              gets =
-                  subst (λ y. GetsElements text table keys tags c y (literal (a .bytes)) (value (literal (a .bytes)) ∷ []) [] t keys tags d)
-                  (ap (λ (l : List ℕ). literalAt l >>= λ (w, rest). give (literal w) rest) from ∙ sym (chosen _ _ e))
-                  (elements-give (a .gets) (λ (w, rest). give (literal w) rest) (literal (a .bytes)) refl);
-              further = a .further;
-            };
-      }
+  element-literal e a =
+      one-same (chosen _ _ e ∙ ap (λ (l : List ℕ). literalAt l >>= λ (w, rest). give (literal w) rest) (drop-drop 1 (c .at) text))
+      (record { answer = one-made literal value a })
 
   module _ (no : begins (34 ∷ []) (drop (c .at) text) ≡ false) where
     pub element-text : (q : Operand) {d : Cursor} {k t : List ℕ} → d ≡ moved c 7 → begins (bytes "STRING(") (drop (c .at) text) ≡ true
         → CellRead bareCell text keys tags d (textCall edition1 p (drop (d .at) text)) q k t
         → ReadsOne value text table keys tags c (Strings.element edition1 p roles (drop (c .at) text)) (written q) (celled table q) k t
     unfolding Strings.element bytes
-    element-text q {d} {k} {t} s e a =
-        let from : drop (d .at) text ≡ drop 7 (drop (c .at) text) =
-        ap (λ (z : Cursor). drop (z .at) text) s ∙ sym (drop-drop 7 (c .at) text) in
-        subst (λ y. ReadsOne value text table keys tags c y (written q) (celled table q) k t)
-        (ap (textCall edition1 p) from ∙ sym (chosen _ _ no ∙ chosen _ _ e))
+    element-text q {d} s e a =
+        one-same (chosen _ _ no ∙ chosen _ _ e ∙ ap (textCall edition1 p) (sym (drop-moved text c 7 s)))
         (cell-element value table q ready (text-bare p (drop (d .at) text)) (cell-skip 7 q (skipped c 7 s) a))
 
     pub element-part : (q : Operand) {k t : List ℕ} → begins (bytes "STRING(") (drop (c .at) text) ≡ false
         → CellRead (partCell 0) text keys tags c (partName edition1 p roles (drop (c .at) text)) q k t
         → ReadsOne value text table keys tags c (Strings.element edition1 p roles (drop (c .at) text)) (written q) (celled table q) k t
     unfolding Strings.element bytes patternCell elementCell
-    element-part q {k} {t} e a =
-        subst (λ y. ReadsOne value text table keys tags c y (written q) (celled table q) k t)
-        (sym (chosen _ _ no ∙ chosen _ _ e))
+    element-part q e a =
+        one-same (chosen _ _ no ∙ chosen _ _ e)
         (cell-element value table q ready (part-bare p roles (drop (c .at) text)) (cell-made part bareCell q (λ _. refl) a))
 
 -- an element of a pattern
@@ -245,29 +233,15 @@ module _ (p : Places) {text table keys tags : List ℕ} {c : Cursor} where
       → CellRead (patternCell 0) text keys tags d (fillerAt edition1 p (drop (d .at) text)) q k t
       → ReadsOne (λ x. x) text table keys tags c (Strings.patternElement edition1 p (drop (c .at) text)) (written q) (celled table q) k t
   unfolding Strings.patternElement bytes
-  pattern-filler ready q {d} {k} {t} s e a =
-      let from : drop (d .at) text ≡ drop 1 (drop (c .at) text) =
-      ap (λ (z : Cursor). drop (z .at) text) s ∙ sym (drop-drop 1 (c .at) text) in
-      subst (λ y. ReadsOne (λ x. x) text table keys tags c y (written q) (celled table q) k t)
-      (ap (fillerAt edition1 p) from ∙ sym (chosen _ _ e))
+  pattern-filler ready q {d} s e a =
+      one-same (chosen _ _ e ∙ ap (fillerAt edition1 p) (sym (drop-moved text c 1 s)))
       (cell-element (λ x. x) table q ready (filler-bare p (drop (d .at) text)) (cell-skip 1 q (skipped c 1 s) a))
 
   pub pattern-value : (r : Outcome) {t k g : List ℕ} → begins (40 ∷ []) (drop (c .at) text) ≡ false
       → ReadsOne value text table keys tags c (Strings.element edition1 p (roleOf 2) (drop (c .at) text)) r t k g
       → ReadsOne (λ x. x) text table keys tags c (Strings.patternElement edition1 p (drop (c .at) text)) r t k g
   unfolding Strings.patternElement bytes roleOf
-  pattern-value (OutcomeCode.the-variants.Got d) {t} {k} {g} e a =
-      let q = a .answer in
-      record {
-        answer =
-            record {
-              element = value (q .element);
-              gets =
-                  subst (λ y. GetsElements text table keys tags c y (value (q .element)) (value (q .element) ∷ []) [] t k g d)
-                  (sym (chosen _ _ e)) (elements-give (q .gets) (λ (x, rest). give (value x) rest) (value (q .element)) refl);
-              further = q .further;
-            };
-      }
+  pattern-value (OutcomeCode.the-variants.Got d) e a = one-same (chosen _ _ e) (record { answer = one-made value (λ x. x) (a .answer) })
   pattern-value OutcomeCode.the-variants.Broken e a = record { answer = chosen _ _ e ∙ then-broken _ (a .answer) }
 
 -- an element of either
@@ -298,10 +272,7 @@ module _ {A : Type 0} (one : List ℕ → Read A) where
   begun : (text : List ℕ) (d : Cursor) {b : Cursor} → b ≡ moved d 1 → begins (44 ∷ []) (drop (d .at) text) ≡ true → (n : ℕ)
       → one (drop (b .at) text) >>= after n ≡ moreOf one (suc n) (drop (d .at) text)
   unfolding moreOf bytes
-  begun text d {b} s comma n =
-      let from : drop (b .at) text ≡ drop 1 (drop (d .at) text) =
-      ap (λ (z : Cursor). drop (z .at) text) s ∙ sym (drop-drop 1 (d .at) text) in
-      ap (λ (l : List ℕ). one l >>= after n) from ∙ sym (chosen _ _ comma)
+  begun text d s comma n = ap (λ (l : List ℕ). one l >>= after n) (drop-moved text d 1 s) ∙ sym (chosen _ _ comma)
 
 -- more behind commas
 module _ {A : Type 0} (f : A → PatternElement) (one : List ℕ → Read A) {text table keys tags : List ℕ} {d : Cursor} where
@@ -410,9 +381,7 @@ rows-some n = rw (ne-eqb (suc n) 0 (λ e. omega arith))
 
 row-met : (es : List Entry) (n l : ℕ) → both (metIn es 0 [] l) (aRow n) ≡ metIn es 0 (n ∷ []) l
 unfolding aRow metIn gather
-row-met es n l =
-    met-both es [] 0 0 [] (n ∷ []) l 0
-    ∙ ap₂ (λ (fs : List Entry) (j : ℕ). metIn fs 0 (n ∷ []) j) (append-nil es) (add-zero l)
+row-met es n l = met-more es 0 0 [] (n ∷ []) l 0 ∙ ap (metIn es 0 (n ∷ [])) (add-zero l)
 
 -- a row that is read whole
 module _ {A : Type 0} (f : A → PatternElement) (one : List ℕ → Read A) {text table keys tags : List ℕ} {c : Cursor}
@@ -450,17 +419,7 @@ module _ {A : Type 0} (f : A → PatternElement) (one : List ℕ → Read A) {te
                           e
                           ∙ ap (λ b. b || (ltb Limits.row n || false)) (a .goes .longest ∙ or-false (ltb Limits.row (c .longest)));
                     };
-                ready =
-                    record {
-                      textSize = a .ready .textSize;
-                      inside = a .ready .inside;
-                      names = a .ready .names;
-                      items = a .ready .items;
-                      elements = a .ready .elements;
-                      literals = a .ready .literals;
-                      keysSize = a .ready .keysSize;
-                      tagsSize = a .ready .tagsSize;
-                    };
+                ready = ready-here (a .ready) refl refl (a .ready .items) (a .ready .elements) (a .ready .literals);
                 few = a .few;
               });
           size = a .goes .elements ∙ ap (λ i. c .elements + i) (length-map (x ∷ xs) f);
@@ -548,11 +507,7 @@ row-nothing {A} f one {text} {table} {keys} {tags} {c} ready e =
 -- the end of a row, as the code has it
 pub ended-by : (from : ℕ) (b : Bool) {r : Outcome} {d : Cursor} → r ≡ OutcomeCode.the-variants.Got d → ltb (d .longest) (d .elements - from) ≡ b
     → elim b [ true ↦ OutcomeCode.the-variants.Got (longer d (d .elements - from)) | false ↦ OutcomeCode.the-variants.Got d ] ≡ ended from r
-ended-by from b {r} {d} e h =
-    ap {B = Outcome}
-    (λ t. elim t [ true ↦ OutcomeCode.the-variants.Got (longer d (d .elements - from)) | false ↦ OutcomeCode.the-variants.Got d ])
-    (sym h)
-    ∙ ap (ended from) (sym e)
+ended-by from b e h = sym (chosen _ _ h) ∙ ap (ended from) (sym e)
 
 -- the elements of a pattern are its values
 pub pattern-row : {text table keys tags : List ℕ} {c : Cursor} {x : Read (List PatternElement)} (r : Outcome) {t k g : List ℕ}

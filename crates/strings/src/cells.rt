@@ -10,6 +10,7 @@ use numeric::operands::Cell;
 use numeric::operands::Operand;
 use numeric::operands::Place;
 use numeric::operands::closed;
+use numeric::operands::placed;
 use numeric::operands::read_bound;
 use numeric::operands::read_number;
 use numeric::operands::read_string;
@@ -21,7 +22,7 @@ use words::stands_at;
 ghost use mathlib.Core.Path.{_≡_};
 ghost use Rattle.met.specs.Known.{Counted};
 ghost use Rattle.numeric.specs.Operands.{Ready};
-ghost use Rattle.strings.specs.Cells.{valuedIn, NumberEnds, NumberFollows, ConstantCalled, NumberCalled, TextCalled, FillerRead};
+ghost use Rattle.strings.specs.Cells.{NumberEnds, NumberFollows, ConstantCalled, NumberCalled, TextCalled, FillerRead};
 
 // the kind of STRING with a constant; the next one is that with a number
 const TEXT: u8 = 17;
@@ -30,16 +31,6 @@ const TEXT: u8 = 17;
 const FREE: u8 = 19;
 
 const FIXED: u8 = 20;
-
-// a place, in a cell of a kind and a value
-fn valued(kind: u8, value: usize, p: Place) -> Operand
-    ensures { λ r. ⌜ r ≡ valuedIn kind value p ⌝ }
-{
-    match p {
-        Place::Broken => Operand::Broken,
-        Place::Got(place, d) => Operand::Got(Cell { kind, place, value }, d),
-    }
-}
 
 // the m of STRING with its `)`, in a cell of a kind and a value
 fn number_end(
@@ -57,7 +48,7 @@ fn number_end(
 {
     closed(
         text,
-        valued(kind, value, read_number(text, known, keys, tags, c)),
+        placed(kind, value, read_number(text, known, keys, tags, c)),
     )
 }
 

@@ -254,7 +254,7 @@ module _ (t : ℕ) where
       let asked = c .before .before .before .before .before .before in
       let start = asked .before .before .before in
       let paren = sym (asked .stands-at .ensures) ∙ not-false _ (c .before .before .before .before .before .if1 .left) in
-      let ready = subst (Ready _ _ _) (sym (c .skip .ensures)) (ready-moved (40 ∷ []) (start .pre .1 .0) paren) in
+      let ready = ready-moved (40 ∷ []) (start .pre .1 .0) (c .skip .ensures) paren in
       let at = ap (λ (z : Cursor). z .at) (c .skip .ensures) in
       (omega (arith, start .pre .0, at, ready .inside), (ready, start .pre .1 .1))
 

@@ -1,19 +1,20 @@
 -- `numeric::size` counts the items of a kind.
 -- Assumes nothing.
-use Rattle.numeric.specs.KindLaws.{waiting-size, waiting-none, waiting-few}
+use native.Mathlib.Omega.{arith}
+use Rattle.numeric.specs.KindLaws.{waiting-size, waiting-none}
 use Rattle.numeric.proofs.size.Statement.{statement}
 use Rattle.numeric.proofs.size.Tie as tie
 use Rattle.numeric.proofs.size.Reads as reads
 use Rattle.numeric.proofs.size.Lts as lts
 
 returns : tie.Need-returns
-returns c = waiting-few (c .before .args .kind) (c .if1 .taken)
+returns c = waiting-none (c .before .args .kind) (λ h _. omega (arith, c .if1 .taken))
 
 returns-2 : tie.Need-returns-2
 returns-2 c = waiting-size (c .before .before .args .kind) (c .before .if1 .left) (c .if2 .taken)
 
 returns-3 : tie.Need-returns-3
-returns-3 c = waiting-none (c .before .before .args .kind) (c .if2 .left)
+returns-3 c = waiting-none (c .before .before .args .kind) (λ _ h. omega (arith, c .if2 .left))
 
 pub size-spec : {M : Type 1} → statement M
 size-spec = tie.close (tie.spec returns returns-2 returns-3)

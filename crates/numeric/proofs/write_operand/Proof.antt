@@ -3,7 +3,8 @@
 use native.Mathlib.Omega.{arith}
 use Rattle.met.specs.Known.{placesIn}
 use Rattle.numeric.specs.OperandLaws.{cell-case, cell-none}
-use Rattle.numeric.specs.KindLaws.{operand-written, operand-broken}
+use Rattle.numeric.specs.KindLaws.{operand-broken}
+use Rattle.numeric.specs.ReadLaws.{operand-written}
 use borrow.Author.Needs.{needs}
 use Rattle.numeric.proofs.write_operand.Statement.{statement}
 use Rattle.numeric.proofs.write_operand.Tie as tie

@@ -1,7 +1,7 @@
 -- `strings::element` reads an element of a string expression.
 -- Assumes nothing.
 use mathlib.Core.List.{[], _∷_}
-use mathlib.Core.Path.{sym, subst, _∙_}
+use mathlib.Core.Path.{sym, _∙_}
 use Prim.Native.Nat.{_/_}
 use native.Mathlib.Omega.{arith}
 use lib.ListN.{drop, length-drop}
@@ -9,7 +9,6 @@ use Rattle.base.specs.Text.{bytes}
 use Rattle.met.specs.Entries.{roleOf}
 use Rattle.met.specs.Known.{placesIn}
 use Rattle.numeric.specs.OperandLaws.{begins-room, ready-moved}
-use Rattle.numeric.specs.Operands.{Ready}
 use Rattle.strings.specs.RowLaws.{cell-roomy, one-written, element-literal, element-text, element-part}
 use borrow.Author.Needs.{needs}
 use Rattle.strings.proofs.element.Statement.{statement}
@@ -50,8 +49,7 @@ unfolding bytes
 text-call-requires c κs =
     let p = c .before .before .before .before .before .before .before .before .before .before .before in
     let word = sym (c .before .before .before .before .before .begins-at .ensures) ∙ c .before .before .before .before .if2 .taken in (
-      subst (Ready (p .args .text .now) (p .args .keys .now) (p .args .tags .now)) (sym (c .skip .ensures))
-          (ready-moved (bytes "STRING(") (p .pre .0) word),
+      ready-moved (bytes "STRING(") (p .pre .0) (c .skip .ensures) word,
       p .pre .1 .0,
     )
 

@@ -2,14 +2,13 @@
 -- Assumes nothing.
 use borrow.Author.Needs.{needs}
 use mathlib.Core.List.{[], _∷_}
-use mathlib.Core.Path.{sym, subst, ap, _∙_}
+use mathlib.Core.Path.{sym, ap, _∙_}
 use Prim.Native.Nat.{_-_}
 use native.Mathlib.Omega.{arith}
 use lib.ListN.{length}
 use Rattle.met.specs.Known.{placesIn}
 use Rattle.met.specs.declared.Cursor.{Cursor}
 use Rattle.numeric.specs.OperandLaws.{ready-moved}
-use Rattle.numeric.specs.Operands.{Ready}
 use Rattle.strings.specs.Elements.{shown, readOne}
 use Rattle.strings.specs.RowLaws.{one-case, one-none, Passing, passing-none, passing-more, passing-broken, passing-end}
 use Rattle.strings.proofs.more.Statement.{statement}
@@ -38,7 +37,7 @@ one-requires c κs =
     let p = c .before .before .before .before .before .before .before .before .before in
     let l = c .before .before .before .before .before .before .loop in
     let comma = sym (c .before .before .before .before .before .stands-at .ensures) ∙ c .before .before .before .before .if1 .taken in (
-      subst (Ready (p .args .text .now) (l .keys) (l .tags)) (sym (c .skip .ensures)) (ready-moved (44 ∷ []) (l .inv .ready) comma),
+      ready-moved (44 ∷ []) (l .inv .ready) (c .skip .ensures) comma,
       (p .pre .1 .0, omega (arith, l .inv .size, p .pre .1 .1)),
     )
 

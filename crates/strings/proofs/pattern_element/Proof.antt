@@ -1,10 +1,9 @@
 -- `strings::pattern_element` reads an element of a pattern.
 -- Assumes nothing.
 use mathlib.Core.List.{[], _∷_}
-use mathlib.Core.Path.{sym, subst, _∙_}
+use mathlib.Core.Path.{sym, _∙_}
 use Rattle.met.specs.Known.{placesIn}
 use Rattle.numeric.specs.OperandLaws.{ready-moved}
-use Rattle.numeric.specs.Operands.{Ready}
 use Rattle.strings.specs.RowLaws.{cell-roomy, one-written, pattern-filler, pattern-value}
 use borrow.Author.Needs.{needs}
 use Rattle.strings.proofs.pattern_element.Statement.{statement}
@@ -20,7 +19,7 @@ filler-requires : tie.Need-filler-requires
 filler-requires c κs =
     let p = c .before .before .before .before .before .before .before .before in
     let open′ = sym (c .before .before .before .before .before .stands-at .ensures) ∙ c .before .before .before .before .if1 .taken in (
-      subst (Ready (p .args .text .now) (p .args .keys .now) (p .args .tags .now)) (sym (c .skip .ensures)) (ready-moved (40 ∷ []) (p .pre .0) open′),
+      ready-moved (40 ∷ []) (p .pre .0) (c .skip .ensures) open′,
       p .pre .1 .0,
     )
 

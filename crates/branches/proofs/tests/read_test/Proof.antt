@@ -1,17 +1,14 @@
 -- `branches::tests::read_test` reads NULL, NUMERIC or a comparison.
 -- Assumes nothing.
-use mathlib.Core.Path.{_≡_, refl, sym, subst, _∙_}
-use lib.ListN.{drop}
+use mathlib.Core.Path.{refl, sym, ap, subst, _∙_}
 use native.Mathlib.Omega.{arith}
-use Rattle.base.specs.Edition.{edition1}
 use Rattle.base.specs.Text.{bytes}
-use Rattle.language.specs.Numeric.{test}
 use Rattle.met.specs.Known.{placesIn}
 use Rattle.numeric.specs.OperandLaws.{ready-moved, place-cell, cell-inside}
-use Rattle.numeric.specs.Operands.{Ready, Inside, placedIn}
-use Rattle.branches.specs.Rows.{DraftRead}
+use Rattle.numeric.specs.Operands.{Inside, placedIn}
+use Rattle.branches.specs.Rows.{draft-ends}
 use Rattle.branches.specs.TestLaws.{test-null, test-numeric, test-compares}
-use Rattle.branches.specs.Tests.{testAlone, testedBy}
+use Rattle.branches.specs.Tests.{testedBy}
 use borrow.Author.Needs.{needs}
 use Rattle.branches.proofs.tests.read_test.Statement.{statement}
 use Rattle.branches.proofs.tests.read_test.Tie as tie
@@ -29,7 +26,7 @@ read-string-requires : tie.Need-read-string-requires
 unfolding bytes
 read-string-requires c κs =
     let word = sym (c .before .before .before .before .begins-at .ensures) ∙ c .before .before .before .if1 .taken in (
-      subst (Ready (c .before .before .before .before .before .before .before .args .text .now) (c .before .before .before .before .before .before .before .args .keys .now) (c .before .before .before .before .before .before .before .args .tags .now)) (sym (c .skip .ensures)) (ready-moved (bytes "NULL(") (c .before .before .before .before .before .before .before .pre .0) word),
+      ready-moved (bytes "NULL(") (c .before .before .before .before .before .before .before .pre .0) (c .skip .ensures) word,
       (c .before .before .before .before .before .before .before .pre .1, record { is = refl }),
     )
 
@@ -39,20 +36,15 @@ placed-requires c κs = search needs
 tested-requires : tie.Need-tested-requires
 tested-requires c κs =
     let s = c .before .read-string in
-    subst (Inside (c .before .before .before .before .before .before .before .before .before .args .text .now)) (sym (c .placed .ensures)) (cell-inside (placedIn 1 (s .result)) (place-cell 1 (s .result) (s .ensures)))
+    subst (Inside (c .before .before .before .before .before .before .before .before .before .args .text .now)) (sym (c .placed .ensures)) (cell-inside (placedIn 1 0 (s .result)) (place-cell 1 0 (s .result) (s .ensures)))
 
 returns : tie.Need-returns
 unfolding bytes
 returns c =
     let a = c .before .before .before .before .before .before .before .before .before .before .args in
     let s = c .before .before .read-string in
-    let p = placesIn (a .known .now) in
-    subst
-    (λ r.
-    DraftRead testAlone (a .text .now) (a .keys .now) (a .tags .now) (a .c) (test edition1 p (drop (a .c .at) (a .text .now))) r
-    (s .last .1 .1 .0) (s .last .1 .1 .1 .0))
-    (sym (subst (λ q. c .tested .result ≡ testedBy (a .text .now) 5 q) (c .before .placed .ensures) (c .tested .ensures)))
-    (test-null p (c .before .before .before .skip .ensures) (sym (c .before .before .before .before .before .before .before .begins-at .ensures) ∙ c .before .before .before .before .before .before .if1 .taken) (s .result) (s .ensures))
+    draft-ends (c .tested .ensures ∙ ap (testedBy (a .text .now) 5) (c .before .placed .ensures))
+    (test-null (placesIn (a .known .now)) (c .before .before .before .skip .ensures) (sym (c .before .before .before .before .before .before .before .begins-at .ensures) ∙ c .before .before .before .before .before .before .if1 .taken) (s .result) (s .ensures))
 
 slice-aggregate-begins-at-2 : tie.Need-slice-aggregate-begins-at-2
 slice-aggregate-begins-at-2 c = search needs
@@ -67,7 +59,7 @@ read-part-requires : tie.Need-read-part-requires
 unfolding bytes
 read-part-requires c κs =
     let word = sym (c .before .before .before .before .begins-at2 .ensures) ∙ c .before .before .before .if2 .taken in (
-      subst (Ready (c .before .before .before .before .before .before .before .before .before .before .args .text .now) (c .before .before .before .before .before .before .before .before .before .before .args .keys .now) (c .before .before .before .before .before .before .before .before .before .before .args .tags .now)) (sym (c .skip2 .ensures)) (ready-moved (bytes "NUMERIC(") (c .before .before .before .before .before .before .before .before .before .before .pre .0) word),
+      ready-moved (bytes "NUMERIC(") (c .before .before .before .before .before .before .before .before .before .before .pre .0) (c .skip2 .ensures) word,
       (c .before .before .before .before .before .before .before .before .before .before .pre .1, (omega arith, record { is = refl })),
     )
 
@@ -79,13 +71,8 @@ unfolding bytes
 returns-2 c =
     let a = c .before .before .before .before .before .before .before .before .before .before .before .before .args in
     let s = c .before .read-part in
-    let p = placesIn (a .known .now) in
-    subst
-    (λ r.
-    DraftRead testAlone (a .text .now) (a .keys .now) (a .tags .now) (a .c) (test edition1 p (drop (a .c .at) (a .text .now))) r
-    (s .last .1 .1 .0) (s .last .1 .1 .1 .0))
-    (sym (c .tested2 .ensures))
-    (test-numeric p (c .before .before .skip2 .ensures) (sym (c .before .before .before .before .before .before .before .before .before .begins-at .ensures) ∙ c .before .before .before .before .before .before .before .before .if1 .left) (sym (c .before .before .before .before .before .before .begins-at2 .ensures) ∙ c .before .before .before .before .before .if2 .taken) (s .result) (s .ensures))
+    draft-ends (c .tested2 .ensures)
+    (test-numeric (placesIn (a .known .now)) (c .before .before .skip2 .ensures) (sym (c .before .before .before .before .before .before .before .before .before .begins-at .ensures) ∙ c .before .before .before .before .before .before .before .before .if1 .left) (sym (c .before .before .before .before .before .before .begins-at2 .ensures) ∙ c .before .before .before .before .before .if2 .taken) (s .result) (s .ensures))
 
 comparing-requires : tie.Need-comparing-requires
 comparing-requires c κs = search needs

@@ -5,7 +5,7 @@ use native.Mathlib.Omega.{arith}
 use Rattle.calls.specs.Numerals.{biased}
 use Rattle.calls.specs.Table as Table
 use Rattle.words.specs.Laws.{signed-is, signed-range, signed-ends, signed-broken}
-use Rattle.branches.specs.TestLaws.{value-got}
+use Rattle.numeric.specs.OperandLaws.{value-got}
 use borrow.Author.Needs.{needs}
 use Rattle.branches.proofs.tests.signed_constant.Statement.{statement}
 use Rattle.branches.proofs.tests.signed_constant.Tie as tie

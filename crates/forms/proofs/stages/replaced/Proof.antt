@@ -14,7 +14,6 @@ use Rattle.language.specs.Program.{value}
 use Rattle.language.specs.Strings.{stringExpression}
 use Rattle.met.specs.Known.{placesIn}
 use Rattle.numeric.specs.OperandLaws.{ready-moved}
-use Rattle.numeric.specs.Operands.{Ready}
 use Rattle.strings.specs.ElementLaws.{row-case, row-none}
 use Rattle.strings.specs.Elements.{RowRead}
 use Rattle.forms.specs.Bounds.{strings-count}
@@ -47,7 +46,7 @@ string-expression-requires : tie.Need-string-expression-requires
 string-expression-requires c κs =
     let before = subst (Following (c .before .before .before .before .before .before .before .before .before .before .before .args .text .now) (c .before .before .before .before .before .before .before .before .before .before .before .args .keys .now) (c .before .before .before .before .before .before .before .before .before .before .before .args .tags .now) (c .before .before .before .before .before .before .before .before .before .before .before .args .from)) (c .before .before .before .before .before .before .before .r .given .1) (c .before .before .before .before .before .before .before .before .before .before .before .pre .0) in
     let mark = sym (c .before .before .before .before .before .stands-at .ensures) ∙ not-false _ (c .before .before .before .before .if1 .left) in (
-      subst (Ready (c .before .before .before .before .before .before .before .before .before .before .before .args .text .now) (c .before .before .before .before .before .before .before .before .before .before .before .args .keys .now) (c .before .before .before .before .before .before .before .before .before .before .before .args .tags .now)) (sym (c .skip .ensures)) (ready-moved (61 ∷ []) (before .0) mark),
+      ready-moved (61 ∷ []) (before .0) (c .skip .ensures) mark,
       (c .before .before .before .before .before .before .before .before .before .before .before .pre .1 .0, c .before .before .before .before .before .before .before .before .before .before .before .pre .1 .1 .0),
     )
 

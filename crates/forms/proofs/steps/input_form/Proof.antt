@@ -3,7 +3,8 @@
 use mathlib.Core.List.{[]}
 use mathlib.Core.Path.{refl, sym, subst}
 use Rattle.base.specs.Text.{bytes}
-use Rattle.forms.specs.StageLaws.{from-draft, form-ends, ready-at}
+use Rattle.numeric.specs.OperandLaws.{ready-at}
+use Rattle.forms.specs.StageLaws.{from-draft, form-ends}
 use Rattle.forms.specs.Stages.{Standing}
 use Rattle.forms.specs.StepLaws.{input-read}
 use borrow.Author.Needs.{needs}

@@ -2,7 +2,7 @@
 -- Assumes nothing.
 use mathlib.Core.Bool.{true}
 use mathlib.Core.List.{List, [], _∷_}
-use mathlib.Core.Path.{_≡_, sym, subst, _∙_}
+use mathlib.Core.Path.{_≡_, sym, ap, _∙_}
 use Prim.Native.Nat.{ℕ, _-_}
 use native.Mathlib.Omega.{arith}
 use lib.ListN.{length, drop}
@@ -10,7 +10,7 @@ use borrow.Author.Needs.{needs}
 use Rattle.base.specs.Lists.{begins}
 use Rattle.met.specs.declared.Cursor.{Cursor}
 use Rattle.numeric.specs.OperandLaws.{name-case, name-none, ready-moved}
-use Rattle.numeric.specs.Operands.{moved, Ready, NameRead}
+use Rattle.numeric.specs.Operands.{Ready}
 use Rattle.forms.specs.BehindLaws.{numbers-end, numbers-more, numbers-broken}
 use Rattle.forms.specs.StageLaws.{form-ends}
 use Rattle.forms.specs.Steps.{MoreNumbersRead}
@@ -37,7 +37,7 @@ read-name-requires : tie.Need-read-name-requires Inv-loop μ-loop
 read-name-requires c κs =
     let head = c .before .before .before .before .before in
     let comma = sym (c .before .before .before .before .stands-at .ensures) ∙ c .before .before .before .if1 .taken in
-    subst (Ready _ _ _) (sym (c .skip .ensures)) (ready-moved (44 ∷ []) (head .loop .inv .0) comma)
+    ready-moved (44 ∷ []) (head .loop .inv .0) (c .skip .ensures) comma
 
 -- the name behind the comma
 module _ (c : tie.After-read-name Inv-loop μ-loop) where
@@ -47,33 +47,25 @@ module _ (c : tie.After-read-name Inv-loop μ-loop) where
   comma : begins (44 ∷ []) (drop (head .loop .d .at) (head .before .before .args .text .now)) ≡ true
   comma = sym (c .before .before .before .before .before .stands-at .ensures) ∙ c .before .before .before .before .if1 .taken
 
-  named : NameRead (head .before .before .args .text .now) (head .loop .keys) (head .loop .tags) (moved (head .loop .d) 1) 11
-      (c .read-name .result) (c .read-name .last .1 .0) (c .read-name .last .1 .1 .0)
-  named =
-      subst
-      (λ (z : Cursor).
-      NameRead (head .before .before .args .text .now) (head .loop .keys) (head .loop .tags) z 11 (c .read-name .result)
-      (c .read-name .last .1 .0) (c .read-name .last .1 .1 .0))
-      (c .before .skip .ensures) (c .read-name .ensures)
-
 returns : tie.Need-returns Inv-loop μ-loop
 returns c =
     let at = c .before .before in
     let inv = head at .loop .inv in
     inv .1 Broken _ _ (λ k h table.
-    record { answer = numbers-broken table (inv .0) (comma at) (name-none (named at) (c .enum-told .given .1)) k h })
+    record { answer = numbers-broken table (inv .0) (comma at) (at .before .skip .ensures) (name-none (at .read-name .ensures) (c .enum-told .given .1)) k h })
 
 loop-less : tie.Need-loop-less Inv-loop μ-loop
 loop-less c =
-    let name = name-case (named (c .before .before .before)) (c .before .key .given .1) in
-    omega (arith, name .further, name .ready .inside)
+    let at = c .before .before .before in
+    let name = name-case (at .read-name .ensures) (c .before .key .given .1) in
+    omega (arith, name .further, name .ready .inside, ap (λ (z : Cursor). z .at) (at .before .skip .ensures))
 
 loop-again : tie.Need-loop-again Inv-loop μ-loop
 loop-again c =
     let at = c .before .before .before in
     let inv = head at .loop .inv in
-    let name = name-case (named at) (c .before .key .given .1) in
-    (name .ready, λ r k g m. inv .1 r k g (λ n h table. numbers-more table (inv .0) (comma at) name r (λ n l. m n l table) n h))
+    let name = name-case (at .read-name .ensures) (c .before .key .given .1) in
+    (name .ready, λ r k g m. inv .1 r k g (λ n h table. numbers-more table (inv .0) (comma at) (at .before .skip .ensures) name r (λ n l. m n l table) n h))
 
 returns-2 : tie.Need-returns-2 Inv-loop μ-loop
 returns-2 c =

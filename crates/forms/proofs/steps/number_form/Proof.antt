@@ -1,13 +1,11 @@
 -- `forms::steps::number_form` reads a number, `=` and an expression.
 -- Assumes nothing.
 use mathlib.Core.List.{[], _∷_}
-use mathlib.Core.Path.{sym, subst, _∙_}
+use mathlib.Core.Path.{sym, _∙_}
 use lib.ListN.{drop}
 use native.Mathlib.Omega.{arith}
 use Rattle.numeric.specs.OperandLaws.{place-case, place-none, ready-moved}
-use Rattle.numeric.specs.Operands.{Ready}
 use Rattle.forms.specs.BehindLaws.{number-broken, number-open, number-then}
-use Rattle.forms.specs.Steps.{FormAt, assignedTo}
 use borrow.Author.Needs.{needs}
 use Rattle.forms.proofs.steps.number_form.Statement.{statement}
 use Rattle.forms.proofs.steps.number_form.Tie as tie
@@ -29,10 +27,9 @@ skip-requires c κs = omega (arith, place-case (c .before .before .before .befor
 
 assigned-requires : tie.Need-assigned-requires
 assigned-requires c κs =
-    let n = c .before .before .before .before .before .before .before .before .before .read-number in
-    let g = place-case (n .ensures) (c .before .before .before .before .before .before .before .place .given .1) in
+    let g = place-case (c .before .before .before .before .before .before .before .before .before .read-number .ensures) (c .before .before .before .before .before .before .before .place .given .1) in
     let mark = sym (c .before .before .before .before .before .stands-at .ensures) ∙ c .before .before .before .before .if1 .taken in (
-      subst (Ready (c .before .before .before .before .before .before .before .before .before .before .before .before .before .before .args .text .now) (n .last .1 .1 .0) (n .last .1 .1 .1 .0)) (sym (c .skip .ensures)) (ready-moved (61 ∷ []) (g .ready) mark),
+      ready-moved (61 ∷ []) (g .ready) (c .skip .ensures) mark,
       c .before .before .before .before .before .before .before .before .before .before .before .before .before .before .pre .1,
     )
 
@@ -45,12 +42,7 @@ returns c =
     let n = c .before .before .before .before .before .before .before .before .before .before .before .before .read-number in
     let f = c .before .before .assigned in
     number-then (a .known .now) (place-case (n .ensures) (c .before .before .before .before .before .before .before .before .before .before .place .given .1)) (a .table .now) (c .before .before .before .before .before .before .before .before .before .before .before .before .before .before .before .before .before .pre .0) (sym (c .before .before .before .before .before .before .before .before .stands-at .ensures) ∙ c .before .before .before .before .before .before .before .if1 .taken)
-    (f .result)
-    (subst
-    (λ z.
-    FormAt (assignedTo (a .known .now) (c .before .before .before .before .before .before .before .before .before .before .place .given .0 .0) (drop (z .at) (a .text .now))) (a .text .now) (a .table .now) (n .last .1 .1 .0) (n .last .1 .1 .1 .0) z
-    (f .result) (f .last .1 .1 .0) (f .last .1 .1 .1 .0) (f .last .1 .1 .1 .1 .0))
-    (c .before .before .before .skip .ensures) (f .ensures))
+    (f .result) (c .before .before .before .skip .ensures) (f .ensures)
 
 returns-2 : tie.Need-returns-2
 returns-2 c = record { answer = number-broken (c .before .before .before .before .before .before .before .args .known .now) (drop (c .before .before .before .before .before .before .before .args .c .at) (c .before .before .before .before .before .before .before .args .text .now)) (place-none (c .before .before .read-number .ensures) (c .enum-told .given .1)) }

@@ -2,7 +2,8 @@
 -- Assumes nothing.
 use mathlib.Core.Path.{sym, subst}
 use Rattle.base.specs.Text.{bytes}
-use Rattle.forms.specs.StageLaws.{from-draft, form-ends, ready-at}
+use Rattle.numeric.specs.OperandLaws.{ready-at}
+use Rattle.forms.specs.StageLaws.{from-draft, form-ends}
 use Rattle.forms.specs.Stages.{Standing}
 use Rattle.forms.specs.StepLaws.{output-read}
 use borrow.Author.Needs.{needs}

@@ -1,7 +1,10 @@
 -- `numeric::operands::constant` reads a constant into its cell.
 -- Assumes nothing.
 use Rattle.words.specs.Laws.{constant-is, constant-range, constant-ends, constant-broken}
-use Rattle.numeric.specs.OperandLaws.{constant-got}
+use lib.IntN.{pos}
+use Rattle.calls.specs.Numerals.{bias, biased}
+use Rattle.calls.specs.Table as Table
+use Rattle.numeric.specs.OperandLaws.{value-got}
 use mathlib.Core.Path.{refl}
 use borrow.Author.Needs.{needs}
 use native.Mathlib.Omega.{arith}
@@ -34,6 +37,7 @@ returns c =
     λ keys tags ready. record { answer = constant-broken (c .before .before .unsigned .ensures) (c .enum-told .given .1) }
 
 returns-2 : tie.Need-returns-2
+unfolding biased bias
 returns-2 c =
     let a = c .before .before .before .before .before .before .args in
     let u = c .before .before .before .before .unsigned .ensures in
@@ -41,8 +45,8 @@ returns-2 c =
     λ keys tags ready.
     record {
       answer =
-          constant-got (c .before .before .value .given .0 .0) (c .before .before .value .given .0 .1 .0) (a .kind) (a .place) ready
-          (constant-is u e) (constant-ends u e .0) (constant-ends u e .1) refl (c .skip .ensures);
+          value-got (λ n. Table.cell (a .kind) (a .place) (biased (pos n))) (c .before .before .value .given .0 .0) _
+          (c .before .before .value .given .0 .1 .0) ready (constant-is u e) (constant-ends u e .0) (constant-ends u e .1) refl (c .skip .ensures);
     }
 
 pub constant-spec : {M : Type 1} → statement M

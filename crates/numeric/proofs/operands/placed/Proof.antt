@@ -1,9 +1,8 @@
--- `numeric::operands::placed` puts a place into its cell.
+-- `numeric::operands::placed` puts a place into a cell.
 -- Assumes nothing.
 use mathlib.Core.Path.{ap, sym}
 use Rattle.numeric.specs.Operands.{placedIn}
 use borrow.Author.Needs.{needs}
-use native.Mathlib.Omega.{arith}
 use Rattle.numeric.proofs.operands.placed.Statement.{statement}
 use Rattle.numeric.proofs.operands.placed.Tie as tie
 
@@ -18,7 +17,8 @@ returns c = search needs
 
 returns-2 : tie.Need-returns-2
 returns-2 c =
-    ap (placedIn (c .before .before .before .args .kind)) (sym (c .before .p .given .1))
+    let a = c .before .before .before .args in
+    ap (placedIn (a .kind) (a .value)) (sym (c .before .p .given .1))
 
 pub placed-spec : {M : Type 1} → statement M
 placed-spec = tie.close (tie.spec enum-told enum-known-p returns returns-2)

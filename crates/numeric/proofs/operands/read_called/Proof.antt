@@ -1,14 +1,10 @@
 -- `numeric::operands::read_called` reads LENGTH, NUMBER or a number.
 -- Assumes nothing.
-use mathlib.Core.Path.{_≡_, refl, sym, subst, _∙_}
+use mathlib.Core.Path.{refl, sym, ap, subst, _∙_}
 use Rattle.base.specs.Text.{bytes}
-use Rattle.calls.specs.Table.{operandCell}
-use Rattle.base.specs.Edition.{edition1}
-use lib.ListN.{drop}
-use Rattle.language.specs.Numeric.{calledOrNumber}
 use Rattle.met.specs.Known.{placesIn}
-use Rattle.numeric.specs.OperandLaws.{ready-moved, place-cell, cell-inside, called-length, called-number, called-plain}
-use Rattle.numeric.specs.Operands.{Ready, Inside, CellRead, placedIn, closedBy}
+use Rattle.numeric.specs.OperandLaws.{ready-moved, place-cell, cell-ends, cell-inside, called-length, called-number, called-plain}
+use Rattle.numeric.specs.Operands.{Inside, placedIn, closedBy}
 use borrow.Author.Needs.{needs}
 use native.Mathlib.Omega.{arith}
 use Rattle.numeric.proofs.operands.read_called.Statement.{statement}
@@ -28,8 +24,7 @@ unfolding bytes
 read-string-requires c κs =
     let p = c .before .before .before .before .before .before .before in
     let word = sym (c .before .before .before .before .begins-at .ensures) ∙ c .before .before .before .if1 .taken in (
-      subst (Ready (p .args .text .now) (p .args .keys .now) (p .args .tags .now)) (sym (c .skip .ensures))
-          (ready-moved (bytes "LENGTH(") (p .pre .0) word),
+      ready-moved (bytes "LENGTH(") (p .pre .0) (c .skip .ensures) word,
       (p .pre .1, record { is = refl }),
     )
 
@@ -40,7 +35,7 @@ closed-requires : tie.Need-closed-requires
 unfolding bytes
 closed-requires c κs =
     let s = c .before .read-string in
-    subst (Inside (c .before .before .before .before .before .before .before .before .before .args .text .now)) (sym (c .placed .ensures)) (cell-inside (placedIn 6 (s .result)) (place-cell 6 (s .result) (s .ensures)))
+    subst (Inside (c .before .before .before .before .before .before .before .before .before .args .text .now)) (sym (c .placed .ensures)) (cell-inside (placedIn 6 0 (s .result)) (place-cell 6 0 (s .result) (s .ensures)))
 
 returns : tie.Need-returns
 unfolding bytes
@@ -49,11 +44,7 @@ returns c =
     let s = c .before .before .read-string in
     let word = sym (c .before .before .before .before .before .before .before .begins-at .ensures) ∙ c .before .before .before .before .before .before .if1 .taken in
     let p = placesIn (a .known .now) in
-    subst
-    (λ r.
-    CellRead operandCell (a .text .now) (a .keys .now) (a .tags .now) (a .c) (calledOrNumber edition1 p (drop (a .c .at) (a .text .now))) r
-    (s .last .1 .1 .0) (s .last .1 .1 .1 .0))
-    (sym (subst (λ q. c .closed .result ≡ closedBy (a .text .now) q) (c .before .placed .ensures) (c .closed .ensures)))
+    cell-ends (c .closed .ensures ∙ ap (closedBy (a .text .now)) (c .before .placed .ensures))
     (called-length p (c .before .before .before .skip .ensures) word (s .result) (s .ensures))
 
 slice-aggregate-begins-at-2 : tie.Need-slice-aggregate-begins-at-2
@@ -70,8 +61,7 @@ unfolding bytes
 read-part-requires c κs =
     let p = c .before .before .before .before .before .before .before .before .before .before in
     let word = sym (c .before .before .before .before .begins-at2 .ensures) ∙ c .before .before .before .if2 .taken in (
-      subst (Ready (p .args .text .now) (p .args .keys .now) (p .args .tags .now)) (sym (c .skip2 .ensures))
-          (ready-moved (bytes "NUMBER(") (p .pre .0) word),
+      ready-moved (bytes "NUMBER(") (p .pre .0) (c .skip2 .ensures) word,
       (p .pre .1, (omega arith, record { is = refl })),
     )
 
@@ -88,11 +78,7 @@ returns-2 c =
     let other = sym (c .before .before .before .before .before .before .before .before .before .begins-at .ensures) ∙ c .before .before .before .before .before .before .before .before .if1 .left in
     let word = sym (c .before .before .before .before .before .before .begins-at2 .ensures) ∙ c .before .before .before .before .before .if2 .taken in
     let p = placesIn (a .known .now) in
-    subst
-    (λ r.
-    CellRead operandCell (a .text .now) (a .keys .now) (a .tags .now) (a .c) (calledOrNumber edition1 p (drop (a .c .at) (a .text .now))) r
-    (s .last .1 .1 .0) (s .last .1 .1 .1 .0))
-    (sym (c .closed2 .ensures))
+    cell-ends (c .closed2 .ensures)
     (called-number p (c .before .before .skip2 .ensures) other word (s .result) (s .ensures))
 
 read-number-requires : tie.Need-read-number-requires
@@ -109,11 +95,7 @@ returns-3 c =
     let other = sym (c .before .before .before .before .before .before .before .before .begins-at .ensures) ∙ c .before .before .before .before .before .before .before .if1 .left in
     let others = sym (c .before .before .before .before .before .begins-at2 .ensures) ∙ c .before .before .before .before .if2 .left in
     let p = placesIn (a .known .now) in
-    subst
-    (λ r.
-    CellRead operandCell (a .text .now) (a .keys .now) (a .tags .now) (a .c) (calledOrNumber edition1 p (drop (a .c .at) (a .text .now))) r
-    (s .last .1 .1 .0) (s .last .1 .1 .1 .0))
-    (sym (c .placed2 .ensures))
+    cell-ends (c .placed2 .ensures)
     (called-plain p other others (s .result) (s .ensures))
 
 pub read-called-spec : {M : Type 1} → statement M

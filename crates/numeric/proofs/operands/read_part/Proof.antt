@@ -1,16 +1,12 @@
 -- `numeric::operands::read_part` reads a name or substring.
 -- Assumes nothing.
 use mathlib.Core.List.{[], _∷_}
-use mathlib.Core.Path.{sym, subst, _∙_}
-use Prim.Native.Nat.{_+_, _/_}
+use mathlib.Core.Path.{sym, _∙_}
+use Prim.Native.Nat.{_/_}
 use lib.ListN.{drop}
-use Rattle.base.specs.Edition.{edition1}
-use Rattle.calls.specs.Table.{lengthCell}
-use Rattle.language.specs.Words.{bound}
 use Rattle.met.specs.Entries.{roleOf}
 use Rattle.met.specs.Known.{placesIn}
 use Rattle.numeric.specs.OperandLaws.{place-case, place-none, ready-moved, part-first, part-whole, part-broken}
-use Rattle.numeric.specs.Operands.{Ready, CellRead}
 use borrow.Author.Needs.{needs}
 use native.Mathlib.Omega.{arith}
 use Rattle.numeric.proofs.operands.read_part.Statement.{statement}
@@ -42,7 +38,7 @@ read-bound-requires c κs =
     let s = c .before .before .before .before .before .before .before .before .read-string in
     let g = place-case (s .ensures) (c .before .before .before .before .before .before .place .given .1) in
     let dollar = sym (c .before .before .before .before .stands-at .ensures) ∙ c .before .before .before .if1 .taken in (
-      subst (Ready (p .args .text .now) (s .last .1 .1 .0) (s .last .1 .1 .1 .0)) (sym (c .skip .ensures)) (ready-moved (36 ∷ []) (g .ready) dollar),
+      ready-moved (36 ∷ []) (g .ready) (c .skip .ensures) dollar,
       (p .pre .1 .0, omega (arith, p .pre .1 .1 .0)),
     )
 
@@ -53,15 +49,8 @@ returns c =
     let s = c .before .before .before .before .before .before .before .before .before .read-string in
     let g = place-case (s .ensures) (c .before .before .before .before .before .before .before .place .given .1) in
     let dollar = sym (c .before .before .before .before .before .stands-at .ensures) ∙ c .before .before .before .before .if1 .taken in
-    let known = placesIn (a .known .now) in
-    let place = c .before .before .before .before .before .before .before .place .given .0 .0 in
-    let b = c .read-bound in
-    part-first known (a .shift) (roleOf (a .tag / 16)) g (p .pre .0) dollar (b .result)
-    (subst
-    (λ z.
-    CellRead (lengthCell (a .shift + 2) place) (a .text .now) (s .last .1 .1 .0) (s .last .1 .1 .1 .0) z
-    (bound edition1 known (drop (z .at) (a .text .now))) (b .result) (b .last .1 .1 .0) (b .last .1 .1 .1 .0))
-    (c .before .skip .ensures) (b .ensures))
+    part-first (placesIn (a .known .now)) (a .shift) (roleOf (a .tag / 16)) g (p .pre .0) dollar (c .read-bound .result) (c .before .skip .ensures)
+    (c .read-bound .ensures)
 
 add-t19 : tie.Need-add-t19
 add-t19 c = search needs

@@ -1,13 +1,10 @@
 -- `strings::cells::constant_call` reads STRING with a constant.
 -- Assumes nothing.
-use mathlib.Core.Path.{sym, subst}
 use native.Mathlib.Omega.{arith}
 use Prim.Native.Nat.{_-_}
 use Rattle.language.specs.Program.{constantly}
 use Rattle.met.specs.Known.{placesIn}
-use Rattle.numeric.specs.OperandLaws.{then-broken}
-use Rattle.numeric.specs.KindLaws.{ready-on}
-use Rattle.numeric.specs.Operands.{Ready}
+use Rattle.numeric.specs.OperandLaws.{ready-on, then-broken}
 use Rattle.words.specs.Laws.{signed-is, signed-range, signed-ends, signed-broken}
 use Rattle.strings.specs.CellLaws.{standing-constant, constant-called}
 use borrow.Author.Needs.{needs}
@@ -37,8 +34,7 @@ number-behind-requires c κs =
     let p = c .before .before .before .before .before .before .before .before .before in
     let e = c .before .before .before .before .before .value .given in
     let ends = signed-ends (c .before .before .before .before .before .before .before .signed .ensures) (e .1) in (
-      subst (Ready (p .args .text .now) (p .args .keys .now) (p .args .tags .now)) (sym (c .before .skip .ensures))
-          (ready-on _ (p .pre .0) (omega (arith, ends))),
+      ready-on _ (p .pre .0) (c .before .skip .ensures) (omega (arith, ends)),
       p .pre .1,
     )
 

@@ -1,15 +1,11 @@
 -- `strings::cells::filler` reads a filler.
 -- Assumes nothing.
 use mathlib.Core.List.{[], _∷_}
-use mathlib.Core.Path.{sym, subst, _∙_}
+use mathlib.Core.Path.{sym, _∙_}
 use native.Mathlib.Omega.{arith}
 use lib.ListN.{drop}
-use Rattle.base.specs.Edition.{edition1}
-use Rattle.calls.specs.Table.{patternCell}
-use Rattle.language.specs.Strings.{fillerAt}
 use Rattle.met.specs.Known.{placesIn}
-use Rattle.numeric.specs.OperandLaws.{place-case, place-none, ready-moved, cell-inside}
-use Rattle.numeric.specs.Operands.{Ready, CellRead}
+use Rattle.numeric.specs.OperandLaws.{ready-moved, place-case, place-none, cell-ends, cell-inside}
 use Rattle.strings.specs.CellLaws.{filler-fixed, filler-free, filler-broken}
 use borrow.Author.Needs.{needs}
 use Rattle.strings.proofs.cells.filler.Statement.{statement}
@@ -35,10 +31,9 @@ skip-requires c κs =
 read-bound-requires : tie.Need-read-bound-requires
 read-bound-requires c κs =
     let p = c .before .before .before .before .before .before .before .before .before .before .before .before in
-    let n = c .before .before .before .before .before .before .before .before .read-string in
-    let g = place-case (n .ensures) (c .before .before .before .before .before .before .place .given .1) in
+    let g = place-case (c .before .before .before .before .before .before .before .before .read-string .ensures) (c .before .before .before .before .before .before .place .given .1) in
     let dollar = sym (c .before .before .before .before .stands-at .ensures) ∙ c .before .before .before .if1 .taken in (
-      subst (Ready (p .args .text .now) (n .last .1 .1 .0) (n .last .1 .1 .1 .0)) (sym (c .skip .ensures)) (ready-moved (36 ∷ []) (g .ready) dollar),
+      ready-moved (36 ∷ []) (g .ready) (c .skip .ensures) dollar,
       (p .pre .1, omega arith),
     )
 
@@ -48,16 +43,11 @@ closed-requires c κs = cell-inside (c .read-bound .result) (c .read-bound .ensu
 returns : tie.Need-returns
 returns c =
     let p = c .before .before .before .before .before .before .before .before .before .before .before .before .before .before in
-    let a = p .args in
     let g = place-case (c .before .before .before .before .before .before .before .before .before .before .read-string .ensures) (c .before .before .before .before .before .before .before .before .place .given .1) in
     let dollar = sym (c .before .before .before .before .before .before .stands-at .ensures) ∙ c .before .before .before .before .before .if1 .taken in
     let b = c .before .read-bound in
-    subst
-    (λ r.
-    CellRead (patternCell 0) (a .text .now) (a .keys .now) (a .tags .now) (a .c)
-    (fillerAt edition1 (placesIn (a .known .now)) (drop (a .c .at) (a .text .now))) r (b .last .1 .1 .0) (b .last .1 .1 .1 .0))
-    (sym (c .closed .ensures))
-    (filler-fixed (placesIn (a .known .now)) (p .pre .0) g (b .result) (c .before .before .skip .ensures) dollar (b .ensures))
+    cell-ends (c .closed .ensures)
+    (filler-fixed (placesIn (p .args .known .now)) (p .pre .0) g (b .result) (c .before .before .skip .ensures) dollar (b .ensures))
 
 closed-requires-2 : tie.Need-closed-requires-2
 closed-requires-2 c κs =
@@ -76,15 +66,9 @@ returns-2 c =
 returns-3 : tie.Need-returns-3
 returns-3 c =
     let p = c .before .before .before .before .before .before .before .before .before .before in
-    let a = p .args in
-    let n = c .before .before .before .before .before .before .read-string in
-    let g = place-case (n .ensures) (c .before .before .before .before .place .given .1) in
+    let g = place-case (c .before .before .before .before .before .before .read-string .ensures) (c .before .before .before .before .place .given .1) in
     let none = sym (c .before .before .stands-at .ensures) ∙ c .before .if1 .left in
-    subst
-    (λ r.
-    CellRead (patternCell 0) (a .text .now) (a .keys .now) (a .tags .now) (a .c)
-    (fillerAt edition1 (placesIn (a .known .now)) (drop (a .c .at) (a .text .now))) r (n .last .1 .1 .0) (n .last .1 .1 .1 .0))
-    (sym (c .closed2 .ensures)) (filler-free (placesIn (a .known .now)) (p .pre .0) g none)
+    cell-ends (c .closed2 .ensures) (filler-free (placesIn (p .args .known .now)) (p .pre .0) g none)
 
 pub filler-spec : {M : Type 1} → statement M
 filler-spec =

@@ -1,11 +1,10 @@
 -- `strings::cells::number_behind` reads the m of STRING behind a comma.
 -- Assumes nothing.
 use mathlib.Core.List.{[], _∷_}
-use mathlib.Core.Path.{sym, subst, _∙_}
+use mathlib.Core.Path.{sym, _∙_}
 use lib.ListN.{drop}
 use Rattle.met.specs.Known.{placesIn}
 use Rattle.numeric.specs.OperandLaws.{ready-moved}
-use Rattle.numeric.specs.Operands.{Ready}
 use Rattle.strings.specs.CellLaws.{number-follows, number-alone}
 use borrow.Author.Needs.{needs}
 use Rattle.strings.proofs.cells.number_behind.Statement.{statement}
@@ -21,8 +20,7 @@ number-end-requires : tie.Need-number-end-requires
 number-end-requires c κs =
     let p = c .before .before .before .before .before .before in
     let comma = sym (c .before .before .before .before .stands-at .ensures) ∙ c .before .before .before .if1 .taken in (
-      subst (Ready (p .args .text .now) (p .args .keys .now) (p .args .tags .now)) (sym (c .skip .ensures))
-          (ready-moved (44 ∷ []) (p .pre .0) comma),
+      ready-moved (44 ∷ []) (p .pre .0) (c .skip .ensures) comma,
       p .pre .1,
     )
 

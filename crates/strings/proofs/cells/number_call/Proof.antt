@@ -1,14 +1,11 @@
 -- `strings::cells::number_call` reads STRING with a number, or with m alone.
 -- Assumes nothing.
 use mathlib.Core.List.{[], _∷_}
-use mathlib.Core.Path.{sym, subst, _∙_}
+use mathlib.Core.Path.{sym, _∙_}
 use native.Mathlib.Omega.{arith}
-use lib.ListN.{drop}
 use Rattle.met.specs.Known.{placesIn}
-use Rattle.numeric.specs.OperandLaws.{then-broken, place-case, place-none, ready-moved}
-use Rattle.numeric.specs.Operands.{Ready, CellRead}
+use Rattle.numeric.specs.OperandLaws.{ready-moved, place-case, place-none, cell-ends, then-broken}
 use Rattle.strings.specs.CellLaws.{number-comma, number-only}
-use Rattle.strings.specs.Cells.{bareCell, numberCall}
 use borrow.Author.Needs.{needs}
 use Rattle.strings.proofs.cells.number_call.Statement.{statement}
 use Rattle.strings.proofs.cells.number_call.Tie as tie
@@ -39,10 +36,9 @@ cast-number-end c = search needs
 number-end-requires : tie.Need-number-end-requires
 number-end-requires c κs =
     let p = c .before .before .before .before .before .before .before .before .before .before .before .before in
-    let n = c .before .before .before .before .before .before .before .before .read-number in
-    let g = place-case (n .ensures) (c .before .before .before .before .before .before .place .given .1) in
+    let g = place-case (c .before .before .before .before .before .before .before .before .read-number .ensures) (c .before .before .before .before .before .before .place .given .1) in
     let comma = sym (c .before .before .before .before .stands-at .ensures) ∙ c .before .before .before .if1 .taken in (
-      subst (Ready (p .args .text .now) (n .last .1 .1 .0) (n .last .1 .1 .1 .0)) (sym (c .skip .ensures)) (ready-moved (44 ∷ []) (g .ready) comma),
+      ready-moved (44 ∷ []) (g .ready) (c .skip .ensures) comma,
       p .pre .1,
     )
 
@@ -65,15 +61,9 @@ returns-2 c =
 returns-3 : tie.Need-returns-3
 returns-3 c =
     let p = c .before .before .before .before .before .before .before .before .before .before in
-    let a = p .args in
-    let n = c .before .before .before .before .before .before .read-number in
-    let g = place-case (n .ensures) (c .before .before .before .before .place .given .1) in
+    let g = place-case (c .before .before .before .before .before .before .read-number .ensures) (c .before .before .before .before .place .given .1) in
     let none = sym (c .before .before .stands-at .ensures) ∙ c .before .if1 .left in
-    subst
-    (λ r.
-    CellRead bareCell (a .text .now) (a .keys .now) (a .tags .now) (a .c) (numberCall (placesIn (a .known .now)) (drop (a .c .at) (a .text .now))) r
-    (n .last .1 .1 .0) (n .last .1 .1 .1 .0))
-    (sym (c .closed .ensures)) (number-only (placesIn (a .known .now)) (p .pre .0) g none)
+    cell-ends (c .closed .ensures) (number-only (placesIn (p .args .known .now)) (p .pre .0) g none)
 
 pub number-call-spec : {M : Type 1} → statement M
 number-call-spec =
