@@ -15,7 +15,7 @@ use Rattle.base.specs.Edition.{edition1}
 use Rattle.base.specs.Lists.{begins}
 use Rattle.base.specs.Text.{bytes}
 use Rattle.calls.specs.Table as Table
-use Rattle.calls.specs.Table.{itemCell, operandCell, operatorKind, signKind}
+use Rattle.calls.specs.Table.{itemCell, operatorKind, signKind}
 use Rattle.language.specs.Fuel.{expressionFrom, factorFrom, factorBy, factor-is}
 use Rattle.language.specs.Numeric.{deepest, plainFactor, leadingSign, sumOperator, productOperator}
 use Rattle.language.specs.Program.{Item, Operator, operator, sign, plus, minus, times, over, positive, negative}
@@ -24,12 +24,11 @@ use Rattle.language.specs.Words.{Places, isSign}
 use Rattle.met.specs.Entries.{gather, metIn}
 use Rattle.met.specs.Items.{withItem, withItems}
 use Rattle.met.specs.declared.Cursor.{Cursor}
-use Rattle.numeric.specs.Kinds.{SignAt, OperatorAt, SumAt, ProductAt, PutsCell, Puts, Within, closes}
+use Rattle.numeric.specs.Kinds.{markKind, SignAt, OperatorAt, SumAt, ProductAt, PutsCell, Puts, Within, closes}
 use Rattle.numeric.specs.OperandLaws.{onward-none, chosen, begins-room, then-broken}
-use Rattle.numeric.specs.Operands.{moved, Ready, Gets, meaning}
+use Rattle.numeric.specs.Operands.{moved}
 use Rattle.numeric.specs.ReadLaws.{inside-then, inside-open, inside-broken}
 use Rattle.numeric.specs.Reads.{GetsItems, ItemsAnswer, ItemsRead, waiting}
-use Rattle.numeric.specs.declared.operands.Cell.{Cell}
 use Rattle.numeric.specs.declared.Outcome as OutcomeCode
 use Rattle.numeric.specs.declared.Outcome.{Outcome}
 
@@ -100,12 +99,22 @@ puts-one {table} {c} {k} {l} {table′} {d} o p =
     subst (λ (z : List Item). Puts table c z table′ d) (sym (o .is))
     (record { written = p .written ∙ ap (withItem table (c .items)) (sym (o .cell)); goes = p .goes; at = p .at })
 
+-- what holds of a kind, by the mark that stands
+told : (P : ℕ → Type 0) (w k v l : ℕ) (text : List ℕ) (at : ℕ) → (begins (w ∷ []) (drop at text) ≡ true → P k)
+    → (begins (w ∷ []) (drop at text) ≡ false → begins (v ∷ []) (drop at text) ≡ true → P l)
+    → (begins (w ∷ []) (drop at text) ≡ false → begins (v ∷ []) (drop at text) ≡ false → P 0) → {kind : ℕ}
+    → kind ≡ markKind w k v l text at → P kind
+told P w k v l text at one two none′ e =
+    subst P (sym e)
+    (cond-cases P (begins (w ∷ []) (drop at text)) one
+    (λ no. cond-cases P (begins (v ∷ []) (drop at text)) (two no) (none′ no)))
+
 -- the signs by the mark that stands
 module _ (text : List ℕ) (at : ℕ) where
   behind : (w : ℕ) → begins (w ∷ []) (drop at text) ≡ true → at < length text
   behind w e = omega (arith, begins-room (w ∷ []) (drop at text) e, length-drop at text)
 
-  pub sign-plus : begins (43 ∷ []) (drop at text) ≡ true → SignAt text at 14
+  sign-plus : begins (43 ∷ []) (drop at text) ≡ true → SignAt text at 14
   unfolding leadingSign bytes waiting anItem metIn gather
   sign-plus e =
       record {
@@ -114,7 +123,7 @@ module _ (text : List ℕ) (at : ℕ) where
       }
 
   module _ (no : begins (43 ∷ []) (drop at text) ≡ false) where
-    pub sign-minus : begins (45 ∷ []) (drop at text) ≡ true → SignAt text at 15
+    sign-minus : begins (45 ∷ []) (drop at text) ≡ true → SignAt text at 15
     unfolding leadingSign bytes waiting anItem metIn gather
     sign-minus e =
         record {
@@ -122,13 +131,16 @@ module _ (text : List ℕ) (at : ℕ) where
           inside = λ _. omega (arith, behind 45 e);
         }
 
-    pub sign-none : begins (45 ∷ []) (drop at text) ≡ false → SignAt text at 0
+    sign-none : begins (45 ∷ []) (drop at text) ≡ false → SignAt text at 0
     unfolding leadingSign bytes waiting give nothing metIn gather
     sign-none e =
         record {
           is = chosen _ _ no ∙ chosen _ _ e ∙ ap (λ j. give {A = List Item} [] (drop j text)) (sym (add-zero at));
           inside = λ h. omega arith;
         }
+
+  pub sign-told : {kind : ℕ} → kind ≡ markKind 43 14 45 15 text at → SignAt text at kind
+  sign-told = told (SignAt text at) 43 14 45 15 text at sign-plus sign-minus sign-none
 
 -- the operator by which of two marks stands
 module _ (text : List ℕ) (at w v : ℕ) where
@@ -172,29 +184,35 @@ module _ (text : List ℕ) (at w v : ℕ) where
       }
 
 module _ (text : List ℕ) (at : ℕ) where
-  pub sum-plus : begins (43 ∷ []) (drop at text) ≡ true → SumAt text at 10
+  sum-plus : begins (43 ∷ []) (drop at text) ≡ true → SumAt text at 10
   unfolding sumOperator bytes waiting isSign
   sum-plus = first-mark text at 43 45 plus minus refl (λ z. omega arith)
 
-  pub sum-minus : begins (43 ∷ []) (drop at text) ≡ false → begins (45 ∷ []) (drop at text) ≡ true → SumAt text at 11
+  sum-minus : begins (43 ∷ []) (drop at text) ≡ false → begins (45 ∷ []) (drop at text) ≡ true → SumAt text at 11
   unfolding sumOperator bytes waiting isSign
   sum-minus = second-mark text at 43 45 plus minus refl (λ z. omega arith)
 
-  pub sum-none : begins (43 ∷ []) (drop at text) ≡ false → begins (45 ∷ []) (drop at text) ≡ false → SumAt text at 0
+  sum-none : begins (43 ∷ []) (drop at text) ≡ false → begins (45 ∷ []) (drop at text) ≡ false → SumAt text at 0
   unfolding bytes isSign
   sum-none = no-mark text at 43 45
 
-  pub product-times : begins (42 ∷ []) (drop at text) ≡ true → ProductAt text at 12
+  product-times : begins (42 ∷ []) (drop at text) ≡ true → ProductAt text at 12
   unfolding productOperator bytes waiting
   product-times = first-mark text at 42 47 times over refl (λ z. omega arith)
 
-  pub product-over : begins (42 ∷ []) (drop at text) ≡ false → begins (47 ∷ []) (drop at text) ≡ true → ProductAt text at 13
+  product-over : begins (42 ∷ []) (drop at text) ≡ false → begins (47 ∷ []) (drop at text) ≡ true → ProductAt text at 13
   unfolding productOperator bytes waiting
   product-over = second-mark text at 42 47 times over refl (λ z. omega arith)
 
-  pub product-none : begins (42 ∷ []) (drop at text) ≡ false → begins (47 ∷ []) (drop at text) ≡ false → ProductAt text at 0
+  product-none : begins (42 ∷ []) (drop at text) ≡ false → begins (47 ∷ []) (drop at text) ≡ false → ProductAt text at 0
   unfolding bytes
   product-none = no-mark text at 42 47
+
+  pub sum-told : {kind : ℕ} → kind ≡ markKind 43 10 45 11 text at → SumAt text at kind
+  sum-told = told (SumAt text at) 43 10 45 11 text at sum-plus sum-minus sum-none
+
+  pub product-told : {kind : ℕ} → kind ≡ markKind 42 12 47 13 text at → ProductAt text at kind
+  product-told = told (ProductAt text at) 42 12 47 13 text at product-times product-over product-none
 
 -- the outcome by its case
 module _ {before : List Item} {text table keys tags : List ℕ} {c : Cursor} {x : Read (List Item)} {r : Outcome} {t k g : List ℕ}

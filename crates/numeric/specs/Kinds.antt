@@ -1,6 +1,6 @@
 -- What the helpers of the cycle do: the kind of a sign or an operator at a place, an item written, a cursor before `)`.
 -- Assumes nothing.
-use mathlib.Core.Bool.{Bool, true, false, _||_}
+use mathlib.Core.Bool.{Bool, true, false, cond, _||_}
 use mathlib.Core.List.{List, [], _∷_}
 use mathlib.Core.Path.{_≡_}
 use Prim.Native.Nat.{ℕ, _+_, _≤_, _<_}
@@ -19,6 +19,11 @@ use Rattle.numeric.specs.Operands.{Onward, moved}
 use Rattle.numeric.specs.Reads.{waiting, FactorRead}
 use Rattle.numeric.specs.declared.Outcome as OutcomeCode
 use Rattle.numeric.specs.declared.Outcome.{Outcome}
+
+-- the kind of the mark at a place, of two that may stand there, 0 for none
+abbrev pub markKind : (first kind second other : ℕ) (text : List ℕ) (at : ℕ) → ℕ
+markKind first kind second other text at =
+    cond (begins (first ∷ []) (drop at text)) kind (cond (begins (second ∷ []) (drop at text)) other 0)
 
 -- the sign at a place, if any, is what the kind stands for
 pub record SignAt (text : List ℕ) (at kind : ℕ) : Type 0 where

@@ -17,7 +17,7 @@ ghost use lib.ListN.{length};
 ghost use Rattle.calls.specs.Table.{cell};
 ghost use Rattle.met.specs.Known.{Counted};
 ghost use Rattle.numeric.specs.Operands.{Ready};
-ghost use Rattle.numeric.specs.Kinds.{SignAt, SumAt, ProductAt, PutsCell, Puts, OperandWritten, Within, closes};
+ghost use Rattle.numeric.specs.Kinds.{markKind, PutsCell, Puts, OperandWritten, Within, closes};
 ghost use Rattle.numeric.specs.Reads.{waiting, FactorRead, ExpressionRead, TermRead};
 
 // how deep parentheses go
@@ -29,41 +29,15 @@ pub enum Outcome {
     Got(Cursor),
 }
 
-// the kind of the sign at a place, 0 for none
-fn sign_kind(text: &[u8], at: usize) -> u8
-    ensures { λ r. ⌜ SignAt (now (text .entry)) at r ⌝ }
+// the kind of the mark at a place, of two that may stand there, 0 for none
+fn mark_kind(text: &[u8], at: usize, first: u8, kind: u8, second: u8, other: u8) -> u8
+    ensures { λ r. ⌜ r ≡ markKind first kind second other (now (text .entry)) at ⌝ }
 {
-    if stands_at(text, at, b'+') {
-        return 14;
+    if stands_at(text, at, first) {
+        return kind;
     }
-    if stands_at(text, at, b'-') {
-        return 15;
-    }
-    0
-}
-
-// the kind of the `+` or `-` at a place, 0 for none
-fn sum_kind(text: &[u8], at: usize) -> u8
-    ensures { λ r. ⌜ SumAt (now (text .entry)) at r ⌝ }
-{
-    if stands_at(text, at, b'+') {
-        return 10;
-    }
-    if stands_at(text, at, b'-') {
-        return 11;
-    }
-    0
-}
-
-// the kind of the `*` or `/` at a place, 0 for none
-fn product_kind(text: &[u8], at: usize) -> u8
-    ensures { λ r. ⌜ ProductAt (now (text .entry)) at r ⌝ }
-{
-    if stands_at(text, at, b'*') {
-        return 12;
-    }
-    if stands_at(text, at, b'/') {
-        return 13;
+    if stands_at(text, at, second) {
+        return other;
     }
     0
 }
@@ -160,14 +134,14 @@ pub fn expression(
     ensures { λ r. ⌜ ExpressionRead (now (text .entry)) (now (known .entry)) (now (table .entry)) (now (keys .entry)) (now (tags .entry)) c depth r (now (table .exit)) (now (keys .exit)) (now (tags .exit)) ⌝ }
 {
     // what waits for the next term
-    let mut kind = sign_kind(text, c.at);
+    let mut kind = mark_kind(text, c.at, b'+', 14, b'-', 15);
     let mut d = skip(c, size(kind));
     loop {
         let Outcome::Got(e) = term(text, known, table, keys, tags, d, depth) else {
             return Outcome::Broken;
         };
         let f = put_kind(table, e, kind);
-        kind = sum_kind(text, f.at);
+        kind = mark_kind(text, f.at, b'+', 10, b'-', 11);
         if kind == 0 {
             return Outcome::Got(f);
         }
@@ -198,7 +172,7 @@ fn term(
             return Outcome::Broken;
         };
         let f = put_kind(table, e, kind);
-        kind = product_kind(text, f.at);
+        kind = mark_kind(text, f.at, b'*', 12, b'/', 13);
         if kind == 0 {
             return Outcome::Got(f);
         }

@@ -16,9 +16,8 @@ use Rattle.met.specs.declared.Cursor.{Cursor}
 use Rattle.numeric.specs.JoinLaws.{joining-begins, joining-signed, joining-broken, joining-ends, joining-again, joining-less, ready-behind}
 use Rattle.numeric.specs.JoinLaws.{sum-joins, product-joins, expression-joined, term-joined}
 use Rattle.numeric.specs.Joins.{Joining}
-use Rattle.numeric.specs.KindLaws.{items-case, items-within, inside-closed, deeper}
+use Rattle.numeric.specs.KindLaws.{sign-told, sum-told, product-told, items-case, items-within, inside-closed, deeper}
 use Rattle.numeric.specs.OperandLaws.{ready-moved}
-use Rattle.numeric.specs.Operands.{Ready}
 use Rattle.numeric.specs.ReadLaws.{too-deep}
 use Rattle.numeric.specs.Reads.{FactorRead, waiting}
 use Rattle.numeric.specs.declared.Outcome.{Outcome}
@@ -33,13 +32,11 @@ use Rattle.numeric.proofs.+expression+factor+term.Lts-factor as factor-
 use Rattle.numeric.proofs.term.Reads as term
 use Rattle.numeric.proofs.term.Kinds as term-kinds
 use Rattle.numeric.proofs.+expression+factor+term.Lts-term as term-lts
+use Rattle.numeric.proofs.mark_kind.Reads as mark-kind-reads
 use Rattle.numeric.proofs.operands.skip.Reads as skip-reads
 use Rattle.numeric.proofs.pass_closing.Reads as pass-closing-reads
-use Rattle.numeric.proofs.product_kind.Reads as product-kind-reads
 use Rattle.numeric.proofs.put_kind.Reads as put-kind-reads
-use Rattle.numeric.proofs.sign_kind.Reads as sign-kind-reads
 use Rattle.numeric.proofs.size.Reads as size-reads
-use Rattle.numeric.proofs.sum_kind.Reads as sum-kind-reads
 use Rattle.numeric.proofs.write_operand.Reads as write-operand-reads
 use Rattle.words.proofs.stands_at.Reads as stands-at-reads
 use Rattle.numeric.proofs.+expression+factor+term.{statement}
@@ -91,8 +88,8 @@ module _ (t : ℕ) where
 
   abbrev expression-claims : expression-lts.Claims
   expression-claims = (
-    sign-kind-reads.Asked,
-    sign-kind-reads.Learnt,
+    mark-kind-reads.Asked,
+    mark-kind-reads.Learnt,
     size-reads.Asked,
     size-reads.Learnt,
     skip-reads.Asked,
@@ -101,8 +98,6 @@ module _ (t : ℕ) where
     term.Post,
     put-kind-reads.Asked,
     put-kind-reads.Learnt,
-    sum-kind-reads.Asked,
-    sum-kind-reads.Learnt,
   )
 
   abbrev factor-claims : factor-lts.Claims
@@ -125,8 +120,8 @@ module _ (t : ℕ) where
     factor.Post,
     put-kind-reads.Asked,
     put-kind-reads.Learnt,
-    product-kind-reads.Asked,
-    product-kind-reads.Learnt,
+    mark-kind-reads.Asked,
+    mark-kind-reads.Learnt,
     skip-reads.Asked,
     skip-reads.Learnt,
   )
@@ -136,11 +131,11 @@ module _ (t : ℕ) where
   expression-skip-requires : expression-lts.Need-skip-requires expression-claims expression-at expression.Post expression-Inv expression-μ-loop
   expression-skip-requires c κs =
       let start = c .before .before .before .before in
-      omega (arith, c .before .sign-kind .ensures .inside (start .pre .1 .0 .inside), c .size .ensures, start .pre .1 .0)
+      omega (arith, sign-told _ _ (c .before .mark-kind .ensures) .inside (start .pre .1 .0 .inside), c .size .ensures, start .pre .1 .0)
 
   expression-loop-holds : expression-lts.Need-loop-holds expression-claims expression-at expression.Post expression-Inv expression-μ-loop
   expression-loop-holds c =
-      joining-signed (c .before .before .before .before .before .pre .1 .0) (c .before .before .sign-kind .ensures) (c .before .size .ensures)
+      joining-signed (c .before .before .before .before .before .pre .1 .0) (sign-told _ _ (c .before .before .mark-kind .ensures)) (c .before .size .ensures)
       (c .skip .ensures)
 
   expression-term-requires : expression-lts.Need-term-requires expression-claims expression-at expression.Post expression-Inv expression-μ-loop
@@ -163,7 +158,7 @@ module _ (t : ℕ) where
       let one = c .before .before .before .before in
       let head = one .before .before .before .before in
       let start = head .before .before .before .before .before .before in
-      expression-joined (placesIn (start .args .known .now)) (start .args .depth) (start .args .c) (head .before .before .before .sign-kind .ensures)
+      expression-joined (placesIn (start .args .known .now)) (start .args .depth) (start .args .c) (sign-told _ _ (head .before .before .before .mark-kind .ensures))
       (head .before .before .size .ensures) (head .before .skip .ensures)
       (joining-broken (head .loop .inv) (one .term .ensures) (c .enum-told .given .1))
 
@@ -188,10 +183,10 @@ module _ (t : ℕ) where
       let one = got .before .before .before .before in
       let head = one .before .before .before .before in
       let start = head .before .before .before .before .before .before in
-      expression-joined (placesIn (start .args .known .now)) (start .args .depth) (start .args .c) (head .before .before .before .sign-kind .ensures)
+      expression-joined (placesIn (start .args .known .now)) (start .args .depth) (start .args .c) (sign-told _ _ (head .before .before .before .mark-kind .ensures))
       (head .before .before .size .ensures) (head .before .skip .ensures)
       (joining-ends (head .loop .inv) (one .term .ensures) (got .e .given .1) (put .put-kind .ensures)
-      (sum-joins (placesIn (start .args .known .now)) (start .args .depth) (c .before .sum-kind .ensures)) (c .if1 .taken))
+      (sum-joins (placesIn (start .args .known .now)) (start .args .depth) (sum-told _ _ (c .before .mark-kind2 .ensures))) (c .if1 .taken))
 
   expression-skip-requires-2 : expression-lts.Need-skip-requires-2 expression-claims expression-at expression.Post expression-Inv expression-μ-loop
   expression-skip-requires-2 c κs =
@@ -209,7 +204,7 @@ module _ (t : ℕ) where
       let head = one .before .before .before .before in
       let start = head .before .before .before .before .before .before in
       joining-less (head .loop .inv) (one .term .ensures) (got .e .given .1) (put .put-kind .ensures)
-      (sum-joins (placesIn (start .args .known .now)) (start .args .depth) (c .before .before .sum-kind .ensures))
+      (sum-joins (placesIn (start .args .known .now)) (start .args .depth) (sum-told _ _ (c .before .before .mark-kind2 .ensures)))
       (c .before .if1 .left) (c .skip2 .ensures)
 
   expression-loop-again : expression-lts.Need-loop-again expression-claims expression-at expression.Post expression-Inv expression-μ-loop
@@ -220,7 +215,7 @@ module _ (t : ℕ) where
       let head = one .before .before .before .before in
       let start = head .before .before .before .before .before .before in
       joining-again (head .loop .inv) (one .term .ensures) (got .e .given .1) (put .put-kind .ensures)
-      (sum-joins (placesIn (start .args .known .now)) (start .args .depth) (c .before .before .sum-kind .ensures))
+      (sum-joins (placesIn (start .args .known .now)) (start .args .depth) (sum-told _ _ (c .before .before .mark-kind2 .ensures)))
       (c .before .if1 .left) (c .skip2 .ensures)
       (put .put-kind .kept .0 ∙ one .term .kept .1 .1 .0 ∙ head .loop .inv .sameSize)
 
@@ -331,7 +326,7 @@ module _ (t : ℕ) where
       let start = head .before .before .before in
       term-joined (placesIn (start .args .known .now)) (start .args .depth) (start .args .c)
       (joining-ends (head .loop .inv) (one .factor .ensures) (got .e .given .1) (put .put-kind .ensures)
-      (product-joins (placesIn (start .args .known .now)) (start .args .depth) (c .before .product-kind .ensures)) (c .if1 .taken))
+      (product-joins (placesIn (start .args .known .now)) (start .args .depth) (product-told _ _ (c .before .mark-kind .ensures))) (c .if1 .taken))
 
   term-skip-requires : term-lts.Need-skip-requires term-claims term-at term.Post term-Inv term-μ-loop
   term-skip-requires c κs =
@@ -349,7 +344,7 @@ module _ (t : ℕ) where
       let head = one .before .before .before .before in
       let start = head .before .before .before in
       joining-less (head .loop .inv) (one .factor .ensures) (got .e .given .1) (put .put-kind .ensures)
-      (product-joins (placesIn (start .args .known .now)) (start .args .depth) (c .before .before .product-kind .ensures))
+      (product-joins (placesIn (start .args .known .now)) (start .args .depth) (product-told _ _ (c .before .before .mark-kind .ensures)))
       (c .before .if1 .left) (c .skip .ensures)
 
   term-loop-again : term-lts.Need-loop-again term-claims term-at term.Post term-Inv term-μ-loop
@@ -360,7 +355,7 @@ module _ (t : ℕ) where
       let head = one .before .before .before .before in
       let start = head .before .before .before in
       joining-again (head .loop .inv) (one .factor .ensures) (got .e .given .1) (put .put-kind .ensures)
-      (product-joins (placesIn (start .args .known .now)) (start .args .depth) (c .before .before .product-kind .ensures))
+      (product-joins (placesIn (start .args .known .now)) (start .args .depth) (product-told _ _ (c .before .before .mark-kind .ensures)))
       (c .before .if1 .left) (c .skip .ensures)
       (put .put-kind .kept .0 ∙ one .factor .kept .1 .1 .0 ∙ head .loop .inv .sameSize)
 
