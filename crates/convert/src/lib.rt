@@ -187,7 +187,7 @@ fn digit_of(b: u8) -> u64
 }
 
 // the value of the digits from start on, or one that is above LIMIT if that is
-fn decimal_from(s: &[u8], start: usize) -> u64
+pub fn decimal_from(s: &[u8], start: usize) -> u64
     requires { ⌜ start ≤ length (now s) ⌝ }
     ensures { λ r. ⌜ Capped r (decimal 0 (drop start (now (s .entry)))) ⌝ }
 {

@@ -1,15 +1,16 @@
--- A word stands at a place of a text, told byte by byte. Assumes nothing.
+-- What stands at a place of a text, near its end and behind it. Assumes nothing.
 use mathlib.Core.Bool.{true, false, _&&_, false≢true, and-true}
 use mathlib.Core.List.{List, [], _∷_}
-use mathlib.Core.Path.{_≡_, refl, _∙_}
-use Prim.Native.Nat.{ℕ, _+_, _≤_, _<_}
-use native.Mathlib.Numerals.{add-one}
+use mathlib.Core.Path.{_≡_, refl, sym, ap, _∙_}
+use Prim.Native.Nat.{ℕ, _-_, _≤_, _<_}
+use native.Mathlib.Omega.{arith}
 use lib.Dec.{eqb, ltb}
-use lib.ListN.{length, drop, getD, drop-of-length-le}
-use lib.Seq.{drop-cons}
-use borrow.Author.Tests.{ltb-true, ltb-false, eq-eqb, ne-eqb}
+use lib.ListN.{length, drop, getD, length-drop, drop-of-length-le}
+use lib.Seq.{drop-cons, take-all}
+use borrow.Author.Tests.{ltb-true, ltb-false, ne-eqb}
 use Rattle.base.specs.Choice.{test-cases}
 use Rattle.base.specs.Lists.{begins, same}
+use Rattle.base.specs.ListLaws.{begins-iff}
 
 -- a byte in front of a word and of a text
 begins-cons : (w b : ℕ) (ws bs : List ℕ) → begins (w ∷ ws) (b ∷ bs) ≡ (eqb b w && begins ws bs)
@@ -40,17 +41,17 @@ module _ (text : List ℕ) where
       test-cases (λ t. ltb at (length text) ≡ t → at < length text) (ltb at (length text)) (λ _ h. ltb-true at (length text) h)
       (λ _ h. absurd (false≢true (one-behind at w (ltb-false at (length text) h) ∙ e))) refl
 
-  module _ (word : List ℕ) (i j : ℕ) where
-    pub begins-next : i < length word → j < length text → getD text j 0 ≡ getD word i 0
-        → begins (drop i word) (drop j text) ≡ begins (drop (i + 1) word) (drop (j + 1) text)
-    begins-next hi hj e =
-        rw (add-one i, add-one j, drop-cons word i 0, drop-cons text j 0, begins-cons, eq-eqb (getD text j 0) (getD word i 0) e)
+  -- behind the end only the empty word stands
+  pub begins-behind : (word : List ℕ) (at : ℕ) → length text ≤ at → eqb (length word) 0 ≡ begins word (drop at text)
+  begins-behind [] at h = sym (begins-empty (drop at text))
+  begins-behind (w ∷ ws) at h = ne-eqb (length (w ∷ ws)) 0 (λ e. omega arith) ∙ rw (drop-of-length-le text h, begins-none)
 
-    pub begins-other : i < length word → j < length text → (getD text j 0 ≡ getD word i 0 → ⊥) → begins (drop i word) (drop j text) ≡ false
-    begins-other hi hj e = rw (drop-cons word i 0, drop-cons text j 0, begins-cons, ne-eqb (getD text j 0) (getD word i 0) e)
-
-    pub begins-short : i < length word → length text ≤ j → begins (drop i word) (drop j text) ≡ false
-    begins-short hi hj = rw (drop-cons word i 0, drop-of-length-le text hj, begins-none)
-
-    pub begins-whole : length word ≤ i → begins (drop i word) (drop j text) ≡ true
-    begins-whole hi = rw (drop-of-length-le word hi, begins-empty)
+  -- a word doesn't stand where fewer bytes are left
+  pub begins-short : (word : List ℕ) (at : ℕ) → length text - at < length word → false ≡ begins word (drop at text)
+  begins-short word at h =
+      let few : length (drop at text) < length word = omega (arith, length-drop at text) in
+      test-cases (λ t. false ≡ t) (begins word (drop at text))
+      (λ e.
+      let whole : drop at text ≡ word = sym (take-all (length word) (drop at text) (omega arith)) ∙ begins-iff word (drop at text) .0 e in
+      absurd (omega (arith, ap length whole)))
+      (λ _. refl)

@@ -1,23 +1,17 @@
 -- The code's constants, as document 01 has them. Assumes nothing.
 use mathlib.Core.List.{List}
 use mathlib.Core.Path.{_≡_}
-use Prim.Native.Nat.{ℕ, _+_, _≤_, _<_}
+use Prim.Native.Nat.{ℕ, _≤_, _<_}
 use lib.IntN.{ℤ}
 use lib.ListN.{length, drop}
 use Rattle.base.specs.Edition.{edition1}
-use Rattle.cards.specs.Bytes.{isDigit}
 use Rattle.convert.specs.Numbers.{limit, InRange}
 use Rattle.language.specs.Reading.{Read, broken, give}
-use Rattle.language.specs.Words.{run, unsigned, signed}
+use Rattle.language.specs.Words.{unsigned, signed}
 use Rattle.words.specs.declared.constants.Constant as Plain
 use Rattle.words.specs.declared.constants.Constant.{Constant}
 use Rattle.words.specs.declared.constants.SignedConstant as Signed
 use Rattle.words.specs.declared.constants.SignedConstant.{SignedConstant}
-
--- n digits stand at a place
-pub record Digits (text : List ℕ) (at n : ℕ) : Type 0 where
-  pub is : n ≡ run isDigit (drop at text)
-  pub inside : at + n ≤ length text
 
 -- a constant is in range
 abbrev pub InLimit : Constant → Type 0

@@ -2,27 +2,16 @@
 use mathlib.Core.Bool.{Bool, true, false}
 use mathlib.Core.List.{List, [], _∷_}
 use mathlib.Core.Path.{_≡_, refl, ap, _∙_}
-use Prim.Native.Nat.{ℕ, zero, suc, _+_, _-_, _≤_, _<_}
+use Prim.Native.Nat.{ℕ, suc, _+_, _-_, _≤_, _<_}
 use native.Mathlib.Numerals.{add-one}
 use native.Mathlib.Omega.{arith}
 use lib.ListN.{length, drop, getD, length-drop, drop-of-length-le}
 use lib.Seq.{drop-cons}
-use Rattle.base.specs.Choice.{test-cases}
 use Rattle.language.specs.Fuel.{run-within}
 use Rattle.language.specs.Words.{run}
 use Rattle.words.specs.Places.{Counts}
 
 module _ (f : ℕ → Bool) where
-  -- each byte of the run passes
-  pub run-passes : (bs : List ℕ) (i : ℕ) → i < run f bs → f (getD bs i 0) ≡ true
-  unfolding run
-  run-passes [] i = λ h. absurd (omega arith)
-  run-passes (b ∷ bs) zero =
-      test-cases (λ t. 0 < elim t [ true ↦ suc (run f bs) | false ↦ 0 ] → f b ≡ true) (f b) (λ e h. e) (λ e h. absurd (omega arith))
-  run-passes (b ∷ bs) (suc i) =
-      test-cases (λ t. suc i < elim t [ true ↦ suc (run f bs) | false ↦ 0 ] → f (getD bs i 0) ≡ true) (f b)
-      (λ e h. run-passes bs i (omega arith)) (λ e h. absurd (omega arith))
-
   run-front : (b : ℕ) (bs : List ℕ) → f b ≡ true → run f (b ∷ bs) ≡ suc (run f bs)
   unfolding run
   run-front b bs e = rw (run, e)

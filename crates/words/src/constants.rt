@@ -7,10 +7,7 @@ use convert::LIMIT;
 ghost use mathlib.Core.Path.{_≡_};
 ghost use Prim.Native.Nat.{ℕ};
 ghost use lib.IntN.{pos, negℤ};
-ghost use lib.ListN.{take, drop};
-ghost use Rattle.convert.specs.Numbers.{Capped};
-ghost use Rattle.language.specs.Words.{decimalFrom};
-ghost use Rattle.words.specs.Constants.{Digits, InLimit, Reads, ReadsSigned, signedBy};
+ghost use Rattle.words.specs.Constants.{InLimit, Reads, ReadsSigned, signedBy};
 
 // a constant with the place behind it
 pub enum Constant {
@@ -24,24 +21,6 @@ pub enum SignedConstant {
     Broken,
 }
 
-// the value of the n digits at a place, or one that is above LIMIT if that is
-fn decimal(text: &[u8], at: usize, n: usize) -> u64
-    requires { ⌜ Digits (now text) at n ⌝ }
-    ensures { λ r. ⌜ Capped r (decimalFrom 0 (take n (drop at (now (text .entry))))) ⌝ }
-{
-    let mut value: u64 = 0;
-    let mut i = 0;
-    while i < n {
-        let digit = text[at + i] - b'0';
-        value = value * 10 + (digit as u64);
-        if LIMIT < value {
-            return value;
-        }
-        i += 1;
-    }
-    value
-}
-
 // the constant at a place
 pub fn unsigned(text: &[u8], at: usize) -> Constant
     ensures { λ r. ⌜ Reads (now (text .entry)) at r ⌝ }
@@ -50,12 +29,10 @@ pub fn unsigned(text: &[u8], at: usize) -> Constant
     if n == 0 {
         return Constant::Broken;
     }
-    let value = decimal(text, at, n);
+    let end = at + n;
+    let value = convert::decimal_from(&text[at..end], 0);
     if value <= LIMIT {
-        return Constant::Is {
-            value,
-            next: at + n,
-        };
+        return Constant::Is { value, next: end };
     }
     Constant::Broken
 }

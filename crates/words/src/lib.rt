@@ -49,17 +49,11 @@ pub fn constant_at(text: &[u8], at: usize) -> bool
 pub fn begins_at(text: &[u8], at: usize, word: &[u8]) -> bool
     ensures { λ r. ⌜ r ≡ begins (now (word .entry)) (drop at (now (text .entry))) ⌝ }
 {
-    let mut i = 0;
-    let mut j = at;
-    while i < word.len() {
-        if text.len() <= j {
-            return false;
-        }
-        if text[j] != word[i] {
-            return false;
-        }
-        i += 1;
-        j += 1;
+    if text.len() <= at {
+        return word.len() == 0;
     }
-    true
+    if text.len() - at < word.len() {
+        return false;
+    }
+    search::begins_with(&text[at..], word)
 }
