@@ -1,28 +1,37 @@
 -- Quotes and other bytes, and places where nothing stands. Assumes nothing.
-use mathlib.Core.Bool.{Bool, true, false, not, _||_}
+use mathlib.Core.Bool.{true, false, not, _||_}
 use mathlib.Core.List.{List, [], _∷_}
-use mathlib.Core.Path.{_≡_, sym, ap, _∙_}
-use Prim.Native.Nat.{ℕ, _≤_, _<_}
+use mathlib.Core.Path.{_≡_, refl, sym, ap, _∙_}
+use Prim.Native.Nat.{ℕ, suc, _-_, _≤_, _<_}
+use native.Mathlib.Omega.{arith}
 use lib.Dec.{eqb}
 use lib.ListN.{length, drop, drop-of-length-le}
 use lib.Seq.{drop-cons}
-use borrow.Author.Tests.{eq-eqb, ne-eqb}
+use Rattle.base.specs.Choice.{test-cases}
 use Rattle.base.specs.Lists.{begins}
 use Rattle.base.specs.Text.{bytes}
 use Rattle.cards.specs.Bytes.{quote}
 use Rattle.language.specs.Strings.{nothingHere}
+use Rattle.language.specs.Words.{run}
+use Rattle.search.specs.NextLaws.{next-until}
+use Rattle.search.specs.Passing.{NextByte, until}
+use Rattle.words.specs.Places.{Counts}
 
--- a byte that is no quote
-abbrev pub plain : ℕ → Bool
-plain b = not (eqb b quote)
+-- the bytes before the next quote
+quotes-until : (bs : List ℕ) → run (λ b. not (eqb b quote)) bs ≡ until 34 bs
+unfolding run until quote
+quotes-until [] = refl
+quotes-until (b ∷ bs) =
+    test-cases
+    (λ t.
+    _≡_ {A = ℕ} (elim (not t) [ true ↦ suc (run (λ b. not (eqb b quote)) bs) | false ↦ 0 ])
+    (elim t [ true ↦ 0 | false ↦ suc (until 34 bs) ]))
+    (eqb b 34) (λ _. refl) (λ _. ap suc (quotes-until bs))
 
-pub plain-other : (b : ℕ) → (b ≡ 34 → ⊥) → plain b ≡ true
-unfolding quote
-plain-other b h = ap not (ne-eqb b 34 h)
-
-pub plain-quote : (b : ℕ) → b ≡ 34 → plain b ≡ false
-unfolding quote
-plain-quote b e = ap not (eq-eqb b 34 e)
+pub quotes-next : (text : List ℕ) (at next : ℕ) → NextByte text 34 at next
+    → Counts text at (run (λ b. not (eqb b quote)) (drop at text)) (next - at)
+quotes-next text at next n =
+    record { is = omega (arith, next-until text 34 at next n, quotes-until (drop at text)); inside = omega (arith, n .high) }
 
 module _ (text : List ℕ) (at : ℕ) where
   -- the end, and any other place

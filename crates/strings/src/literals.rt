@@ -15,23 +15,15 @@ ghost use Rattle.numeric.specs.Operands.{Ready};
 ghost use Rattle.words.specs.Places.{Counts};
 ghost use Rattle.strings.specs.Elements.{Spellable, Spelt, LiteralRead};
 
-const QUOTE: u8 = 34;
-
 // the kind of a literal
 const LITERAL: u8 = 16;
 
 // how many bytes stand before the next quote
 fn literal_length(text: &[u8], at: usize) -> usize
+    requires { ⌜ at ≤ length (now text) ⌝ }
     ensures { λ r. ⌜ Counts (now (text .entry)) at (run (λ (b : ℕ). not (eqb b quote)) (drop at (now (text .entry)))) r ⌝ }
 {
-    let mut i = at;
-    while i < text.len() {
-        if text[i] == QUOTE {
-            return i - at;
-        }
-        i += 1;
-    }
-    i - at
+    search::next_byte(text, b'"', at) - at
 }
 
 // writes the n bytes behind the quote at the cursor as a literal; the cursor goes size further
