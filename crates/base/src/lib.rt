@@ -1,13 +1,18 @@
-// Definitions: what every other crate's specs lean on. For code: the counts of specs/Limits, and bytes and numbers as numbers that index.
+// Definitions: what every other crate's specs lean on. For code: the counts of specs/Limits, bytes and numbers as numbers that index, and the
+// smaller of two.
 ghost use mathlib.Core.Path.{_≡_};
-ghost use Prim.Native.Nat.{_<_};
+ghost use Prim.Native.Nat.{_<_, min};
 
-// how many steps, strings and numbers a program may have
+// how many steps, strings, numbers, labels and routines a program may have
 pub const STEPS: usize = 256;
 
 pub const STRINGS: usize = 32;
 
 pub const NUMBERS: usize = 32;
+
+pub const LABELS: usize = 64;
+
+pub const ROUTINES: usize = 16;
 
 // the most elements of an expression
 pub const ROW: usize = 20;
@@ -22,8 +27,16 @@ pub const LITERALS: usize = 4096;
 // the longest string
 pub const LONGEST: usize = 1024;
 
+// how deep parentheses go
+pub const DEEPEST: usize = 16;
+
 // the most returns held
 pub const RETURNS: usize = 16;
+
+// the longest line of a deck; and the longest deck, as calls/Calls has it
+pub const LINE: usize = 80;
+
+pub const DECK: usize = 32_768;
 
 pub fn wide(b: u8) -> usize
     ensures { λ r. ⌜ (r ≡ b) × (r < 256) ⌝ }
@@ -35,4 +48,11 @@ pub fn number(n: u32) -> usize
     ensures { λ r. ⌜ r ≡ n ⌝ }
 {
     n as usize
+}
+
+// the smaller of two numbers
+pub fn least(a: usize, b: usize) -> usize
+    ensures { λ r. ⌜ r ≡ min a b ⌝ }
+{
+    if a <= b { a } else { b }
 }

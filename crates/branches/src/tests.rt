@@ -2,6 +2,8 @@
 // Assumes nothing.
 use crate::Draft;
 use crate::Row;
+use calls::cell_kinds;
+use calls::step_kinds;
 use met::Cursor;
 use met::KNOWN;
 use met::NAMES;
@@ -68,7 +70,7 @@ fn signed_constant(text: &[u8], c: Cursor) -> Operand
         SignedConstant::Broken => Operand::Broken,
         SignedConstant::Is { value, next } => Operand::Got(
             Cell {
-                kind: 4,
+                kind: cell_kinds::CONSTANT,
                 place: 0,
                 value: with_bias(value),
             },
@@ -116,7 +118,7 @@ fn compared(
         Operand::Broken => Draft::Broken,
         Operand::Got(right, d) => Draft::Got(
             Row {
-                kind: 7,
+                kind: step_kinds::COMPARE,
                 flag: sign.number,
                 success: 0,
                 failure: 0,
@@ -163,7 +165,7 @@ fn tested(text: &[u8], kind: u8, r: Operand) -> Draft
                         failure: 0,
                         left,
                         right: Cell {
-                            kind: 0,
+                            kind: cell_kinds::NOTHING,
                             place: 0,
                             value: 0,
                         },
@@ -192,9 +194,9 @@ pub fn read_test(
     if begins_at(text, at, b"NULL(") {
         return tested(
             text,
-            5,
+            step_kinds::NULL,
             placed(
-                1,
+                cell_kinds::STRING,
                 0,
                 read_string(text, known, keys, tags, skip(c, 5), STRING),
             ),
@@ -203,7 +205,7 @@ pub fn read_test(
     if begins_at(text, at, b"NUMERIC(") {
         return tested(
             text,
-            6,
+            step_kinds::NUMERIC,
             read_part(text, known, keys, tags, skip(c, 8), 0, STRING),
         );
     }

@@ -13,6 +13,7 @@ ghost use Rattle.rows.specs.Meaning.{partMeaning, testMeaning, branchMeaning, i
 ghost use Rattle.statements.specs.Valued.{Writable};
 ghost use Rattle.carry.specs.Carrying.{lent, Does, MovesOn};
 use base::LONGEST;
+use calls::STATE_SIZE;
 use expressions::Truth;
 use rows::Branch;
 use rows::Part;
@@ -29,7 +30,7 @@ pub fn choose(success: bool, b: Branch) -> usize
 }
 
 // moves on to a step where a statement's work is done; what stops it changes nothing
-fn move_on(state: &mut [u64; 64], k: usize, did: Did) -> Did
+fn move_on(state: &mut [u64; STATE_SIZE], k: usize, did: Did) -> Did
     ensures { λ r. ⌜ MovesOn did r (now (state .entry)) (now (state .exit)) k ⌝ }
 {
     match did {
@@ -45,7 +46,7 @@ fn move_on(state: &mut [u64; 64], k: usize, did: Did) -> Did
 pub fn set_number(
     table: &[u8],
     store: &[u8],
-    state: &mut [u64; 64],
+    state: &mut [u64; STATE_SIZE],
     next: usize,
     place: usize,
     s: Stretch,
@@ -63,7 +64,7 @@ pub fn set_number(
 pub fn set_string(
     table: &[u8],
     store: &mut [u8],
-    state: &mut [u64; 64],
+    state: &mut [u64; STATE_SIZE],
     next: usize,
     p: Part,
     s: Stretch,
@@ -81,7 +82,7 @@ pub fn set_string(
 }
 
 // GOTO, LABEL and ROUTINE: on to a step
-pub fn go_to(state: &mut [u64; 64], k: usize) -> Did
+pub fn go_to(state: &mut [u64; STATE_SIZE], k: usize) -> Did
     ensures { λ r. ⌜ ((store input output : List ℕ) → Does (Program.goto k) r
         (lent store (now (state .entry)) output) (lent store (now (state .exit)) output) input) ⌝ }
 {
@@ -90,7 +91,7 @@ pub fn go_to(state: &mut [u64; 64], k: usize) -> Did
 }
 
 // END and EXIT
-pub fn finish(state: &mut [u64; 64]) -> Did
+pub fn finish(state: &mut [u64; STATE_SIZE]) -> Did
     ensures { λ r. ⌜ ((store input output : List ℕ) → Does Program.finish r
         (lent store (now (state .entry)) output) (lent store (now (state .exit)) output) input) ⌝ }
 {
@@ -99,7 +100,7 @@ pub fn finish(state: &mut [u64; 64]) -> Did
 }
 
 // IF
-pub fn test(store: &[u8], state: &mut [u64; 64], t: Test, b: Branch) -> Did
+pub fn test(store: &[u8], state: &mut [u64; STATE_SIZE], t: Test, b: Branch) -> Did
     requires { ⌜ Ready (now store) (now state) ⌝ }
     requires { ⌜ TestHolds t ⌝ }
     ensures { λ r. ⌜ ((input output : List ℕ) → Does (Program.ifTest (testMeaning t) (branchMeaning b)) r
@@ -115,7 +116,13 @@ pub fn test(store: &[u8], state: &mut [u64; 64], t: Test, b: Branch) -> Did
 }
 
 // READ
-pub fn read(store: &mut [u8], state: &mut [u64; 64], input: &[u8], p: Part, b: Branch) -> Did
+pub fn read(
+    store: &mut [u8],
+    state: &mut [u64; STATE_SIZE],
+    input: &[u8],
+    p: Part,
+    b: Branch,
+) -> Did
     requires { ⌜ Ready (now store) (now state) ⌝ }
     requires { ⌜ PartHolds p × (getD (now state) 3 0 ≤ length (now input)) ⌝ }
     ensures { λ r. ⌜ ((output : List ℕ) → Does (Program.read (partMeaning p) (branchMeaning b)) r
@@ -138,7 +145,7 @@ pub fn read(store: &mut [u8], state: &mut [u64; 64], input: &[u8], p: Part, b: B
 pub fn write(
     table: &[u8],
     store: &[u8],
-    state: &mut [u64; 64],
+    state: &mut [u64; STATE_SIZE],
     output: &mut [u8],
     next: usize,
     s: Stretch,
@@ -156,7 +163,7 @@ pub fn write(
 }
 
 // EXECUTE: a return held to the step behind it
-pub fn execute(state: &mut [u64; 64], next: usize, k: usize) -> Did
+pub fn execute(state: &mut [u64; STATE_SIZE], next: usize, k: usize) -> Did
     requires { ⌜ (getD (now state) 2 0 < 16) × (next ≡ getD (now state) 1 0 + 1) ⌝ }
     ensures { λ r. ⌜ ((store input output : List ℕ) → Does (Program.execute k) r
         (lent store (now (state .entry)) output) (lent store (now (state .exit)) output) input) ⌝ }
@@ -167,7 +174,7 @@ pub fn execute(state: &mut [u64; 64], next: usize, k: usize) -> Did
 }
 
 // RETURN and ENDROUTINE: to the step of the latest return
-pub fn return_to(state: &mut [u64; 64]) -> Did
+pub fn return_to(state: &mut [u64; STATE_SIZE]) -> Did
     requires { ⌜ (0 < getD (now state) 2 0) × (getD (now state) 2 0 ≤ 16) ⌝ }
     ensures { λ r. ⌜ ((store input output : List ℕ) → Does Program.return r
         (lent store (now (state .entry)) output) (lent store (now (state .exit)) output) input) ⌝ }

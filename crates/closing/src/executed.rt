@@ -10,9 +10,9 @@ ghost use Rattle.closing.specs.Held.{Closable};
 ghost use Rattle.closing.specs.Pairs.{Pairing, Paired, inRow, byUse, NotedAll};
 
 // one routine more than 10 allows, and the pairs of them
-pub const PLACES: usize = 17;
+pub const PLACES: usize = base::ROUTINES + 1;
 
-pub const PAIRS: usize = 289;
+pub const PAIRS: usize = PLACES * PLACES;
 
 // notes that place i executes each place with a key
 fn note_row(known: &[u64; KNOWN], count: usize, pairs: &mut [bool; PAIRS], i: usize, key: u64)

@@ -2,12 +2,15 @@
 use mathlib.Core.Bool.{true, false}
 use mathlib.Core.List.{List, [], _∷_, map}
 use mathlib.Core.Path.{_≡_, refl, sym, ap, subst, _∙_}
-use Prim.Native.Nat.{ℕ, zero, suc, _+_, _*_, _-_, _^_, _≤_, _<_}
-use native.Mathlib.Nat.{not-suc-le-zero}
+use Prim.Native.Nat.{ℕ, zero, suc, _+_, _*_, _-_, _^_, _≤_, _<_, min}
+use native.Mathlib.Nat.{not-suc-le-zero, min-eq-left, min-eq-right, min-le-right}
 use native.Mathlib.Omega.{arith}
+use lib.Dec.{leb}
 use lib.IntN.{ℤ, pos, natAbs}
 use lib.ListN.{length, take, drop, getD, length-drop}
 use lib.Seq.{getD-drop, getD-take, length-take-le, take-all, take-take}
+use borrow.Author.Tests.{leb-true, leb-false}
+use Rattle.base.specs.Choice.{test-cases}
 use Rattle.calls.specs.BufferLaws.{Good, string-part}
 use Rattle.calls.specs.Buffers.{numbersIn, numbersAt}
 use Rattle.calls.specs.NumeralLaws.{biased-small, biased-unbiased}
@@ -27,6 +30,16 @@ getD-mapped : {A B : Type 0} (f : A → B) (l : List A) (i : ℕ) (d : A) (z : B
 getD-mapped f [] i d z h = absurd (not-suc-le-zero h)
 getD-mapped f (x ∷ l) zero d z h = refl
 getD-mapped f (x ∷ l) (suc i) d z h = getD-mapped f l i d z (omega arith)
+
+-- as many bytes as asked for, or all
+pub take-least : (k : ℕ) (l : List ℕ) → take (min k (length l)) l ≡ take k l
+take-least k l =
+    test-cases (λ _. take (min k (length l)) l ≡ take k l) (leb k (length l))
+    (λ t. ap (λ (i : ℕ). take i l) (min-eq-left (leb-true k (length l) t)))
+    (λ f.
+    let short : length l ≤ k = omega (arith, leb-false k (length l) f) in
+    let all : length l ≤ length l = omega arith in
+    ap (λ (i : ℕ). take i l) (min-eq-right short) ∙ take-all (length l) l all ∙ sym (take-all k l short))
 
 -- a number of a state, and the 6 bytes that it is kept in
 module _ (state : List ℕ) (n : Numbered state) (i : ℕ) (h : i < 32) where
@@ -88,15 +101,10 @@ module _ (store : List ℕ) (g : Good store) (s : ℕ) (h : s < 32) (from : ℕ)
         work = rw e (ap (λ (i : ℕ). done (take i (drop from store)) 1) (sym none));
       }
 
-  module _ (n : ℤ) (k : ℕ) (count : k ≡ length string) (short : k ≤ 1024) where
-    pub longer-spans : isNegative n ≡ false → (asked : ℕ) → asked ≡ natAbs n → k ≤ asked
-        → Spans store (record { from = from; to = from + k; notes = 0 }) (substring string n)
-    unfolding substring
-    longer-spans e asked size less =
-        let whole : take (natAbs n) string ≡ string = take-all (natAbs n) string (omega arith) in
-        rw (e, whole) (string-spans k count short)
-
-    pub shorter-spans : isNegative n ≡ false → (asked : ℕ) → asked ≡ natAbs n → asked < k
-        → Spans store (record { from = from; to = from + asked; notes = 0 }) (substring string n)
-    unfolding substring
-    shorter-spans e asked size less = rw (e, sym size) (first-spans asked (omega arith) (omega arith))
+  pub substring-spans : (n : ℤ) (k asked : ℕ) → k ≡ length string → k ≤ 1024 → isNegative n ≡ false → asked ≡ natAbs n
+      → (least : ℕ) → least ≡ min asked k → Spans store (record { from = from; to = from + least; notes = 0 }) (substring string n)
+  unfolding substring
+  substring-spans n k asked count short e size least smaller =
+      let cut : take least string ≡ take (natAbs n) string =
+      ap (λ (i : ℕ). take i string) (smaller ∙ ap (min asked) count) ∙ take-least asked string ∙ ap (λ (i : ℕ). take i string) size in
+      rw (e, sym cut) (first-spans least (omega (arith, min-le-right asked k)) (omega arith))

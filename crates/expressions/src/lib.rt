@@ -25,7 +25,9 @@ ghost use Rattle.expressions.specs.Pairs.{PairAt};
 ghost use Rattle.expressions.specs.Values.{spanned, Lies, Spans, thenNumber, thenNumeric, Valuable, Spellable, Written, truthWorked};
 ghost use Rattle.expressions.specs.Waiting.{waitingIn, pushed, signedAs, Waits, Keepable, waitingAfter, Takable, Taken};
 use base::LONGEST;
+use base::least;
 use calls::NUMBERS_AT;
+use calls::STATE_SIZE;
 use calls::WAITING;
 use convert::Int;
 use convert::Number;
@@ -42,7 +44,7 @@ use rows::Stretch;
 use rows::Test;
 
 // the last of the kinds that operands have in a cell
-const LAST_OPERAND: usize = 9;
+const LAST_OPERAND: usize = calls::cell_kinds::LAST_OPERAND as usize;
 
 // where bytes of the store lie, with the notes made on the way
 pub struct Ends {
@@ -64,7 +66,7 @@ pub enum Truth {
 }
 
 // the number of this place
-pub fn number_at(state: &[u64; 64], place: usize) -> Int
+pub fn number_at(state: &[u64; STATE_SIZE], place: usize) -> Int
     requires { ⌜ Numbered (now state) ⌝ }
     requires { ⌜ place < 32 ⌝ }
     ensures { λ r. ⌜ ((store : List ℕ) → Gives r (numberAt (memoryIn store (now (state .entry))) place)) ⌝ }
@@ -73,7 +75,7 @@ pub fn number_at(state: &[u64; 64], place: usize) -> Int
 }
 
 // a constant, or the number of its place
-pub fn length_value(state: &[u64; 64], n: Length) -> Int
+pub fn length_value(state: &[u64; STATE_SIZE], n: Length) -> Int
     requires { ⌜ Numbered (now state) ⌝ }
     requires { ⌜ SignedLengthHolds n ⌝ }
     ensures { λ r. ⌜ ((store : List ℕ) → Gives r (lengthIn (memoryIn store (now (state .entry))) (lengthMeaning n))) ⌝ }
@@ -114,22 +116,15 @@ fn first_ends(store: &[u8], place: usize, n: Int) -> Ends
     }
     let length = cells::string_length(store, place);
     let asked = convert::size(n) as usize;
-    if length <= asked {
-        return Ends {
-            from,
-            to: from + length,
-            notes: 0,
-        };
-    }
     Ends {
         from,
-        to: from + asked,
+        to: from + least(asked, length),
         notes: 0,
     }
 }
 
 // where a part of a string lies
-pub fn part_ends(store: &[u8], state: &[u64; 64], p: Part) -> Ends
+pub fn part_ends(store: &[u8], state: &[u64; STATE_SIZE], p: Part) -> Ends
     requires { ⌜ Ready (now store) (now state) ⌝ }
     requires { ⌜ PartHolds p ⌝ }
     ensures { λ r. ⌜ Spans (now (store .entry)) r (partIn (memoryIn (now (store .entry)) (now (state .entry))) (partMeaning p)) ⌝ }
@@ -165,7 +160,7 @@ fn number_between(store: &[u8], ends: Ends) -> Number
 }
 
 // a constant, a number, the length of a string, or NUMBER of a part of one
-pub fn operand_value(store: &[u8], state: &[u64; 64], a: Operand) -> Number
+pub fn operand_value(store: &[u8], state: &[u64; STATE_SIZE], a: Operand) -> Number
     requires { ⌜ Ready (now store) (now state) ⌝ }
     requires { ⌜ OperandHolds a ⌝ }
     ensures { λ r. ⌜ Answers r (operandIn edition1 (memoryIn (now (store .entry)) (now (state .entry))) (operandMeaning a)) ⌝ }
@@ -185,7 +180,7 @@ pub fn operand_value(store: &[u8], state: &[u64; 64], a: Operand) -> Number
 }
 
 // the same, a constant and a number without a call
-fn quick_value(store: &[u8], state: &[u64; 64], a: Operand) -> Number
+fn quick_value(store: &[u8], state: &[u64; STATE_SIZE], a: Operand) -> Number
     requires { ⌜ Ready (now store) (now state) ⌝ }
     requires { ⌜ OperandHolds a ⌝ }
     ensures { λ r. ⌜ Answers r (operandIn edition1 (memoryIn (now (store .entry)) (now (state .entry))) (operandMeaning a)) ⌝ }
@@ -215,7 +210,7 @@ fn operation(o: Operator, a: Int, b: Int) -> Number
 }
 
 // puts a value at a place of the waiting numbers
-fn keep(v: Number, waiting: &mut [i64; 64], at: usize) -> Known
+fn keep(v: Number, waiting: &mut [i64; WAITING], at: usize) -> Known
     requires { ⌜ Keepable v (now waiting) at ⌝ }
     ensures { λ r. ⌜ Taken r (now (waiting .exit)) (at + 1) (pushed (waitingIn (now (waiting .entry)) at) (worked v)) ⌝ }
 {
@@ -233,7 +228,7 @@ fn keep(v: Number, waiting: &mut [i64; 64], at: usize) -> Known
 }
 
 // the waiting number at a place
-fn waiting_at(waiting: &[i64; 64], at: usize) -> Int
+fn waiting_at(waiting: &[i64; WAITING], at: usize) -> Int
     requires { ⌜ Waits (now waiting) ⌝ }
     requires { ⌜ at < 64 ⌝ }
     ensures { λ r. ⌜ Gives r (getD (now (waiting .entry)) at (pos 0)) ⌝ }
@@ -243,7 +238,7 @@ fn waiting_at(waiting: &[i64; 64], at: usize) -> Int
 }
 
 // the two latest numbers give way to what an operator makes of them
-fn combine(o: Operator, waiting: &mut [i64; 64], known: usize) -> Known
+fn combine(o: Operator, waiting: &mut [i64; WAITING], known: usize) -> Known
     requires { ⌜ Waits (now waiting) ⌝ }
     requires { ⌜ (2 ≤ known) × (known ≤ 64) ⌝ }
     ensures { λ r. ⌜ ((m : Memory) → Taken r (now (waiting .exit)) (known - 1)
@@ -266,7 +261,7 @@ fn signed(g: Sign, z: Int) -> Int
 }
 
 // the latest number gets a sign
-fn change_sign(g: Sign, waiting: &mut [i64; 64], known: usize) -> Known
+fn change_sign(g: Sign, waiting: &mut [i64; WAITING], known: usize) -> Known
     requires { ⌜ Waits (now waiting) ⌝ }
     requires { ⌜ (1 ≤ known) × (known ≤ 64) ⌝ }
     ensures { λ r. ⌜ ((m : Memory) → Taken r (now (waiting .exit)) known
@@ -280,9 +275,9 @@ fn change_sign(g: Sign, waiting: &mut [i64; 64], known: usize) -> Known
 // an item changes the latest of the waiting numbers
 fn take_item(
     store: &[u8],
-    state: &[u64; 64],
+    state: &[u64; STATE_SIZE],
     x: Item,
-    waiting: &mut [i64; 64],
+    waiting: &mut [i64; WAITING],
     known: usize,
 ) -> Known
     requires { ⌜ Takable (now store) (now state) x (now waiting) known ⌝ }
@@ -297,7 +292,7 @@ fn take_item(
 }
 
 // the value of two operands and the operator behind them
-fn pair_value(table: &[u8], store: &[u8], state: &[u64; 64], s: Stretch) -> Number
+fn pair_value(table: &[u8], store: &[u8], state: &[u64; STATE_SIZE], s: Stretch) -> Number
     requires { ⌜ Valuable (now table) (now store) (now state) s ⌝ }
     requires { ⌜ PairAt (now table) s ⌝ }
     ensures { λ r. ⌜ Answers r
@@ -321,7 +316,7 @@ fn pair_value(table: &[u8], store: &[u8], state: &[u64; 64], s: Stretch) -> Numb
 }
 
 // the value of a numeric expression, item by item; each operator finds its operands waiting
-fn items_value(table: &[u8], store: &[u8], state: &[u64; 64], s: Stretch) -> Number
+fn items_value(table: &[u8], store: &[u8], state: &[u64; STATE_SIZE], s: Stretch) -> Number
     requires { ⌜ Valuable (now table) (now store) (now state) s ⌝ }
     ensures { λ r. ⌜ Answers r
         (numericIn edition1 (memoryIn (now (store .entry)) (now (state .entry))) (itemsMeaning (now (table .entry)) s)) ⌝ }
@@ -349,7 +344,7 @@ fn items_value(table: &[u8], store: &[u8], state: &[u64; 64], s: Stretch) -> Num
 }
 
 // the value of a numeric expression; most are a pair, for which no number has to wait
-pub fn numeric_value(table: &[u8], store: &[u8], state: &[u64; 64], s: Stretch) -> Number
+pub fn numeric_value(table: &[u8], store: &[u8], state: &[u64; STATE_SIZE], s: Stretch) -> Number
     requires { ⌜ Valuable (now table) (now store) (now state) s ⌝ }
     ensures { λ r. ⌜ Answers r
         (numericIn edition1 (memoryIn (now (store .entry)) (now (state .entry))) (itemsMeaning (now (table .entry)) s)) ⌝ }
@@ -370,12 +365,8 @@ fn append(v: &[u8], out: &mut [u8; LONGEST], at: usize)
     if LONGEST <= at {
         return;
     }
-    let room = LONGEST - at;
-    if v.len() <= room {
-        cells::spans::copy(v, out, at);
-    } else {
-        cells::spans::copy(&v[..room], out, at);
-    }
+    let end = least(LONGEST - at, v.len());
+    cells::spans::copy(&v[..end], out, at);
 }
 
 // appends the bytes between two ends
@@ -425,7 +416,7 @@ fn append_text(
 pub fn append_element(
     table: &[u8],
     store: &[u8],
-    state: &[u64; 64],
+    state: &[u64; STATE_SIZE],
     x: Element,
     scratch: &mut [u8; LONGEST],
     out: &mut [u8; LONGEST],
@@ -456,7 +447,7 @@ pub fn append_element(
 pub fn string_value(
     table: &[u8],
     store: &[u8],
-    state: &[u64; 64],
+    state: &[u64; STATE_SIZE],
     s: Stretch,
     scratch: &mut [u8; LONGEST],
     out: &mut [u8; LONGEST],
@@ -501,7 +492,7 @@ fn numeric_between(store: &[u8], ends: Ends) -> Truth
 }
 
 // the comparison of two operands, the left one valued first
-fn compares_value(store: &[u8], state: &[u64; 64], x: Compares) -> Truth
+fn compares_value(store: &[u8], state: &[u64; STATE_SIZE], x: Compares) -> Truth
     requires { ⌜ Ready (now store) (now state) ⌝ }
     requires { ⌜ OperandHolds (x .left) × OperandHolds (x .right) ⌝ }
     ensures { λ r. ⌜ truthWorked r
@@ -523,7 +514,7 @@ fn compares_value(store: &[u8], state: &[u64; 64], x: Compares) -> Truth
 }
 
 // what an IF asks
-pub fn test_value(store: &[u8], state: &[u64; 64], t: Test) -> Truth
+pub fn test_value(store: &[u8], state: &[u64; STATE_SIZE], t: Test) -> Truth
     requires { ⌜ Ready (now store) (now state) ⌝ }
     requires { ⌜ TestHolds t ⌝ }
     ensures { λ r. ⌜ truthWorked r ≡ testIn edition1 (memoryIn (now (store .entry)) (now (state .entry))) (testMeaning t) ⌝ }

@@ -4,6 +4,7 @@ pub mod stages;
 pub mod steps;
 
 use branches::Row;
+use calls::step_kinds;
 use met::Cursor;
 use met::KNOWN;
 use met::NAMES;
@@ -62,19 +63,27 @@ pub fn read_form(
         Kind::Replacement => replacement_form(text, known, table, keys, tags, d),
         Kind::Number => numbers_form(text, keys, tags, d),
         Kind::Program => program_form(text, keys, tags, d),
-        Kind::End => plain_form(text, d, 4),
-        Kind::Goto => target_form(text, known, keys, tags, d, 3, LABEL),
-        Kind::Exit => plain_form(text, d, 4),
+        Kind::End => plain_form(text, d, step_kinds::FINISH),
+        Kind::Goto => target_form(text, known, keys, tags, d, step_kinds::GOTO, LABEL),
+        Kind::Exit => plain_form(text, d, step_kinds::FINISH),
         Kind::If => if_form(text, known, keys, tags, d),
         Kind::Scan => scan_form(text, known, table, keys, tags, d, 1),
         Kind::Backscan => scan_form(text, known, table, keys, tags, d, 2),
         Kind::Read => input_form(text, known, keys, tags, d),
         Kind::Write => output_form(text, known, table, keys, tags, d),
         Kind::Print => output_form(text, known, table, keys, tags, d),
-        Kind::Routine => target_form(text, known, keys, tags, d, 3, ROUTINE_DECLARED),
-        Kind::Execute => target_form(text, known, keys, tags, d, 11, ROUTINE),
-        Kind::EndRoutine => plain_form(text, d, 12),
-        Kind::Return => plain_form(text, d, 12),
+        Kind::Routine => target_form(
+            text,
+            known,
+            keys,
+            tags,
+            d,
+            step_kinds::GOTO,
+            ROUTINE_DECLARED,
+        ),
+        Kind::Execute => target_form(text, known, keys, tags, d, step_kinds::EXECUTE, ROUTINE),
+        Kind::EndRoutine => plain_form(text, d, step_kinds::RETURN),
+        Kind::Return => plain_form(text, d, step_kinds::RETURN),
         Kind::Unknown => Form::Broken,
     }
 }

@@ -8,6 +8,8 @@ use branches::places::next_step;
 use branches::read_branch;
 use branches::read_target;
 use branches::tests::read_test;
+use calls::RANGE_STEP;
+use calls::cell_kinds;
 use met::Cursor;
 use met::KNOWN;
 use met::NAMES;
@@ -40,12 +42,12 @@ pub fn begun(kind: u8, flag: u8, c: Cursor) -> Draft
             success: 0,
             failure: 0,
             left: Cell {
-                kind: 0,
+                kind: cell_kinds::NOTHING,
                 place: 0,
                 value: 0,
             },
             right: Cell {
-                kind: 0,
+                kind: cell_kinds::NOTHING,
                 place: 0,
                 value: 0,
             },
@@ -103,9 +105,9 @@ pub fn range_cell(from: usize, count: usize, more: usize) -> Cell
     ensures { λ r. ⌜ r ≡ rangeIn from count more ⌝ }
 {
     Cell {
-        kind: 22,
+        kind: cell_kinds::RANGE,
         place: 0,
-        value: from + 65_536 * (count + 65_536 * more),
+        value: from + RANGE_STEP * (count + RANGE_STEP * more),
     }
 }
 

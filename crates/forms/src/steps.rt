@@ -15,6 +15,8 @@ use crate::stages::to_target;
 use branches::Draft;
 use branches::Row;
 use branches::places::number_known;
+use calls::cell_kinds;
+use calls::step_kinds;
 use met::Cursor;
 use met::KNOWN;
 use met::NAMES;
@@ -110,7 +112,7 @@ pub fn if_form(
     requires { ⌜ Counted (now known) ⌝ }
     ensures { λ r. ⌜ IfRead (now (text .entry)) (now (known .entry)) (now (keys .entry)) (now (tags .entry)) c r (now (keys .exit)) (now (tags .exit)) ⌝ }
 {
-    let open = marked(text, begun(5, 0, c), b'(');
+    let open = marked(text, begun(step_kinds::NULL, 0, c), b'(');
     let test = tested(text, known, keys, tags, open);
     let close = marked(text, test, b')');
     ended(text, branched(text, known, keys, tags, close))
@@ -140,7 +142,14 @@ pub fn input_form(
     ensures { λ r. ⌜ InputRead (now (text .entry)) (now (known .entry)) (now (keys .entry)) (now (tags .entry)) c r (now (keys .exit)) (now (tags .exit)) ⌝ }
 {
     let d = behind_unit(text, c, b"(60)");
-    let part = left_part(text, known, keys, tags, begun(9, 0, d), STRING);
+    let part = left_part(
+        text,
+        known,
+        keys,
+        tags,
+        begun(step_kinds::READ, 0, d),
+        STRING,
+    );
     ended(text, branched_if_any(text, known, keys, tags, part))
 }
 
@@ -161,7 +170,14 @@ pub fn output_form(
     let d = behind_unit(text, c, b"(61)");
     ended(
         text,
-        right_strings(text, known, table, keys, tags, begun(10, 0, d)),
+        right_strings(
+            text,
+            known,
+            table,
+            keys,
+            tags,
+            begun(step_kinds::WRITE, 0, d),
+        ),
     )
 }
 
@@ -179,7 +195,14 @@ fn string_form(
     requires { ⌜ 28672 ≤ length (now table) ⌝ }
     ensures { λ r. ⌜ StringSetRead (now (text .entry)) (now (known .entry)) (now (table .entry)) (now (keys .entry)) (now (tags .entry)) c r (now (table .exit)) (now (keys .exit)) (now (tags .exit)) ⌝ }
 {
-    let part = left_part(text, known, keys, tags, begun(2, 0, c), STRING);
+    let part = left_part(
+        text,
+        known,
+        keys,
+        tags,
+        begun(step_kinds::SET_STRING, 0, c),
+        STRING,
+    );
     let sets = marked(text, part, b'=');
     ended(text, right_strings(text, known, table, keys, tags, sets))
 }
@@ -200,7 +223,14 @@ pub fn scan_form(
     requires { ⌜ direction < 3 ⌝ }
     ensures { λ r. ⌜ ScanRead (now (text .entry)) (now (known .entry)) (now (table .entry)) (now (keys .entry)) (now (tags .entry)) c direction r (now (table .exit)) (now (keys .exit)) (now (tags .exit)) ⌝ }
 {
-    let part = left_part(text, known, keys, tags, begun(8, direction, c), REFERENCE);
+    let part = left_part(
+        text,
+        known,
+        keys,
+        tags,
+        begun(step_kinds::SCAN, direction, c),
+        REFERENCE,
+    );
     let open = marked(text, part, b'[');
     let sought = right_pattern(text, known, table, keys, tags, open);
     let close = marked(text, sought, b']');
@@ -229,7 +259,7 @@ fn assigned(
         Outcome::Got(d) => {
             let right = range_cell(c.items, d.items - c.items, 0);
             let left = Cell {
-                kind: 5,
+                kind: cell_kinds::NUMBER,
                 place,
                 value: 0,
             };
@@ -237,7 +267,7 @@ fn assigned(
                 text,
                 Draft::Got(
                     Row {
-                        kind: 1,
+                        kind: step_kinds::SET_NUMBER,
                         flag: 0,
                         success: 0,
                         failure: 0,

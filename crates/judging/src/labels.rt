@@ -17,7 +17,7 @@ ghost use Rattle.naming.specs.Arrays.{entriesFrom};
 ghost use Rattle.naming.specs.Names.{Sized};
 
 // how many are noted
-const MOST: usize = 65;
+const MOST: usize = base::LABELS + 1;
 
 // notes a label, unless there are as many as can be noted
 fn put_label(known: &mut [u64; KNOWN], key: u64)

@@ -14,8 +14,8 @@ ghost use Prim.Native.Nat.{_+_, _≤_, _<_};
 ghost use lib.ListN.{length, getD};
 ghost use Rattle.judging.specs.Listing.{pushed, listed, Listing, Listed};
 
-// how many of each are noted
-const MOST: u64 = 33;
+// how many of each are noted; there may be as many numbers as strings
+const MOST: u64 = base::STRINGS as u64 + 1;
 
 // notes a key behind so many from a place on, unless there are as many as can be noted
 fn push(known: &mut [u64; KNOWN], count_at: usize, from: usize, key: u64)

@@ -1,6 +1,7 @@
 // The labels and routines used, each with the routine it is used in.
 // Assumes nothing.
 use met::NAMES;
+use met::tags::ROUTINE;
 ghost use Prim.Native.Nat.{_+_};
 ghost use Rattle.judging.specs.Uses.{Spacious, UsedOne, Used};
 ghost use Rattle.naming.specs.Arrays.{entriesFrom};
@@ -23,7 +24,7 @@ fn note_use(
     if p == 0 {
         return n;
     }
-    if p > 2 {
+    if p > ROUTINE {
         return n;
     }
     use_keys[n] = key;

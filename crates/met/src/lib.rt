@@ -4,6 +4,13 @@
 pub mod places;
 pub mod tags;
 
+use base::ELEMENTS;
+use base::ITEMS;
+use base::LITERALS;
+use calls::ELEMENTS_AT;
+use calls::ITEMS_AT;
+use calls::LITERALS_AT;
+use calls::TABLE_CELL;
 use convert::Int;
 use places::NUMBER_COUNT;
 use places::NUMBER_KEYS;
@@ -29,22 +36,8 @@ pub const NAMES: usize = 32800;
 // how many numbers the array of what is known has
 pub const KNOWN: usize = 326;
 
-// the item rows of a table
-const ITEMS_AT: usize = 14400;
-
-const ITEMS: usize = 1024;
-
-// its element rows, and the bytes of their literals
-const ELEMENTS_AT: usize = 6208;
-
-const ELEMENTS: usize = 1024;
-
-const LITERALS_AT: usize = 22592;
-
-const LITERALS: usize = 4096;
-
 // what a constant has added in its cell
-pub const BIAS: usize = 140_737_488_355_328;
+pub const BIAS: usize = calls::BIAS as usize;
 
 // where a reader is in the text; how many names, items, elements and literal bytes are written; the longest row of elements so far
 pub struct Cursor {
@@ -123,7 +116,7 @@ fn put_in(table: &mut [u8], from: usize, most: usize, k: usize, kind: u8, place:
     ensures { λ _. ⌜ now (table .exit) ≡ withCell (now (table .entry)) from most k (cell kind place value) ⌝ }
 {
     if k < most {
-        put_cell(table, from + 8 * k, kind, place, value);
+        put_cell(table, from + TABLE_CELL * k, kind, place, value);
     }
 }
 

@@ -22,3 +22,10 @@ pub const REFERENCE: u8 = 20;
 pub const SOUGHT: u8 = 36;
 
 pub const FILLER: u8 = 52;
+
+// the numbers of the roles
+pub const REFERENCE_ROLE: u8 = REFERENCE / 16;
+
+pub const SOUGHT_ROLE: u8 = SOUGHT / 16;
+
+pub const FILLER_ROLE: u8 = FILLER / 16;

@@ -10,6 +10,9 @@ use met::places::NUMBER_COUNT;
 use met::places::NUMBER_KEYS;
 use met::places::ROUTINE_COUNT;
 use met::places::ROUTINE_KEYS;
+use met::tags::LABEL;
+use met::tags::NUMBER;
+use met::tags::ROUTINE;
 ghost use mathlib.Core.Path.{_≡_};
 ghost use Prim.Native.Nat.{_+_, _≤_, _<_};
 ghost use Rattle.base.specs.Lists.{any};
@@ -25,15 +28,15 @@ fn is_declared(known: &[u64; KNOWN], key: u64, p: u8) -> bool
     requires { ⌜ Counted (now known) ⌝ }
     ensures { λ r. ⌜ r ≡ declaredIn (now (known .entry)) (keyNaming key p) ⌝ }
 {
-    if p == 1 {
+    if p == LABEL {
         let n = known[LABEL_COUNT] as usize;
         return has_key(known, LABEL_KEYS, n, key);
     }
-    if p == 2 {
+    if p == ROUTINE {
         let n = known[ROUTINE_COUNT] as usize;
         return has_key(known, ROUTINE_KEYS, n, key);
     }
-    if p == 3 {
+    if p == NUMBER {
         let n = known[NUMBER_COUNT] as usize;
         return has_key(known, NUMBER_KEYS, n, key);
     }
@@ -118,7 +121,7 @@ fn lacks_number(known: &[u64; KNOWN], key: u64, tag: u8) -> bool
     if tag / 8 % 2 == 1 {
         return false;
     }
-    if tag % 8 == 3 {
+    if tag % 8 == NUMBER {
         let n = known[NUMBER_COUNT] as usize;
         return !has_key(known, NUMBER_KEYS, n, key);
     }

@@ -1,6 +1,7 @@
 // The names known, each once with its purpose, and how a statement's names are put behind them.
 // Assumes nothing.
 use met::NAMES;
+use met::tags::STRING;
 ghost use mathlib.Core.Path.{_≡_};
 ghost use mathlib.Core.List.{[], _∷_};
 ghost use Prim.Native.Nat.{_+_};
@@ -17,11 +18,11 @@ pub struct Names {
     pub clash: bool,
 }
 
-// the number of a purpose: all from 4 on are strings
+// the number of a purpose: all from that of strings on are strings
 pub fn purpose(p: u8) -> u8
     ensures { λ r. ⌜ r ≡ purposeNumber (purposeOf p) ⌝ }
 {
-    if p < 4 { p } else { 4 }
+    if p < STRING { p } else { STRING }
 }
 
 // how a name stands among the first n: 0 not at all, 1 with this purpose, 2 with another

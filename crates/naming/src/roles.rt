@@ -1,6 +1,9 @@
 // 8 of a SCAN: the reference is also a filler, or a pattern string has the name of a filler left of it.
 // Assumes nothing.
 use met::NAMES;
+use met::tags::FILLER_ROLE;
+use met::tags::REFERENCE_ROLE;
+use met::tags::SOUGHT_ROLE;
 ghost use mathlib.Core.Path.{_≡_};
 ghost use mathlib.Core.List.{[]};
 ghost use Prim.Native.Nat.{_+_};
@@ -26,10 +29,10 @@ fn is_filler_before(keys: &[u64; NAMES], tags: &[u8; NAMES], n: usize, key: u64)
     while i > 0 {
         i -= 1;
         let role = role_by(keys[i], tags[i], key);
-        if role == 3 {
+        if role == FILLER_ROLE {
             return true;
         }
-        if role == 2 {
+        if role == SOUGHT_ROLE {
             return false;
         }
     }
@@ -42,10 +45,10 @@ fn clashes_at(keys: &[u64; NAMES], tags: &[u8; NAMES], i: usize, searched: u64) 
     ensures { λ r. ⌜ r ≡ clashAt (now (keys .entry)) (now (tags .entry)) i searched ⌝ }
 {
     let role = tags[i] / 16;
-    if role == 2 {
+    if role == SOUGHT_ROLE {
         return is_filler_before(keys, tags, i, keys[i]);
     }
-    if role == 3 {
+    if role == FILLER_ROLE {
         return searched == keys[i];
     }
     false
@@ -55,7 +58,11 @@ fn clashes_at(keys: &[u64; NAMES], tags: &[u8; NAMES], i: usize, searched: u64) 
 fn searched_behind(key: u64, tag: u8, searched: u64) -> u64
     ensures { λ r. ⌜ r ≡ searchedBehind key tag searched ⌝ }
 {
-    if tag / 16 == 1 { key } else { searched }
+    if tag / 16 == REFERENCE_ROLE {
+        key
+    } else {
+        searched
+    }
 }
 
 // 8: whether the roles of the names met clash

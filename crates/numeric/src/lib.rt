@@ -2,6 +2,8 @@
 // Assumes nothing.
 pub mod operands;
 
+use base::DEEPEST;
+use calls::cell_kinds;
 use met::Cursor;
 use met::KNOWN;
 use met::NAMES;
@@ -19,9 +21,6 @@ ghost use Rattle.met.specs.Known.{Counted};
 ghost use Rattle.numeric.specs.Operands.{Ready};
 ghost use Rattle.numeric.specs.Kinds.{markKind, PutsCell, Puts, OperandWritten, Within, closes};
 ghost use Rattle.numeric.specs.Reads.{waiting, FactorRead, ExpressionRead, TermRead};
-
-// how deep parentheses go
-const DEEPEST: usize = 16;
 
 // the form is broken, or read up to this cursor
 pub enum Outcome {
@@ -46,10 +45,10 @@ fn mark_kind(text: &[u8], at: usize, first: u8, kind: u8, second: u8, other: u8)
 fn size(kind: u8) -> usize
     ensures { λ r. ⌜ r ≡ length (waiting kind) ⌝ }
 {
-    if kind < 10 {
+    if kind < cell_kinds::PLUS {
         return 0;
     }
-    if kind < 16 {
+    if kind < cell_kinds::LITERAL {
         return 1;
     }
     0
@@ -134,14 +133,21 @@ pub fn expression(
     ensures { λ r. ⌜ ExpressionRead (now (text .entry)) (now (known .entry)) (now (table .entry)) (now (keys .entry)) (now (tags .entry)) c depth r (now (table .exit)) (now (keys .exit)) (now (tags .exit)) ⌝ }
 {
     // what waits for the next term
-    let mut kind = mark_kind(text, c.at, b'+', 14, b'-', 15);
+    let mut kind = mark_kind(
+        text,
+        c.at,
+        b'+',
+        cell_kinds::POSITIVE,
+        b'-',
+        cell_kinds::NEGATIVE,
+    );
     let mut d = skip(c, size(kind));
     loop {
         let Outcome::Got(e) = term(text, known, table, keys, tags, d, depth) else {
             return Outcome::Broken;
         };
         let f = put_kind(table, e, kind);
-        kind = mark_kind(text, f.at, b'+', 10, b'-', 11);
+        kind = mark_kind(text, f.at, b'+', cell_kinds::PLUS, b'-', cell_kinds::MINUS);
         if kind == 0 {
             return Outcome::Got(f);
         }
@@ -172,7 +178,7 @@ fn term(
             return Outcome::Broken;
         };
         let f = put_kind(table, e, kind);
-        kind = mark_kind(text, f.at, b'*', 12, b'/', 13);
+        kind = mark_kind(text, f.at, b'*', cell_kinds::TIMES, b'/', cell_kinds::OVER);
         if kind == 0 {
             return Outcome::Got(f);
         }

@@ -1,5 +1,6 @@
 // Operands: names, constants, LENGTH and NUMBER, each read as a cell of the table.
 // Assumes nothing.
+use calls::cell_kinds;
 use met::BIAS;
 use met::Cursor;
 use met::KNOWN;
@@ -191,11 +192,19 @@ pub fn read_part(
         Place::Broken => Operand::Broken,
         Place::Got(place, d) => {
             if stands_at(text, d.at, b'$') {
-                return read_bound(text, known, keys, tags, skip(d, 1), shift + 2, place);
+                return read_bound(
+                    text,
+                    known,
+                    keys,
+                    tags,
+                    skip(d, 1),
+                    shift + cell_kinds::FIRST,
+                    place,
+                );
             }
             Operand::Got(
                 Cell {
-                    kind: shift + 1,
+                    kind: shift + cell_kinds::STRING,
                     place,
                     value: 0,
                 },
@@ -248,7 +257,7 @@ pub fn read_called(
         return closed(
             text,
             placed(
-                6,
+                cell_kinds::LENGTH,
                 0,
                 read_string(text, known, keys, tags, skip(c, 7), STRING),
             ),
@@ -257,10 +266,22 @@ pub fn read_called(
     if begins_at(text, at, b"NUMBER(") {
         return closed(
             text,
-            read_part(text, known, keys, tags, skip(c, 7), 6, STRING),
+            read_part(
+                text,
+                known,
+                keys,
+                tags,
+                skip(c, 7),
+                cell_kinds::NUMBER_OF,
+                STRING,
+            ),
         );
     }
-    placed(5, 0, read_number(text, known, keys, tags, c))
+    placed(
+        cell_kinds::NUMBER,
+        0,
+        read_number(text, known, keys, tags, c),
+    )
 }
 
 // a factor but for parentheses
@@ -277,7 +298,7 @@ pub fn plain(
 {
     let at = c.at;
     if is_digit(byte_at(text, at)) {
-        return constant(text, c, 4, 0);
+        return constant(text, c, cell_kinds::CONSTANT, 0);
     }
     read_called(text, known, keys, tags, c)
 }

@@ -5,6 +5,7 @@ pub mod keys;
 pub mod line;
 pub mod packed;
 
+use base::DECK;
 use packed::Packing;
 use packed::Place;
 ghost use mathlib.Core.Path.{_≡_};
@@ -60,7 +61,7 @@ fn nothing(from: usize) -> Joining
 }
 
 // adds a line that is no comment and not blank
-fn add_line(line: &[u8], next: usize, text: &mut [u8; 32768], s: Joining) -> Joining
+fn add_line(line: &[u8], next: usize, text: &mut [u8; DECK], s: Joining) -> Joining
     requires { ⌜ Adding (now line) next (now text) s ⌝ }
     ensures { λ r. ⌜ Added (now (line .entry)) next (now (text .entry)) s (now (text .exit)) r ⌝ }
 {
@@ -91,7 +92,7 @@ fn broken_off(s: Joining) -> Joining
 }
 
 // joins the next line of the deck
-fn join_line(deck: &[u8], text: &mut [u8; 32768], s: Joining) -> Joining
+fn join_line(deck: &[u8], text: &mut [u8; DECK], s: Joining) -> Joining
     requires { ⌜ Room (now deck) (now text) s ⌝ }
     ensures { λ r. ⌜ Joined (now (deck .entry)) (now (text .entry)) s (now (text .exit)) r ⌝ }
 {
@@ -108,7 +109,7 @@ fn join_line(deck: &[u8], text: &mut [u8; 32768], s: Joining) -> Joining
 }
 
 // joins lines as long as column 9 says so
-fn join_lines(deck: &[u8], text: &mut [u8; 32768], first: Joining) -> Joining
+fn join_lines(deck: &[u8], text: &mut [u8; DECK], first: Joining) -> Joining
     requires { ⌜ Room (now deck) (now text) first ⌝ }
     ensures { λ r. ⌜ JoinedAll (now (deck .entry)) (now (text .entry)) first (now (text .exit)) r ⌝ }
 {
@@ -135,7 +136,7 @@ fn skip(line: &[u8], next: usize) -> Gathered
 }
 
 // the entry that starts with the line at from, its packed text in text
-pub fn gather(deck: &[u8], from: usize, text: &mut [u8; 32768]) -> Gathered
+pub fn gather(deck: &[u8], from: usize, text: &mut [u8; DECK]) -> Gathered
     requires { ⌜ Readable (now deck) from (now text) ⌝ }
     ensures { λ r. ⌜ Gathers (now (deck .entry)) from (now (text .exit)) r ⌝ }
 {

@@ -1,6 +1,7 @@
 // One line of a deck: where it ends, whether it is sound, a comment or blank, and its parts by columns.
 // Assumes nothing.
 use crate::classes;
+use base::LINE;
 ghost use mathlib.Core.Path.{_≡_};
 ghost use Prim.Native.Nat.{_<_};
 ghost use lib.ListN.{length, take, drop, getD};
@@ -8,10 +9,8 @@ ghost use Rattle.base.specs.Edition.{edition1};
 ghost use Rattle.cards.specs.Cards.{column9, isBlankLine, isComment, soundLine, textOf};
 ghost use Rattle.packer.specs.Lines.{Ends, isSkipped};
 
-// the columns that count, and the longest line
+// the columns that count
 const COLUMNS: usize = 72;
-
-const LONGEST: usize = 80;
 
 // where the line that starts at from ends: at its byte 10, or at the end of the deck
 pub fn line_end(deck: &[u8], from: usize) -> usize
@@ -25,7 +24,7 @@ pub fn line_end(deck: &[u8], from: usize) -> usize
 pub fn sound_line(line: &[u8]) -> bool
     ensures { λ r. ⌜ r ≡ soundLine (now (line .entry)) ⌝ }
 {
-    if LONGEST < line.len() {
+    if LINE < line.len() {
         return false;
     }
     let mut bad = false;

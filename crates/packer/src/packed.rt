@@ -1,13 +1,11 @@
 // Packing: the bytes of a statement without the blanks outside literals.
 // Assumes nothing.
+use base::DECK;
 ghost use mathlib.Core.Path.{_≡_};
 ghost use Prim.Native.Nat.{_<_};
 ghost use Rattle.cards.specs.Packing.{placeAfter};
 ghost use Rattle.packer.specs.Places.{isOutside, placeOf, staysWhole};
 ghost use Rattle.packer.specs.Packs.{Packable, Packs, Steps};
-
-// the byte that opens and closes a literal
-const QUOTE: u8 = 34;
 
 // where a byte stands: outside a literal, right behind the quote that opens one, right behind two quotes, further inside
 pub enum Place {
@@ -29,18 +27,18 @@ fn place_after(place: Place, b: u8) -> Place
     ensures { λ r. ⌜ placeOf r ≡ placeAfter (placeOf place) b ⌝ }
 {
     match place {
-        Place::Outside => if b == QUOTE {
+        Place::Outside => if b == b'"' {
             Place::Opened
         } else {
             Place::Outside
         },
-        Place::Opened => if b == QUOTE {
+        Place::Opened => if b == b'"' {
             Place::Doubled
         } else {
             Place::Inside
         },
         Place::Doubled => Place::Outside,
-        Place::Inside => if b == QUOTE {
+        Place::Inside => if b == b'"' {
             Place::Outside
         } else {
             Place::Inside
@@ -55,7 +53,7 @@ fn stays_whole(place: Place, b: u8) -> bool
     match place {
         Place::Outside => true,
         Place::Opened => true,
-        Place::Doubled => b == QUOTE,
+        Place::Doubled => b == b'"',
         Place::Inside => true,
     }
 }
@@ -77,7 +75,7 @@ fn step(s: Packing, b: u8) -> Packing
     ensures { λ r. ⌜ Steps s b r ⌝ }
 {
     let place = s.place;
-    if is_outside(place) & (b != QUOTE) {
+    if is_outside(place) & (b != b'"') {
         return Packing {
             place: Place::Outside,
             whole: s.whole,
@@ -92,7 +90,7 @@ fn step(s: Packing, b: u8) -> Packing
 }
 
 // packs some bytes behind those of text that are packed
-pub fn pack(part: &[u8], text: &mut [u8; 32768], start: Packing) -> Packing
+pub fn pack(part: &[u8], text: &mut [u8; DECK], start: Packing) -> Packing
     requires { ⌜ Packable (now part) (now text) start ⌝ }
     ensures { λ r. ⌜ Packs (now (part .entry)) (now (text .entry)) start (now (text .exit)) r ⌝ }
 {

@@ -1,5 +1,6 @@
 // The first pass over a deck: its entries judged one after the other by 3 to 10, then the deck by 11 and 12.
 // Assumes nothing.
+use base::DECK;
 use closing::executes_itself;
 use closing::undefined_or_crossing;
 use forms::Form;
@@ -160,7 +161,7 @@ fn judge_entry(
     use_keys: &mut [u64; NAMES],
     use_scopes: &mut [u64; NAMES],
     use_purposes: &mut [u8; NAMES],
-    text: &mut [u8; 32768],
+    text: &mut [u8; DECK],
     keys: &mut [u64; NAMES],
     tags: &mut [u8; NAMES],
     table: &mut [u8],
@@ -212,7 +213,7 @@ fn judge_statements(
     use_keys: &mut [u64; NAMES],
     use_scopes: &mut [u64; NAMES],
     use_purposes: &mut [u8; NAMES],
-    text: &mut [u8; 32768],
+    text: &mut [u8; DECK],
     keys: &mut [u64; NAMES],
     tags: &mut [u8; NAMES],
     table: &mut [u8],
@@ -286,7 +287,7 @@ pub fn judge_deck(
     use_keys: &mut [u64; NAMES],
     use_scopes: &mut [u64; NAMES],
     use_purposes: &mut [u8; NAMES],
-    text: &mut [u8; 32768],
+    text: &mut [u8; DECK],
     keys: &mut [u64; NAMES],
     tags: &mut [u8; NAMES],
     table: &mut [u8],

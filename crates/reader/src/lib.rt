@@ -4,6 +4,8 @@ pub mod judge;
 pub mod steps;
 pub mod table;
 
+use base::DECK;
+use calls::TABLE_SIZE;
 use cells::spans::blank;
 use judge::Verdict;
 use judge::judge_deck;
@@ -20,16 +22,11 @@ ghost use Rattle.reader.specs.Judging.{Lent};
 ghost use Rattle.reader.specs.Steps.{Whole};
 ghost use Rattle.reader.specs.Reading.{TableWritten, DeckRead, ReadWith};
 
-// the longest deck, and the bytes of a table
-const LONGEST: usize = 32768;
-
-const TABLE: usize = 28672;
-
 // writes the steps of an accepted deck and its header
 fn write_table(
     deck: &[u8],
     known: &mut [u64; KNOWN],
-    text: &mut [u8; LONGEST],
+    text: &mut [u8; DECK],
     keys: &mut [u64; NAMES],
     tags: &mut [u8; NAMES],
     table: &mut [u8],
@@ -62,10 +59,10 @@ fn read_deck(deck: &[u8], table: &mut [u8]) -> Verdict
     let mut use_keys = [0u64; NAMES];
     let mut use_scopes = [0u64; NAMES];
     let mut use_purposes = [0u8; NAMES];
-    let mut text = [0u8; LONGEST];
+    let mut text = [0u8; DECK];
     let mut keys = [0u64; NAMES];
     let mut tags = [0u8; NAMES];
-    let mut draft = [0u8; TABLE];
+    let mut draft = [0u8; TABLE_SIZE];
     let v = judge_deck(
         deck,
         &mut known,
@@ -79,7 +76,7 @@ fn read_deck(deck: &[u8], table: &mut [u8]) -> Verdict
         &mut tags,
         &mut draft,
     );
-    blank(table, 0, TABLE);
+    blank(table, 0, TABLE_SIZE);
     if v.number == 0 {
         write_table(deck, &mut known, &mut text, &mut keys, &mut tags, table);
     }
@@ -92,10 +89,10 @@ pub extern "C" fn strigol_read(deck: &[u8], table: &mut [u8], card: &mut u32) ->
     ensures { λ r. ⌜ ReadWith (now (deck .entry)) (now (table .entry)) r (now (card .exit)) (now (table .exit)) ⌝ }
 {
     *card = 0;
-    if LONGEST < deck.len() {
+    if DECK < deck.len() {
         return 1;
     }
-    if table.len() < TABLE {
+    if table.len() < TABLE_SIZE {
         return 2;
     }
     let v = read_deck(deck, table);

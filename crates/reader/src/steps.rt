@@ -1,6 +1,7 @@
 // The second pass over an accepted deck: each statement read again, its step written.
 // Assumes nothing.
 use crate::table::put_row;
+use base::DECK;
 use forms::Form;
 use forms::read_statement;
 use met::Cursor;
@@ -109,7 +110,7 @@ fn write_entry(
     deck: &[u8],
     p: Progress,
     known: &mut [u64; KNOWN],
-    text: &mut [u8; 32768],
+    text: &mut [u8; DECK],
     keys: &mut [u64; NAMES],
     tags: &mut [u8; NAMES],
     table: &mut [u8],
@@ -127,7 +128,7 @@ fn write_entry(
 pub fn write_steps(
     deck: &[u8],
     known: &mut [u64; KNOWN],
-    text: &mut [u8; 32768],
+    text: &mut [u8; DECK],
     keys: &mut [u64; NAMES],
     tags: &mut [u8; NAMES],
     table: &mut [u8],

@@ -1,6 +1,9 @@
 // Rows of steps and the header of a table, written in their bytes.
 // Assumes nothing.
+use base::STEPS;
 use branches::Row;
+use calls::STEP_ROW;
+use calls::STEPS_AT;
 use met::put_cell;
 use met::put_number;
 use numeric::operands::Cell;
@@ -12,11 +15,6 @@ ghost use Rattle.calls.specs.Splices.{splice};
 ghost use Rattle.calls.specs.Table.{cellBytes};
 ghost use Rattle.numeric.specs.Operands.{meaning};
 ghost use Rattle.reader.specs.Writing.{withRow, withHeader};
-
-// how many steps a table has room for, and where their rows start
-const STEPS: usize = 256;
-
-const STEPS_AT: usize = 64;
 
 // writes the cells of a row at a place
 fn put_cells(table: &mut [u8], at: usize, left: Cell, right: Cell)
@@ -33,7 +31,7 @@ pub fn put_row(table: &mut [u8], k: usize, card: usize, row: Row)
     ensures { λ _. ⌜ now (table .exit) ≡ withRow (now (table .entry)) k card (rowMeaning row) ⌝ }
 {
     if k < STEPS {
-        let at = STEPS_AT + 24 * k;
+        let at = STEPS_AT + STEP_ROW * k;
         table[at] = row.kind;
         table[at + 1] = row.flag;
         put_number(table, at + 2, 2, card);

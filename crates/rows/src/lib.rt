@@ -14,13 +14,24 @@ use base::wide;
 use calls::ELEMENTS_AT;
 use calls::ITEMS_AT;
 use calls::LITERALS_AT;
+use calls::RANGE_MORE;
+use calls::RANGE_STEP;
+use calls::STEP_ROW;
 use calls::STEPS_AT;
+use calls::TABLE_CELL;
 use cells::spans::number2;
 use convert::Comparison;
 use convert::Int;
 
 // an integer is kept as a number with this much added
 const BIAS: i64 = calls::BIAS as i64;
+
+// kinds of cells: the last of operands, a literal, and the last of elements outside a pattern
+const LAST_OPERAND: usize = calls::cell_kinds::LAST_OPERAND as usize;
+
+const LITERAL: usize = calls::cell_kinds::LITERAL as usize;
+
+const ELEMENT: usize = calls::cell_kinds::LAST_ELEMENT as usize;
 
 // a cell: its kind, the place of a string or number, a value of 6 bytes
 pub struct Cell {
@@ -252,7 +263,7 @@ fn item_of(c: Cell) -> Item
     requires { ⌜ SmallCell c ⌝ }
     ensures { λ r. ⌜ itemMeaning r ≡ itemOfCell (cellMeaning c) ⌝ }
 {
-    if c.kind <= 9 {
+    if c.kind <= LAST_OPERAND {
         return Item::Operand(operand_of(c));
     }
     if c.kind <= 13 {
@@ -266,8 +277,8 @@ fn stretch_of(range: usize) -> Stretch
     ensures { λ r. ⌜ StretchRead range r ⌝ }
 {
     Stretch {
-        from: range % 65_536,
-        count: range / 65_536 % 65_536,
+        from: range % RANGE_STEP,
+        count: range / RANGE_STEP % RANGE_STEP,
     }
 }
 
@@ -278,7 +289,7 @@ fn element_of(c: Cell) -> Element
     if c.kind <= 3 {
         return Element::Part(part_of(0, c));
     }
-    if c.kind == 16 {
+    if c.kind == LITERAL {
         let s = stretch_of(c.value);
         return Element::Literal(LITERALS_AT + s.from, LITERALS_AT + s.from + s.count);
     }
@@ -289,7 +300,7 @@ fn pattern_of(c: Cell) -> PatternElement
     requires { ⌜ c .value < 2 ^ 48 ⌝ }
     ensures { λ r. ⌜ ((t : List ℕ) → PatternRead t (cellMeaning c) r) ⌝ }
 {
-    if c.kind <= 18 {
+    if c.kind <= ELEMENT {
         return PatternElement::Value(element_of(c));
     }
     if c.kind == 19 {
@@ -303,7 +314,7 @@ pub fn item_at(t: &[u8], k: usize) -> Item
     requires { ⌜ (tableSize ≤ length (now t)) × (k < 1024) ⌝ }
     ensures { λ r. ⌜ itemMeaning r ≡ itemOfCell (cellAt (now (t .entry)) (itemsAt + 8 * k)) ⌝ }
 {
-    item_of(cell_at(t, ITEMS_AT + 8 * k))
+    item_of(cell_at(t, ITEMS_AT + TABLE_CELL * k))
 }
 
 // the kind of item k of all items
@@ -311,7 +322,7 @@ pub fn item_kind(t: &[u8], k: usize) -> usize
     requires { ⌜ (tableSize ≤ length (now t)) × (k < 1024) ⌝ }
     ensures { λ r. ⌜ r ≡ cellAt (now (t .entry)) (itemsAt + 8 * k) .kind ⌝ }
 {
-    wide(t[ITEMS_AT + 8 * k])
+    wide(t[ITEMS_AT + TABLE_CELL * k])
 }
 
 // item k of all items, which is an operand
@@ -319,7 +330,7 @@ pub fn operand_at(t: &[u8], k: usize) -> Operand
     requires { ⌜ (tableSize ≤ length (now t)) × (k < 1024) ⌝ }
     ensures { λ r. ⌜ operandMeaning r ≡ operandOfCell (cellAt (now (t .entry)) (itemsAt + 8 * k)) ⌝ }
 {
-    operand_of(cell_at(t, ITEMS_AT + 8 * k))
+    operand_of(cell_at(t, ITEMS_AT + TABLE_CELL * k))
 }
 
 // element k of all elements, outside a pattern
@@ -327,7 +338,7 @@ pub fn element_at(t: &[u8], k: usize) -> Element
     requires { ⌜ (tableSize ≤ length (now t)) × (k < 1024) ⌝ }
     ensures { λ r. ⌜ ElementRead (now (t .entry)) (cellAt (now (t .entry)) (elementsAt + 8 * k)) r ⌝ }
 {
-    element_of(cell_at(t, ELEMENTS_AT + 8 * k))
+    element_of(cell_at(t, ELEMENTS_AT + TABLE_CELL * k))
 }
 
 // element k of all elements, in a pattern
@@ -335,7 +346,7 @@ pub fn pattern_at(t: &[u8], k: usize) -> PatternElement
     requires { ⌜ (tableSize ≤ length (now t)) × (k < 1024) ⌝ }
     ensures { λ r. ⌜ PatternRead (now (t .entry)) (cellAt (now (t .entry)) (elementsAt + 8 * k)) r ⌝ }
 {
-    pattern_of(cell_at(t, ELEMENTS_AT + 8 * k))
+    pattern_of(cell_at(t, ELEMENTS_AT + TABLE_CELL * k))
 }
 
 pub fn row_at(t: &[u8], at: usize) -> Row
@@ -406,7 +417,7 @@ fn replacement_of(r: Row) -> Replacement
     let pattern = stretch_of(r.right.value);
     Replacement::By(Stretch {
         from: pattern.from + pattern.count,
-        count: r.right.value / 4_294_967_296,
+        count: r.right.value / RANGE_MORE,
     })
 }
 
@@ -457,7 +468,7 @@ pub fn kind_at(t: &[u8], k: usize) -> usize
     requires { ⌜ (tableSize ≤ length (now t)) × (k < 256) ⌝ }
     ensures { λ r. ⌜ r ≡ rowAt (now (t .entry)) (stepsAt + 24 * k) .kind ⌝ }
 {
-    wide(t[STEPS_AT + 24 * k])
+    wide(t[STEPS_AT + STEP_ROW * k])
 }
 
 // the statement of step k
@@ -465,7 +476,7 @@ pub fn statement_at(t: &[u8], k: usize) -> Statement
     requires { ⌜ (tableSize ≤ length (now t)) × (k < 256) ⌝ }
     ensures { λ r. ⌜ StatementRead (now (t .entry)) (rowAt (now (t .entry)) (stepsAt + 24 * k)) r ⌝ }
 {
-    statement_of(row_at(t, STEPS_AT + 24 * k))
+    statement_of(row_at(t, STEPS_AT + STEP_ROW * k))
 }
 
 pub fn counts_of(t: &[u8]) -> Counts

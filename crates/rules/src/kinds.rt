@@ -6,6 +6,8 @@ ghost use lib.ListN.{length};
 ghost use Rattle.rows.specs.Meaning.{tableSize, cellMeaning};
 ghost use Rattle.rules.specs.Tests.{placeBound, valueLow, valueBound, cellTest, elementOwn, elementEnd, elementsEnd, itemUsed, itemEnd, itemsEnd};
 use base::LITERALS;
+use calls::RANGE_STEP;
+use calls::TABLE_CELL;
 use calls::WAITING;
 use rows::Cell;
 use rows::Counts;
@@ -22,9 +24,9 @@ const LIMIT: usize = convert::LIMIT as usize;
 const VALUES: usize = 281_474_976_710_656;
 
 // the kind of a literal, and those of fillers from the first on
-const LITERAL: usize = 16;
+const LITERAL: usize = calls::cell_kinds::LITERAL as usize;
 
-const FILLER: usize = 19;
+const FILLER: usize = calls::cell_kinds::FREE as usize;
 
 // What the place of a cell of this kind lies under: strings, numbers, or 1 where it names nothing.
 fn place_bound(kind: usize, n: Counts) -> usize
@@ -85,7 +87,7 @@ fn element_own(c: Cell) -> usize
     ensures { λ r. ⌜ (r ≡ elementOwn (cellMeaning c)) × (r < 2 ^ 16) ⌝ }
 {
     if c.kind == LITERAL {
-        return c.value / 65_536 % 65_536;
+        return c.value / RANGE_STEP % RANGE_STEP;
     }
     0
 }
@@ -100,7 +102,7 @@ fn element_end(c: Cell, high: usize, reference: usize, at: usize, n: Counts) -> 
     let kind = c.kind;
     if cell_holds(c, 1, high, n)
         & ((kind <= 3) | (LITERAL <= kind))
-        & ((kind != LITERAL) | (1 <= own) & (c.value == at + 65_536 * own))
+        & ((kind != LITERAL) | (1 <= own) & (c.value == at + RANGE_STEP * own))
         & ((kind < FILLER) | (c.place != reference))
         & (at + own <= LITERALS)
     {
@@ -126,7 +128,7 @@ pub fn elements_end(
     let mut i: usize = 0;
     while i < count {
         end = element_end(
-            rows::cell_at(t, calls::ELEMENTS_AT + 8 * (k + i)),
+            rows::cell_at(t, calls::ELEMENTS_AT + TABLE_CELL * (k + i)),
             high,
             reference,
             end,
@@ -177,7 +179,11 @@ pub fn items_end(t: &[u8], k: usize, count: usize, n: Counts) -> usize
     let mut known: usize = 0;
     let mut i: usize = 0;
     while i < count {
-        known = item_end(rows::cell_at(t, calls::ITEMS_AT + 8 * (k + i)), known, n);
+        known = item_end(
+            rows::cell_at(t, calls::ITEMS_AT + TABLE_CELL * (k + i)),
+            known,
+            n,
+        );
         i += 1;
     }
     known

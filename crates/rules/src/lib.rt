@@ -14,8 +14,11 @@ ghost use Rattle.rules.specs.Tests.{Few, countsTest, zerosTest, unusedTe
 use calls::ELEMENTS_AT;
 use calls::ITEMS_AT;
 use calls::LITERALS_AT;
+use calls::STEP_ROW;
 use calls::STEPS_AT;
+use calls::TABLE_CELL;
 use calls::TABLE_SIZE;
+use calls::step_kinds::FINISH;
 use rows::Counts;
 use steps::Places;
 
@@ -46,9 +49,9 @@ fn unused_zero(t: &[u8], n: Counts) -> bool
     ensures { λ r. ⌜ r ≡ unusedTest n (now (t .entry)) ⌝ }
 {
     zeros(t, 14, STEPS_AT)
-        & zeros(t, STEPS_AT + 24 * n.steps, ELEMENTS_AT)
-        & zeros(t, ELEMENTS_AT + 8 * n.elements, ITEMS_AT)
-        & zeros(t, ITEMS_AT + 8 * n.items, LITERALS_AT)
+        & zeros(t, STEPS_AT + STEP_ROW * n.steps, ELEMENTS_AT)
+        & zeros(t, ELEMENTS_AT + TABLE_CELL * n.elements, ITEMS_AT)
+        & zeros(t, ITEMS_AT + TABLE_CELL * n.items, LITERALS_AT)
         & zeros(t, LITERALS_AT + n.literals, TABLE_SIZE)
 }
 
@@ -57,7 +60,7 @@ fn ends_hold(t: &[u8], n: Counts) -> bool
     requires { ⌜ (tableSize ≤ length (now t)) × Few n ⌝ }
     ensures { λ r. ⌜ r ≡ endsTest n (now (t .entry)) ⌝ }
 {
-    (t[0] == 1) & (t[1] == 0) & (t[STEPS_AT + 24 * (n.steps - 1)] == 4)
+    (t[0] == 1) & (t[1] == 0) & (t[STEPS_AT + STEP_ROW * (n.steps - 1)] == FINISH)
 }
 
 // Whether the places behind all steps are the header's counts.

@@ -8,6 +8,9 @@ ghost use Rattle.rows.specs.Meaning.{tableSize, cellMeaning, rowMeaning};
 ghost use Rattle.rules.specs.Tests.{Few, Short, Room, Inside, flagsTest, branchTest, leftTest, rightTest, stretchesOf, startTest, stretchesTest, rowTest, lastKind, numbersLeft, cellsEnd, stepEnd, stepsEnd, first};
 use crate::kinds;
 use base::ROW;
+use calls::RANGE_MORE;
+use calls::RANGE_STEP;
+use calls::STEP_ROW;
 use rows::Cell;
 use rows::Counts;
 use rows::Row;
@@ -27,9 +30,9 @@ pub struct Stretches {
 }
 
 // the last kinds of an element, and of one in a pattern
-const ELEMENT: usize = 18;
+const ELEMENT: usize = calls::cell_kinds::LAST_ELEMENT as usize;
 
-const PATTERN: usize = 21;
+const PATTERN: usize = calls::cell_kinds::LAST_FILLER as usize;
 
 // Whether the flag is one of the kind: a sign of comparison, a direction with or without a replacement, or 0.
 fn flags_hold(kind: usize, flag: usize) -> bool
@@ -96,14 +99,14 @@ fn stretches_of(kind: usize, range: usize) -> Stretches
     if kind == 1 {
         return Stretches {
             first: 0,
-            more: range / 4_294_967_296,
-            items: range / 65_536 % 65_536,
+            more: range / RANGE_MORE,
+            items: range / RANGE_STEP % RANGE_STEP,
         };
     }
     if (kind == 2) | (kind == 8) | (kind == 10) {
         return Stretches {
-            first: range / 65_536 % 65_536,
-            more: range / 4_294_967_296,
+            first: range / RANGE_STEP % RANGE_STEP,
+            more: range / RANGE_MORE,
             items: 0,
         };
     }
@@ -119,10 +122,10 @@ fn start_holds(kind: usize, range: usize, p: Places) -> bool
     ensures { λ x. ⌜ x ≡ startTest p kind range ⌝ }
 {
     if kind == 1 {
-        return range % 65_536 == p.items;
+        return range % RANGE_STEP == p.items;
     }
     if (kind == 2) | (kind == 8) | (kind == 10) {
-        return range % 65_536 == p.elements;
+        return range % RANGE_STEP == p.elements;
     }
     true
 }
@@ -209,7 +212,7 @@ fn step_end(t: &[u8], k: usize, p: Places, n: Counts) -> Places
     requires { ⌜ (tableSize ≤ length (now t)) × ((k < 256) × (Room p × Few n)) ⌝ }
     ensures { λ x. ⌜ (x ≡ stepEnd n (now (t .entry)) k p) × Room x ⌝ }
 {
-    let r = rows::row_at(t, calls::STEPS_AT + 24 * k);
+    let r = rows::row_at(t, calls::STEPS_AT + STEP_ROW * k);
     let kind = r.kind;
     let range = r.right.value;
     let s = stretches_of(kind, range);

@@ -12,7 +12,9 @@ ghost use Rattle.scan.specs.Rows.{rowElement, elementOf, patternOf, size
 ghost use Rattle.scan.specs.Steps.{testOf, SkipSays, StandsSays, CallSays, GroupSays, GroupReady, RunSays};
 use base::LONGEST;
 use base::wide;
+use scanning::ANSWER_SIZE;
 use scanning::FIXED;
+use scanning::FOUND_AT;
 use scanning::FREE;
 use scanning::LENGTHS_AT;
 use scanning::NOTES_AT;
@@ -25,6 +27,12 @@ use scanning::TRIALS_AT;
 const MOST: usize = ROW_SIZE * base::ROW;
 
 const NEGATIVE: usize = 2147483648;
+
+// the bytes of the longest row that lacks some: it counts as a row too
+const SHORT_ROW: usize = ROW_SIZE - 1;
+
+// where the gap before a first group stands while the scan runs: the start, before the lengths
+const GAP_AT: usize = LENGTHS_AT - 1;
 
 // An element of a pattern: a string, as the ends of its part of the values; a fixed filler with its length; a free filler.
 pub enum Element {
@@ -187,7 +195,13 @@ fn stands(reference: &[u8], values: &[u8], e: Element, at: usize) -> usize
 
 // The scan, group by group. The answer holds the lengths that don't depend on the place; each turn passes over places, tests a group and, where all
 // of it passed, writes the gap before it, the start at first and then the length of a free filler. A last free filler reaches the end.
-fn run(reference: &[u8], values: &[u8], rows: &[u8], count: usize, answer: &mut [u32; 24]) -> Ran
+fn run(
+    reference: &[u8],
+    values: &[u8],
+    rows: &[u8],
+    count: usize,
+    answer: &mut [u32; ANSWER_SIZE],
+) -> Ran
     requires { ⌜ GoodRows (now values) (now rows) count ⌝ }
     requires { ⌜ (length (now reference) ≤ 1024) × (0 < count) ⌝ }
     requires { ⌜ now answer ≡ rowAnswer count (0 ∷ sizesAt (now rows) count 0) ⌝ }
@@ -215,14 +229,14 @@ fn run(reference: &[u8], values: &[u8], rows: &[u8], count: usize, answer: &mut 
                 place += 1;
             }
             Group::Whole(j, end) => {
-                answer[3 + g] = (place - from) as u32;
+                answer[GAP_AT + g] = (place - from) as u32;
                 trials += j - g;
                 if j == count {
                     return Ran::Found(trials);
                 }
                 g = j + 1;
                 if g == count {
-                    answer[3 + g] = (reference.len() - end) as u32;
+                    answer[GAP_AT + g] = (reference.len() - end) as u32;
                     return Ran::Found(trials);
                 }
                 from = end;
@@ -245,12 +259,12 @@ fn length_of(e: Element) -> usize
 }
 
 // the answer with the lengths of a pattern's pieces, behind the start's place
-fn fill(rows: &[u8], count: usize, answer: &mut [u32; 24])
+fn fill(rows: &[u8], count: usize, answer: &mut [u32; ANSWER_SIZE])
     requires { ⌜ (count ≤ 20) × (12 * count ≤ length (now rows)) ⌝ }
     requires { ⌜ ((i : ℕ) → i < count → Sized (rowElement (now rows) i)) ⌝ }
     ensures { λ r. ⌜ now (answer .exit) ≡ rowAnswer count (0 ∷ sizesAt (now (rows .entry)) count 0) ⌝ }
 {
-    *answer = [0u32; 24];
+    *answer = [0u32; ANSWER_SIZE];
     let mut i: usize = 0;
     while i < count {
         let e = row_element(rows, i);
@@ -260,28 +274,34 @@ fn fill(rows: &[u8], count: usize, answer: &mut [u32; 24])
 }
 
 // the answer of a scan that found no split
-fn fail(trials: usize, answer: &mut [u32; 24])
+fn fail(trials: usize, answer: &mut [u32; ANSWER_SIZE])
     requires { ⌜ trials < 2 ^ 32 ⌝ }
     ensures { λ r. ⌜ now (answer .exit) ≡ splitNumbers none trials 0 ⌝ }
 {
-    *answer = [0u32; 24];
+    *answer = [0u32; ANSWER_SIZE];
     answer[TRIALS_AT] = trials as u32;
 }
 
 // the answer of a scan that found one: the start moves from before the lengths to its own place
-fn finish(trials: usize, answer: &mut [u32; 24])
+fn finish(trials: usize, answer: &mut [u32; ANSWER_SIZE])
     requires { ⌜ trials < 2 ^ 32 ⌝ }
     ensures { λ r. ⌜ now (answer .exit) ≡ set (set (set (set (now (answer .entry)) 0 1) 1 (getD (now (answer .entry)) 3 0)) 2 trials) 3 0 ⌝ }
 {
-    let start = answer[3];
-    answer[0] = 1;
+    let start = answer[GAP_AT];
+    answer[FOUND_AT] = 1;
     answer[START_AT] = start;
     answer[TRIALS_AT] = trials as u32;
     answer[NOTES_AT] = 0;
 }
 
 // the scan by rows whose lengths stand in the answer
-fn scan_filled(reference: &[u8], values: &[u8], rows: &[u8], count: usize, answer: &mut [u32; 24])
+fn scan_filled(
+    reference: &[u8],
+    values: &[u8],
+    rows: &[u8],
+    count: usize,
+    answer: &mut [u32; ANSWER_SIZE],
+)
     requires { ⌜ GoodRows (now values) (now rows) count ⌝ }
     requires { ⌜ length (now reference) ≤ 1024 ⌝ }
     requires { ⌜ now answer ≡ rowAnswer count (0 ∷ sizesAt (now rows) count 0) ⌝ }
@@ -298,7 +318,13 @@ fn scan_filled(reference: &[u8], values: &[u8], rows: &[u8], count: usize, answe
 }
 
 // The scan by a pattern of count rows. Its answer is that of the definition.
-pub fn scan_into(reference: &[u8], values: &[u8], rows: &[u8], count: usize, answer: &mut [u32; 24])
+pub fn scan_into(
+    reference: &[u8],
+    values: &[u8],
+    rows: &[u8],
+    count: usize,
+    answer: &mut [u32; ANSWER_SIZE],
+)
     requires { ⌜ GoodRows (now values) (now rows) count ⌝ }
     requires { ⌜ length (now reference) ≤ 1024 ⌝ }
     ensures { λ r. ⌜ now (answer .exit) ≡ answerNumbers 0 (scan (patternOf (now (values .entry)) (now (rows .entry)) count) (now (reference .entry))) ⌝ }
@@ -331,11 +357,11 @@ fn is_element(values: &[u8], elements: &[u8], at: usize) -> bool
 }
 
 // whether all rows are elements; their lengths stand in the answer then
-fn read_rows(values: &[u8], elements: &[u8], count: usize, answer: &mut [u32; 24]) -> bool
+fn read_rows(values: &[u8], elements: &[u8], count: usize, answer: &mut [u32; ANSWER_SIZE]) -> bool
     requires { ⌜ (length (now elements) ≤ 240) × (count ≡ countOf (now elements)) ⌝ }
     ensures { λ r. ⌜ RowsSay (now (values .entry)) (now (elements .entry)) count (now (answer .exit)) r ⌝ }
 {
-    *answer = [0u32; 24];
+    *answer = [0u32; ANSWER_SIZE];
     let mut i: usize = 0;
     let mut at: usize = 0;
     while i < count {
@@ -356,7 +382,7 @@ fn scan_rows(
     values: &[u8],
     elements: &[u8],
     count: usize,
-    answer: &mut [u32; 24],
+    answer: &mut [u32; ANSWER_SIZE],
 ) -> u32
     requires { ⌜ (length (now reference) ≤ 1024) × (length (now elements) ≤ 240) ⌝ }
     requires { ⌜ count ≡ countOf (now elements) ⌝ }
@@ -376,7 +402,7 @@ pub extern "C" fn strigol_scan(
     reference: &[u8],
     values: &[u8],
     elements: &[u8],
-    answer: &mut [u32; 24],
+    answer: &mut [u32; ANSWER_SIZE],
 ) -> u32
     ensures { λ r. ⌜ ScanPromise (now (reference .entry)) (now (values .entry)) (now (elements .entry)) r (now (answer .exit)) ⌝ }
 {
@@ -392,7 +418,7 @@ pub extern "C" fn strigol_scan(
         reference,
         values,
         elements,
-        (elements.len() + 11) / ROW_SIZE,
+        (elements.len() + SHORT_ROW) / ROW_SIZE,
         answer,
     )
 }

@@ -10,7 +10,11 @@ pub const FIXED: u8 = 2;
 
 pub const FREE: u8 = 3;
 
-// where an answer has the start, the trials, the notes and the lengths
+// an answer's numbers, and where it has whether there is a split, the start, the trials, the notes and the lengths
+pub const ANSWER_SIZE: usize = 24;
+
+pub const FOUND_AT: usize = 0;
+
 pub const START_AT: usize = 1;
 
 pub const TRIALS_AT: usize = 2;

@@ -2,6 +2,8 @@
 // Each contract is an equation with the definitions of the crate machine.
 ghost use Rattle.scanstep.specs.Searches.{Searchable, Searched};
 use rows::Stretch;
+use scanning::ANSWER_SIZE;
+use scanning::FOUND_AT;
 use scanning::NOTES_AT;
 use statements::fillers::name_fillers;
 use statements::fillers::null_fillers;
@@ -16,7 +18,7 @@ pub fn find_split(
     rows: &[u8],
     names: &[u8],
     notes: u32,
-    answer: &mut [u32; 24],
+    answer: &mut [u32; ANSWER_SIZE],
 ) -> bool
     requires { ⌜ Searchable (now table) (now store) pattern (now reference) (now values) (now rows) (now names) ⌝ }
     ensures { λ r. ⌜ Searched r (now (table .entry)) (now (store .entry)) (now (store .exit)) pattern (now (reference .entry)) (now (values .entry))
@@ -26,7 +28,7 @@ pub fn find_split(
     null_fillers(table, store, pattern);
     scan::scan_into(reference, values, rows, count, answer);
     answer[NOTES_AT] = notes;
-    if answer[0] == 0 {
+    if answer[FOUND_AT] == 0 {
         return false;
     }
     name_fillers(store, reference, names, answer, count);

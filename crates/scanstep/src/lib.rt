@@ -9,10 +9,12 @@ ghost use Rattle.rows.specs.Meaning.{replacementMeaning};
 ghost use Rattle.scanstep.specs.Scans.{Scannable, Lent, scanningOf, Carried};
 ghost use Rattle.scanstep.specs.Stages.{Findable, Found, Referred, searchedRest};
 use base::LONGEST;
+use calls::STATE_SIZE;
 use finding::find_split;
 use replacing::scan_replacing;
 use rows::Replacement;
 use rows::Scan;
+use scanning::ANSWER_SIZE;
 use statements::Did;
 use statements::reference::Reference;
 use statements::reference::copy_reference;
@@ -37,7 +39,7 @@ pub struct Span {
 fn scan_valued(
     table: &[u8],
     store: &mut [u8],
-    state: &[u64; 64],
+    state: &[u64; STATE_SIZE],
     s: Scan,
     at: Span,
     reference: &[u8],
@@ -48,7 +50,7 @@ fn scan_valued(
     kept: &mut [u8],
     scratch: &mut [u8; LONGEST],
     out: &mut [u8; LONGEST],
-    answer: &mut [u32; 24],
+    answer: &mut [u32; ANSWER_SIZE],
 ) -> Scanned
     requires { ⌜ Findable (now table) (now store) (now state) (s .direction) at (s .pattern) (now reference) (now values) (now rows) (now names)
         notes (now kept) (now scratch) (now out) ⌝ }
@@ -105,7 +107,7 @@ fn scan_valued(
 fn scan_copied(
     table: &[u8],
     store: &mut [u8],
-    state: &[u64; 64],
+    state: &[u64; STATE_SIZE],
     s: Scan,
     at: Span,
     reference: &[u8],
@@ -115,7 +117,7 @@ fn scan_copied(
     names: &mut [u8],
     scratch: &mut [u8; LONGEST],
     out: &mut [u8; LONGEST],
-    answer: &mut [u32; 24],
+    answer: &mut [u32; ANSWER_SIZE],
 ) -> Scanned
     requires { ⌜ Referred (now table) (now store) (now state) s at (now reference) ⌝ }
     requires { ⌜ Lent (now kept) (now values) (now rows) (now names) (now reference) (now scratch) (now out) ⌝ }
@@ -164,7 +166,7 @@ fn scan_copied(
 pub fn scan_step(
     table: &[u8],
     store: &mut [u8],
-    state: &[u64; 64],
+    state: &[u64; STATE_SIZE],
     s: Scan,
     kept: &mut [u8],
     values: &mut [u8],
@@ -173,7 +175,7 @@ pub fn scan_step(
     reference: &mut [u8; LONGEST],
     scratch: &mut [u8; LONGEST],
     out: &mut [u8; LONGEST],
-    answer: &mut [u32; 24],
+    answer: &mut [u32; ANSWER_SIZE],
 ) -> Scanned
     requires { ⌜ Scannable (now table) (now store) (now state) s ⌝ }
     requires { ⌜ Lent (now kept) (now values) (now rows) (now names) (now reference) (now scratch) (now out) ⌝ }

@@ -18,8 +18,10 @@ use crate::Span;
 use crate::finding::find_split;
 use base::LONGEST;
 use base::number;
+use calls::STATE_SIZE;
 use rows::Direction;
 use rows::Stretch;
+use scanning::ANSWER_SIZE;
 use scanning::LENGTHS_AT;
 use scanning::NOTES_AT;
 use scanning::START_AT;
@@ -53,7 +55,7 @@ fn pieces_length(answer: &[u32], count: usize) -> usize
 fn replace_pieces(
     table: &[u8],
     store: &mut [u8],
-    state: &[u64; 64],
+    state: &[u64; STATE_SIZE],
     d: Direction,
     at: Span,
     start: usize,
@@ -88,7 +90,7 @@ fn replace_pieces(
 pub fn scan_replacing(
     table: &[u8],
     store: &mut [u8],
-    state: &[u64; 64],
+    state: &[u64; STATE_SIZE],
     d: Direction,
     at: Span,
     pattern: Stretch,
@@ -101,7 +103,7 @@ pub fn scan_replacing(
     kept: &mut [u8],
     scratch: &mut [u8; LONGEST],
     out: &mut [u8; LONGEST],
-    answer: &mut [u32; 24],
+    answer: &mut [u32; ANSWER_SIZE],
 ) -> Scanned
     requires { ⌜ Findable (now table) (now store) (now state) d at pattern (now reference) (now values) (now rows) (now names) notes
         (now kept) (now scratch) (now out) ⌝ }

@@ -8,6 +8,7 @@ ghost use Rattle.rows.specs.Meaning.{elementMeaning, patternMeaning, patternsMe
 ghost use Rattle.scanstep.specs.Patterns.{StringPutting, StringPut, ValuePutting, ValuePut, FixedPutting, FixedPut};
 ghost use Rattle.scanstep.specs.Patterns.{ElementPutting, ElementPut, PatternPutting, PatternPut};
 use base::LONGEST;
+use calls::STATE_SIZE;
 use convert::Int;
 use convert::Text;
 use rows::Element;
@@ -40,7 +41,7 @@ fn put_string(values: &mut [u8], rows: &mut [u8], i: usize, v: &[u8], n: usize)
 fn put_value(
     table: &[u8],
     store: &[u8],
-    state: &[u64; 64],
+    state: &[u64; STATE_SIZE],
     x: Element,
     i: usize,
     values: &mut [u8],
@@ -80,7 +81,7 @@ fn put_fixed(z: Int, s: usize, i: usize, rows: &mut [u8], names: &mut [u8]) -> u
 fn put_element(
     table: &[u8],
     store: &[u8],
-    state: &[u64; 64],
+    state: &[u64; STATE_SIZE],
     x: PatternElement,
     i: usize,
     values: &mut [u8],
@@ -115,7 +116,7 @@ fn put_element(
 pub fn pattern_rows(
     table: &[u8],
     store: &[u8],
-    state: &[u64; 64],
+    state: &[u64; STATE_SIZE],
     pattern: Stretch,
     values: &mut [u8],
     rows: &mut [u8],

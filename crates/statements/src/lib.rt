@@ -7,10 +7,11 @@ pub mod replacing;
 pub mod valued;
 
 ghost use mathlib.Core.Path.{_≡_};
-ghost use Prim.Native.Nat.{_≤_, min};
+ghost use Prim.Native.Nat.{_≤_};
 ghost use lib.ListN.{length};
 ghost use Rattle.statements.specs.Leaving.{Taking, Took, Puts, Setting, Sets};
 use base::LONGEST;
+use base::least;
 
 // what a statement's work comes to: done, with so many notes, or stopped by a number
 pub enum Did {
@@ -29,13 +30,6 @@ pub enum Went {
     Succeeds,
     Fails,
     Stops(u32),
-}
-
-// the smaller of two numbers
-pub fn least(a: usize, b: usize) -> usize
-    ensures { λ r. ⌜ r ≡ min a b ⌝ }
-{
-    if a <= b { a } else { b }
 }
 
 // Takes the record at a place of the input into a string, its first 1,024 bytes or fewer if so few are asked for. Gives the place

@@ -10,12 +10,13 @@ use crate::Went;
 use crate::take_record;
 use base::LONGEST;
 use calls::READ_AT;
+use calls::STATE_SIZE;
 use rows::Part;
 
 // takes the next record of the input that the state knows of
 fn read_next(
     store: &mut [u8],
-    state: &mut [u64; 64],
+    state: &mut [u64; STATE_SIZE],
     input: &[u8],
     place: usize,
     most: usize,
@@ -34,7 +35,7 @@ fn read_next(
 }
 
 // READ
-pub fn read_record(store: &mut [u8], state: &mut [u64; 64], input: &[u8], p: Part) -> Went
+pub fn read_record(store: &mut [u8], state: &mut [u64; STATE_SIZE], input: &[u8], p: Part) -> Went
     requires { ⌜ Ready (now store) (now state) ⌝ }
     requires { ⌜ PartHolds p × (getD (now state) 3 0 ≤ length (now input)) ⌝ }
     ensures { λ r. ⌜ Reads r (now (store .entry)) (now (store .exit)) (now (state .entry)) (now (state .exit)) (now (input .entry)) (partMeaning p) ⌝ }

@@ -10,8 +10,9 @@ ghost use Rattle.rows.specs.Holds.{PartHolds};
 ghost use Rattle.rows.specs.Meaning.{directionMeaning, partMeaning};
 ghost use Rattle.statements.specs.References.{Refers, restrictedBy, referenceOf};
 ghost use Rattle.statements.specs.Valued.{Between};
-use crate::least;
 use base::LONGEST;
+use base::least;
+use calls::STATE_SIZE;
 use rows::Direction;
 use rows::Part;
 
@@ -45,7 +46,7 @@ fn restrict(d: Direction, place: usize, n: usize, length: usize) -> Reference
 }
 
 // where the reference of a scan lies
-pub fn reference_ends(store: &[u8], state: &[u64; 64], d: Direction, p: Part) -> Reference
+pub fn reference_ends(store: &[u8], state: &[u64; STATE_SIZE], d: Direction, p: Part) -> Reference
     requires { ⌜ Ready (now store) (now state) ⌝ }
     requires { ⌜ PartHolds p ⌝ }
     ensures { λ r. ⌜ Refers r (now (store .entry)) p

@@ -14,6 +14,7 @@ use crate::Did;
 use crate::set_between;
 use crate::valued::set_value;
 use base::LONGEST;
+use calls::STATE_SIZE;
 use convert::Text;
 use rows::Direction;
 use rows::Stretch;
@@ -30,7 +31,7 @@ fn turn_first(v: &[u8], n: usize, out: &mut [u8; LONGEST])
 fn set_turned(
     table: &[u8],
     store: &mut [u8],
-    state: &[u64; 64],
+    state: &[u64; STATE_SIZE],
     place: usize,
     from: usize,
     to: usize,
@@ -59,7 +60,7 @@ fn set_turned(
 pub fn replace_found(
     table: &[u8],
     store: &mut [u8],
-    state: &[u64; 64],
+    state: &[u64; STATE_SIZE],
     d: Direction,
     place: usize,
     from: usize,

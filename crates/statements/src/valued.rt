@@ -13,10 +13,11 @@ ghost use Rattle.rows.specs.Meaning.{itemsMeaning, elementsMeaning, partMeaning
 ghost use Rattle.statements.specs.Valued.{Assigns, Between, storedBetween, Stored, Writing, tailNotes, Recorded, Writable, Writes};
 use crate::Did;
 use crate::Output;
-use crate::least;
 use crate::put_record;
 use crate::set_between;
 use base::LONGEST;
+use base::least;
+use calls::STATE_SIZE;
 use calls::WRITTEN_AT;
 use convert::Number;
 use convert::Text;
@@ -24,7 +25,13 @@ use rows::Part;
 use rows::Stretch;
 
 // a numeric expression's value becomes the number of this place
-pub fn assign(table: &[u8], store: &[u8], state: &mut [u64; 64], place: usize, s: Stretch) -> Did
+pub fn assign(
+    table: &[u8],
+    store: &[u8],
+    state: &mut [u64; STATE_SIZE],
+    place: usize,
+    s: Stretch,
+) -> Did
     requires { ⌜ Valuable (now table) (now store) (now state) s ⌝ }
     requires { ⌜ place < 32 ⌝ }
     ensures { λ r. ⌜ Assigns r (now (state .entry)) (now (state .exit)) place
@@ -43,7 +50,7 @@ pub fn assign(table: &[u8], store: &[u8], state: &mut [u64; 64], place: usize, s
 pub fn set_value(
     table: &[u8],
     store: &mut [u8],
-    state: &[u64; 64],
+    state: &[u64; STATE_SIZE],
     place: usize,
     from: usize,
     to: usize,
@@ -66,7 +73,7 @@ pub fn set_value(
 pub fn set_string(
     table: &[u8],
     store: &mut [u8],
-    state: &[u64; 64],
+    state: &[u64; STATE_SIZE],
     p: Part,
     s: Stretch,
     scratch: &mut [u8; LONGEST],
@@ -104,7 +111,13 @@ fn tail_notes(n: usize) -> u32
 }
 
 // puts a record, of n bytes of which v has the first 1,024, behind the output that the state knows of
-fn write_value(state: &mut [u64; 64], output: &mut [u8], v: &[u8], n: usize, notes: u32) -> Did
+fn write_value(
+    state: &mut [u64; STATE_SIZE],
+    output: &mut [u8],
+    v: &[u8],
+    n: usize,
+    notes: u32,
+) -> Did
     requires { ⌜ Writing (now state) (now output) (now v) notes ⌝ }
     ensures { λ r. ⌜ Recorded r (now (state .entry)) (now (state .exit)) (now (output .entry)) (now (output .exit)) (now (v .entry)) n notes ⌝ }
 {
@@ -123,7 +136,7 @@ fn write_value(state: &mut [u64; 64], output: &mut [u8], v: &[u8], n: usize, not
 pub fn write_record(
     table: &[u8],
     store: &[u8],
-    state: &mut [u64; 64],
+    state: &mut [u64; STATE_SIZE],
     s: Stretch,
     output: &mut [u8],
     scratch: &mut [u8; LONGEST],

@@ -2,7 +2,7 @@
 // Each contract is an equation with the definitions of the crate calls, or with the numbers before, one of them set.
 ghost use mathlib.Core.Path.{_≡_};
 ghost use Prim.Native.Nat.{_+_, _-_, _<_, _≤_};
-ghost use lib.Dec.{ltb};
+ghost use lib.Dec.{eqb, ltb};
 ghost use lib.ListN.{length, getD, set};
 ghost use Rattle.base.specs.Edition.{edition1};
 ghost use Rattle.base.specs.Lists.{all};
@@ -13,12 +13,16 @@ ghost use Rattle.machine.specs.State.{isRunning};
 ghost use Rattle.values.specs.Numbers.{isInRange};
 ghost use Rattle.states.specs.Contracts.{Popped, StartedWith};
 use calls::BIAS;
+use calls::FINISHED;
 use calls::HELD_AT;
 use calls::NEXT_AT;
 use calls::NUMBERS_AT;
 use calls::READ_AT;
 use calls::RETURNS_AT;
+use calls::RUNNING;
+use calls::STATE_SIZE;
 use calls::STATUS_AT;
+use calls::STOPPED;
 use calls::WRITTEN_AT;
 use convert::Int;
 
@@ -61,7 +65,7 @@ fn numbers_keep(state: &[u64]) -> bool
 }
 
 // Whether a state is in range for a program of so many steps, and so many bytes of input and output.
-pub fn keeps(state: &[u64; 64], steps: usize, input: usize, output: usize) -> bool
+pub fn keeps(state: &[u64; STATE_SIZE], steps: usize, input: usize, output: usize) -> bool
     ensures { λ r. ⌜ r ≡ stateKeeps edition1 steps input output (now (state .entry)) ⌝ }
 {
     if steps as u64 <= state[NEXT_AT] {
@@ -83,49 +87,56 @@ pub fn keeps(state: &[u64; 64], steps: usize, input: usize, output: usize) -> bo
 }
 
 // Whether the run goes on: it has neither finished nor stopped.
-pub fn is_running(state: &[u64; 64]) -> bool
+pub fn is_running(state: &[u64; STATE_SIZE]) -> bool
     ensures { λ r. ⌜ r ≡ isRunning (statusOf (getD (now (state .entry)) 0 0)) ⌝ }
 {
-    state[STATUS_AT] == 0
+    state[STATUS_AT] == RUNNING
+}
+
+// Whether the run has finished.
+pub fn is_finished(state: &[u64; STATE_SIZE]) -> bool
+    ensures { λ r. ⌜ r ≡ eqb (getD (now (state .entry)) 0 0) 1 ⌝ }
+{
+    state[STATUS_AT] == FINISHED
 }
 
 // The step that comes next.
-pub fn next_step(state: &[u64; 64]) -> usize
+pub fn next_step(state: &[u64; STATE_SIZE]) -> usize
     ensures { λ r. ⌜ r ≡ getD (now (state .entry)) 1 0 ⌝ }
 {
     state[NEXT_AT] as usize
 }
 
 // How many returns are held.
-pub fn returns_held(state: &[u64; 64]) -> usize
+pub fn returns_held(state: &[u64; STATE_SIZE]) -> usize
     ensures { λ r. ⌜ r ≡ getD (now (state .entry)) 2 0 ⌝ }
 {
     state[HELD_AT] as usize
 }
 
 // Moves on to a step.
-pub fn go_to(state: &mut [u64; 64], k: usize)
+pub fn go_to(state: &mut [u64; STATE_SIZE], k: usize)
     ensures { λ _. ⌜ now (state .exit) ≡ set (now (state .entry)) 1 k ⌝ }
 {
     state[NEXT_AT] = k as u64;
 }
 
 // Marks the run finished.
-pub fn finish(state: &mut [u64; 64])
+pub fn finish(state: &mut [u64; STATE_SIZE])
     ensures { λ _. ⌜ now (state .exit) ≡ set (now (state .entry)) 0 1 ⌝ }
 {
-    state[STATUS_AT] = 1;
+    state[STATUS_AT] = FINISHED;
 }
 
 // Marks the run stopped.
-pub fn stop(state: &mut [u64; 64])
+pub fn stop(state: &mut [u64; STATE_SIZE])
     ensures { λ _. ⌜ now (state .exit) ≡ set (now (state .entry)) 0 2 ⌝ }
 {
-    state[STATUS_AT] = 2;
+    state[STATUS_AT] = STOPPED;
 }
 
 // Sets the number with this place.
-pub fn set_number(state: &mut [u64; 64], place: usize, z: Int)
+pub fn set_number(state: &mut [u64; STATE_SIZE], place: usize, z: Int)
     requires { ⌜ place < 32 ⌝ }
     requires { ⌜ InRange z ⌝ }
     ensures { λ _. ⌜ now (state .exit) ≡ set (now (state .entry)) (21 + place) (biased (z .value)) ⌝ }
@@ -134,7 +145,7 @@ pub fn set_number(state: &mut [u64; 64], place: usize, z: Int)
 }
 
 // Holds a return to a step.
-pub fn push_return(state: &mut [u64; 64], k: usize)
+pub fn push_return(state: &mut [u64; STATE_SIZE], k: usize)
     requires { ⌜ getD (now state) 2 0 < 16 ⌝ }
     ensures { λ _. ⌜ now (state .exit)
         ≡ set (set (now (state .entry)) (5 + getD (now (state .entry)) 2 0) k) 2 (getD (now (state .entry)) 2 0 + 1) ⌝ }
@@ -145,7 +156,7 @@ pub fn push_return(state: &mut [u64; 64], k: usize)
 }
 
 // Lets the latest return go and gives its step.
-pub fn pop_return(state: &mut [u64; 64]) -> usize
+pub fn pop_return(state: &mut [u64; STATE_SIZE]) -> usize
     requires { ⌜ (0 < getD (now state) 2 0) × (getD (now state) 2 0 ≤ 16) ⌝ }
     ensures { λ r. ⌜ Popped (now (state .entry)) r (now (state .exit)) ⌝ }
 {
@@ -156,10 +167,10 @@ pub fn pop_return(state: &mut [u64; 64]) -> usize
 }
 
 // Makes the state before the first step: zeros, and 32 numbers that are 0.
-pub fn start(state: &mut [u64; 64])
+pub fn start(state: &mut [u64; STATE_SIZE])
     ensures { λ _. ⌜ now (state .exit) ≡ firstState ⌝ }
 {
-    *state = [0u64; 64];
+    *state = [0u64; STATE_SIZE];
     let mut i = NUMBERS_AT;
     while i < BEHIND {
         state[i] = BIAS;
@@ -169,7 +180,7 @@ pub fn start(state: &mut [u64; 64])
 
 // The starting call: the state before the first step, and the store zeroed; 14 if the store is too small, which then stays.
 #[no_mangle]
-pub extern "C" fn strigol_start(store: &mut [u8], state: &mut [u64; 64]) -> u32
+pub extern "C" fn strigol_start(store: &mut [u8], state: &mut [u64; STATE_SIZE]) -> u32
     ensures { λ r. ⌜ StartedWith (now (store .entry)) r (now (store .exit)) (now (state .exit)) ⌝ }
 {
     start(state);

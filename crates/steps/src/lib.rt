@@ -19,13 +19,15 @@ ghost use Rattle.steps.specs.Contracts.{Given, Going, WorksOn, carriedOu
 ghost use Rattle.steps.specs.Promises.{StepPromise};
 use base::LONGEST;
 use base::RETURNS;
+use calls::STATE_SIZE;
 use calls::TABLE_SIZE;
 use rows::Statement;
+use scanning::ANSWER_SIZE;
 use scanning::NOTES_AT;
 use statements::Did;
 
 // the kind of a step that is an EXECUTE; what is above it returns
-const EXECUTE: usize = 11;
+const EXECUTE: usize = calls::step_kinds::EXECUTE as usize;
 
 // whether a step of this kind lacks the return that it goes to, or room for the one that it holds
 fn lacks_return(kind: usize, held: usize) -> bool
@@ -44,7 +46,7 @@ fn lacks_return(kind: usize, held: usize) -> bool
 fn carry_out(
     table: &[u8],
     store: &mut [u8],
-    state: &mut [u64; 64],
+    state: &mut [u64; STATE_SIZE],
     input: &[u8],
     output: &mut [u8],
     next: usize,
@@ -56,7 +58,7 @@ fn carry_out(
     reference: &mut [u8; LONGEST],
     scratch: &mut [u8; LONGEST],
     out: &mut [u8; LONGEST],
-    answer: &mut [u32; 24],
+    answer: &mut [u32; ANSWER_SIZE],
 ) -> Did
     requires { ⌜ Going (now table) (now input) (lent (now store) (now state) (now output)) next x ⌝ }
     requires { ⌜ now answer ≡ noAnswer ⌝ }
@@ -103,7 +105,7 @@ fn carry_out(
 }
 
 // gives the number of a statement's work: where it is done the answer gets its notes, where it is stopped the state is marked so
-fn conclude(did: Did, state: &mut [u64; 64], answer: &mut [u32; 24]) -> u32
+fn conclude(did: Did, state: &mut [u64; STATE_SIZE], answer: &mut [u32; ANSWER_SIZE]) -> u32
     ensures { λ r. ⌜ Concludes did r (now (state .entry)) (now (state .exit)) (now (answer .entry)) (now (answer .exit)) ⌝ }
 {
     match did {
@@ -112,7 +114,7 @@ fn conclude(did: Did, state: &mut [u64; 64], answer: &mut [u32; 24]) -> u32
             0
         }
         Did::Stops(k) => {
-            *answer = [0u32; 24];
+            *answer = [0u32; ANSWER_SIZE];
             states::stop(state);
             k
         }
@@ -123,7 +125,7 @@ fn conclude(did: Did, state: &mut [u64; 64], answer: &mut [u32; 24]) -> u32
 fn go_on(
     table: &[u8],
     store: &mut [u8],
-    state: &mut [u64; 64],
+    state: &mut [u64; STATE_SIZE],
     input: &[u8],
     output: &mut [u8],
     next: usize,
@@ -135,7 +137,7 @@ fn go_on(
     reference: &mut [u8; LONGEST],
     scratch: &mut [u8; LONGEST],
     out: &mut [u8; LONGEST],
-    answer: &mut [u32; 24],
+    answer: &mut [u32; ANSWER_SIZE],
 ) -> u32
     requires { ⌜ Going (now table) (now input) (lent (now store) (now state) (now output)) next x ⌝ }
     requires { ⌜ Lent (now kept) (now values) (now rows) (now names) (now reference) (now scratch) (now out) ⌝ }
@@ -144,7 +146,7 @@ fn go_on(
     ensures { λ _. ⌜ Lent (now (kept .exit)) (now (values .exit)) (now (rows .exit)) (now (names .exit)) (now (reference .exit))
         (now (scratch .exit)) (now (out .exit)) ⌝ }
 {
-    *answer = [0u32; 24];
+    *answer = [0u32; ANSWER_SIZE];
     let did = carry_out(
         table,
         store,
@@ -166,10 +168,10 @@ fn go_on(
 }
 
 // turns a step down: no split, no trials, no notes
-fn turn_down(number: u32, answer: &mut [u32; 24]) -> u32
+fn turn_down(number: u32, answer: &mut [u32; ANSWER_SIZE]) -> u32
     ensures { λ r. ⌜ (r ≡ number) × (now (answer .exit) ≡ replicate 24 0) ⌝ }
 {
-    *answer = [0u32; 24];
+    *answer = [0u32; ANSWER_SIZE];
     number
 }
 
@@ -177,7 +179,7 @@ fn turn_down(number: u32, answer: &mut [u32; 24]) -> u32
 pub fn step_on(
     table: &[u8],
     store: &mut [u8],
-    state: &mut [u64; 64],
+    state: &mut [u64; STATE_SIZE],
     input: &[u8],
     output: &mut [u8],
     kept: &mut [u8],
@@ -187,7 +189,7 @@ pub fn step_on(
     reference: &mut [u8; LONGEST],
     scratch: &mut [u8; LONGEST],
     out: &mut [u8; LONGEST],
-    answer: &mut [u32; 24],
+    answer: &mut [u32; ANSWER_SIZE],
 ) -> u32
     requires { ⌜ Given (now table) (now input) (lent (now store) (now state) (now output)) ⌝ }
     requires { ⌜ Lent (now kept) (now values) (now rows) (now names) (now reference) (now scratch) (now out) ⌝ }
@@ -230,7 +232,13 @@ fn sized(state: &[u64])
 {}
 
 // the number by which buffers that no step may be given are turned down, or 0
-pub fn unfit(table: &[u8], store: &[u8], state: &[u64; 64], input: usize, output: usize) -> u32
+pub fn unfit(
+    table: &[u8],
+    store: &[u8],
+    state: &[u64; STATE_SIZE],
+    input: usize,
+    output: usize,
+) -> u32
     ensures { λ r. ⌜ (r ≡ unfitNumber (now (table .entry)) (now (store .entry)) (now (state .entry)) input output)
         × (length (now (state .entry)) ≡ 64) ⌝ }
 {
@@ -256,10 +264,10 @@ pub fn unfit(table: &[u8], store: &[u8], state: &[u64; 64], input: usize, output
 pub extern "C" fn strigol_step(
     table: &[u8],
     store: &mut [u8],
-    state: &mut [u64; 64],
+    state: &mut [u64; STATE_SIZE],
     input: &[u8],
     output: &mut [u8],
-    answer: &mut [u32; 24],
+    answer: &mut [u32; ANSWER_SIZE],
 ) -> u32
     ensures { λ r. ⌜ StepPromise (now (table .entry)) (now (input .entry)) (lent (now (store .entry)) (now (state .entry)) (now (output .entry)))
         r (now (answer .exit)) (lent (now (store .exit)) (now (state .exit)) (now (output .exit))) ⌝ }

@@ -1,7 +1,6 @@
 // A run: the table and the store are looked at once, and then a step is repeated until one finishes, stops or is turned down.
 ghost use mathlib.Core.List.{[], _∷_};
 ghost use mathlib.Core.Path.{_≡_};
-ghost use lib.Dec.{eqb};
 ghost use lib.ListN.{getD};
 ghost use Rattle.base.specs.Edition.{edition1};
 ghost use Rattle.calls.specs.Calls.{runCall, stepCall};
@@ -14,31 +13,25 @@ use crate::scans::VALUES_SIZE;
 use crate::step_on;
 use crate::unfit;
 use base::LONGEST;
-use calls::STATUS_AT;
+use calls::STATE_SIZE;
 use calls::STORE_SIZE;
+use scanning::ANSWER_SIZE;
 use scanning::NOTES_AT;
 
 // how a run ends
-const FINISHED: u64 = 0;
+const RUN_FINISHED: u64 = 0;
 
-const STOPPED: u64 = 1;
+const RUN_STOPPED: u64 = 1;
 
-const SPENT: u64 = 2;
+const RUN_SPENT: u64 = 2;
 
-const REFUSED: u64 = 3;
+const RUN_REFUSED: u64 = 3;
 
 // the least number by which a step is stopped; those below turn it down
 const FIRST_STOP: u32 = 17;
 
-// whether the run has finished
-fn is_finished(state: &[u64; 64]) -> bool
-    ensures { λ r. ⌜ r ≡ eqb (getD (now (state .entry)) 0 0) 1 ⌝ }
-{
-    state[STATUS_AT] == 1
-}
-
 // the notes of a step
-fn notes_of(answer: &[u32; 24]) -> u32
+fn notes_of(answer: &[u32; ANSWER_SIZE]) -> u32
     ensures { λ r. ⌜ r ≡ getD (now (answer .entry)) 3 0 ⌝ }
 {
     answer[NOTES_AT]
@@ -56,12 +49,12 @@ fn end(result: &mut [u64; 4], outcome: u64, number: u32, steps: u32, notes: u64)
 pub fn repeat(
     table: &[u8],
     store: &mut [u8],
-    state: &mut [u64; 64],
+    state: &mut [u64; STATE_SIZE],
     input: &[u8],
     output: &mut [u8],
     count: u32,
     result: &mut [u64; 4],
-    answer: &mut [u32; 24],
+    answer: &mut [u32; ANSWER_SIZE],
 ) -> u32
     requires { ⌜ Given (now table) (now input) (lent (now store) (now state) (now output)) ⌝ }
     ensures { λ r. ⌜ RunPromise (runCall edition1 (now (table .entry)) (now (input .entry)) count (lent (now (store .entry)) (now (state .entry)) (now (output .entry))))
@@ -96,18 +89,18 @@ pub fn repeat(
         );
         let more = notes + (notes_of(answer) as u64);
         if FIRST_STOP <= n {
-            return end(result, STOPPED, n, done + 1, more);
+            return end(result, RUN_STOPPED, n, done + 1, more);
         }
         if 0 < n {
-            return end(result, REFUSED, n, done, notes);
+            return end(result, RUN_REFUSED, n, done, notes);
         }
         done += 1;
         notes = more;
-        if is_finished(state) {
-            return end(result, FINISHED, 0, done, notes);
+        if states::is_finished(state) {
+            return end(result, RUN_FINISHED, 0, done, notes);
         }
     }
-    end(result, SPENT, 0, done, notes)
+    end(result, RUN_SPENT, 0, done, notes)
 }
 
 // The run call: so many steps at most. A run of more is a run again on what the last one left.
@@ -115,7 +108,7 @@ pub fn repeat(
 pub extern "C" fn strigol_run(
     table: &[u8],
     store: &mut [u8],
-    state: &mut [u64; 64],
+    state: &mut [u64; STATE_SIZE],
     input: &[u8],
     output: &mut [u8],
     count: u32,
@@ -125,13 +118,13 @@ pub extern "C" fn strigol_run(
         r (now (result .exit)) (lent (now (store .exit)) (now (state .exit)) (now (output .exit))) ⌝ }
 {
     if count == 0 {
-        return end(result, SPENT, 0, 0, 0);
+        return end(result, RUN_SPENT, 0, 0, 0);
     }
     let n = unfit(table, store, state, input.len(), output.len());
     if 0 < n {
-        return end(result, REFUSED, n, 0, 0);
+        return end(result, RUN_REFUSED, n, 0, 0);
     }
-    let mut answer = [0u32; 24];
+    let mut answer = [0u32; ANSWER_SIZE];
     repeat(
         table,
         store,

@@ -6,7 +6,9 @@ ghost use Rattle.scanstep.specs.Scans.{Scannable, Lent};
 ghost use Rattle.steps.specs.Contracts.{DoesScan};
 use base::LONGEST;
 use base::ROW;
+use calls::STATE_SIZE;
 use rows::Scan;
+use scanning::ANSWER_SIZE;
 use scanning::ROW_SIZE;
 use scanstep::Scanned;
 use statements::Did;
@@ -22,7 +24,7 @@ pub const NAMES_SIZE: usize = ROW;
 pub fn scan(
     table: &[u8],
     store: &mut [u8],
-    state: &mut [u64; 64],
+    state: &mut [u64; STATE_SIZE],
     s: Scan,
     kept: &mut [u8],
     values: &mut [u8],
@@ -31,7 +33,7 @@ pub fn scan(
     reference: &mut [u8; LONGEST],
     scratch: &mut [u8; LONGEST],
     out: &mut [u8; LONGEST],
-    answer: &mut [u32; 24],
+    answer: &mut [u32; ANSWER_SIZE],
 ) -> Did
     requires { ⌜ Scannable (now table) (now store) (now state) s ⌝ }
     requires { ⌜ Lent (now kept) (now values) (now rows) (now names) (now reference) (now scratch) (now out) ⌝ }

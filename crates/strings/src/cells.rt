@@ -1,5 +1,8 @@
 // STRING calls and fillers, each read as a cell of the table.
 // Assumes nothing.
+use calls::cell_kinds::FIXED;
+use calls::cell_kinds::FREE;
+use calls::cell_kinds::TEXT;
 use met::BIAS;
 use met::Cursor;
 use met::KNOWN;
@@ -23,14 +26,6 @@ ghost use mathlib.Core.Path.{_≡_};
 ghost use Rattle.met.specs.Known.{Counted};
 ghost use Rattle.numeric.specs.Operands.{Ready};
 ghost use Rattle.strings.specs.Cells.{NumberEnds, NumberFollows, ConstantCalled, NumberCalled, TextCalled, FillerRead};
-
-// the kind of STRING with a constant; the next one is that with a number
-const TEXT: u8 = 17;
-
-// the kind of a free filler, and of a fixed one by a constant; the next one is that by a number
-const FREE: u8 = 19;
-
-const FIXED: u8 = 20;
 
 // the m of STRING with its `)`, in a cell of a kind and a value
 fn number_end(

@@ -1,5 +1,7 @@
 // Literals: their bytes go to the literal bytes of the table, behind those written before.
 // Assumes nothing.
+use calls::RANGE_STEP;
+use calls::cell_kinds::LITERAL;
 use met::Cursor;
 use met::put_element;
 use met::put_literals;
@@ -14,9 +16,6 @@ ghost use Rattle.language.specs.Words.{run};
 ghost use Rattle.numeric.specs.Operands.{Ready};
 ghost use Rattle.words.specs.Places.{Counts};
 ghost use Rattle.strings.specs.Elements.{Spellable, Spelt, LiteralRead};
-
-// the kind of a literal
-const LITERAL: u8 = 16;
 
 // how many bytes stand before the next quote
 fn literal_length(text: &[u8], at: usize) -> usize
@@ -34,7 +33,7 @@ fn put_literal(text: &[u8], table: &mut [u8], c: Cursor, n: usize, size: usize) 
     let from = c.at + 1;
     let end = from + n;
     put_literals(table, c.literals, &text[from..end]);
-    put_element(table, c.elements, LITERAL, 0, c.literals + 65_536 * n);
+    put_element(table, c.elements, LITERAL, 0, c.literals + RANGE_STEP * n);
     Cursor {
         at: c.at + size,
         names: c.names,

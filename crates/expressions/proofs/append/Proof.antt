@@ -1,13 +1,15 @@
--- `expressions::append` meets its contract. What has no room is not kept: a law of Appending for each of the three cases.
+-- `expressions::append` meets its contract. What has no room is not kept.
 -- Assumes nothing.
 use borrow.Author.Needs.{needs}
 use mathlib.Core.List.{List}
-use mathlib.Core.Path.{sym, subst}
-use Prim.Native.Nat.{ℕ, _-_}
+use mathlib.Core.Path.{_≡_, sym, subst}
+use Prim.Native.Nat.{ℕ, _-_, _≤_, min}
+use native.Mathlib.Nat.{min-le-left, min-le-right}
 use native.Mathlib.Omega.{arith}
+use lib.ListN.{length, take}
 use lib.Seq.{length-take-le}
 use Rattle.expressions.specs.Appending.{Appended}
-use Rattle.expressions.proofs.Appending.{appended-none, appended-all, appended-some}
+use Rattle.expressions.proofs.Appending.{appended-none, appended-least}
 use Rattle.expressions.proofs.append.Statement.{statement}
 use Rattle.expressions.proofs.append.Tie as tie
 
@@ -16,42 +18,40 @@ returns c =
     let s = c .before .before in
     appended-none (s .args .out .now) (s .args .v .now) (s .args .at) (s .pre) (c .if1 .taken)
 
-sub-room : tie.Need-sub-room
-sub-room c = search needs
+sub-least : tie.Need-sub-least
+sub-least c = search needs
 
-copy-requires : tie.Need-copy-requires
-copy-requires c κs = search needs
+least-requires : tie.Need-least-requires
+least-requires c κs = search needs
+
+-- a part of the smaller size has that size
+part-size : (n room : ℕ) (v : List ℕ) → n ≡ min room (length v) → length (take n v) ≡ n
+part-size n room v least = length-take-le n v (omega (arith, least, min-le-right room (length v)))
 
 slice-aggregate-copy : tie.Need-slice-aggregate-copy
 slice-aggregate-copy c =
     let s = c .before .before .before .before in
-    sym (length-take-le (1024 - s .args .at) (s .args .v .now) (omega arith))
+    sym (part-size (c .before .least .result) (1024 - s .args .at) (s .args .v .now) (c .before .least .ensures))
 
-copy-requires-2 : tie.Need-copy-requires-2
-copy-requires-2 c κs =
+copy-requires : tie.Need-copy-requires
+copy-requires c κs =
     let s = c .before .before .before .before .before in
-    omega (arith, length-take-le (1024 - s .args .at) (s .args .v .now) (omega arith))
+    let least = c .before .before .least in
+    omega (
+      arith,
+      part-size (least .result) (1024 - s .args .at) (s .args .v .now) (least .ensures),
+      least .ensures,
+      min-le-left (1024 - s .args .at) (length (s .args .v .now)),
+    )
 
 returns-2 : tie.Need-returns-2
 returns-2 c =
-    let s = c .before .before .before .before .before in
-    subst (λ (l : List ℕ). Appended (s .args .out .now) l (s .args .at) (s .args .v .now)) (sym (c .copy .ensures))
-    (appended-all (s .args .out .now) (s .args .v .now) (s .args .at) (s .pre) (omega arith) (omega arith))
-
-returns-3 : tie.Need-returns-3
-returns-3 c =
     let s = c .before .before .before .before .before .before in
-    subst (λ (l : List ℕ). Appended (s .args .out .now) l (s .args .at) (s .args .v .now)) (sym (c .copy2 .ensures))
-    (appended-some (s .args .out .now) (s .args .v .now) (s .args .at) (s .pre) (omega arith) (omega arith))
+    let least = c .before .before .before .least in
+    subst (λ (l : List ℕ). Appended (s .args .out .now) l (s .args .at) (s .args .v .now)) (sym (c .copy .ensures))
+    (appended-least (s .args .out .now) (s .args .v .now) (s .args .at) (s .pre) (omega arith) (least .result) (least .ensures))
 
 pub append-spec : {M : Type 1} → statement M
 append-spec =
     tie.close
-    (tie.spec
-    returns
-    sub-room
-    copy-requires
-    slice-aggregate-copy
-    copy-requires-2
-    returns-2
-    returns-3)
+    (tie.spec returns sub-least least-requires slice-aggregate-copy copy-requires returns-2)

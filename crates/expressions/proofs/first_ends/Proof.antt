@@ -2,7 +2,7 @@
 -- Assumes nothing.
 use borrow.Author.Needs.{needs}
 use mathlib.Core.Path.{sym, _∙_}
-use Rattle.expressions.proofs.Spanning.{negative-spans, longer-spans, shorter-spans}
+use Rattle.expressions.proofs.Spanning.{negative-spans, substring-spans}
 use Rattle.expressions.proofs.first_ends.Statement.{statement}
 use Rattle.expressions.proofs.first_ends.Tie as tie
 
@@ -24,6 +24,9 @@ string-length-requires c κs = search needs
 size-requires : tie.Need-size-requires
 size-requires c κs = search needs
 
+least-requires : tie.Need-least-requires
+least-requires c κs = search needs
+
 add-t10 : tie.Need-add-t10
 add-t10 c = search needs
 
@@ -33,22 +36,9 @@ returns-2 c =
     let start = c .before .before .before .before .before .string-start in
     let length = c .before .before .string-length in
     let natural = sym (c .before .before .before .before .is-negative .ensures) ∙ c .before .before .before .if1 .left in
-    longer-spans (s .args .store .now) (s .pre .0) (s .args .place) (s .pre .1 .0) (start .result) (start .ensures)
-    (s .args .n .value) (length .result) (length .ensures .0) (length .ensures .1) natural (c .before .size .result)
-    (c .before .size .ensures) (c .if2 .taken)
-
-add-t11 : tie.Need-add-t11
-add-t11 c = search needs
-
-returns-3 : tie.Need-returns-3
-returns-3 c =
-    let s = c .before .before .before .before .before .before .before in
-    let start = c .before .before .before .before .before .string-start in
-    let length = c .before .before .string-length in
-    let natural = sym (c .before .before .before .before .is-negative .ensures) ∙ c .before .before .before .if1 .left in
-    shorter-spans (s .args .store .now) (s .pre .0) (s .args .place) (s .pre .1 .0) (start .result) (start .ensures)
-    (s .args .n .value) (length .result) (length .ensures .0) (length .ensures .1) natural (c .before .size .result)
-    (c .before .size .ensures) (c .if2 .left)
+    substring-spans (s .args .store .now) (s .pre .0) (s .args .place) (s .pre .1 .0) (start .result) (start .ensures)
+    (s .args .n .value) (length .result) (c .before .size .result) (length .ensures .0) (length .ensures .1) natural (c .before .size .ensures)
+    (c .least .result) (c .least .ensures)
 
 pub first-ends-spec : {M : Type 1} → statement M
 first-ends-spec =
@@ -59,7 +49,6 @@ first-ends-spec =
     returns
     string-length-requires
     size-requires
+    least-requires
     add-t10
-    returns-2
-    add-t11
-    returns-3)
+    returns-2)
