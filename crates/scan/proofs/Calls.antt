@@ -122,10 +122,10 @@ pub record Reading (values elements : List ℕ) (count : ℕ) (answer : List ℕ
   pub same : patternIn values elements ≡ prefixed (elementsAt values elements i 0) (elementsFrom values elements (count - i) at)
   pub left : answer ≡ rowAnswer i (0 ∷ sizesAt elements i 0)
 
-module _ (values elements : List ℕ) (count : ℕ) (counted : count ≡ countOf elements) where
-  pub read-begins : (answer : List ℕ) → answer ≡ rowAnswer 0 (0 ∷ []) → Reading values elements count answer 0 0
+module _ {values elements : List ℕ} {count : ℕ} (counted : count ≡ countOf elements) where
+  pub read-begins : {answer : List ℕ} → answer ≡ rowAnswer 0 (0 ∷ []) → Reading values elements count answer 0 0
   unfolding patternIn elementsAt sizesAt
-  read-begins answer left =
+  read-begins left =
       let e : countOf elements ≡ count - 0 = omega arith in
       record {
         place = omega arith;
@@ -137,7 +137,7 @@ module _ (values elements : List ℕ) (count : ℕ) (counted : count ≡ countOf
         left = left;
       }
 
-  module _ (answer : List ℕ) (i at : ℕ) (d : Reading values elements count answer i at) where
+  module _ {answer : List ℕ} {i at : ℕ} (d : Reading values elements count answer i at) where
     pub read-inside : i < count → at ≤ length elements
     unfolding countOf rowBytes
     read-inside h = omega (arith, d .place)
@@ -152,9 +152,9 @@ module _ (values elements : List ℕ) (count : ℕ) (counted : count ≡ countOf
         let e : count - i ≡ suc (count - (i + 1)) = omega arith in
         d .same ∙ ap (λ (n : ℕ). prefixed (elementsAt values elements i 0) (elementsFrom values elements n at)) e
 
-    pub read-bad : (answer′ : List ℕ) → i < count → RowSays values elements at false → RowsSay values elements count answer′ false
+    pub read-bad : {answer′ : List ℕ} → i < count → RowSays values elements at false → RowsSay values elements count answer′ false
     unfolding prefixed joinElement
-    read-bad answer′ h r =
+    read-bad h r =
         record {
           bad =
               λ f.
@@ -177,9 +177,9 @@ module _ (values elements : List ℕ) (count : ℕ) (counted : count ≡ countOf
     pub read-good : RowSays values elements at true → Good values (rowElement elements i)
     read-good r = subst (Good values) here (r .good refl)
 
-    pub read-more : (v : ℕ) → i < count → count ≤ 20 → RowSays values elements at true → v ≡ sizeOf (rowElement elements i)
+    pub read-more : {v : ℕ} → i < count → count ≤ 20 → RowSays values elements at true → v ≡ sizeOf (rowElement elements i)
         → Reading values elements count (set answer (4 + i) v) (i + 1) (at + 12)
-    read-more v h most r size =
+    read-more {v} h most r size =
         let o : Option (List Splits.Element) = elementsFrom values elements (count - (i + 1)) (at + 12) in
         let this = elementOf values (rowElement elements i) in
         let one : i + 1 ≡ suc i = omega arith in

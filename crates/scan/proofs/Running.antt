@@ -27,17 +27,19 @@ pub record Running (reference values rows : List ℕ) (count : ℕ) (answer : Li
   pub low : from ≤ place
   pub inside : place ≤ length reference
   pub bound : trials ≤ 20 * place + g
+  pub short : length reference ≤ 1024
+  pub most : count ≤ 20
 
 -- the next group leaves less to do
 pub run-less : (size count place g end j : ℕ) → place ≤ end → end ≤ size → g ≤ j → j + 1 < count
     → size - end + (count - (j + 1)) < size - place + (count - g)
 run-less size count place g end j forth inside low more = omega arith
 
-module _ (reference values rows : List ℕ) (count : ℕ) where
-  pub run-begins : (answer : List ℕ) → 0 < count → answer ≡ rowAnswer count (0 ∷ sizesAt rows count 0)
+module _ {reference values rows : List ℕ} {count : ℕ} where
+  pub run-begins : {answer : List ℕ} → length reference ≤ 1024 → count ≤ 20 → 0 < count → answer ≡ rowAnswer count (0 ∷ sizesAt rows count 0)
       → Running reference values rows count answer 0 0 0 0
   unfolding patternOf
-  run-begins answer h e =
+  run-begins short most h e =
       let z : count ≡ count - 0 = omega arith in
       record {
         pre = [];
@@ -50,9 +52,11 @@ module _ (reference values rows : List ℕ) (count : ℕ) where
         low = omega arith;
         inside = omega arith;
         bound = omega arith;
+        short = short;
+        most = most;
       }
 
-  module _ (answer : List ℕ) (g from place trials : ℕ) (r : Running reference values rows count answer g from place trials) where
+  module _ {answer : List ℕ} {g from place trials : ℕ} (r : Running reference values rows count answer g from place trials) where
     abbrev row : List ℕ → Tried
     row = groupAt values rows count g
 
@@ -75,11 +79,13 @@ module _ (reference values rows : List ℕ) (count : ℕ) where
           low = low;
           inside = inside;
           bound = bound;
+          short = r .short;
+          most = r .most;
         }
 
-    pub run-skips : (e : Element) (k : ℕ) → e ≡ rowElement rows g → SkipSays (drop place reference) (elementOf values e) k
+    pub run-skips : {e : Element} {k : ℕ} → e ≡ rowElement rows g → SkipSays (drop place reference) (elementOf values e) k
         → Running reference values rows count answer g from (place + k) (trials + k)
-    run-skips e k read s =
+    run-skips {e} {k} read s =
         let rest : List Splits.Element = elementsAt values rows (count - (g + 1)) (g + 1) in
         let fails : (j : ℕ) → j < k → row (drop j (drop place reference)) ≡ other 1 =
         λ j h.
@@ -94,9 +100,9 @@ module _ (reference values rows : List ℕ) (count : ℕ) where
         ∙ ap (λ (l : List ℕ). resumed (r .pre) (place - from + k) (trials + k) (slide row l)) (drop-drop k place reference)
         ∙ ap (λ (n : ℕ). resumed (r .pre) n (trials + k) (slide row (drop (place + k) reference))) gap)
 
-    pub run-moves : (n : ℕ) → FailedGroup reference values rows count g place n (other n) → place < length reference
+    pub run-moves : {n : ℕ} → FailedGroup reference values rows count g place n (other n) → place < length reference
         → Running reference values rows count answer g from (place + 1) (trials + n)
-    run-moves n f h =
+    run-moves {n} f h =
         let gap : place - from + 1 ≡ place + 1 - from = omega (arith, r .low) in
         at-place (place + 1) (trials + n) (omega (arith, r .low)) (omega arith) (omega (arith, r .bound, f .few))
         (r .same
@@ -104,25 +110,24 @@ module _ (reference values rows : List ℕ) (count : ℕ) where
         ∙ ap (λ (l : List ℕ). resumed (r .pre) (place - from + 1) (trials + n) (slide row l)) (drop-drop 1 place reference)
         ∙ ap (λ (m : ℕ). resumed (r .pre) m (trials + n) (slide row (drop (place + 1) reference))) gap)
 
-    pub run-stops : (n : ℕ) → length reference ≤ 1024 → count ≤ 20 → FailedGroup reference values rows count g place n (other n)
-        → place ≡ length reference → RunFailed reference values rows count (trials + n)
-    run-stops n short most f h =
+    pub run-stops : {n : ℕ} → FailedGroup reference values rows count g place n (other n) → place ≡ length reference
+        → RunFailed reference values rows count (trials + n)
+    run-stops {n} f h =
         record {
           same =
               r .same
               ∙ slides-off (r .pre) row (drop place reference) (place - from) trials n (f .same) (omega (arith, length-drop place reference));
-          small = omega (arith, r .bound, f .few, r .more, r .inside);
+          small = omega (arith, r .bound, f .few, r .more, r .inside, r .short, r .most);
         }
 
-    pub run-ends : (n : ℕ) → length reference ≤ 1024 → count ≤ 20 → FailedGroup reference values rows count g place n (few n)
-        → RunFailed reference values rows count (trials + n)
-    run-ends n short most f =
+    pub run-ends : {n : ℕ} → FailedGroup reference values rows count g place n (few n) → RunFailed reference values rows count (trials + n)
+    run-ends {n} f =
         record {
           same = r .same ∙ slides-few (r .pre) row (drop place reference) (place - from) trials n (f .same);
-          small = omega (arith, r .bound, f .few, r .more, r .inside);
+          small = omega (arith, r .bound, f .few, r .more, r .inside, r .short, r .most);
         }
 
-    module _ (j end : ℕ) (w : WholeGroup reference values rows count g place j end) where
+    module _ {j end : ℕ} (w : WholeGroup reference values rows count g place j end) where
       abbrev gap : ℕ
       gap = place - from
 
@@ -138,10 +143,9 @@ module _ (reference values rows : List ℕ) (count : ℕ) where
           ∙ slides-found (r .pre) row (drop place reference) sizes ms gap trials 0 (w .reached .same ∙ ap (behind sizes) e)
           ∙ ap (λ (m : ℕ). found (r .pre ++ (gap ∷ (sizes ++ ms))) (trials + m)) n
 
-      pub run-done : length reference ≤ 1024 → count ≤ 20 → j ≡ count
-          → RunFound reference values rows count (set answer (3 + g) gap) (trials + (j - g))
+      pub run-done : j ≡ count → RunFound reference values rows count (set answer (3 + g) gap) (trials + (j - g))
       unfolding match
-      run-done short most e =
+      run-done e =
           let none : groupAt values rows count j (drop end reference) ≡ found [] 0 =
           ap (λ (p : List Splits.Element). match p (drop end reference)) (elements-none values rows count j (omega arith)) in
           let all : sizes ++ [] ≡ sizesAt rows (count - g) g =
@@ -155,7 +159,7 @@ module _ (reference values rows : List ℕ) (count : ℕ) where
             size =
                 omega
                 (arith, length-append (r .pre) (gap ∷ sizesAt rows (count - g) g), sizes-length rows (count - g) g, r .size, r .more);
-            small = omega (arith, r .bound, r .more, r .inside);
+            small = omega (arith, r .bound, r .more, r .inside, r .short, r .most);
           }
 
       -- the lengths settled with this group
@@ -178,10 +182,10 @@ module _ (reference values rows : List ℕ) (count : ℕ) where
           elements-cons values rows count j h
           ∙ ap (λ (x : Element). elementOf values x ∷ elementsAt values rows (count - (j + 1)) (j + 1)) (w .filler h)
 
-      pub run-last : length reference ≤ 1024 → count ≤ 20 → j + 1 ≡ count
+      pub run-last : j + 1 ≡ count
           → RunFound reference values rows count (set (set answer (3 + g) gap) (3 + (j + 1)) (length reference - end)) (trials + (j - g))
       unfolding match sizesAt
-      run-last short most e =
+      run-last e =
           let tail : ℕ = length reference - end in
           let alone : elementsAt values rows (count - j) j ≡ free ∷ [] =
           filled (omega arith) ∙ ap (λ (p : List Splits.Element). free ∷ p) (elements-none values rows count (j + 1) (omega arith)) in
@@ -199,7 +203,7 @@ module _ (reference values rows : List ℕ) (count : ℕ) where
                 (settled-left (omega arith) ∙ ap (λ (n : ℕ). rowAnswer count (settled ++ (0 ∷ sizesAt rows n (j + 1)))) none)
                 ∙ row-set count settled [] 0 tail (3 + (j + 1)) (omega (arith, settled-size));
             size = omega (arith, length-append settled (tail ∷ []), settled-size);
-            small = omega (arith, r .bound, r .more, r .inside);
+            small = omega (arith, r .bound, r .more, r .inside, r .short, r .most);
           }
 
       pub run-next : j + 1 < count
@@ -228,4 +232,6 @@ module _ (reference values rows : List ℕ) (count : ℕ) where
             low = omega arith;
             inside = w .reached .inside;
             bound = omega (arith, r .bound, w .reached .forth, w .reached .low);
+            short = r .short;
+            most = r .most;
           }

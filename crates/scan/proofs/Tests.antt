@@ -12,7 +12,7 @@ use Rattle.base.specs.Lists.{same, begins}
 use Rattle.scanning.specs.Splits as Splits
 use Rattle.scanning.specs.Splits.{string}
 use Rattle.search.specs.Passing.{Passes}
-use Rattle.scan.specs.Rows.{rowOf, rowElement, elementOf, sizeOf, Sized, SizedPart, Good, GoodPart}
+use Rattle.scan.specs.Rows.{rowOf, elementOf, sizeOf, Sized, SizedPart, Good, GoodPart}
 use Rattle.scan.specs.Steps.{judged, testOf, SkipSays, StandsSays}
 use Rattle.scan.specs.declared.Element.{Element}
 use Rattle.scan.specs.declared.Element.the-variants.{Part, Fixed, Free}
@@ -105,12 +105,6 @@ module _ (values s : List ℕ) (at : ℕ) (e : Element) where
 
   pub skip-none : SkipSays (drop at s) (elementOf values e) 0
   skip-none = record { inside = omega arith; fails = λ j l. absurd (omega arith) }
-
--- the test of the element read from row i
-pub test-told : (values rows s : List ℕ) (i : ℕ) (e : Element) (t t′ : Test) → e ≡ rowElement rows i → t ≡ testOf (elementOf values e) s
-    → t ≡ t′ → testOf (elementOf values (rowElement rows i)) s ≡ t′
-test-told values rows s i e t t′ read tested is =
-    ap (λ (x : Element). testOf (elementOf values x) s) (sym read) ∙ sym tested ∙ is
 
 -- a string of one byte that stands there
 single-piece : (x y : ℕ) (l : List ℕ) → y ≡ x → testOf (string (x ∷ [])) (y ∷ l) ≡ Piece 1

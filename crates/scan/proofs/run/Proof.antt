@@ -1,15 +1,15 @@
 -- `scan::run` scans group by group. The invariant: what is left of the slide, behind what is settled, is the whole scan's outcome.
 -- Assumes nothing.
 use Rattle.scan.proofs.Running.{run-begins, run-skips, run-moves, run-stops, run-ends, run-done, run-last, run-next, run-less}
-use Rattle.scan.specs.Steps.{WholeGroup, FailedGroup, GroupSays, RunSays}
+use Rattle.scan.specs.Steps.{WholeGroup, GroupSays, RunSays}
+use Rattle.scan.specs.declared.Group.{Group}
 use Rattle.scan.specs.Rows.{Good}
-use Rattle.scanning.specs.Trials.{other, few}
 use Rattle.scan.proofs.Rows.{group-known}
 use Rattle.scan.specs.declared.Element.{Element}
 use Rattle.scan.specs.Steps.{testOf}
 use Rattle.scan.specs.Rows.{elementOf}
 use lib.ListN.{drop}
-use mathlib.Core.Path.{sym, _∙_, ap, subst}
+use mathlib.Core.Path.{_≡_, sym, _∙_, ap, subst}
 use Rattle.scan.proofs.Running.{Running}
 use Prim.Native.Nat.{_+_, _-_}
 use lib.ListN.{length}
@@ -31,48 +31,28 @@ skipped : (c : tie.After-skip Inv-loop μ-loop)
     (c .before .before .loop .answer) (c .before .before .loop .g) (c .before .before .loop .from)
     (c .before .before .loop .place + c .skip .result) (c .before .before .loop .trials + c .skip .result)
 skipped c =
-    let a = c .before .before .before .before .before .before .args in
-    let s = c .before .before .loop in
-    run-skips (a .reference .now) (a .values .now) (a .rows .now) (a .count) (s .answer) (s .g) (s .from) (s .place) (s .trials) (s .inv)
-    (c .before .row-element .result) (c .skip .result) (c .before .row-element .ensures) (c .skip .ensures)
+    run-skips (c .before .before .loop .inv) (c .before .row-element .ensures) (c .skip .ensures)
 
--- too few bytes for the group
-ended : (c : tie.After-known-told Inv-loop μ-loop)
-    → FailedGroup (c .before .before .before .before .before .before .before .before .before .before .before .args .reference .now) (c .before .before .before .before .before .before .before .before .before .before .before .args .values .now) (c .before .before .before .before .before .before .before .before .before .before .before .args .rows .now) (c .before .before .before .before .before .before .before .before .before .before .before .args .count) (c .before .before .before .before .before .before .before .loop .g)
-    (c .before .before .before .before .before .before .before .loop .place + c .before .before .before .before .before .skip .result) (c .before .n .given .0 .0) (few (c .before .n .given .0 .0))
-unfolding GroupSays
-ended c =
-    let a = c .before .before .before .before .before .before .before .before .before .before .before .args in
-    let s = c .before .before .before .before .before .before .before .loop in
-    subst (GroupSays (a .reference .now) (a .values .now) (a .rows .now) (a .count) (s .g) (s .place + c .before .before .before .before .before .skip .result)) (c .before .n .given .1)
-    (c .before .before .before .test-group .ensures)
-
--- other bytes in the group
-differed : (c : tie.After-known-told2 Inv-loop μ-loop)
-    → FailedGroup (c .before .before .before .before .before .before .before .before .before .before .before .args .reference .now) (c .before .before .before .before .before .before .before .before .before .before .before .args .values .now) (c .before .before .before .before .before .before .before .before .before .before .before .args .rows .now) (c .before .before .before .before .before .before .before .before .before .before .before .args .count) (c .before .before .before .before .before .before .before .loop .g)
-    (c .before .before .before .before .before .before .before .loop .place + c .before .before .before .before .before .skip .result) (c .before .n2 .given .0 .0) (other (c .before .n2 .given .0 .0))
-unfolding GroupSays
-differed c =
-    let a = c .before .before .before .before .before .before .before .before .before .before .before .args in
-    let s = c .before .before .before .before .before .before .before .loop in
-    subst (GroupSays (a .reference .now) (a .values .now) (a .rows .now) (a .count) (s .g) (s .place + c .before .before .before .before .before .skip .result)) (c .before .n2 .given .1)
-    (c .before .before .before .test-group .ensures)
+-- what the group came to
+grouped : (c : tie.After-test-group Inv-loop μ-loop) {r : Group} → c .test-group .result ≡ r
+    → GroupSays (c .before .before .before .before .before .before .before .before .args .reference .now) (c .before .before .before .before .before .before .before .before .args .values .now)
+    (c .before .before .before .before .before .before .before .before .args .rows .now) (c .before .before .before .before .before .before .before .before .args .count)
+    (c .before .before .before .before .loop .g) (c .before .before .before .before .loop .place + c .before .before .skip .result) r
+grouped c told = rw told at (c .test-group .ensures)
 
 -- the whole group passed
 whole : (c : tie.After-known-told3 Inv-loop μ-loop)
-    → WholeGroup (c .before .before .before .before .before .before .before .before .before .before .before .args .reference .now) (c .before .before .before .before .before .before .before .before .before .before .before .args .values .now) (c .before .before .before .before .before .before .before .before .before .before .before .args .rows .now) (c .before .before .before .before .before .before .before .before .before .before .before .args .count) (c .before .before .before .before .before .before .before .loop .g)
-    (c .before .before .before .before .before .before .before .loop .place + c .before .before .before .before .before .skip .result) (c .before .j .given .0 .0) (c .before .j .given .0 .1 .0)
+    → WholeGroup (c .before .before .before .before .before .before .before .before .before .before .before .args .reference .now) (c .before .before .before .before .before .before .before .before .before .before .before .args .values .now)
+    (c .before .before .before .before .before .before .before .before .before .before .before .args .rows .now) (c .before .before .before .before .before .before .before .before .before .before .before .args .count)
+    (c .before .before .before .before .before .before .before .loop .g) (c .before .before .before .before .before .before .before .loop .place + c .before .before .before .before .before .skip .result)
+    (c .before .j .given .0 .0) (c .before .j .given .0 .1 .0)
 unfolding GroupSays
-whole c =
-    let a = c .before .before .before .before .before .before .before .before .before .before .before .args in
-    let s = c .before .before .before .before .before .before .before .loop in
-    subst (GroupSays (a .reference .now) (a .values .now) (a .rows .now) (a .count) (s .g) (s .place + c .before .before .before .before .before .skip .result)) (c .before .j .given .1)
-    (c .before .before .before .test-group .ensures)
+whole c = grouped (c .before .before .before) (c .before .j .given .1)
 
 loop-holds : tie.Need-loop-holds Inv-loop μ-loop
 loop-holds c =
-    let a = c .before .before .before .args in
-    run-begins (a .reference .now) (a .values .now) (a .rows .now) (a .count) (a .answer .now) (c .before .before .before .pre .1 .0 .1) (c .before .before .before .pre .1 .1)
+    let p = c .before .before .before .pre in
+    run-begins (p .1 .0 .0) (p .0 .few) (p .1 .0 .1) (p .1 .1)
 
 row-element-requires : tie.Need-row-element-requires Inv-loop μ-loop
 row-element-requires c κs =
@@ -89,29 +69,20 @@ skip-requires c κs =
 
 add-place : tie.Need-add-place Inv-loop μ-loop
 add-place c =
-    let a = c .before .before .before .before .before .before .args in
-    let s = c .before .before .loop in
-    let k = c .skip .result in
-    let p = c .before .before .before .before .before .before .pre in
-    let r = skipped (c) in
+    let r = skipped c in
     omega arith
 
 add-trials : tie.Need-add-trials Inv-loop μ-loop
 add-trials c =
-    let a = c .before .before .before .before .before .before .args in
-    let s = c .before .before .loop in
-    let k = c .skip .result in
-    let p = c .before .before .before .before .before .before .pre in
-    let r = skipped (c) in
+    let r = skipped c in
     omega arith
 
 stands-requires : tie.Need-stands-requires Inv-loop μ-loop
 stands-requires c κs =
     let a = c .before .before .before .before .before .before .args in
     let s = c .before .before .loop in
-    let k = c .skip .result in
     let p = c .before .before .before .before .before .before .pre in
-    let r = skipped (c) in
+    let r = skipped c in
     (r .inside, subst (Good (a .values .now)) (sym (c .before .row-element .ensures)) (p .0 .good (s .g) (r .more)))
 
 test-group-requires : tie.Need-test-group-requires Inv-loop μ-loop
@@ -137,144 +108,91 @@ enum-known-n : tie.Need-enum-known-n Inv-loop μ-loop
 enum-known-n c = search needs
 
 add-t18 : tie.Need-add-t18 Inv-loop μ-loop
+unfolding GroupSays
 add-t18 c =
-    let a = c .before .before .before .before .before .before .before .before .before .before .before .args in
-    let s = c .before .before .before .before .before .before .before .loop in
-    let k = c .before .before .before .before .before .skip .result in
-    let p = c .before .before .before .before .before .before .before .before .before .before .before .pre in
     let r = skipped (c .before .before .before .before .before) in
-    let f = ended c in
+    let f = grouped (c .before .before .before) (c .before .n .given .1) in
     omega arith
 
 returns : tie.Need-returns Inv-loop μ-loop
-unfolding RunSays
+unfolding RunSays GroupSays
 returns c =
-    let a = c .before .before .before .before .before .before .before .before .before .before .before .args in
-    let s = c .before .before .before .before .before .before .before .loop in
-    let k = c .before .before .before .before .before .skip .result in
-    let p = c .before .before .before .before .before .before .before .before .before .before .before .pre in
     let r = skipped (c .before .before .before .before .before) in
-    run-ends (a .reference .now) (a .values .now) (a .rows .now) (a .count) (s .answer) (s .g) (s .from) (s .place + k) (s .trials + k) r (c .before .n .given .0 .0) (p .1 .0 .0) (p .0 .few) (ended c)
+    run-ends r (grouped (c .before .before .before) (c .before .n .given .1))
 
 enum-known-n-2 : tie.Need-enum-known-n-2 Inv-loop μ-loop
 enum-known-n-2 c = search needs
 
 add-trials-2 : tie.Need-add-trials-2 Inv-loop μ-loop
+unfolding GroupSays
 add-trials-2 c =
-    let a = c .before .before .before .before .before .before .before .before .before .before .before .args in
-    let s = c .before .before .before .before .before .before .before .loop in
-    let k = c .before .before .before .before .before .skip .result in
-    let p = c .before .before .before .before .before .before .before .before .before .before .before .pre in
     let r = skipped (c .before .before .before .before .before) in
-    let f = differed c in
+    let f = grouped (c .before .before .before) (c .before .n2 .given .1) in
     omega arith
 
 returns-2 : tie.Need-returns-2 Inv-loop μ-loop
-unfolding RunSays
+unfolding RunSays GroupSays
 returns-2 c =
-    let a = c .before .before .before .before .before .before .before .before .before .before .before .before .args in
-    let s = c .before .before .before .before .before .before .before .before .loop in
-    let k = c .before .before .before .before .before .before .skip .result in
-    let p = c .before .before .before .before .before .before .before .before .before .before .before .before .pre in
     let r = skipped (c .before .before .before .before .before .before) in
-    run-stops (a .reference .now) (a .values .now) (a .rows .now) (a .count) (s .answer) (s .g) (s .from) (s .place + k) (s .trials + k) r (c .before .before .n2 .given .0 .0) (p .1 .0 .0) (p .0 .few) (differed (c .before)) (c .if1 .taken)
+    run-stops r (grouped (c .before .before .before .before) (c .before .before .n2 .given .1)) (c .if1 .taken)
 
 add-place-2 : tie.Need-add-place-2 Inv-loop μ-loop
 add-place-2 c =
-    let a = c .before .before .before .before .before .before .before .before .before .before .before .before .args in
-    let s = c .before .before .before .before .before .before .before .before .loop in
-    let k = c .before .before .before .before .before .before .skip .result in
-    let p = c .before .before .before .before .before .before .before .before .before .before .before .before .pre in
     let r = skipped (c .before .before .before .before .before .before) in
     omega arith
 
 loop-less : tie.Need-loop-less Inv-loop μ-loop
 loop-less c =
-    let a = c .before .before .before .before .before .before .before .before .before .before .before .before .args in
-    let s = c .before .before .before .before .before .before .before .before .loop in
-    let k = c .before .before .before .before .before .before .skip .result in
-    let p = c .before .before .before .before .before .before .before .before .before .before .before .before .pre in
     let r = skipped (c .before .before .before .before .before .before) in
     omega (arith, r .inside, c .if1 .left)
 
 loop-again : tie.Need-loop-again Inv-loop μ-loop
+unfolding GroupSays
 loop-again c =
-    let a = c .before .before .before .before .before .before .before .before .before .before .before .before .args in
-    let s = c .before .before .before .before .before .before .before .before .loop in
-    let k = c .before .before .before .before .before .before .skip .result in
-    let p = c .before .before .before .before .before .before .before .before .before .before .before .before .pre in
     let r = skipped (c .before .before .before .before .before .before) in
-    run-moves (a .reference .now) (a .values .now) (a .rows .now) (a .count) (s .answer) (s .g) (s .from) (s .place + k) (s .trials + k) r (c .before .before .n2 .given .0 .0) (differed (c .before)) (omega (arith, r .inside, c .if1 .left))
+    run-moves r (grouped (c .before .before .before .before) (c .before .before .n2 .given .1)) (omega (arith, r .inside, c .if1 .left))
 
 enum-known-j : tie.Need-enum-known-j Inv-loop μ-loop
 enum-known-j c = search needs
 
 sub-answer : tie.Need-sub-answer Inv-loop μ-loop
 sub-answer c =
-    let a = c .before .before .before .before .before .before .before .before .before .before .before .args in
-    let s = c .before .before .before .before .before .before .before .loop in
-    let k = c .before .before .before .before .before .skip .result in
-    let p = c .before .before .before .before .before .before .before .before .before .before .before .pre in
     let r = skipped (c .before .before .before .before .before) in
     let w = whole c .reached in
     omega arith
 
 cast-answer : tie.Need-cast-answer Inv-loop μ-loop
 cast-answer c =
-    let a = c .before .before .before .before .before .before .before .before .before .before .before .args in
-    let s = c .before .before .before .before .before .before .before .loop in
-    let k = c .before .before .before .before .before .skip .result in
-    let p = c .before .before .before .before .before .before .before .before .before .before .before .pre in
     let r = skipped (c .before .before .before .before .before) in
     let w = whole c .reached in
     omega arith
 
 add-answer : tie.Need-add-answer Inv-loop μ-loop
 add-answer c =
-    let a = c .before .before .before .before .before .before .before .before .before .before .before .args in
-    let s = c .before .before .before .before .before .before .before .loop in
-    let k = c .before .before .before .before .before .skip .result in
-    let p = c .before .before .before .before .before .before .before .before .before .before .before .pre in
     let r = skipped (c .before .before .before .before .before) in
     let w = whole c .reached in
     omega arith
 
 mul-answer : tie.Need-mul-answer Inv-loop μ-loop
 mul-answer c =
-    let a = c .before .before .before .before .before .before .before .before .before .before .before .args in
-    let s = c .before .before .before .before .before .before .before .loop in
-    let k = c .before .before .before .before .before .skip .result in
-    let p = c .before .before .before .before .before .before .before .before .before .before .before .pre in
     let r = skipped (c .before .before .before .before .before) in
     let w = whole c .reached in
     omega arith
 
 element-write-answer : tie.Need-element-write-answer Inv-loop μ-loop
 element-write-answer c =
-    let a = c .before .before .before .before .before .before .before .before .before .before .before .args in
-    let s = c .before .before .before .before .before .before .before .loop in
-    let k = c .before .before .before .before .before .skip .result in
-    let p = c .before .before .before .before .before .before .before .before .before .before .before .pre in
     let r = skipped (c .before .before .before .before .before) in
     let w = whole c .reached in
     omega arith
 
 sub-trials : tie.Need-sub-trials Inv-loop μ-loop
 sub-trials c =
-    let a = c .before .before .before .before .before .before .before .before .before .before .before .args in
-    let s = c .before .before .before .before .before .before .before .loop in
-    let k = c .before .before .before .before .before .skip .result in
-    let p = c .before .before .before .before .before .before .before .before .before .before .before .pre in
     let r = skipped (c .before .before .before .before .before) in
     let w = whole c .reached in
     omega arith
 
 add-trials-3 : tie.Need-add-trials-3 Inv-loop μ-loop
 add-trials-3 c =
-    let a = c .before .before .before .before .before .before .before .before .before .before .before .args in
-    let s = c .before .before .before .before .before .before .before .loop in
-    let k = c .before .before .before .before .before .skip .result in
-    let p = c .before .before .before .before .before .before .before .before .before .before .before .pre in
     let r = skipped (c .before .before .before .before .before) in
     let w = whole c .reached in
     omega arith
@@ -282,69 +200,41 @@ add-trials-3 c =
 returns-3 : tie.Need-returns-3 Inv-loop μ-loop
 unfolding RunSays
 returns-3 c =
-    let a = c .before .before .before .before .before .before .before .before .before .before .before .before .args in
-    let s = c .before .before .before .before .before .before .before .before .loop in
-    let k = c .before .before .before .before .before .before .skip .result in
-    let p = c .before .before .before .before .before .before .before .before .before .before .before .before .pre in
     let r = skipped (c .before .before .before .before .before .before) in
-    run-done (a .reference .now) (a .values .now) (a .rows .now) (a .count) (s .answer) (s .g) (s .from) (s .place + k) (s .trials + k) r (c .before .before .j .given .0 .0) (c .before .before .j .given .0 .1 .0) (whole (c .before)) (p .1 .0 .0) (p .0 .few) (c .if2 .taken)
+    run-done r (whole (c .before)) (c .if2 .taken)
 
 add-g : tie.Need-add-g Inv-loop μ-loop
 add-g c =
-    let a = c .before .before .before .before .before .before .before .before .before .before .before .before .args in
-    let s = c .before .before .before .before .before .before .before .before .loop in
-    let k = c .before .before .before .before .before .before .skip .result in
-    let p = c .before .before .before .before .before .before .before .before .before .before .before .before .pre in
     let r = skipped (c .before .before .before .before .before .before) in
     let w = whole (c .before) .reached in
     omega arith
 
 sub-answer-2 : tie.Need-sub-answer-2 Inv-loop μ-loop
 sub-answer-2 c =
-    let a = c .before .before .before .before .before .before .before .before .before .before .before .before .before .args in
-    let s = c .before .before .before .before .before .before .before .before .before .loop in
-    let k = c .before .before .before .before .before .before .before .skip .result in
-    let p = c .before .before .before .before .before .before .before .before .before .before .before .before .before .pre in
     let r = skipped (c .before .before .before .before .before .before .before) in
     let w = whole (c .before .before) .reached in
     omega arith
 
 cast-answer-2 : tie.Need-cast-answer-2 Inv-loop μ-loop
 cast-answer-2 c =
-    let a = c .before .before .before .before .before .before .before .before .before .before .before .before .before .args in
-    let s = c .before .before .before .before .before .before .before .before .before .loop in
-    let k = c .before .before .before .before .before .before .before .skip .result in
-    let p = c .before .before .before .before .before .before .before .before .before .before .before .before .before .pre in
     let r = skipped (c .before .before .before .before .before .before .before) in
     let w = whole (c .before .before) .reached in
     omega arith
 
 add-answer-2 : tie.Need-add-answer-2 Inv-loop μ-loop
 add-answer-2 c =
-    let a = c .before .before .before .before .before .before .before .before .before .before .before .before .before .args in
-    let s = c .before .before .before .before .before .before .before .before .before .loop in
-    let k = c .before .before .before .before .before .before .before .skip .result in
-    let p = c .before .before .before .before .before .before .before .before .before .before .before .before .before .pre in
     let r = skipped (c .before .before .before .before .before .before .before) in
     let w = whole (c .before .before) .reached in
     omega arith
 
 mul-answer-2 : tie.Need-mul-answer-2 Inv-loop μ-loop
 mul-answer-2 c =
-    let a = c .before .before .before .before .before .before .before .before .before .before .before .before .before .args in
-    let s = c .before .before .before .before .before .before .before .before .before .loop in
-    let k = c .before .before .before .before .before .before .before .skip .result in
-    let p = c .before .before .before .before .before .before .before .before .before .before .before .before .before .pre in
     let r = skipped (c .before .before .before .before .before .before .before) in
     let w = whole (c .before .before) .reached in
     omega arith
 
 element-write-answer-2 : tie.Need-element-write-answer-2 Inv-loop μ-loop
 element-write-answer-2 c =
-    let a = c .before .before .before .before .before .before .before .before .before .before .before .before .before .args in
-    let s = c .before .before .before .before .before .before .before .before .before .loop in
-    let k = c .before .before .before .before .before .before .before .skip .result in
-    let p = c .before .before .before .before .before .before .before .before .before .before .before .before .before .pre in
     let r = skipped (c .before .before .before .before .before .before .before) in
     let w = whole (c .before .before) .reached in
     omega arith
@@ -352,12 +242,8 @@ element-write-answer-2 c =
 returns-4 : tie.Need-returns-4 Inv-loop μ-loop
 unfolding RunSays
 returns-4 c =
-    let a = c .before .before .before .before .before .before .before .before .before .before .before .before .before .args in
-    let s = c .before .before .before .before .before .before .before .before .before .loop in
-    let k = c .before .before .before .before .before .before .before .skip .result in
-    let p = c .before .before .before .before .before .before .before .before .before .before .before .before .before .pre in
     let r = skipped (c .before .before .before .before .before .before .before) in
-    run-last (a .reference .now) (a .values .now) (a .rows .now) (a .count) (s .answer) (s .g) (s .from) (s .place + k) (s .trials + k) r (c .before .before .before .j .given .0 .0) (c .before .before .before .j .given .0 .1 .0) (whole (c .before .before)) (p .1 .0 .0) (p .0 .few) (c .if3 .taken)
+    run-last r (whole (c .before .before)) (c .if3 .taken)
 
 loop-less-2 : tie.Need-loop-less-2 Inv-loop μ-loop
 loop-less-2 c =
@@ -370,13 +256,9 @@ loop-less-2 c =
 
 loop-again-2 : tie.Need-loop-again-2 Inv-loop μ-loop
 loop-again-2 c =
-    let a = c .before .before .before .before .before .before .before .before .before .before .before .before .before .args in
-    let s = c .before .before .before .before .before .before .before .before .before .loop in
-    let k = c .before .before .before .before .before .before .before .skip .result in
-    let p = c .before .before .before .before .before .before .before .before .before .before .before .before .before .pre in
     let r = skipped (c .before .before .before .before .before .before .before) in
     let w = whole (c .before .before) .reached in
-    run-next (a .reference .now) (a .values .now) (a .rows .now) (a .count) (s .answer) (s .g) (s .from) (s .place + k) (s .trials + k) r (c .before .before .before .j .given .0 .0) (c .before .before .before .j .given .0 .1 .0) (whole (c .before .before)) (omega (arith, w .high, c .if3 .left, c .before .if2 .left))
+    run-next r (whole (c .before .before)) (omega (arith, w .high, c .if3 .left, c .before .if2 .left))
 
 pub run-spec : {M : Type 1} → statement M
 run-spec =

@@ -1,6 +1,7 @@
 -- `scan::skip` passes over places at which an element fails.
 -- Assumes nothing.
 use Rattle.scan.proofs.Tests.{good-part, skip-part, skip-none}
+use Rattle.scan.specs.Rows.{GoodPart}
 use mathlib.Core.Path.{refl}
 use borrow.Author.Needs.{needs}
 use Rattle.scan.proofs.skip.Statement.{statement}
@@ -18,14 +19,21 @@ part-passed-start c = search needs
 part-passed-end : tie.Need-part-passed-end
 part-passed-end c = search needs
 
+-- a string's part of the values
+part : (c : tie.After-passed-arg)
+    → GoodPart (c .before .before .before .before .before .before .args .values .now) (c .before .before .e .given .0 .0) (c .before .before .e .given .0 .1 .0)
+part c =
+    let a = c .before .before .before .before .before .before .args in
+    good-part (a .e) (a .values .now) _ _ (c .before .before .e .given .1) (c .before .before .before .before .before .before .pre .1)
+
 sub-passed-2 : tie.Need-sub-passed-2
-sub-passed-2 c = good-part (c .before .before .before .before .before .before .args .e) (c .before .before .before .before .before .before .args .values .now) _ _ (c .before .before .e .given .1) (c .before .before .before .before .before .before .pre .1) .order
+sub-passed-2 c = part c .order
 
 part-passed-start-2 : tie.Need-part-passed-start-2
-part-passed-start-2 c = good-part (c .before .before .before .before .before .before .args .e) (c .before .before .before .before .before .before .args .values .now) _ _ (c .before .before .e .given .1) (c .before .before .before .before .before .before .pre .1) .order
+part-passed-start-2 c = part c .order
 
 part-passed-end-2 : tie.Need-part-passed-end-2
-part-passed-end-2 c = good-part (c .before .before .before .before .before .before .args .e) (c .before .before .before .before .before .before .args .values .now) _ _ (c .before .before .e .given .1) (c .before .before .before .before .before .before .pre .1) .inside
+part-passed-end-2 c = part c .inside
 
 passed-requires : tie.Need-passed-requires
 passed-requires c κs = search needs

@@ -1,6 +1,7 @@
 -- `scan::test_element` tests an element at a place.
 -- Assumes nothing.
 use Rattle.scan.proofs.Tests.{good-part, test-part, test-fixed-few, test-fixed-piece, test-free}
+use Rattle.scan.specs.Rows.{GoodPart}
 use mathlib.Core.Path.{refl}
 use borrow.Author.Needs.{needs}
 use Rattle.scan.proofs.test_element.Statement.{statement}
@@ -18,14 +19,21 @@ part-test-string-start c = search needs
 part-test-string-end : tie.Need-part-test-string-end
 part-test-string-end c = search needs
 
+-- a string's part of the values
+part : (c : tie.After-test-string-arg)
+    → GoodPart (c .before .before .before .before .before .before .args .values .now) (c .before .before .e .given .0 .0) (c .before .before .e .given .0 .1 .0)
+part c =
+    let a = c .before .before .before .before .before .before .args in
+    good-part (a .e) (a .values .now) _ _ (c .before .before .e .given .1) (c .before .before .before .before .before .before .pre .1)
+
 sub-test-string-2 : tie.Need-sub-test-string-2
-sub-test-string-2 c = good-part (c .before .before .before .before .before .before .args .e) (c .before .before .before .before .before .before .args .values .now) _ _ (c .before .before .e .given .1) (c .before .before .before .before .before .before .pre .1) .order
+sub-test-string-2 c = part c .order
 
 part-test-string-start-2 : tie.Need-part-test-string-start-2
-part-test-string-start-2 c = good-part (c .before .before .before .before .before .before .args .e) (c .before .before .before .before .before .before .args .values .now) _ _ (c .before .before .e .given .1) (c .before .before .before .before .before .before .pre .1) .order
+part-test-string-start-2 c = part c .order
 
 part-test-string-end-2 : tie.Need-part-test-string-end-2
-part-test-string-end-2 c = good-part (c .before .before .before .before .before .before .args .e) (c .before .before .before .before .before .before .args .values .now) _ _ (c .before .before .e .given .1) (c .before .before .before .before .before .before .pre .1) .inside
+part-test-string-end-2 c = part c .inside
 
 test-string-requires : tie.Need-test-string-requires
 test-string-requires c κs = search needs

@@ -1,13 +1,13 @@
 -- `scan::test_group` tests the elements of a group. The invariant: those passed took their pieces.
 -- Assumes nothing.
-use Rattle.scan.proofs.Tests.{test-told}
 use Rattle.scan.proofs.Rows.{group-piece, group-other, group-few, filler-free, piece-size}
-use Rattle.scan.specs.declared.Test.the-variants.{Piece, Other, Few, Filler}
-use Rattle.scan.specs.Steps.{Reached, GroupSays}
-use Rattle.scan.specs.Rows.{Good}
+use Rattle.scan.specs.declared.Element.{Element}
+use Rattle.scan.specs.declared.Test.{Test}
+use Rattle.scan.specs.Steps.{testOf, Reached, GroupSays}
+use Rattle.scan.specs.Rows.{rowElement, elementOf, Good}
 use lib.ListN.{drop, length-drop}
 use Prim.Native.Nat.{_-_}
-use mathlib.Core.Path.{sym, subst}
+use mathlib.Core.Path.{_≡_, sym, _∙_, ap, subst}
 use native.Mathlib.Omega.{arith}
 use borrow.Author.Needs.{needs}
 use Rattle.scan.proofs.test_group.Statement.{statement}
@@ -18,6 +18,16 @@ Inv-loop reference values rows count g place known i₀ at₀ i at = Reached ref
 
 abbrev μ-loop : tie.MeasureT-loop
 μ-loop reference values rows count g place known i₀ at₀ i at = count - i
+
+-- the test of the element read
+test-told : (c : tie.After-test-element Inv-loop μ-loop) {t : Test} → c .test-element .result ≡ t
+    → testOf (elementOf (c .before .before .before .before .before .before .before .args .values .now) (rowElement (c .before .before .before .before .before .before .before .args .rows .now) (c .before .before .before .loop .i)))
+    (drop (c .before .before .before .loop .at) (c .before .before .before .before .before .before .before .args .reference .now)) ≡ t
+test-told c told =
+    let a = c .before .before .before .before .before .before .before .args in
+    ap (λ (x : Element). testOf (elementOf (a .values .now) x) (drop (c .before .before .before .loop .at) (a .reference .now))) (sym (c .before .row-element .ensures))
+    ∙ sym (c .test-element .ensures)
+    ∙ told
 
 add-i : tie.Need-add-i Inv-loop μ-loop
 add-i c = let r = c .before .before .before .pre .1 .reached in omega (arith, r .high, c .before .before .before .pre .0 .few)
@@ -45,7 +55,7 @@ add-at-2 : tie.Need-add-at-2 Inv-loop μ-loop
 add-at-2 c =
     let a = c .before .before .before .before .before .before .before .before .before .before .args in
     let s = c .before .before .before .before .before .before .loop in
-    let h = test-told (a .values .now) (a .rows .now) (drop (s .at) (a .reference .now)) (s .i) (c .before .before .before .before .row-element .result) (c .before .before .before .test-element .result) (Piece (c .before .n .given .0 .0)) (c .before .before .before .before .row-element .ensures) (c .before .before .before .test-element .ensures) (c .before .n .given .1) in
+    let h = test-told (c .before .before .before) (c .before .n .given .1) in
     let size = piece-size (a .values .now) (drop (s .at) (a .reference .now)) _ _ (c .before .before .before .before .before .before .before .before .before .before .pre .0 .good (s .i) (c .before .before .before .before .before .loop-test .taken)) h in
     omega (arith, size .1, length-drop (s .at) (a .reference .now), s .inv .inside, c .before .before .before .before .before .before .before .before .before .before .pre .1 .short)
 
@@ -59,7 +69,7 @@ loop-again : tie.Need-loop-again Inv-loop μ-loop
 loop-again c =
     let a = c .before .before .before .before .before .before .before .before .before .before .args in
     let s = c .before .before .before .before .before .before .loop in
-    let h = test-told (a .values .now) (a .rows .now) (drop (s .at) (a .reference .now)) (s .i) (c .before .before .before .before .row-element .result) (c .before .before .before .test-element .result) (Piece (c .before .n .given .0 .0)) (c .before .before .before .before .row-element .ensures) (c .before .before .before .test-element .ensures) (c .before .n .given .1) in
+    let h = test-told (c .before .before .before) (c .before .n .given .1) in
     group-piece (a .reference .now) (a .values .now) (a .rows .now) (a .count) (a .g) (a .place) (s .i) (s .at) (s .inv)
     (c .before .before .before .before .before .loop-test .taken) (c .before .n .given .0 .0) (c .before .before .before .before .before .before .before .before .before .before .pre .0 .good (s .i) (c .before .before .before .before .before .loop-test .taken)) h
 
@@ -77,7 +87,7 @@ unfolding GroupSays
 returns c =
     let a = c .before .before .before .before .before .before .before .before .before .args in
     let s = c .before .before .before .before .before .loop in
-    let h = test-told (a .values .now) (a .rows .now) (drop (s .at) (a .reference .now)) (s .i) (c .before .before .before .row-element .result) (c .before .before .test-element .result) (Other) (c .before .before .before .row-element .ensures) (c .before .before .test-element .ensures) (c .enum-told .given .1) in
+    let h = test-told (c .before .before) (c .enum-told .given .1) in
     record {
       few = omega (arith, c .before .before .before .before .before .before .before .before .before .pre .0 .few);
       same =
@@ -99,7 +109,7 @@ unfolding GroupSays
 returns-2 c =
     let a = c .before .before .before .before .before .before .before .before .before .args in
     let s = c .before .before .before .before .before .loop in
-    let h = test-told (a .values .now) (a .rows .now) (drop (s .at) (a .reference .now)) (s .i) (c .before .before .before .row-element .result) (c .before .before .test-element .result) (Few) (c .before .before .before .row-element .ensures) (c .before .before .test-element .ensures) (c .enum-told2 .given .1) in
+    let h = test-told (c .before .before) (c .enum-told2 .given .1) in
     record {
       few = omega (arith, c .before .before .before .before .before .before .before .before .before .pre .0 .few);
       same =
@@ -115,7 +125,7 @@ unfolding GroupSays
 returns-3 c =
     let a = c .before .before .before .before .before .before .before .before .before .args in
     let s = c .before .before .before .before .before .loop in
-    let h = test-told (a .values .now) (a .rows .now) (drop (s .at) (a .reference .now)) (s .i) (c .before .before .before .row-element .result) (c .before .before .test-element .result) (Filler) (c .before .before .before .row-element .ensures) (c .before .before .test-element .ensures) (c .enum-told3 .given .1) in
+    let h = test-told (c .before .before) (c .enum-told3 .given .1) in
     record { reached = s .inv; filler = λ more. filler-free (a .values .now) (drop (s .at) (a .reference .now)) _ h }
 
 returns-4 : tie.Need-returns-4 Inv-loop μ-loop
