@@ -1,5 +1,5 @@
 -- What bytes that differ say of a word's places. Assumes nothing.
-use mathlib.Core.Bool.{Bool, true, false, _&&_, _||_, true≢false, false≢true}
+use mathlib.Core.Bool.{Bool, true, false, _&&_, _||_, true≢false}
 use mathlib.Core.List.{List}
 use mathlib.Core.Logic.{_⊎_, inl, inr, ⊎-elim, ⊎-map}
 use mathlib.Core.Path.{_≡_, refl, sym, _∙_, ap, subst}
@@ -10,15 +10,15 @@ use lib.ListN.{length, take, drop, getD, length-drop}
 use lib.Seq.{length-take-le, getD-take, getD-drop, ext-getD}
 use borrow.Author.Count.{below-more}
 use borrow.Author.Tests.{eq-eqb, ne-eqb}
-use Rattle.base.specs.Choice.{neither-true}
+use Rattle.base.specs.Choice.{both-pass, neither-true}
 use Rattle.base.specs.Lists.{begins}
 use Rattle.base.specs.ListLaws.{begins-iff, getD-stretch, stretch-end}
 use Rattle.search.specs.Passing.{Agrees, Both, Without, Next, NextByte, Passes}
 
--- a test that is not true is false
-not-true : (b : Bool) → (b ≡ true → ⊥) → b ≡ false
-not-true true h = absurd (h refl)
-not-true false h = refl
+-- a test that can't hold fails
+fails : (b : Bool) → (b ≡ true → ⊥) → b ≡ false
+fails true h = absurd (h refl)
+fails false h = refl
 
 -- a number is below another or not
 below-or-not : (j k : ℕ) → (j < k) ⊎ (k ≤ j)
@@ -48,7 +48,7 @@ agrees-whole rest word n room a e = bytes-begin word rest room (λ i h. a .same 
 
 -- not all agree: it doesn't
 pub agrees-part : (rest word : List ℕ) (n : ℕ) → Agrees rest word n → n < length word → begins word rest ≡ false
-agrees-part rest word n a h = not-true (begins word rest) (λ e. a .differ h (begins-byte word rest e n h))
+agrees-part rest word n a h = fails (begins word rest) (λ e. a .differ h (begins-byte word rest e n h))
 
 -- how many bytes agree tells whether the word begins the text
 pub agrees-begins : (rest word : List ℕ) (n : ℕ) → length word ≤ length rest → Agrees rest word n → eqb n (length word) ≡ begins word rest
@@ -60,12 +60,6 @@ agrees-begins rest word n room a =
     eq-eqb n (length word) e ∙ sym (agrees-whole rest word n room a e))
     (below-or-not n (length word))
 
--- a conjunction that is false has a false part
-both-false : (a b : Bool) → (a && b) ≡ false → a ≡ true → b ≡ true → ⊥
-both-false true true e f g = true≢false e
-both-false true false e f g = false≢true g
-both-false false b e f g = false≢true f
-
 -- one more place of a block with nothing found
 pub hit-more : (fronts backs : List ℕ) (first last : ℕ) (found : Bool) (j : ℕ)
     → (found ≡ false → (i : ℕ) → i < j → Both fronts backs first last i → ⊥)
@@ -75,19 +69,18 @@ hit-more fronts backs first last found j h e =
     let parts = neither-true found (eqb (getD fronts j 0) first && eqb (getD backs j 0) last) e in
     below-more (λ i. Both fronts backs first last i → ⊥) j (h (parts .0))
     (λ b.
-    both-false (eqb (getD fronts j 0) first) (eqb (getD backs j 0) last) (parts .1)
-    (eq-eqb (getD fronts j 0) first (b .0))
-    (eq-eqb (getD backs j 0) last (b .1)))
+    true≢false
+    (sym (both-pass (eq-eqb (getD fronts j 0) first (b .0)) (eq-eqb (getD backs j 0) last (b .1))) ∙ parts .1))
 
-module _ (text : List ℕ) (first last span places from : ℕ) where
+module _ {text : List ℕ} {first last span places from : ℕ} where
   -- no place passed yet
   pub without-none : from ≤ places → Without text first last span places from from
   without-none h = record { low = omega arith; high = h; differ = λ j low high. absurd (omega arith) }
 
-  module _ (k : ℕ) (w : Without text first last span places from k) where
+  module _ {k : ℕ} (w : Without text first last span places from k) where
     -- the places from k to k′ as well
-    pub without-join : (k′ : ℕ) → Without text first last span places k k′ → Without text first last span places from k′
-    without-join k′ w′ =
+    pub without-join : {k′ : ℕ} → Without text first last span places k k′ → Without text first last span places from k′
+    without-join w′ =
         record {
           low = omega (arith, w .low, w′ .low);
           high = w′ .high;
@@ -98,7 +91,7 @@ module _ (text : List ℕ) (first last span places from : ℕ) where
     pub without-one : k < places → (getD text k 0 ≡ first → getD text (k + span) 0 ≡ last → ⊥)
         → Without text first last span places from (k + 1)
     without-one room h =
-        without-join (k + 1)
+        without-join
         (record {
           low = omega arith;
           high = omega arith;
@@ -113,7 +106,7 @@ module _ (text : List ℕ) (first last span places from : ℕ) where
         → ((j : ℕ) → j < size → Both (take m (drop k text)) (take n (drop (k + span) text)) first last j → ⊥)
         → Without text first last span places from (k + size)
     without-block size m n em en room h =
-        without-join (k + size) (record { low = omega arith; high = room; differ = behind })
+        without-join (record { low = omega arith; high = room; differ = behind })
       where
         behind : (j : ℕ) → k ≤ j → j < k + size → getD text j 0 ≡ first → getD text (j + span) 0 ≡ last → ⊥
         behind j low high f l =
@@ -126,19 +119,13 @@ module _ (text : List ℕ) (first last span places from : ℕ) where
             )
 
 -- the next place behind those passed in blocks of two sizes
-pub next-behind : (text : List ℕ) (first last span places from b e k : ℕ) → Without text first last span places from b
+pub next-behind : {text : List ℕ} {first last span places from b e k : ℕ} → Without text first last span places from b
     → Without text first last span places b e → Next text first last span places e k → Next text first last span places from k
-next-behind text first last span places from b e k w w′ n =
-    record {
-      passed =
-          without-join text first last span places from e
-          (without-join text first last span places from b w e w′) k (n .passed);
-      here = n .here;
-    }
+next-behind w w′ n = record { passed = without-join (without-join w w′) (n .passed); here = n .here }
 
 -- both bytes the same, and at the same place
-pub next-byte : (text : List ℕ) (byte from at : ℕ) → Next text byte byte 0 (length text) from at → NextByte text byte from at
-next-byte text byte from at n =
+pub next-byte : {text : List ℕ} {byte from at : ℕ} → Next text byte byte 0 (length text) from at → NextByte text byte from at
+next-byte {text} n =
     let w = n .passed in
     record {
       low = w .low;
@@ -150,21 +137,21 @@ next-byte text byte from at n =
       here = λ h. n .here h .0;
     }
 
-module _ (text word : List ℕ) where
+module _ {text word : List ℕ} where
   -- no place is passed
   pub passes-none : Passes text word 0
   passes-none =
       record { inside = omega arith; enough = λ j h. absurd (omega arith); differ = λ j h. absurd (omega arith) }
 
   -- where not both bytes of the word stand the word does not
-  pub passes-more : (span places k k′ : ℕ) → span < length word → places + length word ≡ length text + 1 → Passes text word k
+  pub passes-more : {span places k k′ : ℕ} → span < length word → places + length word ≡ length text + 1 → Passes text word k
       → Without text (getD word 0 0) (getD word span 0) span places k k′ → Passes text word k′
-  passes-more span places k k′ inside size p w =
+  passes-more {span} {places} {k} {k′} inside size p w =
       record {
         inside = omega (arith, w .high);
         enough = λ j h. omega (arith, length-drop j text, w .high);
         differ =
-            λ j h. ⊎-elim (λ (l : j < k). p .differ j l) (λ (l : k ≤ j). not-true (begins word (drop j text)) (stands j l h)) (below-or-not j k);
+            λ j h. ⊎-elim (λ (l : j < k). p .differ j l) (λ (l : k ≤ j). fails (begins word (drop j text)) (stands j l h)) (below-or-not j k);
       }
     where
       stands : (j : ℕ) → k ≤ j → j < k′ → begins word (drop j text) ≡ true → ⊥
@@ -174,15 +161,15 @@ module _ (text word : List ℕ) where
           (sym (getD-drop j text span 0) ∙ begins-byte word (drop j text) e span inside)
 
   -- where the one byte of the word does not stand the word does not
-  pub passes-byte : (k : ℕ) → length word ≡ 1 → NextByte text (getD word 0 0) 0 k → Passes text word k
-  passes-byte k one n =
-      passes-more 0 (length text) 0 k (omega arith) (omega arith) passes-none
+  pub passes-byte : {k : ℕ} → length word ≡ 1 → NextByte text (getD word 0 0) 0 k → Passes text word k
+  passes-byte one n =
+      passes-more {span = 0} {places = length text} (omega arith) (omega arith) passes-none
       (record { low = n .low; high = n .high; differ = λ j low high e l. n .none j low high e })
 
   -- one more place, where not all bytes agree
-  pub passes-one : (places k n m : ℕ) → places + length word ≡ length text + 1 → k < places → Passes text word k
+  pub passes-one : (places : ℕ) {k n m : ℕ} → places + length word ≡ length text + 1 → k < places → Passes text word k
       → m ≡ length text - k → Agrees (take m (drop k text)) word n → n < length word → Passes text word (k + 1)
-  passes-one places k n m size room p e a h =
+  passes-one places {k} {n} {m} size room p e a h =
       record {
         inside = omega arith;
         enough = λ j l. omega (arith, length-drop j text);

@@ -15,13 +15,7 @@ pass-bytes-requires : tie.Need-pass-bytes-requires
 pass-bytes-requires c κs = search needs
 
 returns : tie.Need-returns
-returns c =
-    let a = c .before .before .before .before .args in
-    let b = c .before .before .pass-blocks in
-    let e = c .before .pass-blocks2 in
-    let k = c .pass-bytes in
-    next-behind (a .text .now) (a .first) (a .last) (a .span) (a .places) (a .from) (b .result) (e .result) (k .result) (b .ensures) (e .ensures)
-    (k .ensures)
+returns c = next-behind (c .before .before .pass-blocks .ensures) (c .before .pass-blocks2 .ensures) (c .pass-bytes .ensures)
 
 pub next-place-spec : {M : Type 1} → statement M
 next-place-spec =

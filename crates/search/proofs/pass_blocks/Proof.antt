@@ -17,7 +17,7 @@ abbrev μ-loop : tie.MeasureT-loop
 μ-loop text first last span places from size k₀ k = places - k
 
 loop-holds : tie.Need-loop-holds Inv-loop μ-loop
-loop-holds c = let a = c .before .args in without-none (a .text .now) (a .first) (a .last) (a .span) (a .places) (a .from) (c .before .pre .0 .start)
+loop-holds c = without-none (c .before .pre .0 .start)
 
 sub-loop : tie.Need-sub-loop Inv-loop μ-loop
 sub-loop c = omega arith
@@ -74,7 +74,7 @@ loop-again c =
     let s = c .before .before .before .before .before .loop in
     let size = a .size in
     let width = s .k + size - s .k in
-    without-block (a .text .now) (a .first) (a .last) (a .span) (a .places) (a .from) (s .k) (s .inv) size width
+    without-block (s .inv) size width
     (s .k + a .span + size - (s .k + a .span)) (omega arith) (omega arith) (omega arith)
     (λ j h. c .before .hit .ensures (c .if1 .left) j (omega (arith, length-stretch (a .text .now) (s .k) width (omega arith))))
 

@@ -15,7 +15,7 @@ abbrev μ-loop : tie.MeasureT-loop
 μ-loop text first last span places from k₀ k = places - k
 
 loop-holds : tie.Need-loop-holds Inv-loop μ-loop
-loop-holds c = let a = c .args in without-none (a .text .now) (a .first) (a .last) (a .span) (a .places) (a .from) (c .pre .start)
+loop-holds c = without-none (c .pre .start)
 
 shared-slice-read-if1 : tie.Need-shared-slice-read-if1 Inv-loop μ-loop
 shared-slice-read-if1 c = search needs
@@ -37,9 +37,7 @@ loop-less c = search needs
 
 loop-again : tie.Need-loop-again Inv-loop μ-loop
 loop-again c =
-    let a = c .before .before .before .before .args in
-    let s = c .before .before .before .loop in
-    without-one (a .text .now) (a .first) (a .last) (a .span) (a .places) (a .from) (s .k) (s .inv) (c .before .before .loop-test .taken)
+    without-one (c .before .before .before .loop .inv) (c .before .before .loop-test .taken)
     (⊎-elim (λ w f l. w .2 .left l) (λ w f l. w .left f) (c .if1 .came))
 
 returns-2 : tie.Need-returns-2 Inv-loop μ-loop

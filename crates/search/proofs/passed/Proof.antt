@@ -7,10 +7,10 @@ use Rattle.search.proofs.passed.Statement.{statement}
 use Rattle.search.proofs.passed.Tie as tie
 
 returns : tie.Need-returns
-returns c = let a = c .before .before .before .args in passes-none (a .text .now) (a .word .now)
+returns c = passes-none
 
 returns-2 : tie.Need-returns-2
-returns-2 c = let a = c .before .before .before .before .args in passes-none (a .text .now) (a .word .now)
+returns-2 c = passes-none
 
 shared-slice-read-next-byte : tie.Need-shared-slice-read-next-byte
 shared-slice-read-next-byte c = search needs
@@ -20,8 +20,7 @@ next-byte-requires c κs = search needs
 
 returns-3 : tie.Need-returns-3
 returns-3 c =
-    let a = c .before .before .before .before .before .before .before .args in
-    passes-byte (a .text .now) (a .word .now) (c .next-byte .result) (omega arith) (c .next-byte .ensures)
+    passes-byte (omega arith) (c .next-byte .ensures)
 
 passed-word-requires : tie.Need-passed-word-requires
 passed-word-requires c κs = search needs

@@ -19,11 +19,9 @@ abbrev μ-loop : tie.MeasureT-loop
 -- the next place that the word may stand at
 gone : (c : tie.After-next-place Inv-loop μ-loop) → Passes (c .before .before .before .before .before .before .before .args .text .now) (c .before .before .before .before .before .before .before .args .word .now) (c .next-place .result)
 gone c =
-    let a = c .before .before .before .before .before .before .before .args in
     let p = c .before .before .before .before .before .before .before .pre in
     let s = c .before .before .before .loop in
-    passes-more (a .text .now) (a .word .now) (s .span) (length (a .text .now) - (length (a .word .now) - 1)) (s .k) (c .next-place .result)
-    (s .inv .0) (omega arith) (s .inv .2) (c .next-place .ensures .passed)
+    passes-more (s .inv .0) (omega arith) (s .inv .2) (c .next-place .ensures .passed)
 
 sub-places : tie.Need-sub-places Inv-loop μ-loop
 sub-places c = omega arith
@@ -39,17 +37,14 @@ sub-span c = omega arith
 
 loop-holds : tie.Need-loop-holds Inv-loop μ-loop
 loop-holds c =
-    let a = c .before .before .before .args in
     let p = c .before .before .before .pre in
-    (omega arith, omega arith, passes-none (a .text .now) (a .word .now))
+    (omega arith, omega arith, passes-none)
 
 shared-slice-read-last : tie.Need-shared-slice-read-last Inv-loop μ-loop
 shared-slice-read-last c = omega arith
 
 next-place-requires : tie.Need-next-place-requires Inv-loop μ-loop
 next-place-requires c κs =
-    let a = c .before .before .before .before .before .before .args in
-    let p = c .before .before .before .before .before .before .pre in
     let s = c .before .before .loop in
     record { room = omega arith; start = omega arith }
 
@@ -57,34 +52,17 @@ returns : tie.Need-returns Inv-loop μ-loop
 returns c = gone (c .before)
 
 sub-same-until : tie.Need-sub-same-until Inv-loop μ-loop
-sub-same-until c =
-    let a = c .before .before .before .before .before .before .before .before .args in
-    let p = c .before .before .before .before .before .before .before .before .pre in
-    let s = c .before .before .before .before .loop in
-    let w = c .before .next-place .ensures .passed in
-    omega arith
+sub-same-until c = let w = c .before .next-place .ensures .passed in omega arith
 
 part-same-until-start : tie.Need-part-same-until-start Inv-loop μ-loop
-part-same-until-start c =
-    let a = c .before .before .before .before .before .before .before .before .args in
-    let p = c .before .before .before .before .before .before .before .before .pre in
-    let s = c .before .before .before .before .loop in
-    let w = c .before .next-place .ensures .passed in
-    omega arith
+part-same-until-start c = let w = c .before .next-place .ensures .passed in omega arith
 
 part-same-until-end : tie.Need-part-same-until-end Inv-loop μ-loop
-part-same-until-end c =
-    let a = c .before .before .before .before .before .before .before .before .args in
-    let p = c .before .before .before .before .before .before .before .before .pre in
-    let s = c .before .before .before .before .loop in
-    let w = c .before .next-place .ensures .passed in
-    omega arith
+part-same-until-end c = let w = c .before .next-place .ensures .passed in omega arith
 
 same-until-requires : tie.Need-same-until-requires Inv-loop μ-loop
 same-until-requires c κs =
     let a = c .before .before .before .before .before .before .before .before .before .args in
-    let p = c .before .before .before .before .before .before .before .before .before .pre in
-    let s = c .before .before .before .before .before .loop in
     let w = c .before .before .next-place .ensures .passed in
     let k = c .before .before .next-place .result in
     omega (arith, length-stretch (a .text .now) k (length (a .text .now) - k) (omega arith), c .before .if1 .left)
@@ -93,33 +71,21 @@ returns-2 : tie.Need-returns-2 Inv-loop μ-loop
 returns-2 c = gone (c .before .before .before .before)
 
 add-k : tie.Need-add-k Inv-loop μ-loop
-add-k c =
-    let a = c .before .before .before .before .before .before .before .before .before .before .before .args in
-    let p = c .before .before .before .before .before .before .before .before .before .before .before .pre in
-    let s = c .before .before .before .before .before .before .before .loop in
-    let w = c .before .before .before .before .next-place .ensures .passed in
-    omega arith
+add-k c = let w = c .before .before .before .before .next-place .ensures .passed in omega arith
 
 loop-less : tie.Need-loop-less Inv-loop μ-loop
 loop-less c =
-    let a = c .before .before .before .before .before .before .before .before .before .before .before .args in
-    let p = c .before .before .before .before .before .before .before .before .before .before .before .pre in
-    let s = c .before .before .before .before .before .before .before .loop in
     let w = c .before .before .before .before .next-place .ensures .passed in
     omega (arith, w .low, w .high, c .before .before .before .if1 .left)
 
 loop-again : tie.Need-loop-again Inv-loop μ-loop
 loop-again c =
     let a = c .before .before .before .before .before .before .before .before .before .before .before .args in
-    let p = c .before .before .before .before .before .before .before .before .before .before .before .pre in
-    let s = c .before .before .before .before .before .before .before .loop in
     let w = c .before .before .before .before .next-place .ensures .passed in
-    let k = c .before .before .before .before .next-place .result in
     let g = c .before .same-until .ensures in (
       omega (arith, g .inside, c .if2 .left),
       omega (arith, w .high, c .before .before .before .if1 .left),
-      passes-one (a .text .now) (a .word .now) (length (a .text .now) - (length (a .word .now) - 1)) k (c .before .same-until .result)
-          (length (a .text .now) - k) (omega arith) (omega (arith, w .high, c .before .before .before .if1 .left)) (gone (c .before .before .before .before)) refl g (omega (arith, g .inside, c .if2 .left)),
+      passes-one (length (a .text .now) - (length (a .word .now) - 1)) (omega arith) (omega (arith, w .high, c .before .before .before .if1 .left)) (gone (c .before .before .before .before)) refl g (omega (arith, g .inside, c .if2 .left)),
     )
 
 returns-3 : tie.Need-returns-3 Inv-loop μ-loop
