@@ -1,6 +1,6 @@
 -- The comparisons of i64 are those of the integers. Assumes nothing.
 use mathlib.Core.Bool.{Bool, true, false, not, _&&_, _||_, false≢true, and-eq-true-iff}
-use mathlib.Core.Path.{_≡_, refl, sym, ap, subst, _∙_}
+use mathlib.Core.Path.{_≡_, refl, sym, ap, ap₂, subst, _∙_}
 use Prim.Native.Nat.{ℕ, _<_, _^_}
 use native.Mathlib.Omega.{arith}
 use lib.Dec.{ltb, leb, eqb}
@@ -44,10 +44,10 @@ not-both false true = refl
 not-both false false = refl
 
 module _ (a b : ℤ) (ha : mag a < 2 ^ 63) (hb : mag b < 2 ^ 63) where
-  pub read-a : toZ w64 (ofZ w64 a) ≡ a
+  read-a : toZ w64 (ofZ w64 a) ≡ a
   read-a = toZ-ofZ w64 a (record { sfits = ha })
 
-  pub read-b : toZ w64 (ofZ w64 b) ≡ b
+  read-b : toZ w64 (ofZ w64 b) ≡ b
   read-b = toZ-ofZ w64 b (record { sfits = hb })
 
   pub equal-bits : eqb (ofZ w64 a) (ofZ w64 b) ≡ (leZ a b && leZ b a)
@@ -63,8 +63,5 @@ module _ (a b : ℤ) (ha : mag a < 2 ^ 63) (hb : mag b < 2 ^ 63) where
   pub unequal-bits : not (eqb (ofZ w64 a) (ofZ w64 b)) ≡ (ltZ a b || ltZ b a)
   unequal-bits = rw (less-not a b, less-not b a) (ap not equal-bits ∙ not-both (leZ a b) (leZ b a))
 
-  pub less-bits : ltZ (toZ w64 (ofZ w64 a)) (toZ w64 (ofZ w64 b)) ≡ ltZ a b
-  less-bits = rw (read-a, read-b)
-
-  pub at-most-bits : leZ (toZ w64 (ofZ w64 a)) (toZ w64 (ofZ w64 b)) ≡ leZ a b
-  at-most-bits = rw (read-a, read-b)
+  pub read-bits : (f : ℤ → ℤ → Bool) → f (toZ w64 (ofZ w64 a)) (toZ w64 (ofZ w64 b)) ≡ f a b
+  read-bits f = ap₂ f read-a read-b

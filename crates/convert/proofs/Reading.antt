@@ -1,5 +1,5 @@
 -- Signs, digits and their value, read from the front of a string. Assumes nothing.
-use mathlib.Core.Bool.{Bool, true, false, cond, not, _&&_, _||_, and-true, and-eq-true-iff}
+use mathlib.Core.Bool.{Bool, true, false, cond, not, _&&_, _||_, or-false, and-true, and-eq-true-iff}
 use mathlib.Core.List.{List, [], _∷_}
 use mathlib.Core.Path.{_≡_, refl, sym, _∙_}
 use Prim.Native.Nat.{ℕ, zero, suc, _+_, _*_, _-_, _≤_, _<_}
@@ -28,11 +28,7 @@ kind-low b h = rw (lt-leb 48 b h)
 
 pub kind-high : (b : ℕ) → 48 ≤ b → isDigitOrBlank b ≡ leb b 57
 unfolding isDigitOrBlank
-kind-high b h = rw (le-leb 48 b h, ne-eqb b 32 (λ e. omega arith)) (or-no (leb b 57))
-  where
-    or-no : (t : Bool) → (t || false) ≡ t
-    or-no true = refl
-    or-no false = refl
+kind-high b h = rw (le-leb 48 b h, ne-eqb b 32 (λ e. omega arith)) (or-false (leb b 57))
 
 pub digit-low : (b : ℕ) → b < 48 → digitOf b ≡ 0
 unfolding digitOf

@@ -5,7 +5,7 @@ use Prim.Native.Nat.{ℕ, suc, _+_, _-_, _≤_}
 use native.Mathlib.Nat.{add-zero}
 use native.Mathlib.Omega.{arith}
 use lib.ListN.{length, take, drop, set, replicate, length-append, replicate-append-replicate}
-use lib.Seq.{sets, sets-eq, length-sets, take-at, take-take, take-length}
+use lib.Seq.{sets, sets-eq, length-sets, take-at, take-take}
 use Rattle.convert.specs.Text.{Stored}
 
 -- a run of stores behind a run of stores
@@ -39,17 +39,13 @@ run-grows {l} {m} {at} {i} b h run =
     (replicate-append-replicate (i - at) 1 b ∙ ap (λ (k : ℕ). replicate k b) more)
     (stored-behind run (stored-one m i b))
 
-module _ (l after xs : List ℕ) (end : ℕ) (stored : Stored l after 0 xs end) (room : length xs ≤ length l) where
+module _ {l after xs : List ℕ} {end : ℕ} (stored : Stored l after 0 xs end) (room : length xs ≤ length l) where
   -- what was stored at the front is read there, as far as asked
   pub take-some : (k : ℕ) → k ≤ length xs → take k after ≡ take k xs
   take-some k short =
       let all : take (length xs) (sets l 0 xs) ≡ xs =
       ap (take (length xs)) (sets-eq xs l 0 (omega arith)) ∙ take-at xs (drop (0 + length xs) l) (length xs) refl in
       ap (take k) (stored .holds) ∙ sym (take-take k (length xs) (sets l 0 xs) short) ∙ ap (take k) all
-
-  -- all of it
-  pub take-whole : (k : ℕ) → k ≡ length xs → take k after ≡ xs
-  take-whole k e = take-some k (omega arith) ∙ ap (λ (j : ℕ). take j xs) e ∙ take-length xs
 
   -- the length stays
   pub length-stored : length after ≡ length l

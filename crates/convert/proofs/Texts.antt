@@ -1,11 +1,12 @@
 -- The text of STRING(n,m), way by way. Assumes nothing.
 use mathlib.Core.Bool.{true, false, cond}
 use mathlib.Core.List.{List, [], _∷_}
-use mathlib.Core.Path.{_≡_, refl}
+use mathlib.Core.Path.{_≡_, refl, sym, ap, _∙_}
 use Prim.Native.Nat.{ℕ, _+_, _-_, _≤_, _<_}
 use native.Mathlib.Omega.{arith}
 use lib.IntN.{ℤ, natAbs}
 use lib.ListN.{length, take, length-append, length-replicate}
+use lib.Seq.{take-length}
 use borrow.Author.Tests.{eq-eqb, ne-eqb, lt-ltb, le-ltb, le-leb, lt-leb}
 use Rattle.base.specs.Choice.{cond-cases}
 use Rattle.base.specs.Text.{bytes}
@@ -15,8 +16,10 @@ use Rattle.values.specs.Numbers.{isNegative}
 use Rattle.values.specs.Work.{Work, done, stop}
 use Rattle.convert.specs.Laws.{longest-is}
 use Rattle.convert.specs.Numbers.{limit, InRange}
-use Rattle.convert.specs.Text.{longest, filledText, Room}
+use Rattle.convert.specs.Text.{longest, filledText, Room, Stored, Written}
 use Rattle.convert.specs.declared.Int.{Int}
+use Rattle.convert.specs.declared.Text.the-variants.{Is}
+use Rattle.convert.proofs.Stores.{take-some, length-stored}
 
 -- ---- its parts
 
@@ -70,3 +73,21 @@ module _ (n m : ℤ) (nonzero : natAbs n ≡ 0 → ⊥) where
   unfolding textOf filled filledText
   text-cut h short =
       rw (ne-eqb (natAbs n) 0 nonzero, longest-is, le-ltb longest (natAbs n) h, lt-leb plain (natAbs n) short)
+
+-- ---- what was stored, read back
+
+-- as far as asked
+pub written-part : {n m : ℤ} {l after t : List ℕ} {end k notes : ℕ} → Stored l after 0 t end → length l ≡ longest → length t ≤ longest
+    → k ≤ length t → textOf n m ≡ done (take k t) notes → Written n m (Is k notes) l after
+written-part {k = k} {notes = notes} stored full room short is =
+    record {
+      text = ap (λ (x : List ℕ). done x notes) (take-some stored (omega arith) k short) ∙ sym is;
+      settled = omega arith;
+      room = length-stored stored (omega arith) ∙ full;
+    }
+
+-- all of it
+pub written-whole : {n m : ℤ} {l after t : List ℕ} {end k notes : ℕ} → Stored l after 0 t end → length l ≡ longest → length t ≤ longest
+    → k ≡ length t → textOf n m ≡ done t notes → Written n m (Is k notes) l after
+written-whole {t = t} {notes = notes} stored full room e is =
+    written-part stored full room (omega arith) (is ∙ ap (λ (x : List ℕ). done x notes) (sym (ap (λ (j : ℕ). take j t) e ∙ take-length t)))

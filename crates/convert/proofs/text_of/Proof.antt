@@ -1,16 +1,14 @@
 -- `convert::text_of` meets its contract. Each way STRING may go is a law of Texts; what is asked for is read back from what was stored.
 -- Assumes nothing.
 use borrow.Author.Needs.{needs}
-use mathlib.Core.List.{List}
 use mathlib.Core.Path.{_≡_, refl, sym, ap, _∙_}
-use Prim.Native.Nat.{ℕ, _-_, _≤_}
+use Prim.Native.Nat.{ℕ, _-_}
 use native.Mathlib.Omega.{arith}
 use lib.IntN.{natAbs}
 use lib.ListN.{length, take}
-use Rattle.values.specs.Work.{Work, done}
+use Rattle.values.specs.Work.{done}
 use Rattle.convert.specs.Text.{filledText}
-use Rattle.convert.proofs.Stores.{take-some, take-whole, length-stored}
-use Rattle.convert.proofs.Texts.{text-size, plain-room, text-plain, text-stops, text-fills, text-cut}
+use Rattle.convert.proofs.Texts.{text-size, plain-room, text-plain, text-stops, text-fills, text-cut, written-part, written-whole}
 use Rattle.convert.proofs.text_of.Statement.{statement}
 use Rattle.convert.proofs.text_of.Tie as tie
 
@@ -23,20 +21,8 @@ put-text-requires c κs = let s = c .before .before .before in plain-room (s .ar
 returns : tie.Need-returns
 returns c =
     let s = c .before .before .before .before in
-    let n = s .args .n .value in
-    let m = s .args .m .value in
-    let t = filledText m 48 0 in
-    let l = s .args .out .now in
-    let after = c .put-text .last .1 .1 .1 .0 in
-    let room : length t ≤ length l = omega (arith, plain-room (s .args .m) (s .pre .right), s .pre) in
-    let stored = c .put-text .ensures in
-    let whole : c .put-text .result ≡ length t = omega (arith, stored .ends) in
-    record {
-      text = ap (λ (x : List ℕ). done x 0) (take-whole l after t (c .put-text .result) stored room (c .put-text .result) whole)
-          ∙ sym (text-plain n m (sym (c .before .before .before .size .ensures) ∙ c .before .before .if1 .taken));
-      settled = omega (arith, c .put-text .ensures .ends, s .pre);
-      room = length-stored l after t (c .put-text .result) stored room ∙ s .pre .room;
-    }
+    written-whole (c .put-text .ensures) (s .pre .room) (plain-room (s .args .m) (s .pre .right) .room) (omega (arith, c .put-text .ensures .ends))
+    (text-plain (s .args .n .value) (s .args .m .value) (sym (c .before .before .before .size .ensures) ∙ c .before .before .if1 .taken))
 
 returns-2 : tie.Need-returns-2
 returns-2 c =
@@ -68,26 +54,16 @@ returns-3 c =
     let s = c .before .before .before .before .before .before .before .before in
     let asked = c .before .before .before .before .before .before .before .size .result in
     let size = c .before .before .before .before .before .before .before .size .ensures in
-    let plain = c .before .before .before .before .plain-length .result in
     let n = s .args .n .value in
     let m = s .args .m .value in
     let byte = c .before .before .fill-byte .result in
-    let count = asked - plain in
-    let t = filledText m byte count in
-    let l = s .args .out .now in
-    let after = c .put-text2 .last .1 .1 .1 .0 in
-    let stored = c .put-text2 .ensures in
+    let count = asked - c .before .before .before .before .plain-length .result in
     let some : natAbs n ≡ 0 → ⊥ = λ e. c .before .before .before .before .before .before .if1 .left (size ∙ e) in
     let long = c .before .before .before .before .plain-length .ensures in
-    let whole : asked ≡ length t = omega (arith, text-size m byte count) in
-    let room : length t ≤ length l = omega (arith, s .pre .room) in
-    record {
-      text = ap (λ (x : List ℕ). done x 0) (take-whole l after t (c .put-text2 .result) stored room asked whole)
-          ∙ ap (λ (b : ℕ). done (filledText m b count) 0) (c .before .before .fill-byte .ensures)
-          ∙ sym (text-fills n m some (omega arith) count (omega arith) (omega arith));
-      settled = omega arith;
-      room = length-stored l after t (c .put-text2 .result) stored room ∙ s .pre .room;
-    }
+    let whole : asked ≡ length (filledText m byte count) = omega (arith, text-size m byte count) in
+    written-whole (c .put-text2 .ensures) (s .pre .room) (omega arith) whole
+    (text-fills n m some (omega arith) count (omega arith) (omega arith)
+    ∙ ap (λ (b : ℕ). done (filledText m b count) 0) (sym (c .before .before .fill-byte .ensures)))
 
 put-text-requires-3 : tie.Need-put-text-requires-3
 put-text-requires-3 c κs =
@@ -97,25 +73,13 @@ put-text-requires-3 c κs =
 returns-4 : tie.Need-returns-4
 returns-4 c =
     let s = c .before .before .before .before .before .before .before in
-    let asked = c .before .before .before .before .before .before .size .result in
     let size = c .before .before .before .before .before .before .size .ensures in
     let n = s .args .n .value in
     let m = s .args .m .value in
-    let t = filledText m 48 0 in
-    let l = s .args .out .now in
-    let after = c .put-text3 .last .1 .1 .1 .0 in
-    let stored = c .put-text3 .ensures in
     let some : natAbs n ≡ 0 → ⊥ = λ e. c .before .before .before .before .before .if1 .left (size ∙ e) in
     let long = c .before .before .before .plain-length .ensures in
-    let short : asked ≤ length t = omega (arith, text-size m 48 0) in
-    let room : length t ≤ length l = omega (arith, plain-room (s .args .m) (s .pre .right), s .pre) in
-    record {
-      text = ap (λ (x : List ℕ). done x 1) (take-some l after t (c .put-text3 .result) stored room asked short)
-          ∙ ap (λ (k : ℕ). done (take k t) 1) size
-          ∙ sym (text-cut n m some (omega arith) (omega arith));
-      settled = omega arith;
-      room = length-stored l after t (c .put-text3 .result) stored room ∙ s .pre .room;
-    }
+    written-part (c .put-text3 .ensures) (s .pre .room) (plain-room (s .args .m) (s .pre .right) .room) (omega (arith, text-size m 48 0))
+    (text-cut n m some (omega arith) (omega arith) ∙ ap (λ (k : ℕ). done (take k (filledText m 48 0)) 1) (sym size))
 
 pub text-of-spec : {M : Type 1} → statement M
 text-of-spec =
