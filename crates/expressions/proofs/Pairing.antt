@@ -7,7 +7,7 @@ use native.Mathlib.Nat.{add-zero}
 use native.Mathlib.Omega.{arith}
 use lib.Dec.{leb, ltb}
 use lib.IntN.{ℤ}
-use borrow.Author.Tests.{leb-true, leb-false, le-leb, lt-leb}
+use borrow.Author.Tests.{leb-true, leb-false}
 use Rattle.base.specs.Choice.{cond-cases}
 use Rattle.base.specs.Edition.{edition1}
 use Rattle.calls.specs.Rules.{mostWaiting, balanced}
@@ -19,6 +19,7 @@ use Rattle.machine.specs.Expressions.{operandIn, operation, combined, itemIn, n
 use Rattle.machine.specs.State.{Memory}
 use Rattle.rows.specs.Holds.{ItemsHold, OperandHolds, Within}
 use Rattle.rows.specs.Meaning.{operandMeaning, itemsMeaning}
+use Rattle.rows.specs.Reading.{item-operand, item-operator}
 use Rattle.rows.specs.declared.Operand as rows
 use Rattle.rows.specs.declared.Item.the-variants as items
 use Rattle.rows.specs.declared.Stretch.{Stretch}
@@ -47,14 +48,6 @@ last-operator c =
     (λ low h. (omega (arith, leb-false (c .kind) 9 high), leb-true (c .kind) 13 low))
     (λ _ h. absurd (false≢true h)))
 
-operand-item : (c : Table.Cell) → c .kind ≤ 9 → itemOfCell c ≡ operand (operandOfCell c)
-unfolding itemOfCell
-operand-item c h = rw (le-leb (c .kind) 9 h)
-
-operator-item : (c : Table.Cell) → 9 < c .kind → c .kind ≤ 13 → itemOfCell c ≡ operator (operatorOfKind (c .kind))
-unfolding itemOfCell
-operator-item c h g = rw (lt-leb (c .kind) 9 h, le-leb (c .kind) 13 g)
-
 -- two operands and the operator behind them
 abbrev pub pairOf : Operand → Operand → Operator → List Item
 pairOf a b o = operand a ∷ (operand b ∷ (operator o ∷ []))
@@ -65,7 +58,7 @@ unfolding balanced
 balanced-behind a known is e = and-eq-true-iff (ltb known mostWaiting) (balanced (suc known) is) .0 e .1
 
 -- the items of a pair
-module _ (t : List ℕ) (s : Stretch) (hold : ItemsHold t s) where
+module _ {t : List ℕ} {s : Stretch} (hold : ItemsHold t s) where
   abbrev cellOf : ℕ → Table.Cell
   cellOf k = cellAt t (itemsAt + 8 * k)
 
@@ -73,7 +66,7 @@ module _ (t : List ℕ) (s : Stretch) (hold : ItemsHold t s) where
   operand-holds : (k : ℕ) → Within s k → cellOf k .kind ≤ 9 → (a : rows.Operand) → operandMeaning a ≡ operandOfCell (cellOf k)
       → OperandHolds a
   operand-holds k within low a read =
-      hold .each k (items.Operand a) within (ap operand read ∙ sym (operand-item (cellOf k) low))
+      hold .each k (items.Operand a) within (ap operand read ∙ sym (item-operand (cellOf k) low))
 
   module _ (p : PairAt t s) where
     abbrev pub first : Table.Cell
@@ -103,16 +96,16 @@ module _ (t : List ℕ) (s : Stretch) (hold : ItemsHold t s) where
         let rest = itemOfCell second ∷ (itemOfCell third ∷ []) in
         let one =
         balanced-behind (operandOfCell first) 0 rest
-        (ap (λ (x : Item). balanced 0 (x ∷ rest)) (sym (operand-item first first-low)) ∙ balanced-items) in
+        (ap (λ (x : Item). balanced 0 (x ∷ rest)) (sym (item-operand first first-low)) ∙ balanced-items) in
         last-operator third
         (balanced-behind (operandOfCell second) 1 (itemOfCell third ∷ [])
-        (ap (λ (x : Item). balanced 1 (x ∷ (itemOfCell third ∷ []))) (sym (operand-item second (p .middle))) ∙ one))
+        (ap (λ (x : Item). balanced 1 (x ∷ (itemOfCell third ∷ []))) (sym (item-operand second (p .middle))) ∙ one))
 
     pub pair-items : itemsMeaning t s ≡ pairOf (operandOfCell first) (operandOfCell second) (operatorOfKind (third .kind))
     pair-items =
-        let a = operand-item first first-low in
-        let b = operand-item second (p .middle) in
-        let o = operator-item third (third-kind .0) (third-kind .1) in
+        let a = item-operand first first-low in
+        let b = item-operand second (p .middle) in
+        let o = item-operator third (third-kind .0) (third-kind .1) in
         three-items ∙ (λ i. a i ∷ (b i ∷ (o i ∷ [])))
 
     -- its operands, as the code reads them
@@ -123,10 +116,7 @@ module _ (t : List ℕ) (s : Stretch) (hold : ItemsHold t s) where
     second-holds = operand-holds (s .from + 1) (record { low = omega arith; high = omega (arith, p .three) }) (p .middle)
 
 -- the value of a pair
-module _ (m : Memory) (a b : Operand) (o : Operator) where
-  abbrev pair : List Item
-  pair = pairOf a b o
-
+module _ (m : Memory) {is : List Item} {a b : Operand} {o : Operator} (items : is ≡ pairOf a b o) where
   operand-known : (c : Operand) (known : List ℤ) {x : ℤ} {n : ℕ} → operandIn edition1 m c ≡ done x n
       → itemIn edition1 m known (operand c) ≡ done (x ∷ known) (n + 0)
   unfolding itemIn _>>=_ noting quietly
@@ -152,15 +142,16 @@ module _ (m : Memory) (a b : Operand) (o : Operator) where
       (ap (λ (w : Work ℤ). w >>= λ v. quietly (v ∷ [])) e)
 
   module _ {x : ℤ} {n : ℕ} (one : operandIn edition1 m a ≡ done x n) where
-    first-known : numericIn edition1 m pair ≡ numericFrom m n (x ∷ []) (operand b ∷ (operator o ∷ []))
+    first-known : numericIn edition1 m is ≡ numericFrom m n (x ∷ []) (operand b ∷ (operator o ∷ []))
     first-known =
         let count : 0 + (n + 0) ≡ n = omega arith in
-        numeric-begins m pair
+        ap (numericIn edition1 m) items
+        ∙ numeric-begins m (pairOf a b o)
         ∙ numeric-more m 0 (n + 0) [] (x ∷ []) (operand a) (operand b ∷ (operator o ∷ [])) (operand-known a [] one)
         ∙ ap (λ (k : ℕ). numericFrom m k (x ∷ []) (operand b ∷ (operator o ∷ []))) count
 
     pub pair-works : {y : ℤ} {k : ℕ} → operandIn edition1 m b ≡ done y k
-        → numericIn edition1 m pair ≡ noting (n + k) (operation edition1 o x y)
+        → numericIn edition1 m is ≡ noting (n + k) (operation edition1 o x y)
     pair-works {y} {k} two =
         let count : n + (k + 0) ≡ n + k = omega arith in
         first-known
@@ -168,10 +159,12 @@ module _ (m : Memory) (a b : Operand) (o : Operator) where
         ∙ ap (λ (l : ℕ). numericFrom m l (y ∷ (x ∷ [])) (operator o ∷ [])) count
         ∙ operator-works x y (n + k) (operation edition1 o x y) refl
 
-    pub pair-second-stops : {k : ℕ} → operandIn edition1 m b ≡ stop k → numericIn edition1 m pair ≡ stop k
+    pub pair-second-stops : {k : ℕ} → operandIn edition1 m b ≡ stop k → numericIn edition1 m is ≡ stop k
     pair-second-stops {k} two =
         first-known ∙ numeric-stops m n k (x ∷ []) (operand b) (operator o ∷ []) (operand-stops b (x ∷ []) two)
 
-  pub pair-first-stops : {k : ℕ} → operandIn edition1 m a ≡ stop k → numericIn edition1 m pair ≡ stop k
+  pub pair-first-stops : {k : ℕ} → operandIn edition1 m a ≡ stop k → numericIn edition1 m is ≡ stop k
   pair-first-stops {k} one =
-      numeric-begins m pair ∙ numeric-stops m 0 k [] (operand a) (operand b ∷ (operator o ∷ [])) (operand-stops a [] one)
+      ap (numericIn edition1 m) items
+      ∙ numeric-begins m (pairOf a b o)
+      ∙ numeric-stops m 0 k [] (operand a) (operand b ∷ (operator o ∷ [])) (operand-stops a [] one)

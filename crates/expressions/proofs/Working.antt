@@ -1,7 +1,7 @@
 -- Work that follows other work, as answers stand for it. Assumes nothing.
 use mathlib.Core.List.{List, [], _∷_, _++_, append-assoc, append-nil}
 use mathlib.Core.Path.{_≡_, refl, sym, ap, ap₂, _∙_}
-use Prim.Native.Nat.{ℕ, _+_, _-_}
+use Prim.Native.Nat.{ℕ, _+_, _-_, _≤_}
 use native.Mathlib.Nat.{add-zero}
 use native.Mathlib.Omega.{arith}
 use lib.Dec.{eqb}
@@ -15,11 +15,12 @@ use Rattle.convert.specs.Numbers.{Answers}
 use Rattle.convert.specs.declared.Int.{Int}
 use Rattle.convert.specs.declared.Number.{Number}
 use Rattle.convert.specs.declared.Number.the-variants as numbers
-use Rattle.language.specs.Program.{Item, Element}
-use Rattle.machine.specs.Expressions.{itemIn, itemsIn, latest, numericIn, elementIn, stringIn}
+use Rattle.language.specs.Program.{Operand, Item, Element}
+use Rattle.machine.specs.Expressions.{operandIn, itemIn, itemsIn, latest, numericIn, elementIn, stringIn}
 use Rattle.machine.specs.State.{Memory}
 use Rattle.values.specs.Work.{Work, done, stop, noting, quietly, _>>=_}
 use Rattle.values.specs.WorkLaws.{noting-none, noting-more, bind-noting, quiet}
+use Rattle.expressions.specs.Notes.{few-done, few-operand}
 
 -- an answer that comes behind notes
 module _ (n : ℕ) {r : Number} {w : Work ℤ} (a : Answers r w) where
@@ -30,6 +31,10 @@ module _ (n : ℕ) {r : Number} {w : Work ℤ} (a : Answers r w) where
   pub number-stopped : {k : ℕ} → r ≡ numbers.Stops k → Answers (numbers.Stops k) (noting n w)
   unfolding noting
   number-stopped e = record { work = ap (noting n) (sym (number-stops a e)); range = tt }
+
+-- the notes of an operand's value
+pub operand-notes : (m : Memory) (a : Operand) {r : Number} {v : Int} {n : ℕ} → Answers r (operandIn edition1 m a) → r ≡ numbers.Is v n → n ≤ 2
+operand-notes m a x e = few-done (few-operand edition1 m a) (number-is x e)
 
 -- a string put in front of one, and then another in front of both
 quiet-front : (u v : List ℕ) (w : Work (List ℕ)) → ((w >>= λ vs. quietly (v ++ vs)) >>= λ vs. quietly (u ++ vs))

@@ -1,6 +1,6 @@
 -- What a cell stands for, kind by kind. Assumes nothing.
 use mathlib.Core.List.{List}
-use mathlib.Core.Path.{_≡_, refl, ap}
+use mathlib.Core.Path.{_≡_, refl, sym, _∙_, ap}
 use Prim.Native.Nat.{ℕ, _+_, _-_, _≤_, _<_}
 use native.Mathlib.Omega.{arith}
 use borrow.Author.Tests.{eq-eqb, ne-eqb, le-leb, lt-leb}
@@ -11,7 +11,7 @@ use Rattle.calls.specs.TableReading.{lengthOfCell, partOfCell, operandOfCell, o
 use Rattle.calls.specs.TableReading.{elementOfCell, patternOfCell}
 use Rattle.convert.specs.declared.Int.{Int}
 use Rattle.rows.specs.Meaning.{lengthMeaning, partMeaning, operandMeaning, operatorMeaning, signMeaning, itemMeaning}
-use Rattle.rows.specs.Reading.{StretchRead, ElementRead, PatternRead}
+use Rattle.rows.specs.Reading.{StretchRead, ElementRead, PatternRead, item-operand, item-operator}
 use Rattle.rows.specs.declared.Length.{Length}
 use Rattle.rows.specs.declared.Length.the-variants as lengths
 use Rattle.rows.specs.declared.Part as Part
@@ -66,13 +66,11 @@ module _ (c : Cell) where
   -- an item
   pub operand-item : (a : Operand.Operand) → c .kind ≤ 9 → operandMeaning a ≡ operandOfCell c
       → itemMeaning (items.Operand a) ≡ itemOfCell c
-  unfolding itemOfCell
-  operand-item a h e = rw (le-leb (c .kind) 9 h) (ap Program.operand e)
+  operand-item a h e = ap Program.operand e ∙ sym (item-operand c h)
 
   pub operator-item : (o : Operator) → 9 < c .kind → c .kind ≤ 13 → operatorMeaning o ≡ operatorOfKind (c .kind)
       → itemMeaning (items.Operator o) ≡ itemOfCell c
-  unfolding itemOfCell
-  operator-item o h g e = rw (lt-leb (c .kind) 9 h, le-leb (c .kind) 13 g) (ap Program.operator e)
+  operator-item o h g e = ap Program.operator e ∙ sym (item-operator c h g)
 
   pub sign-item : (s : Sign) → 9 < c .kind → 13 < c .kind → signMeaning s ≡ signOfKind (c .kind)
       → itemMeaning (items.Sign s) ≡ itemOfCell c

@@ -2,12 +2,14 @@
 -- ranges say. Assumes nothing.
 use mathlib.Core.List.{List}
 use mathlib.Core.Path.{_≡_}
-use Prim.Native.Nat.{ℕ, _+_, _<_, _^_}
+use Prim.Native.Nat.{ℕ, _+_, _≤_, _<_, _^_}
+use borrow.Author.Tests.{le-leb, lt-leb}
+use Rattle.language.specs.Program.{operand, operator}
 use Rattle.calls.specs.Numerals.{numberAt}
 use Rattle.calls.specs.Table as Table
 use Rattle.calls.specs.Table.{literalsAt}
 use Rattle.calls.specs.TableReading.{cellAt, rowAt, rangeFrom, rangeCount, rangeMore, elementOfCell, patternOfCell}
-use Rattle.calls.specs.TableReading.{directionOf, partOfCell, branchOf, replacementOfRow, statementOfRow}
+use Rattle.calls.specs.TableReading.{directionOf, operandOfCell, operatorOfKind, itemOfCell, partOfCell, branchOf, replacementOfRow, statementOfRow}
 use Rattle.rows.specs.Meaning.{cellMeaning, rowMeaning, partMeaning, elementMeaning, patternMeaning, branchMeaning}
 use Rattle.rows.specs.Meaning.{directionMeaning, replacementMeaning, statementMeaning}
 use Rattle.rows.specs.declared.Cell.{Cell}
@@ -53,6 +55,15 @@ abbrev pub EndsRead : ℕ → Element → Type 0
 EndsRead range (Literal from to) = (from ≡ literalsAt + rangeFrom range) × (to ≡ literalsAt + rangeFrom range + rangeCount range)
 EndsRead range (Part p) = Unit {0}
 EndsRead range (Text n m) = Unit {0}
+
+-- the item of a cell, by its kind
+pub item-operand : (c : Table.Cell) → c .kind ≤ 9 → itemOfCell c ≡ operand (operandOfCell c)
+unfolding itemOfCell
+item-operand c h = rw (le-leb (c .kind) 9 h)
+
+pub item-operator : (c : Table.Cell) → 9 < c .kind → c .kind ≤ 13 → itemOfCell c ≡ operator (operatorOfKind (c .kind))
+unfolding itemOfCell
+item-operator c h g = rw (lt-leb (c .kind) 9 h, le-leb (c .kind) 13 g)
 
 -- an element that was read from a cell
 pub record ElementRead (t : List ℕ) (c : Table.Cell) (x : Element) : Type 0 where

@@ -12,8 +12,7 @@ use Rattle.machine.specs.Expressions.{operandIn, compared, testIn}
 use Rattle.rows.specs.Meaning.{operandMeaning}
 use Rattle.values.specs.Work.{done}
 use Rattle.expressions.specs.Memory.{memoryIn}
-use Rattle.expressions.specs.Notes.{few-done, few-operand}
-use Rattle.expressions.proofs.Working.{both-done, second-stops, first-stops}
+use Rattle.expressions.proofs.Working.{operand-notes, both-done, second-stops, first-stops}
 use Rattle.expressions.proofs.compares_value.Statement.{statement}
 use Rattle.expressions.proofs.compares_value.Tie as tie
 
@@ -36,13 +35,10 @@ add-t18 : tie.Need-add-t18
 add-t18 c =
     let s = c .before .before .before .before .before .before .before .before .before .before in
     let m = memoryIn (s .args .store .now) (s .args .state .now) in
-    let left = number-is (c .before .before .before .before .before .before .before .before .quick-value .ensures)
-    (c .before .before .before .before .before .before .a .given .1) in
-    let right = number-is (c .before .before .before .before .quick-value2 .ensures) (c .before .before .b .given .1) in
     omega (
       arith,
-      few-done (few-operand edition1 m (operandMeaning (s .args .x .left))) left,
-      few-done (few-operand edition1 m (operandMeaning (s .args .x .right))) right,
+      operand-notes m (operandMeaning (s .args .x .left)) (c .before .before .before .before .before .before .before .before .quick-value .ensures) (c .before .before .before .before .before .before .a .given .1),
+      operand-notes m (operandMeaning (s .args .x .right)) (c .before .before .before .before .quick-value2 .ensures) (c .before .before .b .given .1),
     )
 
 enum-known-k : tie.Need-enum-known-k

@@ -5,17 +5,18 @@ use mathlib.Core.Path.{sym, ap, subst, _∙_}
 use native.Mathlib.Omega.{arith}
 use lib.IntN.{ℤ}
 use Rattle.base.specs.Edition.{edition1}
-use Rattle.calls.specs.TableReading.{operandOfCell, operatorOfKind}
+use Rattle.calls.specs.TableReading.{operatorOfKind}
 use Rattle.convert.specs.Laws.{number-is, number-range, number-stops}
 use Rattle.convert.specs.Numbers.{Answers}
 use Rattle.language.specs.Program.{Operator}
-use Rattle.machine.specs.Expressions.{operandIn, operation, numericIn}
+use Rattle.machine.specs.Expressions.{operandIn, operation}
 use Rattle.rows.specs.Meaning.{operandMeaning, operatorMeaning}
 use Rattle.values.specs.Work.{Work}
 use Rattle.expressions.specs.Memory.{memoryIn}
-use Rattle.expressions.specs.Notes.{Few, few-done, few-more, few-operand, few-operation}
-use Rattle.expressions.proofs.Pairing.{first, second, third, pair-items, first-holds, second-holds}
+use Rattle.expressions.specs.Notes.{Few, few-more, few-operation}
+use Rattle.expressions.proofs.Pairing.{third, pair-items, first-holds, second-holds}
 use Rattle.expressions.proofs.Pairing.{pair-works, pair-first-stops, pair-second-stops}
+use Rattle.expressions.proofs.Working.{operand-notes}
 use Rattle.expressions.proofs.pair_value.Statement.{statement}
 use Rattle.expressions.proofs.pair_value.Tie as tie
 
@@ -26,7 +27,7 @@ quick-value-requires : tie.Need-quick-value-requires
 quick-value-requires c κs =
     let s = c .before .before .before in
     let read = c .operand-at in
-    (s .pre .0 .ready, first-holds (s .args .table .now) (s .args .s) (s .pre .0 .items) (s .pre .1) (read .result) (read .ensures))
+    (s .pre .0 .ready, first-holds (s .pre .0 .items) (s .pre .1) (read .result) (read .ensures))
 
 enum-known-a : tie.Need-enum-known-a
 enum-known-a c = search needs
@@ -41,7 +42,7 @@ quick-value-requires-2 : tie.Need-quick-value-requires-2
 quick-value-requires-2 c κs =
     let s = c .before .before .before .before .before .before .before .before in
     let read = c .operand-at2 in
-    (s .pre .0 .ready, second-holds (s .args .table .now) (s .args .s) (s .pre .0 .items) (s .pre .1) (read .result) (read .ensures))
+    (s .pre .0 .ready, second-holds (s .pre .0 .items) (s .pre .1) (read .result) (read .ensures))
 
 enum-known-b : tie.Need-enum-known-b
 enum-known-b c = search needs
@@ -59,11 +60,11 @@ add-noted : tie.Need-add-noted
 add-noted c =
     let s = c .before .before .before .before .before .before .before .before .before .before .before .before .before .before in
     let m = memoryIn (s .args .store .now) (s .args .state .now) in
-    let left = number-is (c .before .before .before .before .before .before .before .before .before .before .quick-value .ensures) (c .before .before .before .before .before .before .before .before .a .given .1) in
-    let right = number-is (c .before .before .before .before .before .quick-value2 .ensures) (c .before .before .before .b .given .1) in
-    let a = operandMeaning (c .before .before .before .before .before .before .before .before .before .before .before .operand-at .result) in
-    let b = operandMeaning (c .before .before .before .before .before .before .operand-at2 .result) in
-    omega (arith, few-done (few-operand edition1 m a) left, few-done (few-operand edition1 m b) right)
+    omega (
+      arith,
+      operand-notes m (operandMeaning (c .before .before .before .before .before .before .before .before .before .before .before .operand-at .result)) (c .before .before .before .before .before .before .before .before .before .before .quick-value .ensures) (c .before .before .before .before .before .before .before .before .a .given .1),
+      operand-notes m (operandMeaning (c .before .before .before .before .before .before .operand-at2 .result)) (c .before .before .before .before .before .quick-value2 .ensures) (c .before .before .before .b .given .1),
+    )
 
 operation-requires : tie.Need-operation-requires
 operation-requires c κs =
@@ -78,14 +79,14 @@ noted-requires c κs =
     let m = memoryIn (s .args .store .now) (s .args .state .now) in
     let x = c .before .before .before .before .before .before .before .before .before .a .given in
     let y = c .before .before .before .before .b .given in
-    let left = number-is (c .before .before .before .before .before .before .before .before .before .before .before .quick-value .ensures) (x .1) in
-    let right = number-is (c .before .before .before .before .before .before .quick-value2 .ensures) (y .1) in
-    let a = operandMeaning (c .before .before .before .before .before .before .before .before .before .before .before .before .operand-at .result) in
-    let b = operandMeaning (c .before .before .before .before .before .before .before .operand-at2 .result) in
     let o = operatorMeaning (c .before .operator-of .result) in
     let made = operation edition1 o (x .0 .0 .value) (y .0 .0 .value) in
     let few = few-more 0 2 made (omega arith) (few-operation edition1 o (x .0 .0 .value) (y .0 .0 .value)) in (
-      omega (arith, few-done (few-operand edition1 m a) left, few-done (few-operand edition1 m b) right),
+      omega (
+        arith,
+        operand-notes m (operandMeaning (c .before .before .before .before .before .before .before .before .before .before .before .before .operand-at .result)) (c .before .before .before .before .before .before .before .before .before .before .before .quick-value .ensures) (x .1),
+        operand-notes m (operandMeaning (c .before .before .before .before .before .before .before .operand-at2 .result)) (c .before .before .before .before .before .before .quick-value2 .ensures) (y .1),
+      ),
       subst (λ (w : Work ℤ). Few 2 w) (sym (c .operation .ensures .work)) few,
     )
 
@@ -99,49 +100,35 @@ returns : tie.Need-returns
 returns c =
     let s = c .before .before .before .before .before .before .before .before .before .before .before .before .before .before .before .before in
     let m = memoryIn (s .args .store .now) (s .args .state .now) in
-    let t = s .args .table .now in
-    let e = s .args .s in
-    let items = ap (numericIn edition1 m) (pair-items t e (s .pre .0 .items) (s .pre .1)) in
-    let a = operandOfCell (first t e (s .pre .0 .items) (s .pre .1)) in
-    let b = operandOfCell (second t e (s .pre .0 .items) (s .pre .1)) in
-    let o = operatorOfKind (third t e (s .pre .0 .items) (s .pre .1) .kind) in
+    let items = pair-items (s .pre .0 .items) (s .pre .1) in
     let x = c .before .before .before .before .before .before .before .before .before .before .a .given in
     let y = c .before .before .before .before .before .b .given in
     let left = ap (operandIn edition1 m) (sym (c .before .before .before .before .before .before .before .before .before .before .before .before .before .operand-at .ensures)) ∙ number-is (c .before .before .before .before .before .before .before .before .before .before .before .before .quick-value .ensures) (x .1) in
     let right = ap (operandIn edition1 m) (sym (c .before .before .before .before .before .before .before .before .operand-at2 .ensures)) ∙ number-is (c .before .before .before .before .before .before .before .quick-value2 .ensures) (y .1) in
     let sign = c .before .before .operator-of .ensures ∙ ap operatorOfKind (c .before .before .before .item-kind .ensures) in
+    let o = operatorOfKind (third (s .pre .0 .items) (s .pre .1) .kind) in
     let made =
     subst (λ (q : Operator). Answers (c .before .operation .result) (operation edition1 q (x .0 .0 .value) (y .0 .0 .value))) sign
     (c .before .operation .ensures) in
-    subst (Answers (c .noted .result)) (sym (items ∙ pair-works m a b o left right))
+    subst (Answers (c .noted .result)) (sym (pair-works m items left right))
     (c .noted .ensures (operation edition1 o (x .0 .0 .value) (y .0 .0 .value)) made)
 
 returns-2 : tie.Need-returns-2
 returns-2 c =
     let s = c .before .before .before .before .before .before .before .before .before .before .before .before in
     let m = memoryIn (s .args .store .now) (s .args .state .now) in
-    let t = s .args .table .now in
-    let e = s .args .s in
-    let items = ap (numericIn edition1 m) (pair-items t e (s .pre .0 .items) (s .pre .1)) in
-    let a = operandOfCell (first t e (s .pre .0 .items) (s .pre .1)) in
-    let b = operandOfCell (second t e (s .pre .0 .items) (s .pre .1)) in
-    let o = operatorOfKind (third t e (s .pre .0 .items) (s .pre .1) .kind) in
+    let items = pair-items (s .pre .0 .items) (s .pre .1) in
     let left = ap (operandIn edition1 m) (sym (c .before .before .before .before .before .before .before .before .before .operand-at .ensures)) ∙ number-is (c .before .before .before .before .before .before .before .before .quick-value .ensures) (c .before .before .before .before .before .before .a .given .1) in
     let right = ap (operandIn edition1 m) (sym (c .before .before .before .before .operand-at2 .ensures)) ∙ number-stops (c .before .before .before .quick-value2 .ensures) (c .before .k .given .1) in
-    record { work = sym (items ∙ pair-second-stops m a b o left right); range = tt }
+    record { work = sym (pair-second-stops m items left right); range = tt }
 
 returns-3 : tie.Need-returns-3
 returns-3 c =
     let s = c .before .before .before .before .before .before .before in
     let m = memoryIn (s .args .store .now) (s .args .state .now) in
-    let t = s .args .table .now in
-    let e = s .args .s in
-    let items = ap (numericIn edition1 m) (pair-items t e (s .pre .0 .items) (s .pre .1)) in
-    let a = operandOfCell (first t e (s .pre .0 .items) (s .pre .1)) in
-    let b = operandOfCell (second t e (s .pre .0 .items) (s .pre .1)) in
-    let o = operatorOfKind (third t e (s .pre .0 .items) (s .pre .1) .kind) in
+    let items = pair-items (s .pre .0 .items) (s .pre .1) in
     let left = ap (operandIn edition1 m) (sym (c .before .before .before .before .operand-at .ensures)) ∙ number-stops (c .before .before .before .quick-value .ensures) (c .before .k2 .given .1) in
-    record { work = sym (items ∙ pair-first-stops m a b o left); range = tt }
+    record { work = sym (pair-first-stops m items left); range = tt }
 
 pub pair-value-spec : {M : Type 1} → statement M
 pair-value-spec =

@@ -1,7 +1,9 @@
 -- `expressions::string_value` meets its contract. The loop's invariant: the whole comes to the bytes so far and what the elements left come to.
 -- The measure is how many elements are left. Assumes nothing.
 use borrow.Author.Needs.{needs}
+use Prim.Native.Nat.{_≤_}
 use native.Mathlib.Omega.{arith}
+use Rattle.rows.specs.Meaning.{tableSize}
 use Rattle.expressions.specs.Memory.{memoryIn}
 use Rattle.expressions.proofs.Spelling.{Spelling, spelling-begins, spelling-ends, spelling-noted, spelling-stops, spelling-more}
 use Rattle.expressions.proofs.string_value.Statement.{statement}
@@ -39,25 +41,19 @@ append-element-requires c κs =
 enum-known-more : tie.Need-enum-known-more Inv-loop μ-loop
 enum-known-more c = search needs
 
-add-length : tie.Need-add-length Inv-loop μ-loop
-add-length c =
+-- what an element adds: few bytes, and at most one note
+noted : (c : tie.After-known-told Inv-loop μ-loop) → (c .before .more .given .0 .0 ≤ tableSize) × (c .before .more .given .0 .1 .0 ≤ 1)
+noted c =
     let d = c .before .before .before in
-    let l = d .before .before .before .before .before .loop in
     let read = d .before .before .before .element-at in
-    let s = d .before .before .before .before .before .before .before .before in
-    let more = spelling-noted (l .inv) (d .before .before .before .before .loop-test .taken) (read .result) (read .ensures)
-    (d .append-element .ensures .0) (c .before .more .given .1) in
-    omega (arith, more .0, l .inv .short, s .pre .elements .few)
+    spelling-noted (d .before .before .before .before .before .loop .inv) (d .before .before .before .before .loop-test .taken) (read .result) (read .ensures)
+    (d .append-element .ensures .0) (c .before .more .given .1)
+
+add-length : tie.Need-add-length Inv-loop μ-loop
+add-length c = omega (arith, noted c .0, c .before .before .before .before .before .before .before .before .loop .inv .short, c .before .before .before .before .before .before .before .before .before .before .before .pre .elements .few)
 
 add-notes : tie.Need-add-notes Inv-loop μ-loop
-add-notes c =
-    let d = c .before .before .before in
-    let l = d .before .before .before .before .before .loop in
-    let read = d .before .before .before .element-at in
-    let s = d .before .before .before .before .before .before .before .before in
-    let more = spelling-noted (l .inv) (d .before .before .before .before .loop-test .taken) (read .result) (read .ensures)
-    (d .append-element .ensures .0) (c .before .more .given .1) in
-    omega (arith, more .1, l .inv .few, s .pre .elements .few)
+add-notes c = omega (arith, noted c .1, c .before .before .before .before .before .before .before .before .loop .inv .few, c .before .before .before .before .before .before .before .before .before .before .before .pre .elements .few)
 
 enum-known-k : tie.Need-enum-known-k Inv-loop μ-loop
 enum-known-k c = search needs
