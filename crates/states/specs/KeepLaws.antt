@@ -2,7 +2,7 @@
 -- Assumes nothing.
 use mathlib.Core.Bool.{Bool, true, false, _&&_}
 use mathlib.Core.List.{List, [], _∷_, map}
-use mathlib.Core.Path.{_≡_, refl, ap}
+use mathlib.Core.Path.{_≡_, refl, ap, _∙_}
 use Prim.Native.Nat.{ℕ, suc, _+_, _-_, _≤_, _<_, _^_}
 use native.Mathlib.Numerals.{add-one}
 use native.Mathlib.Omega.{arith}
@@ -37,6 +37,11 @@ module _ (f : ℕ → Bool) (l : List ℕ) where
   pub from-none : (i to : ℕ) → to ≤ i → allFrom f l i to ≡ true
   unfolding all
   from-none i to h = let none : to - i ≡ 0 = omega arith in rw none
+
+  -- all from the first on pass where this one and those behind it do
+  pub from-turn : (first i to : ℕ) {t : Bool} → allFrom f l first to ≡ allFrom f l i to → i < to → to ≤ length l → f (getD l i 0) ≡ t
+      → allFrom f l first to ≡ (t && allFrom f l (i + 1) to)
+  from-turn first i to same h k e = same ∙ from-more i to h k ∙ ap (λ t. t && allFrom f l (i + 1) to) e
 
 -- a word keeps a number in range
 pub keepsNumber : ℕ → Bool

@@ -1,11 +1,10 @@
 -- `states::numbers_keep` meets its contract. The invariant: the numbers keep their range where those from i on do.
 -- Assumes nothing.
-use mathlib.Core.Bool.{Bool, _&&_}
-use mathlib.Core.Path.{_≡_, refl, sym, ap, _∙_}
-use Prim.Native.Nat.{_+_, _-_, _≤_}
+use mathlib.Core.Path.{_≡_, refl, sym, _∙_}
+use Prim.Native.Nat.{_-_, _≤_}
 use native.Mathlib.Omega.{arith}
 use lib.ListN.{getD}
-use Rattle.states.specs.KeepLaws.{allFrom, keepsNumber, from-more, from-none, numbers-from, number-low, number-high, number-between}
+use Rattle.states.specs.KeepLaws.{allFrom, keepsNumber, from-none, from-turn, numbers-from, number-low, number-high, number-between}
 use Rattle.states.proofs.numbers_keep.Statement.{statement}
 use Rattle.states.proofs.numbers_keep.Tie as tie
 
@@ -14,17 +13,6 @@ Inv-loop state i₀ i = (i ≤ 53) × (allFrom keepsNumber state 21 53 ≡ allFr
 
 abbrev μ-loop : tie.MeasureT-loop
 μ-loop state i₀ i = 53 - i
-
--- in a turn, all numbers are in range where this one and those behind it are
-turn : (c : tie.In-loop Inv-loop μ-loop) {t : Bool}
-    → (let state = c .before .before .args .state .now in let i = c .before .loop .i in
-    keepsNumber (getD state i 0) ≡ t → allFrom keepsNumber state 21 53 ≡ (t && allFrom keepsNumber state (i + 1) 53))
-turn c e =
-    let state = c .before .before .args .state .now in
-    let i = c .before .loop .i in
-    c .before .loop .inv .1
-    ∙ from-more keepsNumber state i 53 (c .loop-test .taken) (omega (arith, c .before .before .pre))
-    ∙ ap (λ t. t && allFrom keepsNumber state (i + 1) 53) e
 
 loop-holds : tie.Need-loop-holds Inv-loop μ-loop
 loop-holds c = (omega arith, refl)
@@ -41,8 +29,9 @@ sub-if1 c = omega arith
 returns : tie.Need-returns Inv-loop μ-loop
 returns c =
     let s = c .before .before in
+    let l = s .before .loop in
     let state = s .before .before .args .state .now in
-    sym (numbers-from state ∙ turn s (number-low (getD state (s .before .loop .i) 0) (c .if1 .taken)))
+    sym (numbers-from state ∙ from-turn keepsNumber state 21 (l .i) 53 (l .inv .1) (s .loop-test .taken) (omega (arith, s .before .before .pre)) (number-low (getD state (l .i) 0) (c .if1 .taken)))
 
 add-if2 : tie.Need-add-if2 Inv-loop μ-loop
 add-if2 c = omega arith
@@ -50,8 +39,9 @@ add-if2 c = omega arith
 returns-2 : tie.Need-returns-2 Inv-loop μ-loop
 returns-2 c =
     let s = c .before .before .before in
+    let l = s .before .loop in
     let state = s .before .before .args .state .now in
-    sym (numbers-from state ∙ turn s (number-high (getD state (s .before .loop .i) 0) (c .if2 .taken)))
+    sym (numbers-from state ∙ from-turn keepsNumber state 21 (l .i) 53 (l .inv .1) (s .loop-test .taken) (omega (arith, s .before .before .pre)) (number-high (getD state (l .i) 0) (c .if2 .taken)))
 
 add-i : tie.Need-add-i Inv-loop μ-loop
 add-i c = omega arith
@@ -62,8 +52,9 @@ loop-less c = omega arith
 loop-again : tie.Need-loop-again Inv-loop μ-loop
 loop-again c =
     let s = c .before .before .before in
-    let n = getD (s .before .before .args .state .now) (s .before .loop .i) 0 in
-    (omega arith, turn s (number-between n (c .before .if1 .left) (c .if2 .left)))
+    let l = s .before .loop in
+    let state = s .before .before .args .state .now in
+    (omega arith, from-turn keepsNumber state 21 (l .i) 53 (l .inv .1) (s .loop-test .taken) (omega (arith, s .before .before .pre)) (number-between (getD state (l .i) 0) (c .before .if1 .left) (c .if2 .left)))
 
 returns-3 : tie.Need-returns-3 Inv-loop μ-loop
 returns-3 c =

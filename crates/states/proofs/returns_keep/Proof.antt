@@ -1,13 +1,13 @@
 -- `states::returns_keep` meets its contract. The invariant: the returns held are steps where those from i on are.
 -- Assumes nothing.
-use mathlib.Core.Bool.{Bool, _&&_}
-use mathlib.Core.Path.{_≡_, refl, sym, ap, _∙_}
+use mathlib.Core.Bool.{Bool}
+use mathlib.Core.Path.{_≡_, refl, sym, _∙_}
 use Prim.Native.Nat.{ℕ, _+_, _-_, _≤_}
 use native.Mathlib.Omega.{arith}
 use lib.Dec.{ltb}
 use lib.ListN.{getD}
 use borrow.Author.Tests.{le-ltb, lt-ltb}
-use Rattle.states.specs.KeepLaws.{allFrom, from-more, from-none, returns-from}
+use Rattle.states.specs.KeepLaws.{allFrom, from-none, from-turn, returns-from}
 use Rattle.states.proofs.returns_keep.Statement.{statement}
 use Rattle.states.proofs.returns_keep.Tie as tie
 
@@ -20,23 +20,6 @@ Inv-loop state steps end i₀ i = (i ≤ end) × (allFrom (isStep steps) state 5
 
 abbrev μ-loop : tie.MeasureT-loop
 μ-loop state steps end i₀ i = end - i
-
--- in a turn, all returns are steps where this one is and those behind it are
-turn : (c : tie.In-loop Inv-loop μ-loop) {t : Bool}
-    → (let a = c .before .before .before .args in
-    let state = a .state .now in
-    let i = c .before .loop .i in
-    let end = 5 + getD state 2 0 in
-    isStep (a .steps) (getD state i 0) ≡ t
-    → allFrom (isStep (a .steps)) state 5 end ≡ (t && allFrom (isStep (a .steps)) state (i + 1) end))
-turn c e =
-    let a = c .before .before .before .args in
-    let state = a .state .now in
-    let i = c .before .loop .i in
-    let end = 5 + getD state 2 0 in
-    c .before .loop .inv .1
-    ∙ from-more (isStep (a .steps)) state i end (c .loop-test .taken) (omega (arith, c .before .before .before .pre))
-    ∙ ap (λ t. t && allFrom (isStep (a .steps)) state (i + 1) end) e
 
 shared-slice-read-end : tie.Need-shared-slice-read-end Inv-loop μ-loop
 shared-slice-read-end c = omega arith
@@ -57,8 +40,9 @@ returns : tie.Need-returns Inv-loop μ-loop
 returns c =
     let s = c .before .before in
     let a = s .before .before .before .args in
+    let l = s .before .loop in
     let state = a .state .now in
-    sym (returns-from (isStep (a .steps)) state ∙ turn s (le-ltb (getD state (s .before .loop .i) 0) (a .steps) (c .if1 .taken)))
+    sym (returns-from (isStep (a .steps)) state ∙ from-turn (isStep (a .steps)) state 5 (l .i) (5 + getD state 2 0) (l .inv .1) (s .loop-test .taken) (omega (arith, s .before .before .before .pre)) (le-ltb (getD state (l .i) 0) (a .steps) (c .if1 .taken)))
 
 add-i : tie.Need-add-i Inv-loop μ-loop
 add-i c = omega arith
@@ -70,7 +54,9 @@ loop-again : tie.Need-loop-again Inv-loop μ-loop
 loop-again c =
     let s = c .before .before in
     let a = s .before .before .before .args in
-    (omega arith, turn s (lt-ltb (getD (a .state .now) (s .before .loop .i) 0) (a .steps) (c .if1 .left)))
+    let l = s .before .loop in
+    let state = a .state .now in
+    (omega arith, from-turn (isStep (a .steps)) state 5 (l .i) (5 + getD state 2 0) (l .inv .1) (s .loop-test .taken) (omega (arith, s .before .before .before .pre)) (lt-ltb (getD state (l .i) 0) (a .steps) (c .if1 .left)))
 
 returns-2 : tie.Need-returns-2 Inv-loop μ-loop
 returns-2 c =
