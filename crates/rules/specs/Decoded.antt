@@ -1,5 +1,5 @@
 -- A row that passes its tests, with its elements and items, is the row of the statement that is read from it, which holds. Assumes nothing.
-use mathlib.Core.Bool.{true, false, cond, _&&_, _||_}
+use mathlib.Core.Bool.{true, false, cond, _&&_, _||_, or-false}
 use mathlib.Core.List.{List, [], _++_, map}
 use mathlib.Core.Logic.{⊎-elim}
 use mathlib.Core.Path.{_≡_, refl, sym, _∙_, ap, subst}
@@ -25,7 +25,7 @@ use Rattle.rules.specs.Conjunctions.{three}
 use Rattle.rules.specs.Elements.{ElementsBack, patterns-back, values-back, all-values}
 use Rattle.rules.specs.Items.{items-back}
 use Rattle.rules.specs.Kinds.{from, passes, part-back, operand-back}
-use Rattle.rules.specs.Rows.{range-made, row-same, part-place, or-nothing}
+use Rattle.rules.specs.Rows.{range-made, row-same, part-place}
 use Rattle.rules.specs.Rows.{empty-cell, string-cell, number-cell, range-cell, Tested}
 use Rattle.rules.specs.Same.{ItemSame, SameElements, LiteralSame, same-append, each-append}
 use Rattle.rules.specs.Tests.{cellTest, flagsTest, branchTest, leftTest, rightTest, startTest, stretches, stretchesOf, hasElements}
@@ -36,6 +36,13 @@ use Rattle.rules.specs.declared.steps.Stretches.{Stretches}
 
 pub places-same : {e e' i i' l l' : ℕ} → e ≡ e' → i ≡ i' → l ≡ l' → places e i l ≡ places e' i' l'
 places-same a b c = λ j. places (a j) (b j) (c j)
+
+-- the places of a row with no cells stay
+pub none-end : (e i l : ℕ) → places (e + 0 + 0) (i + 0) l ≡ places (e + 0) (i + 0) (l + 0)
+none-end e i l =
+    let same : e + 0 + 0 ≡ e + 0 = omega arith in
+    let literals : l ≡ l + 0 = omega arith in
+    places-same same refl literals
 
 -- a sign of comparison is written as its number
 comparison-written : (flag : ℕ) → (leb 1 flag && leb flag 6) ≡ true → comparisonNumber (comparisonOf flag) ≡ flag
@@ -98,13 +105,6 @@ module _ (n : Counts) (few : Few n) (t : List ℕ) (bytes : (i : ℕ) → getD t
       (flag success failure : ℕ) (left right : Cell) → Tested n p (row kind flag success failure left right) → (q : Places)
       → cellsEnd n t p kind (left .place) (stretchesOf kind (right .value)) ≡ q → q .literals ≤ 4096
       → RowBack q (row kind flag success failure left right) (statementOfRow t (row kind flag success failure left right))
-
-  -- the places of a row with no cells stay
-  pub none-end : (e i l : ℕ) → places (e + 0 + 0) (i + 0) l ≡ places (e + 0) (i + 0) (l + 0)
-  none-end e i l =
-      let same : e + 0 + 0 ≡ e + 0 = omega arith in
-      let literals : l ≡ l + 0 = omega arith in
-      places-same same refl literals
 
   -- a row with no elements and no items
   bare-back : (kind place : ℕ) (q : Places) (r : Row) (s : Statement) → elementsOf s ≡ [] → itemsOf s ≡ []
@@ -211,7 +211,7 @@ module _ (n : Counts) (few : Few n) (t : List ℕ) (bytes : (i : ℕ) → getD t
       let own = number-cell n left (h .left) in
       let start = eqb-true (rangeFrom v) i (h .start) in
       let tests = stretches-tests n p 1 flag (stretches 0 (rangeMore v) count) (h .stretches) in
-      let none = eqb-true (rangeMore v) 0 (or-nothing (eqb (rangeMore v) 0) (tests .0)) in
+      let none = eqb-true (rangeMore v) 0 (sym (or-false (eqb (rangeMore v) 0)) ∙ tests .0) in
       let f = found 1 (left .place) (stretches 0 (rangeMore v) count) q e small in
       let xs = itemsFrom t i count in
       let size = length-items t i count in
@@ -274,7 +274,7 @@ module _ (n : Counts) (few : Few n) (t : List ℕ) (bytes : (i : ℕ) → getD t
       let own = part-back n left (passes n 1 3 left (h .left)) in
       let start = eqb-true (rangeFrom v) (p .elements) (h .start) in
       let tests = stretches-tests n p 2 flag (stretches count (rangeMore v) 0) (h .stretches) in
-      let none = eqb-true (rangeMore v) 0 (or-nothing (eqb (rangeMore v) 0) (tests .0)) in
+      let none = eqb-true (rangeMore v) 0 (sym (or-false (eqb (rangeMore v) 0)) ∙ tests .0) in
       let f = found 2 (left .place) (stretches count (rangeMore v) 0) q e small in
       let back = stretch-back (left .place) count (rangeMore v) q (tests .1) (tests .2) none (f .end) small in
       let counted =
@@ -299,7 +299,7 @@ module _ (n : Counts) (few : Few n) (t : List ℕ) (bytes : (i : ℕ) → getD t
       let b = both-true (eqb success 0) (eqb failure 0) (h .branch) in
       let start = eqb-true (rangeFrom v) (p .elements) (h .start) in
       let tests = stretches-tests n p 10 flag (stretches count (rangeMore v) 0) (h .stretches) in
-      let none = eqb-true (rangeMore v) 0 (or-nothing (eqb (rangeMore v) 0) (tests .0)) in
+      let none = eqb-true (rangeMore v) 0 (sym (or-false (eqb (rangeMore v) 0)) ∙ tests .0) in
       let f = found 10 (left .place) (stretches count (rangeMore v) 0) q e small in
       let back = stretch-back (left .place) count (rangeMore v) q (tests .1) (tests .2) none (f .end) small in
       let counted =
@@ -331,7 +331,7 @@ module _ (n : Counts) (few : Few n) (t : List ℕ) (bytes : (i : ℕ) → getD t
       let more = rangeMore (right .value) in
       let from-there = rangeFrom (right .value) + rangeCount (right .value) in
       let nothing : (eqb more 0 || false) ≡ true → elementsFrom t from-there 0 ≡ elementsFrom t from-there more =
-      λ e. ap (elementsFrom t from-there) (sym (eqb-true more 0 (or-nothing (eqb more 0) e))) in
+      λ e. ap (elementsFrom t from-there) (sym (eqb-true more 0 (sym (or-false (eqb more 0)) ∙ e))) in
       from (λ k. (eqb more 0 || (leb 3 k && leb more 20)) ≡ true → Flagged k left right success failure) 1 4 (
         λ e. record { written = refl; replaced = nothing e },
         (λ e. record { written = refl; replaced = nothing e }, (λ e. record { written = refl; replaced = refl }, (λ e. record { written = refl; replaced = refl }, tt))),

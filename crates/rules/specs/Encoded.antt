@@ -1,6 +1,6 @@
 -- The row of a statement that holds passes its tests, where its elements and items stand at their places. Assumes nothing.
 use mathlib.Core.Bool.{true, false, _&&_, _||_}
-use mathlib.Core.List.{List, _++_, map}
+use mathlib.Core.List.{List, [], _++_, map}
 use mathlib.Core.Option.{Option, none, some}
 use mathlib.Core.Path.{_≡_, refl, _∙_, ap}
 use Prim.Native.Nat.{ℕ, _+_, _^_, _≤_, _<_}
@@ -18,12 +18,12 @@ use Rattle.language.specs.Program.{execute, return}
 use Rattle.calls.specs.CellLaws.{range-read}
 use Rattle.calls.specs.RowLaws.{Each, RowFits}
 use Rattle.calls.specs.Rules.{balanced, placeOf, rowHolds, branchHolds, testHolds, statementHolds}
-use Rattle.calls.specs.Table.{cell, noCell, range, rangeCell, Row, row, rowOf, testRow, comparisonNumber, directionNumber, replacementFlag}
+use Rattle.calls.specs.Table.{cell, noCell, range, rangeCell, row, rowOf, testRow, comparisonNumber, directionNumber, replacementFlag}
 use Rattle.calls.specs.Table.{replacementOf, elementsOf, itemsOf, allLiterals, lengthCell, partCell, operandCell}
 use Rattle.calls.specs.TableReading.{rangeFrom, rangeCount, rangeMore}
 use Rattle.calls.specs.YieldingForms.{literals-append}
 use Rattle.rows.specs.declared.Counts.{Counts}
-use Rattle.rules.specs.Decoded.{places-same}
+use Rattle.rules.specs.Decoded.{places-same, none-end}
 use Rattle.rules.specs.Elements.{elementOk, patternOk, patterns-forth, values-forth}
 use Rattle.rules.specs.Items.{items-forth}
 use Rattle.rules.specs.Kinds.{passed, passes-small, partOk, operandOk, itemOk, part-forth, operand-forth}
@@ -103,13 +103,13 @@ module _ (n : Counts) (few : Few n) (t : List ℕ) (p : Places) where
   unfolding cellTest cell placeBound valueLow valueBound isString isNumber isNatural isSigned isConstant isNumbered isRange
   number-passes i h = rw h
 
-  nothing-small : noCell .value < 2 ^ 48
-  unfolding noCell cell
-  nothing-small = omega arith
-
-  string-small : (s : ℕ) → cell 1 s 0 .value < 2 ^ 48
+  plain-small : (k i : ℕ) → cell k i 0 .value < 2 ^ 48
   unfolding cell
-  string-small s = omega arith
+  plain-small k i = omega arith
+
+  nothing-small : noCell .value < 2 ^ 48
+  unfolding noCell
+  nothing-small = plain-small 0 0
 
   -- the steps of a branch field fit into their bytes
   branch-fits : (success failure : ℕ) → (ltb success (n .steps) && ltb failure (n .steps)) ≡ true → (success < 2 ^ 16) × (failure < 2 ^ 16)
@@ -124,25 +124,17 @@ module _ (n : Counts) (few : Few n) (t : List ℕ) (p : Places) where
   bare-stretches kind flag e i =
       rw (le-leb (p .elements + 0 + 0) (n .elements) (omega arith), le-leb (p .items + 0) (n .items) i)
 
-  bare-end : places (p .elements + 0 + 0) (p .items + 0) (p .literals) ≡ places (p .elements + 0) (p .items + 0) (p .literals + 0)
-  bare-end =
-      let same : p .elements + 0 + 0 ≡ p .elements + 0 = omega arith in
-      let literals : p .literals ≡ p .literals + 0 = omega arith in
-      places-same same refl literals
-
   -- what the tests find in a row with no cells
-  record Bare (r : Row) : Type 0 where
-    fits : RowFits r
-    tested : Tested n p r
-    end : cellsEnd n t p (r .kind) (r .left .place) (stretchesOf (r .kind) (r .right .value))
-        ≡ places (p .elements + 0) (p .items + 0) (p .literals + 0)
-
-  bare : (r : Row) → eqb (r .kind) 1 ≡ false → hasElements (r .kind) ≡ false → p .elements + 0 ≤ n .elements → p .items + 0 ≤ n .items
-      → r .success < 2 ^ 16 → r .failure < 2 ^ 16 → r .left .value < 2 ^ 48 → r .right .value < 2 ^ 48 → 1 ≤ r .kind → r .kind ≤ 12 → flagsTest (r .kind) (r .flag) ≡ true
-      → branchTest (r .kind) (r .success) (r .failure) (n .steps) ≡ true → leftTest n (r .kind) (r .left) ≡ true
-      → rightTest n (r .kind) (r .right) ≡ true → Bare r
-  unfolding startTest stretchesOf cellsEnd itemsEnd elementsEnd numbersLeft stretches
-  bare r a b e i success failure one two least most flags branch left right =
+  bare : (s : Statement) → Placed s → elementsOf s ≡ [] → itemsOf s ≡ []
+      → (let r = rowOf (p .elements) (p .items) s in eqb (r .kind) 1 ≡ false → hasElements (r .kind) ≡ false
+      → r .success < 2 ^ 16 → r .failure < 2 ^ 16 → r .left .value < 2 ^ 48 → r .right .value < 2 ^ 48 → 1 ≤ r .kind → r .kind ≤ 12
+      → flagsTest (r .kind) (r .flag) ≡ true → branchTest (r .kind) (r .success) (r .failure) (n .steps) ≡ true
+      → leftTest n (r .kind) (r .left) ≡ true → rightTest n (r .kind) (r .right) ≡ true → RowForth s)
+  unfolding startTest stretchesOf cellsEnd itemsEnd elementsEnd numbersLeft stretches allLiterals
+  bare s h empty nothing a b success failure one two least most flags branch left right =
+      let r = rowOf (p .elements) (p .items) s in
+      let elements : p .elements + 0 ≤ n .elements = omega (arith, h .elementsEnd) in
+      let items : p .items + 0 ≤ n .items = omega (arith, h .itemsEnd) in
       record {
         fits = record { success = success; failure = failure; left = one; right = two };
         tested =
@@ -154,42 +146,34 @@ module _ (n : Counts) (few : Few n) (t : List ℕ) (p : Places) where
               left = left;
               right = right;
               start = rw (a, b);
-              stretches = rw (a, b) (bare-stretches (r .kind) (r .flag) e i);
+              stretches = rw (a, b) (bare-stretches (r .kind) (r .flag) elements items);
             };
-        end = rw (a, b) bare-end;
+        end = rw (empty, nothing, a, b) (none-end (p .elements) (p .items) (p .literals));
       }
 
   goto-forth : (k : ℕ) → Placed (goto k) → RowForth (goto k)
   unfolding rowOf row statementHolds elementsOf itemsOf allLiterals flagsTest branchTest leftTest rightTest hasElements
   goto-forth k h =
-      let b =
-      bare (row 3 0 k 0 noCell noCell) refl refl (h .elementsEnd) (h .itemsEnd) (omega (arith, ltb-true k (n .steps) (h .holds), few .steps)) (omega arith) nothing-small nothing-small (omega arith) (omega arith) refl (rw (h .holds))
-      empty-passes empty-passes in
-      record { fits = b .fits; tested = b .tested; end = b .end }
+      bare (goto k) h refl refl refl refl (omega (arith, ltb-true k (n .steps) (h .holds), few .steps)) (omega arith) nothing-small nothing-small (omega arith) (omega arith) refl (rw (h .holds))
+      empty-passes empty-passes
 
   execute-forth : (k : ℕ) → Placed (execute k) → RowForth (execute k)
   unfolding rowOf row statementHolds elementsOf itemsOf allLiterals flagsTest branchTest leftTest rightTest hasElements
   execute-forth k h =
-      let b =
-      bare (row 11 0 k 0 noCell noCell) refl refl (h .elementsEnd) (h .itemsEnd) (omega (arith, ltb-true k (n .steps) (h .holds), few .steps)) (omega arith) nothing-small nothing-small (omega arith) (omega arith) refl (rw (h .holds))
-      empty-passes empty-passes in
-      record { fits = b .fits; tested = b .tested; end = b .end }
+      bare (execute k) h refl refl refl refl (omega (arith, ltb-true k (n .steps) (h .holds), few .steps)) (omega arith) nothing-small nothing-small (omega arith) (omega arith) refl (rw (h .holds))
+      empty-passes empty-passes
 
   finish-forth : Placed finish → RowForth finish
   unfolding rowOf row statementHolds elementsOf itemsOf allLiterals flagsTest branchTest leftTest rightTest hasElements
   finish-forth h =
-      let b =
-      bare (row 4 0 0 0 noCell noCell) refl refl (h .elementsEnd) (h .itemsEnd) (omega arith) (omega arith) nothing-small nothing-small (omega arith) (omega arith) refl refl empty-passes
-      empty-passes in
-      record { fits = b .fits; tested = b .tested; end = b .end }
+      bare finish h refl refl refl refl (omega arith) (omega arith) nothing-small nothing-small (omega arith) (omega arith) refl refl empty-passes
+      empty-passes
 
   return-forth : Placed return → RowForth return
   unfolding rowOf row statementHolds elementsOf itemsOf allLiterals flagsTest branchTest leftTest rightTest hasElements
   return-forth h =
-      let b =
-      bare (row 12 0 0 0 noCell noCell) refl refl (h .elementsEnd) (h .itemsEnd) (omega arith) (omega arith) nothing-small nothing-small (omega arith) (omega arith) refl refl empty-passes
-      empty-passes in
-      record { fits = b .fits; tested = b .tested; end = b .end }
+      bare return h refl refl refl refl (omega arith) (omega arith) nothing-small nothing-small (omega arith) (omega arith) refl refl empty-passes
+      empty-passes
 
   test-forth : (x : Test) (b : Branch) → Placed (ifTest x b) → RowForth (ifTest x b)
   unfolding rowOf testRow row statementHolds testHolds branchHolds elementsOf itemsOf allLiterals flagsTest branchTest leftTest rightTest
@@ -197,28 +181,22 @@ module _ (n : Counts) (few : Few n) (t : List ℕ) (p : Places) where
   test-forth (isNull s) b h =
       let ok = both-true (ltb s (n .strings)) (ltb (b .success) (n .steps) && ltb (b .failure) (n .steps)) (h .holds) in
       let targets = branch-fits (b .success) (b .failure) (ok .1) in
-      let r =
-      bare (row 5 0 (b .success) (b .failure) (cell 1 s 0) noCell) refl refl (h .elementsEnd) (h .itemsEnd) (targets .0) (targets .1) (string-small s) nothing-small (omega arith) (omega arith)
-      refl (ok .1) (string-passes s (ok .0)) empty-passes in
-      record { fits = r .fits; tested = r .tested; end = r .end }
+      bare (ifTest (isNull s) b) h refl refl refl refl (targets .0) (targets .1) (plain-small 1 s) nothing-small (omega arith) (omega arith)
+      refl (ok .1) (string-passes s (ok .0)) empty-passes
   test-forth (isNumeric q) b h =
       let ok = both-true (partOk n q) (ltb (b .success) (n .steps) && ltb (b .failure) (n .steps)) (h .holds) in
       let targets = branch-fits (b .success) (b .failure) (ok .1) in
       let own = part-forth n q (ok .0) in
-      let r =
-      bare (row 6 0 (b .success) (b .failure) (partCell 0 q) noCell) refl refl (h .elementsEnd) (h .itemsEnd) (targets .0) (targets .1) (passes-small n 1 3 (partCell 0 q) few own) nothing-small (omega arith) (omega arith)
-      refl (ok .1) (passed n 1 3 (partCell 0 q) own) empty-passes in
-      record { fits = r .fits; tested = r .tested; end = r .end }
+      bare (ifTest (isNumeric q) b) h refl refl refl refl (targets .0) (targets .1) (passes-small n 1 3 (partCell 0 q) few own) nothing-small (omega arith) (omega arith)
+      refl (ok .1) (passed n 1 3 (partCell 0 q) own) empty-passes
   test-forth (compares x c y) b h =
       let ok = both-true (operandOk n x && operandOk n y) (ltb (b .success) (n .steps) && ltb (b .failure) (n .steps)) (h .holds) in
       let two = both-true (operandOk n x) (operandOk n y) (ok .0) in
       let targets = branch-fits (b .success) (b .failure) (ok .1) in
       let one = operand-forth n x (two .0) in
       let other = operand-forth n y (two .1) in
-      let r =
-      bare (row 7 (comparisonNumber c) (b .success) (b .failure) (operandCell x) (operandCell y)) refl refl (h .elementsEnd) (h .itemsEnd) (targets .0) (targets .1) (passes-small n 4 9 (operandCell x) few one) (passes-small n 4 9 (operandCell y) few other)
-      (omega arith) (omega arith) (comparison-flag c) (ok .1) (passed n 4 9 (operandCell x) one) (passed n 4 9 (operandCell y) other) in
-      record { fits = r .fits; tested = r .tested; end = r .end }
+      bare (ifTest (compares x c y) b) h refl refl refl refl (targets .0) (targets .1) (passes-small n 4 9 (operandCell x) few one) (passes-small n 4 9 (operandCell y) few other)
+      (omega arith) (omega arith) (comparison-flag c) (ok .1) (passed n 4 9 (operandCell x) one) (passed n 4 9 (operandCell y) other)
 
   read-forth : (q : Part) (b : Branch) → Placed (read q b) → RowForth (read q b)
   unfolding rowOf row statementHolds branchHolds elementsOf itemsOf allLiterals flagsTest branchTest leftTest rightTest hasElements
@@ -226,14 +204,8 @@ module _ (n : Counts) (few : Few n) (t : List ℕ) (p : Places) where
       let ok = both-true (partOk n q) (ltb (b .success) (n .steps) && ltb (b .failure) (n .steps)) (h .holds) in
       let targets = branch-fits (b .success) (b .failure) (ok .1) in
       let own = part-forth n q (ok .0) in
-      let r =
-      bare (row 9 0 (b .success) (b .failure) (partCell 0 q) noCell) refl refl (h .elementsEnd) (h .itemsEnd) (targets .0) (targets .1) (passes-small n 1 3 (partCell 0 q) few own) nothing-small (omega arith) (omega arith)
-      refl (ok .1) (passed n 1 3 (partCell 0 q) own) empty-passes in
-      record { fits = r .fits; tested = r .tested; end = r .end }
-
-  number-small : (i : ℕ) → cell 5 i 0 .value < 2 ^ 48
-  unfolding cell
-  number-small i = omega arith
+      bare (read q b) h refl refl refl refl (targets .0) (targets .1) (passes-small n 1 3 (partCell 0 q) few own) nothing-small (omega arith) (omega arith)
+      refl (ok .1) (passed n 1 3 (partCell 0 q) own) empty-passes
 
   set-number-forth : (i : ℕ) (xs : List Item) → Placed (setNumber i xs) → RowForth (setNumber i xs)
   unfolding rowOf row rangeCell cell statementHolds elementsOf itemsOf allLiterals flagsTest branchTest leftTest rightTest startTest stretchesOf
@@ -247,7 +219,7 @@ module _ (n : Counts) (few : Few n) (t : List ℕ) (p : Places) where
       let ranges = range-read at size 0 (omega (arith, few .items)) (omega (arith, few .items)) (omega arith) in
       let known = items-forth n few t at 0 xs (omega (arith, few .items)) (omega arith) (h .items) (items .1) (items .0) in
       record {
-        fits = record { success = omega arith; failure = omega arith; left = number-small i; right = ranges .small };
+        fits = record { success = omega arith; failure = omega arith; left = plain-small 5 i; right = ranges .small };
         tested =
             record {
               least = omega arith;

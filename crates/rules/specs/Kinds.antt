@@ -128,10 +128,9 @@ module _ (n : Counts) where
   abbrev pub itemOk : Item → Bool
   itemOk = itemHolds edition1 (n .strings) (n .numbers) (n .steps)
 
-  -- a cell of kinds 1 to 3, and of 7 to 9
-  unfoldable part-kind : (shift : ℕ) → ℕ → Type 0
-  part-kind shift k =
-      (i v : ℕ) → Passes (shift + 1) (shift + 3) (cell k i v) → Back (partCell shift) partOk (cell k i v) (partOfCell shift (cell k i v))
+  -- a cell of kinds 1 to 3
+  unfoldable part-kind : ℕ → Type 0
+  part-kind k = (i v : ℕ) → Passes 1 3 (cell k i v) → Back (partCell 0) partOk (cell k i v) (partOfCell 0 (cell k i v))
 
   pub constant-same : (k i v : ℕ) → cell k i (biased (unbiased v)) ≡ cell k i v
   constant-same k i v = ap (cell k i) (biased-unbiased v)
@@ -143,7 +142,7 @@ module _ (n : Counts) where
       → (isInRange edition1 (unbiased v) && not (isNegative (unbiased v))) ≡ true
   natural-length v low high = rw (constant-holds v (omega arith) high, natural-holds v low)
 
-  parts : From (part-kind 0) 1 3
+  parts : From part-kind 1 3
   unfolding part-kind partCell lengthCell partOfCell lengthOfCell cell partHolds lengthHolds placeBound valueLow valueBound isString isNumber
       isNatural isSigned isConstant isNumbered isRange
   parts = (
@@ -159,7 +158,7 @@ module _ (n : Counts) where
 
   pub part-back : (c : Cell) → Passes 1 3 c → Back (partCell 0) partOk c (partOfCell 0 c)
   unfolding part-kind cell
-  part-back c p = from (part-kind 0) 1 3 parts (c .kind) (p .least) (omega (arith, p .most)) (c .place) (c .value) p
+  part-back c p = from part-kind 1 3 parts (c .kind) (p .least) (omega (arith, p .most)) (c .place) (c .value) p
 
   -- a cell of kinds 4 to 9
   unfoldable operand-kind : ℕ → Type 0
@@ -266,6 +265,15 @@ module _ (n : Counts) where
         below = ltb-true i (n .numbers) (f .1);
       }
 
+  -- the cell of a part passes among kinds 7 to 9 as it does among 1 to 3
+  shifted : (q : Part) → Passes 1 3 (partCell 0 q) → Passes 4 9 (partCell 6 q)
+  unfolding partCell lengthCell cell placeBound valueLow valueBound isString isNumber isNatural isSigned isConstant isNumbered isRange
+  shifted (whole s) p = record { least = omega arith; most = omega arith; place = p .place; above = p .above; below = p .below }
+  shifted (first s (constantly z)) p =
+      record { least = omega arith; most = omega arith; place = p .place; above = p .above; below = p .below }
+  shifted (first s (numbered i)) p =
+      record { least = omega arith; most = omega arith; place = p .place; above = p .above; below = p .below }
+
   pub operand-forth : (a : Operand) → operandOk a ≡ true → Passes 4 9 (operandCell a)
   unfolding operandCell operandHolds partCell lengthCell cell partHolds lengthHolds placeBound valueLow valueBound isString isNumber isNatural
       isSigned isConstant isNumbered isRange
@@ -276,27 +284,7 @@ module _ (n : Counts) where
       record { least = omega arith; most = omega arith; place = ltb-true i (n .numbers) h; above = omega arith; below = omega arith }
   operand-forth (lengthOf s) h =
       record { least = omega arith; most = omega arith; place = ltb-true s (n .strings) h; above = omega arith; below = omega arith }
-  operand-forth (numberOf (whole s)) h =
-      record { least = omega arith; most = omega arith; place = ltb-true s (n .strings) h; above = omega arith; below = omega arith }
-  operand-forth (numberOf (first s (constantly z))) h =
-      let f = both-true (ltb s (n .strings)) (isInRange edition1 z && not (isNegative z)) h in
-      let g = natural-both z (f .1) in
-      record {
-        least = omega arith;
-        most = omega arith;
-        place = ltb-true s (n .strings) (f .0);
-        above = natural-low z (g .1);
-        below = limited z (g .0) .high;
-      }
-  operand-forth (numberOf (first s (numbered i))) h =
-      let f = both-true (ltb s (n .strings)) (ltb i (n .numbers)) h in
-      record {
-        least = omega arith;
-        most = omega arith;
-        place = ltb-true s (n .strings) (f .0);
-        above = omega arith;
-        below = ltb-true i (n .numbers) (f .1);
-      }
+  operand-forth (numberOf q) h = shifted q (part-forth q h)
 
   pub item-forth : (x : Item) → itemOk x ≡ true → Passes 4 15 (itemCell x)
   unfolding itemCell itemHolds operatorKind signKind cell placeBound valueLow valueBound isString isNumber isNatural isSigned isConstant

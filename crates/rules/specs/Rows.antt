@@ -1,5 +1,5 @@
 -- The tests of a row ask for what the rules say: what its bytes have to be, by kind. Assumes nothing.
-use mathlib.Core.Bool.{Bool, true, false, _||_}
+use mathlib.Core.Bool.{true}
 use mathlib.Core.Path.{_≡_, refl, sym}
 use Prim.Native.Nat.{ℕ, _≤_, _<_}
 use native.Mathlib.Omega.{arith}
@@ -30,11 +30,6 @@ row-same kind a b c d e = λ i. row kind (a i) (b i) (c i) (d i) (e i)
 pub part-place : (c : Cell) → placeOf (partOfCell 0 c) ≡ c .place
 unfolding placeOf partOfCell
 part-place c = cond-cases (λ p. placeOf p ≡ c .place) (eqb (c .kind) 1) (λ _. refl) (λ _. refl)
-
--- of a test or nothing the test holds
-pub or-nothing : (b : Bool) → (b || false) ≡ true → b ≡ true
-or-nothing true h = refl
-or-nothing false h = h
 
 module _ (n : Counts) where
   -- an empty cell, a string, a number, a range

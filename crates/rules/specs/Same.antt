@@ -1,6 +1,6 @@
 -- The cells and rows of a table are those of a program: what the bytes of its regions then are. Assumes nothing.
 use mathlib.Core.List.{List, [], _∷_, _++_}
-use mathlib.Core.Path.{_≡_, refl, sym, _∙_, ap, ap₂, subst}
+use mathlib.Core.Path.{_≡_, refl, sym, _∙_, ap, subst}
 use Prim.Native.Nat.{ℕ, zero, suc, _+_, _*_, _-_, _^_, _≤_, _<_}
 use native.Mathlib.Omega.{arith}
 use lib.ListN.{length, take, drop, getD, replicate, length-append}
@@ -12,7 +12,7 @@ use Rattle.calls.specs.Table.{Cell, cell, cellBytes, itemCell, range, elementCe
 use Rattle.calls.specs.Table.{rowOf, stepRows, allElements, allItems, allLiterals, elementRows, itemRows, filledTo}
 use Rattle.calls.specs.Table.{stepsAt, elementsAt, itemsAt, literalsAt}
 use Rattle.calls.specs.TableReading.{cellAt, rowAt, rangeFrom, rangeCount}
-use Rattle.rules.specs.Written.{piece, piece-add, piece-stands}
+use Rattle.rules.specs.Written.{piece, piece-more, piece-stands}
 
 -- two rows that have a property by place have it one behind the other
 pub each-append : {A : Type 0} (P : ℕ → A → Type 0) (at : ℕ) (xs ys : List A) → Each P at xs → Each P (at + length xs) ys
@@ -123,12 +123,8 @@ module _ (t : List ℕ) where
   literals-written e l (x ∷ xs) h g small =
       let count = length-append (literalIn x) (allLiterals xs) in
       let own = length (literalIn x) in
-      let rest = literals-written (e + 1) (l + own) xs (h .1) (g .1) (omega arith) in
-      let place : literalsAt + (l + own) ≡ literalsAt + l + own = omega arith in
-      let first = literal-written e l x (h .0) (g .0) (omega arith) in
-      ap₂ {C = List ℕ} _++_ first (subst (λ (n : ℕ). allLiterals xs ≡ piece t n (length (allLiterals xs))) place rest)
-      ∙ sym (piece-add t (literalsAt + l) own (length (allLiterals xs)))
-      ∙ ap (piece t (literalsAt + l)) (sym count)
+      piece-more t (literalsAt + l) own (literalsAt + (l + own)) (length (allLiterals xs)) (length (literalIn x ++ allLiterals xs))
+      (literal-written e l x (h .0) (g .0) (omega arith)) (literals-written (e + 1) (l + own) xs (h .1) (g .1) (omega arith)) (omega arith) (sym count)
 
   -- the bytes of the regions
   pub items-written : (i : ℕ) (xs : List Item) → Each ItemSame i xs
@@ -136,26 +132,15 @@ module _ (t : List ℕ) where
   unfolding itemRows
   items-written i [] h = refl
   items-written i (x ∷ xs) h =
-      let at = itemsAt + 8 * i in
-      let n = length xs in
-      let next : itemsAt + 8 * (i + 1) ≡ at + 8 = omega arith in
-      let size : 8 + 8 * n ≡ 8 * suc n = omega arith in
-      let own = h .0 in
-      let rest = items-written (i + 1) xs (h .1) ∙ ap (λ (p : ℕ). piece t p (8 * n)) next in
-      ap₂ {C = List ℕ} _++_ own rest ∙ sym (piece-add t at 8 (8 * n)) ∙ ap (piece t at) size
+      piece-more t (itemsAt + 8 * i) 8 (itemsAt + 8 * (i + 1)) (8 * length xs) (8 * suc (length xs)) (h .0) (items-written (i + 1) xs (h .1)) (omega arith) (omega arith)
 
   pub elements-written : (e l : ℕ) (xs : List PatternElement) → SameElements e l xs
       → elementRows l xs ≡ piece t (elementsAt + 8 * e) (8 * length xs)
   unfolding elementRows
   elements-written e l [] h = refl
   elements-written e l (x ∷ xs) h =
-      let at = elementsAt + 8 * e in
-      let n = length xs in
-      let next : elementsAt + 8 * (e + 1) ≡ at + 8 = omega arith in
-      let size : 8 + 8 * n ≡ 8 * suc n = omega arith in
-      let own = h .0 in
-      let rest = elements-written (e + 1) (l + length (literalIn x)) xs (h .1) ∙ ap (λ (p : ℕ). piece t p (8 * n)) next in
-      ap₂ {C = List ℕ} _++_ own rest ∙ sym (piece-add t at 8 (8 * n)) ∙ ap (piece t at) size
+      piece-more t (elementsAt + 8 * e) 8 (elementsAt + 8 * (e + 1)) (8 * length xs) (8 * suc (length xs)) (h .0) (elements-written (e + 1) (l + length (literalIn x)) xs (h .1)) (omega arith)
+      (omega arith)
 
   pub steps-written : (k e i l : ℕ) (ss : List Step) → SameSteps k e i l ss
       → stepRows e i ss ≡ piece t (stepsAt + 24 * k) (24 * length ss)
@@ -163,12 +148,6 @@ module _ (t : List ℕ) where
   steps-written k e i l [] h = refl
   steps-written k e i l (x ∷ xs) h =
       let s = x .statement in
-      let at = stepsAt + 24 * k in
-      let n = length xs in
-      let next : stepsAt + 24 * (k + 1) ≡ at + 24 = omega arith in
-      let size : 24 + 24 * n ≡ 24 * suc n = omega arith in
-      let own = h .0 .row in
-      let behind =
-      steps-written (k + 1) (e + length (elementsOf s)) (i + length (itemsOf s)) (l + length (allLiterals (elementsOf s))) xs (h .1) in
-      let rest = behind ∙ ap (λ (p : ℕ). piece t p (24 * n)) next in
-      ap₂ {C = List ℕ} _++_ own rest ∙ sym (piece-add t at 24 (24 * n)) ∙ ap (piece t at) size
+      piece-more t (stepsAt + 24 * k) 24 (stepsAt + 24 * (k + 1)) (24 * length xs) (24 * suc (length xs)) (h .0 .row)
+      (steps-written (k + 1) (e + length (elementsOf s)) (i + length (itemsOf s)) (l + length (allLiterals (elementsOf s))) xs (h .1))
+      (omega arith) (omega arith)

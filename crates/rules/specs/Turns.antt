@@ -1,7 +1,7 @@
 -- What the code's loops and branches do, in the words of the tests: an element, an item and a step more, or none left. Assumes nothing.
-use mathlib.Core.Bool.{Bool, true, false, not, _&&_, _||_}
+use mathlib.Core.Bool.{Bool, true, false, cond, not, _&&_, _||_}
 use mathlib.Core.List.{List}
-use mathlib.Core.Path.{_≡_, refl, sym, _∙_}
+use mathlib.Core.Path.{_≡_, refl, sym, ap, ap₂, _∙_}
 use Prim.Native.Nat.{ℕ, suc, _+_, _*_, _-_, _≤_, _<_}
 use native.Mathlib.Omega.{arith}
 use lib.Dec.{leb, ltb, eqb}
@@ -16,6 +16,25 @@ use Rattle.rules.specs.Tests.{lastKind, numbersLeft, stretchesOf, places
 use Rattle.rules.specs.Tests.{Few, Room, Inside, stepEnd, stepsEnd, stretchesTest, countsTest}
 use Rattle.rules.specs.declared.steps.Places.{Places}
 use Rattle.rules.specs.declared.steps.Stretches.{Stretches}
+
+-- a walk from a place on, over so many places, each of which makes something of what was made so far
+pub record Walks {A : Type 0} (single : ℕ → A → A) (walk : ℕ → A → ℕ → A) : Type 0 where
+  pub none : (k : ℕ) (a : A) → walk k a 0 ≡ a
+  pub next : (k m : ℕ) (a : A) → walk k a (suc m) ≡ walk (k + 1) (single k a) m
+
+-- no place yet, a place more, and none left
+module _ {A : Type 0} {single : ℕ → A → A} {walk : ℕ → A → ℕ → A} (w : Walks single walk) (count : ℕ) where
+  pub walk-start : (k j : ℕ) {a : A} → k ≡ j → walk k a count ≡ walk j a (count - 0)
+  walk-start k j {a} e = ap₂ (λ (i m : ℕ). walk i a m) e (omega arith)
+
+  pub walk-more : (i k j : ℕ) {x a b : A} → x ≡ walk k a (count - i) → i < count → k + 1 ≡ j → b ≡ single k a
+      → x ≡ walk j b (count - (i + 1))
+  walk-more i k j {a = a} same h place e =
+      let size : count - i ≡ suc (count - (i + 1)) = omega arith in
+      same ∙ ap (walk k a) size ∙ w .next k (count - (i + 1)) a ∙ ap₂ (λ l made. walk l made (count - (i + 1))) place (sym e)
+
+  pub walk-done : (i k : ℕ) {x a : A} → x ≡ walk k a (count - i) → count ≤ i → a ≡ x
+  walk-done i k {a = a} same h = let size : count - i ≡ 0 = omega arith in sym (same ∙ ap (walk k a) size ∙ w .none k a)
 
 module _ (n : Counts) where
   module _ (high reference : ℕ) where
@@ -38,26 +57,10 @@ module _ (n : Counts) where
         cond-cases (λ (x : ℕ). x ≤ 65_536) (elementTest n high reference at c)
         (λ h. omega (arith, leb-true (at + elementOwn c) 4096 (element-tests at c h .4))) (λ h. omega arith)
 
-    -- no element yet, an element more, and none left
-    pub elements-start : (t : List ℕ) (k at count : ℕ)
-        → elementsEnd n high reference t k at count ≡ elementsEnd n high reference t (k + 0) at (count - 0)
-    elements-start t k at count =
-        let size : count - 0 ≡ count = omega arith in
-        let place : k + 0 ≡ k = omega arith in
-        rw (size, place)
-
-    pub elements-turn : (t : List ℕ) (k end count i : ℕ) → i < count
-        → elementsEnd n high reference t (k + i) end (count - i)
-        ≡ elementsEnd n high reference t (k + (i + 1)) (elementEnd n high reference end (cellAt t (elementsAt + 8 * (k + i)))) (count - (i + 1))
+    pub elements-walk : (t : List ℕ)
+        → Walks (λ k at. elementEnd n high reference at (cellAt t (elementsAt + 8 * k))) (λ k at m. elementsEnd n high reference t k at m)
     unfolding elementsEnd
-    elements-turn t k end count i h =
-        let size : count - i ≡ suc (count - (i + 1)) = omega arith in
-        let place : k + i + 1 ≡ k + (i + 1) = omega arith in
-        rw (size, ← place)
-
-    pub elements-done : (t : List ℕ) (k end count i : ℕ) → count ≤ i → elementsEnd n high reference t k end (count - i) ≡ end
-    unfolding elementsEnd
-    elements-done t k end count i h = let size : count - i ≡ 0 = omega arith in rw size
+    elements-walk t = record { none = λ k at. refl; next = λ k m at. refl }
 
   -- an item that finds too few or leaves too many, or holds
   pub item-other : (known : ℕ) (c : Cell) → cellTest n 4 15 c ≡ false → itemEnd n known c ≡ broken
@@ -90,39 +93,16 @@ module _ (n : Counts) where
   unfolding itemEnd itemTest
   item-holds known c h low high = rw (h, le-leb (itemUsed (c .kind)) known low, le-leb (known + 1 - itemUsed (c .kind)) 64 high)
 
-  pub items-start : (t : List ℕ) (k known count : ℕ) → itemsEnd n t k known count ≡ itemsEnd n t (k + 0) known (count - 0)
-  items-start t k known count =
-      let size : count - 0 ≡ count = omega arith in
-      let place : k + 0 ≡ k = omega arith in
-      rw (size, place)
-
-  pub items-turn : (t : List ℕ) (k known count i : ℕ) → i < count
-      → itemsEnd n t (k + i) known (count - i) ≡ itemsEnd n t (k + (i + 1)) (itemEnd n known (cellAt t (itemsAt + 8 * (k + i)))) (count - (i + 1))
+  pub items-walk : (t : List ℕ) → Walks (λ k known. itemEnd n known (cellAt t (itemsAt + 8 * k))) (λ k known m. itemsEnd n t k known m)
   unfolding itemsEnd
-  items-turn t k known count i h =
-      let size : count - i ≡ suc (count - (i + 1)) = omega arith in
-      let place : k + i + 1 ≡ k + (i + 1) = omega arith in
-      rw (size, ← place)
+  items-walk t = record { none = λ k known. refl; next = λ k m known. refl }
 
-  pub items-done : (t : List ℕ) (k known count i : ℕ) → count ≤ i → itemsEnd n t k known (count - i) ≡ known
-  unfolding itemsEnd
-  items-done t k known count i h = let size : count - i ≡ 0 = omega arith in rw size
-
-  -- no step yet, a step more, and none left
-  pub steps-start : (t : List ℕ) (p : Places) (count : ℕ) → stepsEnd n t 0 p count ≡ stepsEnd n t 0 p (count - 0)
-  steps-start t p count = let size : count - 0 ≡ count = omega arith in rw size
-
-  pub steps-turn : (t : List ℕ) (k count : ℕ) (p : Places) → k < count
-      → stepsEnd n t k p (count - k) ≡ stepsEnd n t (k + 1) (stepEnd n t k p) (count - (k + 1))
+  pub steps-walk : (t : List ℕ) → Walks (λ k p. stepEnd n t k p) (λ k p m. stepsEnd n t k p m)
   unfolding stepsEnd
-  steps-turn t k count p h = let size : count - k ≡ suc (count - (k + 1)) = omega arith in rw size
-
-  pub steps-done : (t : List ℕ) (k count : ℕ) (p : Places) → count ≤ k → stepsEnd n t k p (count - k) ≡ p
-  unfolding stepsEnd
-  steps-done t k count p h = let size : count - k ≡ 0 = omega arith in rw size
+  steps-walk t = record { none = λ k p. refl; next = λ k m p. refl }
 
   -- the places behind a row's cells, by the numbers that its items leave
-  module _ (t : List ℕ) (p : Places) (kind place : ℕ) (s : Stretches) (known left : ℕ) (reads : known ≡ itemsEnd n t (p .items) 0 (s .items))
+  module _ (t : List ℕ) (p : Places) (kind place : ℕ) (s : Stretches) {known left : ℕ} (reads : known ≡ itemsEnd n t (p .items) 0 (s .items))
       (wants : left ≡ numbersLeft kind) where
     pub cells-kept : known ≡ left
         → cellsEnd n t p kind place s
@@ -137,20 +117,12 @@ module _ (n : Counts) where
     cells-lost d = rw (ne-eqb (itemsEnd n t (p .items) 0 (s .items)) (numbersLeft kind) (λ e. d (reads ∙ e ∙ sym wants)))
 
   -- the places behind a step, by its row and the tests of it
-  module _ (t : List ℕ) (k : ℕ) (p : Places) (r : Row) (s : Stretches) (row start stretches : Bool) (reads : r ≡ rowAt t (stepsAt + 24 * k))
+  module _ (t : List ℕ) (k : ℕ) (p : Places) {r : Row} {s : Stretches} {row start stretches : Bool} (reads : r ≡ rowAt t (stepsAt + 24 * k))
       (has : s ≡ stretchesOf (r .kind) (r .right .value)) (one : row ≡ rowTest n r) (two : start ≡ startTest p (r .kind) (r .right .value))
       (three : stretches ≡ stretchesTest n p (r .kind) (r .flag) s) where
-    tested : stepTest n p r ≡ ((row && start) && stretches)
-    unfolding stepTest
-    tested = rw (← has, ← one, ← two, ← three)
-
-    pub step-kept : ((row && start) && stretches) ≡ true → stepEnd n t k p ≡ cellsEnd n t p (r .kind) (r .left .place) s
-    unfolding stepEnd
-    step-kept h = rw (← reads, tested ∙ h, ← has)
-
-    pub step-lost : ((row && start) && stretches) ≡ false → stepEnd n t k p ≡ lost
-    unfolding stepEnd
-    step-lost h = rw (← reads, tested ∙ h)
+    pub step-told : stepEnd n t k p ≡ cond ((row && start) && stretches) (cellsEnd n t p (r .kind) (r .left .place) s) lost
+    unfolding stepEnd stepTest
+    step-told = rw (← reads, ← has, ← one, ← two, ← three)
 
   -- the tests of stretches one by one
   pub stretches-tests : (p : Places) (kind flag : ℕ) (s : Stretches) → stretchesTest n p kind flag s ≡ true

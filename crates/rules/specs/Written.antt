@@ -1,6 +1,6 @@
 -- What is read at a place, written again, is the bytes that stand there. Assumes nothing.
 use mathlib.Core.List.{List, _∷_, _++_}
-use mathlib.Core.Path.{_≡_, refl, sym, _∙_, ap}
+use mathlib.Core.Path.{_≡_, refl, sym, _∙_, ap, ap₂}
 use Prim.Native.Nat.{ℕ, zero, suc, _+_, _*_, _/_, _%_, _≤_, _<_}
 use native.Mathlib.Numerals.{add-one}
 use native.Mathlib.Omega.{arith}
@@ -18,6 +18,12 @@ piece t at n = take n (drop at t)
 -- a piece is made of two
 pub piece-add : (t : List ℕ) (at n m : ℕ) → piece t at (n + m) ≡ piece t at n ++ piece t (at + n) m
 piece-add t at n m = take-add n m (drop at t) ∙ ap (λ l. piece t at n ++ take m l) (drop-drop n at t)
+
+-- a piece, and the bytes behind it
+pub piece-more : (t : List ℕ) (at w next n size : ℕ) {own rest : List ℕ} → own ≡ piece t at w → rest ≡ piece t next n → next ≡ at + w
+    → w + n ≡ size → own ++ rest ≡ piece t at size
+piece-more t at w next n size one two place sum =
+    ap₂ {C = List ℕ} _++_ one (two ∙ ap (λ (p : ℕ). piece t p n) place) ∙ sym (piece-add t at w n) ∙ ap (piece t at) sum
 
 -- a piece stands at its place
 pub piece-stands : (t : List ℕ) (at n : ℕ) {bs : List ℕ} → bs ≡ piece t at n → Stands t at bs

@@ -1,7 +1,9 @@
 -- `rules::keeps` meets its contract. The tests are the rules.
 -- Assumes nothing.
-use mathlib.Core.Path.{sym, _∙_}
+use mathlib.Core.Bool.{true}
+use mathlib.Core.Path.{_≡_, sym, _∙_}
 use borrow.Author.Tests.{not-true, not-false}
+use Rattle.rules.specs.Tests.{countsTest, Few}
 use Rattle.rules.specs.Turns.{counts-few}
 use Rattle.rules.specs.Verdict.{counts-broken, tests-rules}
 use borrow.Author.Needs.{needs}
@@ -21,23 +23,21 @@ returns c =
     let test = sym (c .before .counts-hold .ensures) ∙ not-true (c .before .counts-hold .result) (c .if1 .taken) in
     sym (counts-broken (start .before .args .table .now) (λ i. start .shared-slice-known .given i .fits) (start .before .pre) (n .result) (n .ensures) test)
 
+-- the counts that are left passed their test
+passes : (c : tie.Else1) → countsTest (c .before .before .counts-of .result) ≡ true
+passes c = sym (c .before .counts-hold .ensures) ∙ not-false (c .before .counts-hold .result) (c .if1 .left)
+
+few : (c : tie.Else1) → Few (c .before .before .counts-of .result)
+few c = counts-few (c .before .before .counts-of .result) (passes c)
+
 ends-hold-requires : tie.Need-ends-hold-requires
-ends-hold-requires c κs =
-    let n = c .before .before .counts-of in
-    let test = sym (c .before .counts-hold .ensures) ∙ not-false (c .before .counts-hold .result) (c .if1 .left) in
-    (c .before .before .before .before .pre, counts-few (n .result) test)
+ends-hold-requires c κs = (c .before .before .before .before .pre, few c)
 
 unused-zero-requires : tie.Need-unused-zero-requires
-unused-zero-requires c κs =
-    let start = c .before .before in
-    let test = sym (start .counts-hold .ensures) ∙ not-false (start .counts-hold .result) (c .before .if1 .left) in
-    (start .before .before .before .pre, counts-few (start .before .counts-of .result) test)
+unused-zero-requires c κs = (c .before .before .before .before .before .pre, few (c .before))
 
 steps-end-requires : tie.Need-steps-end-requires
-steps-end-requires c κs =
-    let start = c .before .before .before in
-    let test = sym (start .counts-hold .ensures) ∙ not-false (start .counts-hold .result) (c .before .before .if1 .left) in
-    (start .before .before .before .pre, counts-few (start .before .counts-of .result) test)
+steps-end-requires c κs = (c .before .before .before .before .before .before .pre, few (c .before .before))
 
 totals-hold-requires : tie.Need-totals-hold-requires
 totals-hold-requires c κs = search needs
@@ -50,9 +50,8 @@ returns-2 c =
     let counts = ends .before .before in
     let n = counts .before .counts-of in
     let start = counts .before .before in
-    let test = sym (counts .counts-hold .ensures) ∙ not-false (counts .counts-hold .result) (ends .before .if1 .left) in
     rw (ends .ends-hold .ensures, unused .ensures, c .totals-hold .ensures, steps .ensures)
-    (tests-rules (start .before .args .table .now) (λ i. start .shared-slice-known .given i .fits) (start .before .pre) (n .result) (n .ensures) test)
+    (tests-rules (start .before .args .table .now) (λ i. start .shared-slice-known .given i .fits) (start .before .pre) (n .result) (n .ensures) (passes (ends .before)))
 
 pub keeps-spec : {M : Type 1} → statement M
 keeps-spec =

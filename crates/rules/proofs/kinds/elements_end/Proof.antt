@@ -1,11 +1,11 @@
 -- `rules::kinds::elements_end` meets its contract.
 -- Assumes nothing.
-use mathlib.Core.Path.{_≡_, sym, ap, _∙_}
-use Prim.Native.Nat.{ℕ, _+_, _-_, _≤_}
+use mathlib.Core.Path.{_≡_, ap, _∙_}
+use Prim.Native.Nat.{_+_, _-_, _≤_}
 use native.Mathlib.Omega.{arith}
 use Rattle.calls.specs.Table.{elementsAt}
 use Rattle.rules.specs.Tests.{elementEnd, elementsEnd}
-use Rattle.rules.specs.Turns.{elements-start, elements-turn, elements-done}
+use Rattle.rules.specs.Turns.{walk-start, walk-more, walk-done, elements-walk}
 use Rattle.rules.proofs.kinds.elements_end.Statement.{statement}
 use Rattle.rules.proofs.kinds.elements_end.Tie as tie
 
@@ -19,7 +19,7 @@ abbrev μ-loop : tie.MeasureT-loop
 loop-holds : tie.Need-loop-holds Inv-loop μ-loop
 loop-holds c =
     let a = c .before .args in
-    (omega arith, omega arith, elements-start (a .n) (a .high) (a .reference) (a .t .now) (a .k) (a .at) (a .count))
+    (omega arith, omega arith, walk-start (elements-walk (a .n) (a .high) (a .reference) (a .t .now)) (a .count) (a .k) (a .k + 0) (omega arith))
 
 add-cell-at : tie.Need-add-cell-at Inv-loop μ-loop
 add-cell-at c = omega arith
@@ -47,24 +47,19 @@ unfolding elementsAt
 loop-again c =
     let l = c .before .before .before .loop in
     let a = c .before .before .before .before .before .args in
-    let t = a .t .now in
     let cell = c .before .cell-at .ensures .same in
-    let end = c .element-end .ensures .0 ∙ ap (elementEnd (a .n) (a .high) (a .reference) (l .end)) cell in
-    let rest = elements-turn (a .n) (a .high) (a .reference) t (a .k) (l .end) (a .count) (l .i) (c .before .before .loop-test .taken) in (
+    let end = c .element-end .ensures .0 ∙ ap (elementEnd (a .n) (a .high) (a .reference) (l .end)) cell in (
       c .element-end .ensures .1,
       omega arith,
-      l .inv .2
-          ∙ rest
-          ∙ ap (λ (m : ℕ). elementsEnd (a .n) (a .high) (a .reference) t (a .k + (l .i + 1)) m (a .count - (l .i + 1))) (sym end),
+      walk-more (elements-walk (a .n) (a .high) (a .reference) (a .t .now)) (a .count) (l .i) (a .k + l .i) (a .k + (l .i + 1)) (l .inv .2)
+          (c .before .before .loop-test .taken) (omega arith) end,
     )
 
 returns : tie.Need-returns Inv-loop μ-loop
 returns c =
     let l = c .before .loop in
-    let a = c .before .before .before .args in (
-      sym (l .inv .2 ∙ elements-done (a .n) (a .high) (a .reference) (a .t .now) (a .k + l .i) (l .end) (a .count) (l .i) (c .loop-test .left)),
-      l .inv .0,
-    )
+    let a = c .before .before .before .args in
+    (walk-done (elements-walk (a .n) (a .high) (a .reference) (a .t .now)) (a .count) (l .i) (a .k + l .i) (l .inv .2) (c .loop-test .left), l .inv .0)
 
 pub elements-end-spec : {M : Type 1} → statement M
 elements-end-spec =

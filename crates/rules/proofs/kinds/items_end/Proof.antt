@@ -1,11 +1,11 @@
 -- `rules::kinds::items_end` meets its contract.
 -- Assumes nothing.
-use mathlib.Core.Path.{_≡_, sym, ap, _∙_}
-use Prim.Native.Nat.{ℕ, _+_, _-_, _≤_}
+use mathlib.Core.Path.{_≡_, ap, _∙_}
+use Prim.Native.Nat.{_+_, _-_, _≤_}
 use native.Mathlib.Omega.{arith}
 use Rattle.calls.specs.Table.{itemsAt}
 use Rattle.rules.specs.Tests.{itemEnd, itemsEnd}
-use Rattle.rules.specs.Turns.{items-start, items-turn, items-done}
+use Rattle.rules.specs.Turns.{walk-start, walk-more, walk-done, items-walk}
 use Rattle.rules.proofs.kinds.items_end.Statement.{statement}
 use Rattle.rules.proofs.kinds.items_end.Tie as tie
 
@@ -19,7 +19,7 @@ abbrev μ-loop : tie.MeasureT-loop
 loop-holds : tie.Need-loop-holds Inv-loop μ-loop
 loop-holds c =
     let a = c .before .args in
-    (omega arith, omega arith, items-start (a .n) (a .t .now) (a .k) 0 (a .count))
+    (omega arith, omega arith, walk-start (items-walk (a .n) (a .t .now)) (a .count) (a .k) (a .k + 0) (omega arith))
 
 add-cell-at : tie.Need-add-cell-at Inv-loop μ-loop
 add-cell-at c = omega arith
@@ -47,20 +47,16 @@ unfolding itemsAt
 loop-again c =
     let l = c .before .before .before .loop in
     let a = c .before .before .before .before .before .args in
-    let t = a .t .now in
     let cell = c .before .cell-at .ensures .same in
     let end = c .item-end .ensures .0 ∙ ap (itemEnd (a .n) (l .known)) cell in
-    let rest = items-turn (a .n) t (a .k) (l .known) (a .count) (l .i) (c .before .before .loop-test .taken) in (
-      c .item-end .ensures .1,
-      omega arith,
-      l .inv .2 ∙ rest ∙ ap (λ (m : ℕ). itemsEnd (a .n) t (a .k + (l .i + 1)) m (a .count - (l .i + 1))) (sym end),
-    )
+    let more = walk-more (items-walk (a .n) (a .t .now)) (a .count) (l .i) (a .k + l .i) (a .k + (l .i + 1)) (l .inv .2) (c .before .before .loop-test .taken) (omega arith) end in
+    (c .item-end .ensures .1, omega arith, more)
 
 returns : tie.Need-returns Inv-loop μ-loop
 returns c =
     let l = c .before .loop in
     let a = c .before .before .before .args in
-    sym (l .inv .2 ∙ items-done (a .n) (a .t .now) (a .k + l .i) (l .known) (a .count) (l .i) (c .loop-test .left))
+    walk-done (items-walk (a .n) (a .t .now)) (a .count) (l .i) (a .k + l .i) (l .inv .2) (c .loop-test .left)
 
 pub items-end-spec : {M : Type 1} → statement M
 items-end-spec =

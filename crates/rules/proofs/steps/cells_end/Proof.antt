@@ -41,7 +41,7 @@ returns c =
     let items = one .before .before .before .before in
     let a = items .before .before .args in
     let kept =
-    cells-kept (a .n) (a .t .now) (a .p) (a .kind) (a .place) (a .s) (items .items-end .result) (left .numbers-left .result)
+    cells-kept (a .n) (a .t .now) (a .p) (a .kind) (a .place) (a .s)
     (items .items-end .ensures) (left .numbers-left .ensures) (c .before .before .before .if1 .taken) in (
       rw (kept, second .elements-end2 .ensures .0, one .elements-end .ensures .0, one .before .last-kind .ensures),
       record { elements = omega arith; items = omega arith; literals = second .elements-end2 .ensures .1 },
@@ -53,7 +53,7 @@ returns-2 c =
     let items = left .before .before .before .before .before .before in
     let a = items .before .before .args in
     let gone =
-    cells-lost (a .n) (a .t .now) (a .p) (a .kind) (a .place) (a .s) (items .items-end .result) (left .numbers-left .result)
+    cells-lost (a .n) (a .t .now) (a .p) (a .kind) (a .place) (a .s)
     (items .items-end .ensures) (left .numbers-left .ensures) (c .if1 .left) in
     (sym gone, search needs)
 

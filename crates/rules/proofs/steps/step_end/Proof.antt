@@ -1,9 +1,10 @@
 -- `rules::steps::step_end` meets its contract.
 -- Assumes nothing.
 use Rattle.calls.specs.Table.{stepsAt}
-use Rattle.rows.specs.Meaning.{rowMeaning}
-use Rattle.rules.specs.Turns.{step-kept, step-lost}
-use mathlib.Core.Path.{sym, _∙_}
+use Rattle.rules.specs.Turns.{step-told}
+use Rattle.rules.specs.Tests.{lost, cellsEnd, stepEnd}
+use mathlib.Core.Bool.{cond, _&&_}
+use mathlib.Core.Path.{_≡_, sym, _∙_}
 use Rattle.rules.specs.Turns.{stretches-inside}
 use Rattle.rules.specs.Conjunctions.{three}
 use borrow.Author.Needs.{needs}
@@ -31,6 +32,20 @@ start-holds-requires c κs = search needs
 stretches-hold-requires : tie.Need-stretches-hold-requires
 stretches-hold-requires c κs = search needs
 
+-- the places behind the step, by the tests of its row
+told : (c : tie.After-stretches-hold)
+    → (let a = c .before .before .before .before .before .before .args in
+    let r = c .before .before .before .before .row-at .result in
+    stepEnd (a .n) (a .t .now) (a .k) (a .p)
+    ≡ cond ((c .before .before .row-holds .result && c .before .start-holds .result) && c .stretches-hold .result)
+    (cellsEnd (a .n) (a .t .now) (a .p) (r .kind) (r .left .place) (c .before .before .before .stretches-of .result)) lost)
+unfolding stepsAt
+told c =
+    let row = c .before .before in
+    let a = row .before .before .before .before .args in
+    step-told (a .n) (a .t .now) (a .k) (a .p) (row .before .before .row-at .ensures .same) (row .before .stretches-of .ensures .0)
+    (row .row-holds .ensures) (c .before .start-holds .ensures) (c .stretches-hold .ensures)
+
 cells-end-requires : tie.Need-cells-end-requires
 cells-end-requires c κs =
     let stretches = c .before .stretches-hold in
@@ -44,34 +59,10 @@ cells-end-requires c κs =
     (a .pre .0, inside)
 
 returns : tie.Need-returns
-unfolding stepsAt
-returns c =
-    let stretches = c .before .before .stretches-hold in
-    let start = c .before .before .before in
-    let row = start .before in
-    let s = row .before .stretches-of in
-    let r = row .before .before .row-at in
-    let a = row .before .before .before .before .args in
-    let kept =
-    step-kept (a .n) (a .t .now) (a .k) (a .p) (rowMeaning (r .result)) (s .result) (row .row-holds .result) (start .start-holds .result)
-    (stretches .result) (r .ensures .same) (s .ensures .0) (row .row-holds .ensures) (start .start-holds .ensures) (stretches .ensures)
-    (c .before .if1 .taken) in
-    (c .cells-end .ensures .0 ∙ sym kept, c .cells-end .ensures .1)
+returns c = (c .cells-end .ensures .0 ∙ sym (rw (c .before .if1 .taken) at (told (c .before .before))), c .cells-end .ensures .1)
 
 returns-2 : tie.Need-returns-2
-unfolding stepsAt
-returns-2 c =
-    let stretches = c .before .stretches-hold in
-    let start = c .before .before in
-    let row = start .before in
-    let s = row .before .stretches-of in
-    let r = row .before .before .row-at in
-    let a = row .before .before .before .before .args in
-    let gone =
-    step-lost (a .n) (a .t .now) (a .k) (a .p) (rowMeaning (r .result)) (s .result) (row .row-holds .result) (start .start-holds .result)
-    (stretches .result) (r .ensures .same) (s .ensures .0) (row .row-holds .ensures) (start .start-holds .ensures) (stretches .ensures)
-    (c .if1 .left) in
-    (sym gone, search needs)
+returns-2 c = (sym (rw (c .if1 .left) at (told (c .before))), search needs)
 
 pub step-end-spec : {M : Type 1} → statement M
 step-end-spec =

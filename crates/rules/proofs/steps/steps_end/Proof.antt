@@ -1,12 +1,11 @@
 -- `rules::steps::steps_end` meets its contract.
 -- Assumes nothing.
-use mathlib.Core.Path.{_≡_, sym, ap, _∙_}
+use mathlib.Core.Path.{_≡_, refl}
 use Prim.Native.Nat.{_+_, _-_, _≤_}
 use borrow.Author.Needs.{needs}
 use native.Mathlib.Omega.{arith}
 use Rattle.rules.specs.Tests.{Room, first, stepsEnd}
-use Rattle.rules.specs.Turns.{steps-start, steps-turn, steps-done}
-use Rattle.rules.specs.declared.steps.Places.{Places}
+use Rattle.rules.specs.Turns.{walk-start, walk-more, walk-done, steps-walk}
 use Rattle.rules.proofs.steps.steps_end.Statement.{statement}
 use Rattle.rules.proofs.steps.steps_end.Tie as tie
 
@@ -18,7 +17,9 @@ abbrev μ-loop : tie.MeasureT-loop
 μ-loop t n p₀ k₀ p k = n .steps - k
 
 loop-holds : tie.Need-loop-holds Inv-loop μ-loop
-loop-holds c = (search needs, omega arith, steps-start (c .before .args .n) (c .before .args .t .now) first (c .before .args .n .steps))
+loop-holds c =
+    let a = c .before .args in
+    (search needs, omega arith, walk-start (steps-walk (a .n) (a .t .now)) (a .n .steps) 0 0 refl)
 
 step-end-requires : tie.Need-step-end-requires Inv-loop μ-loop
 step-end-requires c κs =
@@ -34,18 +35,17 @@ loop-less c = omega arith
 loop-again : tie.Need-loop-again Inv-loop μ-loop
 loop-again c =
     let l = c .before .before .before .loop in
-    let a = c .before .before .before .before .before .args in
-    let rest = steps-turn (a .n) (a .t .now) (l .k) (a .n .steps) (l .p) (c .before .if1 .taken) in (
+    let a = c .before .before .before .before .before .args in (
       c .step-end .ensures .1,
       omega (arith, c .before .if1 .taken),
-      l .inv .2 ∙ rest ∙ ap (λ (q : Places). stepsEnd (a .n) (a .t .now) (l .k + 1) q (a .n .steps - (l .k + 1))) (sym (c .step-end .ensures .0)),
+      walk-more (steps-walk (a .n) (a .t .now)) (a .n .steps) (l .k) (l .k) (l .k + 1) (l .inv .2) (c .before .if1 .taken) refl (c .step-end .ensures .0),
     )
 
 returns : tie.Need-returns Inv-loop μ-loop
 returns c =
     let l = c .before .before .loop in
     let a = c .before .before .before .before .args in
-    sym (l .inv .2 ∙ steps-done (a .n) (a .t .now) (l .k) (a .n .steps) (l .p) (c .if1 .left))
+    walk-done (steps-walk (a .n) (a .t .now)) (a .n .steps) (l .k) (l .k) (l .inv .2) (c .if1 .left)
 
 pub steps-end-spec : {M : Type 1} → statement M
 steps-end-spec =
