@@ -13,7 +13,7 @@ ghost use Rattle.convert.specs.Text.{Writable};
 ghost use Rattle.machine.specs.Expressions as Expressions;
 ghost use Rattle.machine.specs.Expressions.{lengthIn, partIn, operandIn, itemIn, numericIn, elementIn, stringIn, testIn};
 ghost use Rattle.machine.specs.State.{Memory, numberAt};
-ghost use Rattle.rows.specs.Holds.{SignedLengthHolds, PartHolds, OperandHolds, TestHolds};
+ghost use Rattle.rows.specs.Holds.{LengthHolds, PartHolds, OperandHolds, TestHolds};
 ghost use Rattle.rows.specs.Meaning.{lengthMeaning, partMeaning, operandMeaning, operatorMeaning, signMeaning, itemMeaning, itemsMeaning};
 ghost use Rattle.rows.specs.Meaning.{elementMeaning, elementsMeaning, testMeaning};
 ghost use Rattle.values.specs.Conversion.{substring, textOf};
@@ -77,7 +77,7 @@ pub fn number_at(state: &[u64; STATE_SIZE], place: usize) -> Int
 // a constant, or the number of its place
 pub fn length_value(state: &[u64; STATE_SIZE], n: Length) -> Int
     requires { ⌜ Numbered (now state) ⌝ }
-    requires { ⌜ SignedLengthHolds n ⌝ }
+    requires { ⌜ LengthHolds n ⌝ }
     ensures { λ r. ⌜ ((store : List ℕ) → Gives r (lengthIn (memoryIn store (now (state .entry))) (lengthMeaning n))) ⌝ }
 {
     match n {

@@ -1,15 +1,13 @@
 -- What a run may rely on in the decoded enums: places, steps, integers and ends are in range. Assumes nothing.
-use mathlib.Core.Bool.{true, false}
+use mathlib.Core.Bool.{true}
 use mathlib.Core.List.{List}
 use mathlib.Core.Path.{_≡_}
 use Prim.Native.Nat.{ℕ, _+_, _*_, _≤_, _<_}
 use Rattle.base.specs.Limits as Limits
-use Rattle.values.specs.Numbers.{isNegative}
 use Rattle.calls.specs.Rules.{balanced}
 use Rattle.calls.specs.Table.{itemsAt, elementsAt}
 use Rattle.calls.specs.TableReading.{cellAt, itemOfCell}
 use Rattle.convert.specs.Numbers.{InRange}
-use Rattle.convert.specs.declared.Int.{Int}
 use Rattle.rows.specs.Meaning.{tableSize, itemMeaning, itemsMeaning}
 use Rattle.rows.specs.Reading.{ElementRead, PatternRead}
 use Rattle.rows.specs.declared.Length.{Length}
@@ -34,19 +32,10 @@ use Rattle.rows.specs.declared.Scan as Scan
 use Rattle.rows.specs.declared.Statement.{Statement}
 use Rattle.rows.specs.declared.Statement.the-variants as statements
 
--- a constant that counts bytes
-pub record Counts (z : Int) : Type 0 where
-  pub range : InRange z
-  pub natural : isNegative (z .value) ≡ false
-
+-- a length may be negative: a number's value always, a constant as the n of STRING(n,m)
 abbrev pub LengthHolds : Length → Type 0
-LengthHolds (lengths.Constant z) = Counts z
+LengthHolds (lengths.Constant z) = InRange z
 LengthHolds (lengths.Number i) = i < Limits.numbers
-
--- the n of STRING(n,m) may be negative
-abbrev pub SignedLengthHolds : Length → Type 0
-SignedLengthHolds (lengths.Constant z) = InRange z
-SignedLengthHolds (lengths.Number i) = i < Limits.numbers
 
 abbrev pub PartHolds : Part → Type 0
 PartHolds (Whole s) = s < Limits.strings
@@ -71,7 +60,7 @@ pub record LiteralHolds (from to : ℕ) : Type 0 where
 abbrev pub ElementHolds : Element → Type 0
 ElementHolds (elements.Literal from to) = LiteralHolds from to
 ElementHolds (elements.Part p) = PartHolds p
-ElementHolds (elements.Text n m) = SignedLengthHolds n × (m < Limits.numbers)
+ElementHolds (elements.Text n m) = LengthHolds n × (m < Limits.numbers)
 
 -- the place of the string that is searched
 abbrev pub placeIn : Part → ℕ

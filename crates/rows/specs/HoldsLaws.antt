@@ -15,7 +15,7 @@ use Rattle.calls.specs.Rules.{placeOf}
 use Rattle.convert.specs.Laws.{limit-is}
 use Rattle.convert.specs.Numbers.{InRange}
 use Rattle.convert.specs.declared.Int.{Int}
-use Rattle.rows.specs.Holds.{LengthHolds, SignedLengthHolds, PartHolds, OperandHolds, ItemHolds, placeIn}
+use Rattle.rows.specs.Holds.{LengthHolds, PartHolds, OperandHolds, ItemHolds, placeIn}
 use Rattle.rows.specs.Holds.{FillerHolds, BranchHolds, TestHolds}
 use Rattle.rows.specs.Meaning.{lengthMeaning, partMeaning, operandMeaning, itemMeaning, branchMeaning, testMeaning}
 use Rattle.rows.specs.declared.Length.{Length}
@@ -35,11 +35,6 @@ pub constant-holds : (z : Int) → isInRange edition1 (z .value) ≡ true → In
 unfolding isInRange
 constant-holds z h = rw limit-is at (leb-true (natAbs (z .value)) (edition1 .limit) h)
 
--- a length that counts bytes is a length
-pub length-signed : (n : Length) → LengthHolds n → SignedLengthHolds n
-length-signed (lengths.Constant z) h = h .range
-length-signed (lengths.Number i) h = h
-
 -- the string that is searched
 pub place-is : (p : Part) → placeOf (partMeaning p) ≡ placeIn p
 unfolding placeOf
@@ -57,12 +52,11 @@ module _ (strings numbers steps : ℕ) (short : strings ≤ Limits.strings) (few
   pub length-holds : (n : Length) → Rules.lengthHolds edition1 strings numbers steps (lengthMeaning n) ≡ true → LengthHolds n
   unfolding Rules.lengthHolds
   length-holds (lengths.Constant z) h =
-      let both = and-eq-true-iff (isInRange edition1 (z .value)) (not (isNegative (z .value))) .0 h in
-      record { range = constant-holds z (both .0); natural = not-true (isNegative (z .value)) (both .1) }
+      constant-holds z (and-eq-true-iff (isInRange edition1 (z .value)) (not (isNegative (z .value))) .0 h .0)
   length-holds (lengths.Number i) h = below-numbers i h
 
   pub signed-length-holds : (n : Length) → Rules.signedLengthHolds edition1 strings numbers steps (lengthMeaning n) ≡ true
-      → SignedLengthHolds n
+      → LengthHolds n
   unfolding Rules.signedLengthHolds
   signed-length-holds (lengths.Constant z) h = constant-holds z h
   signed-length-holds (lengths.Number i) h = below-numbers i h
@@ -88,7 +82,7 @@ module _ (strings numbers steps : ℕ) (short : strings ≤ Limits.strings) (few
   item-holds (items.Sign s) h = tt
 
   pub text-holds : (n : Length) (m : ℕ)
-      → Rules.elementHolds edition1 strings numbers steps (Program.text (lengthMeaning n) m) ≡ true → SignedLengthHolds n × (m < Limits.numbers)
+      → Rules.elementHolds edition1 strings numbers steps (Program.text (lengthMeaning n) m) ≡ true → LengthHolds n × (m < Limits.numbers)
   unfolding Rules.elementHolds
   text-holds n m h =
       let both = and-eq-true-iff (Rules.signedLengthHolds edition1 strings numbers steps (lengthMeaning n)) (ltb m numbers) .0 h in

@@ -3,7 +3,7 @@
 use borrow.Author.Needs.{needs}
 use mathlib.Core.Path.{refl, subst}
 use Rattle.machine.specs.Expressions.{lengthIn}
-use Rattle.rows.specs.Holds.{SignedLengthHolds}
+use Rattle.rows.specs.Holds.{LengthHolds}
 use Rattle.expressions.proofs.length_value.Statement.{statement}
 use Rattle.expressions.proofs.length_value.Tie as tie
 
@@ -16,13 +16,13 @@ enum-known-n-2 c = search needs
 number-at-requires : tie.Need-number-at-requires
 number-at-requires c κs =
     let s = c .before .before .before in
-    (s .pre .0, subst SignedLengthHolds (c .before .n2 .given .1) (s .pre .1))
+    (s .pre .0, subst LengthHolds (c .before .n2 .given .1) (s .pre .1))
 
 returns : tie.Need-returns
 unfolding lengthIn
 returns c store =
     let is = c .before .n .given .1 in
-    rw is (record { value = refl; range = subst SignedLengthHolds is (c .before .before .before .pre .1) })
+    rw is (record { value = refl; range = subst LengthHolds is (c .before .before .before .pre .1) })
 
 returns-2 : tie.Need-returns-2
 unfolding lengthIn

@@ -7,7 +7,6 @@ use Rattle.cells.specs.Contracts.{stringOf}
 use Rattle.machine.specs.Expressions.{partIn}
 use Rattle.machine.specs.State.{stringAt}
 use Rattle.rows.specs.Holds.{PartHolds}
-use Rattle.rows.specs.HoldsLaws.{length-signed}
 use Rattle.values.specs.Conversion.{substring}
 use Rattle.values.specs.Work.{quietly}
 use Rattle.expressions.specs.Values.{Spans}
@@ -29,7 +28,7 @@ length-value-requires : tie.Need-length-value-requires
 length-value-requires c κs =
     let s = c .before .before .before .before in
     let holds = subst PartHolds (c .before .p2 .given .1) (s .pre .1) in
-    (s .pre .0 .numbers, length-signed (c .before .p2 .given .0 .1 .0) (holds .1))
+    (s .pre .0 .numbers, holds .1)
 
 first-ends-requires : tie.Need-first-ends-requires
 first-ends-requires c κs =

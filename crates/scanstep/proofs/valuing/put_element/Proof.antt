@@ -8,7 +8,6 @@ use Rattle.base.specs.Edition.{edition1}
 use Rattle.expressions.specs.Memory.{memoryIn}
 use Rattle.machine.specs.Scanning.{fixedAt, valuedIn}
 use Rattle.rows.specs.Holds.{PatternHolds}
-use Rattle.rows.specs.HoldsLaws.{length-signed}
 use Rattle.rows.specs.Meaning.{elementMeaning, patternMeaning}
 use Rattle.rows.specs.declared.PatternElement.{PatternElement}
 use Rattle.statements.specs.declared.Did.the-variants as did
@@ -62,7 +61,7 @@ length-value-requires c κs =
     let told = c .before in
     let s = told .before .before .before .before .before .before .before in
     let holds = subst (PatternHolds (s .pre .searched)) (told .x3 .given .1) (s .pre .holds) in
-    (s .pre .ready .numbers, length-signed (told .x3 .given .0 .1 .0) (holds .1))
+    (s .pre .ready .numbers, holds .1)
 
 put-fixed-requires : tie.Need-put-fixed-requires
 put-fixed-requires c κs =

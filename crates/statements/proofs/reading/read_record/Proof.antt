@@ -6,7 +6,6 @@ use lib.IntN.{natAbs}
 use Rattle.expressions.specs.Memory.{memoryIn}
 use Rattle.machine.specs.Expressions.{lengthIn}
 use Rattle.rows.specs.Holds.{PartHolds}
-use Rattle.rows.specs.HoldsLaws.{length-signed}
 use Rattle.rows.specs.Meaning.{lengthMeaning, partMeaning}
 use Rattle.values.specs.Numbers.{isNegative}
 use Rattle.statements.specs.Reading.{Halts, Next, Reads}
@@ -35,7 +34,7 @@ length-value-requires : tie.Need-length-value-requires
 length-value-requires c κs =
     let s = c .before .before .before .before .before .before in
     let told = c .before .before .p2 .given in
-    (s .pre .0 .numbers, length-signed (told .0 .1 .0) (subst PartHolds (told .1) (s .pre .1 .0) .1))
+    (s .pre .0 .numbers, subst PartHolds (told .1) (s .pre .1 .0) .1)
 
 is-negative-requires : tie.Need-is-negative-requires
 is-negative-requires c κs = search needs

@@ -11,7 +11,6 @@ use Rattle.language.specs.Program as Program
 use Rattle.machine.specs.Expressions.{lengthIn}
 use Rattle.machine.specs.Scanning.{searchedIn}
 use Rattle.rows.specs.Holds.{PartHolds}
-use Rattle.rows.specs.HoldsLaws.{length-signed}
 use Rattle.rows.specs.Meaning.{directionMeaning, lengthMeaning, partMeaning}
 use Rattle.rows.specs.declared.Part.the-variants.{Whole, First}
 use Rattle.values.specs.Numbers.{isNegative}
@@ -39,7 +38,7 @@ length-value-requires : tie.Need-length-value-requires
 length-value-requires c κs =
     let s = c .before .before .before .before in
     let told = c .before .p2 .given in
-    (s .pre .0 .numbers, length-signed (told .0 .1 .0) (subst PartHolds (told .1) (s .pre .1) .1))
+    (s .pre .0 .numbers, subst PartHolds (told .1) (s .pre .1) .1)
 
 is-negative-requires : tie.Need-is-negative-requires
 is-negative-requires c κs = search needs
