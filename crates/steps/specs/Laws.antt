@@ -1,7 +1,6 @@
 -- The laws of a step on the buffers: what turns it down, what a statement's work comes to, and how it is concluded. Assumes nothing.
 use mathlib.Core.Bool.{Bool, true, false, cond, not}
 use mathlib.Core.List.{List, [], _∷_, append-nil, reverse}
-use mathlib.Core.Option.{Option, none, some}
 use mathlib.Core.Path.{_≡_, refl, sym, _∙_, ap, ap₂, subst}
 use Prim.Native.Nat.{ℕ, zero, suc, _+_, _*_, _≤_, _<_}
 use native.Mathlib.Omega.{arith}
@@ -37,9 +36,8 @@ use Rattle.rows.specs.declared.Scan.{Scan}
 use Rattle.rows.specs.declared.Statement.{Statement}
 use Rattle.rows.specs.declared.Statement.the-variants as statements
 use Rattle.scanning.specs.Call.{answerNumbers, mostElements, noAnswer, splitNumbers}
-use Rattle.scanning.specs.Splits.{Split}
-use Rattle.scanning.specs.Trials.{Scanned}
 use Rattle.scanstep.specs.Scans.{Ended, Lent, scanningOf}
+use Rattle.scanstep.specs.SearchLaws.{answer-noted}
 use Rattle.statements.specs.declared.Did.{Did}
 use Rattle.statements.specs.declared.Did.the-variants as did
 use Rattle.values.specs.Work.{Work, stop, quietly}
@@ -56,17 +54,8 @@ stopped-zeros : replicate 24 0 ≡ answerNumbers 0 noScan
 unfolding answerNumbers noScan splitNumbers mostElements
 stopped-zeros = refl
 
--- an answer of a scan has its notes
-notes-kept : (notes : ℕ) (s : Scanned) → set (answerNumbers notes s) 3 notes ≡ answerNumbers notes s
-unfolding answerNumbers splitNumbers
-notes-kept notes s = by-split (s .split)
-  where
-    by-split : (x : Option Split) → set (splitNumbers x (s .trials) notes) 3 notes ≡ splitNumbers x (s .trials) notes
-    by-split none = refl
-    by-split (some x) = refl
-
 -- a statement that doesn't scan: the answer says nothing but its notes
-pub plain-works : (r : Did) (input : List ℕ) (b left : Buffers) (answer : List ℕ) (w : Work Done) → Carries r input b left w
+plain-works : (r : Did) (input : List ℕ) (b left : Buffers) (answer : List ℕ) (w : Work Done) → Carries r input b left w
     → answer ≡ noAnswer → Works r input b left answer w
 unfolding noAnswer answerNumbers splitNumbers noScan
 plain-works (did.Done notes) input b left answer w c silent =
@@ -80,7 +69,7 @@ plain-works (did.Done notes) input b left answer w c silent =
 plain-works (did.Stops k) input b left answer w c silent = c
 
 -- buffers that only the machine turns down
-module _ (table input : List ℕ) (b : Buffers) (g : Given table input b) where
+module _ {table input : List ℕ} {b : Buffers} (g : Given table input b) where
   -- the table's program, and the machine that the buffers hold
   abbrev p : Program
   p = programIn table
@@ -112,11 +101,11 @@ module _ (table input : List ℕ) (b : Buffers) (g : Given table input b) where
   pub written-inside : getD (b .state) 4 0 ≤ length (b .output)
   written-inside = facts .written
 
-  tabled : Tabled edition1 p table
+  pub tabled : Tabled edition1 p table
   unfolding edition1
   tabled = record { size = g .bytes; keeps = g .keeps; reads = refl }
 
-  holding : Holding edition1 p (length (b .output)) input c b
+  pub holding : Holding edition1 p (length (b .output)) input c b
   unfolding stateSize
   holding = given-holds edition1 p input b (g .size) (g .store-good) (g .range)
 
@@ -136,12 +125,12 @@ module _ (table input : List ℕ) (b : Buffers) (g : Given table input b) where
   lacksNext = lacksReturn (statementOfRow table nextRow) (reverse (returnsIn (b .state)))
 
   -- as the code reads them
-  pub kind-next : (k kind : ℕ) → k ≡ getD (b .state) 1 0 → kind ≡ rowAt table (stepsAt + 24 * k) .kind → nextRow .kind ≡ kind
-  kind-next k kind e read = sym (read ∙ ap (λ (n : ℕ). rowAt table (stepsAt + 24 * n) .kind) e)
+  pub kind-next : {k kind : ℕ} → k ≡ getD (b .state) 1 0 → kind ≡ rowAt table (stepsAt + 24 * k) .kind → nextRow .kind ≡ kind
+  kind-next e read = sym (read ∙ ap (λ (n : ℕ). rowAt table (stepsAt + 24 * n) .kind) e)
 
-  pub statement-next : (k : ℕ) (x : Statement) → k ≡ getD (b .state) 1 0 → StatementRead table (rowAt table (stepsAt + 24 * k)) x
+  pub statement-next : {k : ℕ} {x : Statement} → k ≡ getD (b .state) 1 0 → StatementRead table (rowAt table (stepsAt + 24 * k)) x
       → StatementRead table nextRow x
-  statement-next k x e = subst (λ (n : ℕ). StatementRead table (rowAt table (stepsAt + 24 * n)) x) e
+  statement-next {x = x} e = subst (λ (n : ℕ). StatementRead table (rowAt table (stepsAt + 24 * n)) x) e
 
   next-statement : statementAt (programIn table) (getD (b .state) 1 0) ≡ statementOfRow table nextRow
   next-statement = statement-is table (getD (b .state) 1 0) (next-inside .0)
@@ -161,26 +150,26 @@ module _ (table input : List ℕ) (b : Buffers) (g : Given table input b) where
       call-held edition1 p table input tabled (length (b .output)) c b holding false (ap (λ (k : ℕ). eqb k 0) e ∙ q)
       ∙ ap (λ (k : ℕ). record { number = k; answer = noAnswer; left = b }) e
 
-  turned-answers : (n : ℕ) → turnedDownBy p c ≡ n → eqb n 0 ≡ false → (number : ℕ) (answer : List ℕ) → number ≡ n
+  turned-answers : (n : ℕ) → turnedDownBy p c ≡ n → eqb n 0 ≡ false → {number : ℕ} {answer : List ℕ} → number ≡ n
       → answer ≡ replicate 24 0 → Answers (stepCall edition1 table input b) number answer b
-  turned-answers n e q number answer is zeros =
+  turned-answers n e q is zeros =
       rw (turned-called n e q) (record { number-is = is; answer-is = zeros ∙ silent-zeros; left-is = refl })
 
   -- 15: the return that it goes to, or room for the one that it holds, is lacking
-  pub lacking-answers : lacksNext ≡ true → (number : ℕ) (answer : List ℕ) → number ≡ 15 → answer ≡ replicate 24 0
+  pub lacking-answers : lacksNext ≡ true → {number : ℕ} {answer : List ℕ} → number ≡ 15 → answer ≡ replicate 24 0
       → Answers (stepCall edition1 table input b) number answer b
   lacking-answers h = turned-answers 15 (turned-by true _ h refl) refl
 
   -- 16: the run has ended
   pub ended-answers : lacksNext ≡ false → isRunning (statusOf (getD (b .state) 0 0)) ≡ false
-      → (number : ℕ) (answer : List ℕ) → number ≡ 16 → answer ≡ replicate 24 0 → Answers (stepCall edition1 table input b) number answer b
+      → {number : ℕ} {answer : List ℕ} → number ≡ 16 → answer ≡ replicate 24 0 → Answers (stepCall edition1 table input b) number answer b
   ended-answers h k = turned-answers 16 (turned-by false false h k) refl
 
   -- neither: the step is the work of the statement read there, concluded
-  pub carried-called : (x : Statement) → StatementRead table nextRow x → lacksNext ≡ false → isRunning (statusOf (getD (b .state) 0 0)) ≡ true
+  pub carried-called : {x : Statement} → StatementRead table nextRow x → lacksNext ≡ false → isRunning (statusOf (getD (b .state) 0 0)) ≡ true
       → stepCall edition1 table input b ≡ carriedOut table input b x
   unfolding step stateIn
-  carried-called x read h k =
+  carried-called read h k =
       let goes : eqb (turnedDownBy p c) 0 ≡ true = ap (λ (n : ℕ). eqb n 0) (turned-by false true h k) in
       let here = next-statement ∙ sym (read .means) in
       call-held edition1 p table input tabled (length (b .output)) c b holding true goes
@@ -188,17 +177,17 @@ module _ (table input : List ℕ) (b : Buffers) (g : Given table input b) where
 
   -- what is concluded of a statement's work
   pub concluded-answers : getD (b .state) 0 0 ≡ 0 → (r : Did) (left : Buffers) (answer : List ℕ) (w : Work Done) → Works r input b left answer w
-      → (number : ℕ) (state answerLeft : List ℕ) → Concludes r number (left .state) state answer answerLeft
+      → {number : ℕ} {state answerLeft : List ℕ} → Concludes r number (left .state) state answer answerLeft
       → Answers (carried edition1 table input b (concluded (machineIn input b) w)) number answerLeft (lent (left .store) state (left .output))
   unfolding carried concluded
-  concluded-answers runs (did.Done notes) left answer w k number state answerLeft e =
+  concluded-answers runs (did.Done notes) left answer w k e =
       rw (k .work)
       (record {
         number-is = e .number-is;
         answer-is = e .answer-is ∙ k .answer-is;
         left-is = ap (λ (l : List ℕ). lent (left .store) l (left .output)) (e .state-is) ∙ k .left-is;
       })
-  concluded-answers runs (did.Stops n) left answer w k number state answerLeft e =
+  concluded-answers runs (did.Stops n) left answer w k e =
       rw (k .work)
       (record {
         number-is = e .number-is;
@@ -210,28 +199,28 @@ module _ (table input : List ℕ) (b : Buffers) (g : Given table input b) where
       })
 
 -- a statement of the table that the machine doesn't turn down, by the name y of it
-module _ (table input : List ℕ) (b : Buffers) (next : ℕ) (x : Statement) (g : Going table input b next x) where
+module _ {table input : List ℕ} {b : Buffers} {next : ℕ} {x : Statement} (g : Going table input b next x) where
   pub going-standing : Standing (programIn table) input b
-  going-standing = given-standing table input b (g .given) (g .running)
+  going-standing = given-standing (g .given) (g .running)
 
   pub going-ready : Ready (b .store) (b .state)
-  going-ready = given-ready table input b (g .given)
+  going-ready = given-ready (g .given)
 
-  pub going-holds : (y : Statement) → x ≡ y → StatementHolds table (numberAt 2 table 2) y
-  going-holds y e = subst (StatementHolds table (numberAt 2 table 2)) e (g .holds)
+  pub going-holds : {y : Statement} → x ≡ y → StatementHolds table (numberAt 2 table 2) y
+  going-holds e = subst (StatementHolds table (numberAt 2 table 2)) e (g .holds)
 
-  pub going-returns : (y : Statement) → x ≡ y → ReturnsEnough y (getD (b .state) 2 0)
-  going-returns y e = subst (λ (z : Statement). ReturnsEnough z (getD (b .state) 2 0)) e (g .returns)
+  pub going-returns : {y : Statement} → x ≡ y → ReturnsEnough y (getD (b .state) 2 0)
+  going-returns e = subst (λ (z : Statement). ReturnsEnough z (getD (b .state) 2 0)) e (g .returns)
 
   -- one that doesn't scan, and one that does
-  pub carries-works : (y : Statement) → x ≡ y → (r : Did) (left : Buffers) (answer : List ℕ) → answer ≡ noAnswer
+  pub carries-works : {y : Statement} → x ≡ y → {r : Did} {left : Buffers} {answer : List ℕ} → answer ≡ noAnswer
       → Carries r input b left (workOf table input b y) → WorksOn r table input b left x answer
-  carries-works y e r left answer silent c =
+  carries-works {y} e {r} {left} {answer} silent c =
       rw e (record { works = plain-works r input b left answer (workOf table input b y) c silent })
 
-  pub scans-works : (y : Statement) → x ≡ y → (r : Did) (left : Buffers) (answer : List ℕ)
+  pub scans-works : {y : Statement} → x ≡ y → {r : Did} {left : Buffers} {answer : List ℕ}
       → WorksOn r table input b left y answer → WorksOn r table input b left x answer
-  scans-works y e r left answer w = rw e w
+  scans-works e w = rw e w
 
 -- what the kind of a row tells of the returns that its statement takes
 module _ (t rs : List ℕ) (r : Row) where
@@ -292,12 +281,12 @@ enough-returns t statements.Return [] held e h = absurd (let z : _≡_ {A = ℕ}
 enough-returns t statements.Return (k ∷ rs) held e h = omega arith
 
 -- SCAN and BACKSCAN, by the step that they go to
-pub scan-works : (p : Program) (input : List ℕ) (b : Buffers) → Standing p input b → (table : List ℕ) (s : Scan) (store answer : List ℕ) (notes k : ℕ)
+pub scan-works : {p : Program} {input : List ℕ} {b : Buffers} → Standing p input b → (table : List ℕ) (s : Scan) {store answer : List ℕ} {notes k : ℕ}
     → (e : Ended (b .store) store (b .state) answer notes (scanningOf table (b .store) (b .state) s))
     → k ≡ scannedTo (e .scanned .split) (branchMeaning (s .branch))
     → Worked input b (lent store (set (b .state) 1 k) (b .output)) answer notes (workOf table input b (statements.Scan s))
 unfolding carrying quietly stateIn
-scan-works p input b stands table s store answer notes k e goes =
+scan-works {p} {input} {b} stands table s {store} {notes = notes} e goes =
     let to = scannedTo (e .scanned .split) (branchMeaning (s .branch)) in
     record {
       machine = _;
@@ -306,7 +295,7 @@ scan-works p input b stands table s store answer notes k e goes =
       left-is =
           ap (λ (n : ℕ). lent store (set (b .state) 1 n) (b .output)) goes
           ∙ scans p input b stands store to (e .stays);
-      answer-is = ap (λ (l : List ℕ). set l 3 notes) (e .answer-is) ∙ notes-kept notes (e .scanned);
+      answer-is = ap (λ (l : List ℕ). set l 3 notes) (e .answer-is) ∙ answer-noted (e .scanned) notes notes;
     }
 
 -- a scan that is stopped
@@ -375,9 +364,9 @@ none-refused false false false false e = (refl, refl, refl, refl)
 module _ (table input : List ℕ) (b : Buffers) where
   -- buffers that are unfit turn the step down, and are left as they were
   pub unfit-answers : (n : ℕ) → n ≡ unfitNumber table (b .store) (b .state) (length input) (length (b .output)) → 0 < n
-      → (number : ℕ) (answer : List ℕ) → number ≡ n → answer ≡ replicate 24 0 → Answers (stepCall edition1 table input b) number answer b
+      → {number : ℕ} {answer : List ℕ} → number ≡ n → answer ≡ replicate 24 0 → Answers (stepCall edition1 table input b) number answer b
   unfolding stepCall stepRefusal outOfRange edition1
-  unfit-answers n e h number answer is zeros =
+  unfit-answers n e h is zeros =
       let refusal : stepRefusal edition1 table input b ≡ n =
       refused-as (ltb (length table) 28672) (not (keepsRules edition1 table)) (not (storeKeeps (b .store))) (outOfRange edition1 table input b)
       (turnedDownBy (programIn table) (givenIn edition1 table input b)) n e h in

@@ -44,10 +44,10 @@ member-of p table store input c b number answer left a claim =
     }
 
 -- demand 3 is carried by what the step does
-pub promised : (table input : List ℕ) (b : Buffers) (number : ℕ) (answer : List ℕ) (left : Buffers)
+pub promised : {table input : List ℕ} {b : Buffers} {number : ℕ} {answer : List ℕ} {left : Buffers}
     → Answers (stepCall edition1 table input b) number answer left → StepPromise table input b number answer left
 unfolding Demand3
-promised table input b number answer left a =
+promised {table} {input} {b} {number} {answer} {left} a =
     record {
       does = a;
       list = λ deck t store output. demand3-edition1 deck t store input output;

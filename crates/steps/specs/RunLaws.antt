@@ -11,28 +11,25 @@ use Rattle.base.specs.Edition.{edition1}
 use Rattle.calls.specs.Buffers.{stateKeeps, stateSize, storeKeeps}
 use Rattle.calls.specs.Calls.{Buffers, StepCalled, RunCalled, stepCall, runCall, runBehind, runEnded, withStep, outcomeNumber}
 use Rattle.calls.specs.DemandLaws.{edition1-limit, edition1-wide}
-use Rattle.calls.specs.GivenLaws.{given-holds, given-sound}
+use Rattle.calls.specs.GivenLaws.{given-sound}
 use Rattle.calls.specs.ProgramLaws.{program-runs}
 use Rattle.calls.specs.Rules.{keepsRules}
-use Rattle.calls.specs.StepLaws.{Tabled, step-holds}
+use Rattle.calls.specs.StepLaws.{step-holds}
 use Rattle.calls.specs.TableLaws.{keeps-image}
 use Rattle.calls.specs.TableReading.{programIn}
 use Rattle.carry.specs.Carrying.{machineIn}
 use Rattle.steps.specs.Contracts.{Answers, Given, unfitNumber}
+use Rattle.steps.specs.Laws.{tabled, holding}
 use Rattle.steps.specs.Promises.{RunPromise}
 
 -- the buffers that a step leaves may be given to the next
-pub given-next : (table input : List ℕ) (b : Buffers) → Given table input b → Given table input (stepCall edition1 table input b .left)
+pub given-next : {table input : List ℕ} {b : Buffers} → Given table input b → Given table input (stepCall edition1 table input b .left)
 unfolding stateSize edition1
-given-next table input b g =
+given-next {table} {input} {b} g =
     let p = programIn table in
-    let lent = length (b .output) in
-    let c = machineIn input b in
-    let t : Tabled edition1 p table = record { size = g .bytes; keeps = g .keeps; reads = refl } in
     let runs = program-runs edition1 p (keeps-image edition1 table (g .keeps) .0) in
-    let h = given-holds edition1 p input b (g .size) (g .store-good) (g .range) in
     let s = given-sound edition1 p input b (g .size) (g .store-good) (g .range) in
-    let left = step-holds edition1 p table input t edition1-limit edition1-wide runs lent c b s h in
+    let left = step-holds edition1 p table input (tabled g) edition1-limit edition1-wide runs (length (b .output)) (machineIn input b) b s (holding g) in
     record {
       bytes = g .bytes;
       keeps = g .keeps;
@@ -55,14 +52,14 @@ added steps notes r =
     }
 
 -- nothing was made before it
-pub added-none : (r : RunCalled) → r ≡ added 0 0 r
+added-none : (r : RunCalled) → r ≡ added 0 0 r
 added-none r =
     let steps : r .steps ≡ 0 + r .steps = omega arith in
     let notes : r .notes ≡ 0 + r .notes = omega arith in
     λ i. record { outcome = r .outcome; number = r .number; steps = steps i; notes = notes i; left = r .left }
 
 -- a step that was made, and what it gave
-module _ (table input : List ℕ) (b : Buffers) (number : ℕ) (answer : List ℕ) (left : Buffers)
+module _ (table input : List ℕ) (b : Buffers) {number : ℕ} {answer : List ℕ} {left : Buffers}
     (a : Answers (stepCall edition1 table input b) number answer left) (steps notes k : ℕ) where
   -- the run that begins with it
   abbrev whole : RunCalled
@@ -134,7 +131,7 @@ module _ (table input : List ℕ) (b : Buffers) (number : ℕ) (answer : List �
       left-of r = r .left
 
 -- all steps are made
-pub run-spent : (table input : List ℕ) (b : Buffers) (steps notes : ℕ)
+run-spent : (table input : List ℕ) (b : Buffers) (steps notes : ℕ)
     → RunPromise (added steps notes (runCall edition1 table input 0 b)) 0 (2 ∷ (0 ∷ (steps ∷ (notes ∷ [])))) b
 unfolding runCall runEnded outcomeNumber
 run-spent table input b steps notes =
@@ -176,35 +173,35 @@ pub record Alone (table input : List ℕ) (first : Buffers) (steps : ℕ) (answe
 pub alone-none : (table input : List ℕ) (b : Buffers) (answer : List ℕ) → Alone table input b 0 answer b
 alone-none table input b answer = record { none = λ _. refl; one = λ e. absurd (omega (arith, e)) }
 
-module _ (table input : List ℕ) (first : Buffers) (steps : ℕ) (answer : List ℕ) (b : Buffers) (r : Alone table input first steps answer b) where
+module _ {table input : List ℕ} {first : Buffers} {steps : ℕ} {answer : List ℕ} {b : Buffers} (r : Alone table input first steps answer b) where
   -- the step that is made next
-  module _ (number : ℕ) (answer′ : List ℕ) (left : Buffers) (a : Answers (stepCall edition1 table input b) number answer′ left) where
-    first-answers : steps ≡ 0 → (n : ℕ) → n ≡ number → Answers (stepCall edition1 table input first) n answer′ left
-    first-answers e n is =
+  module _ {number : ℕ} {answer′ : List ℕ} {left : Buffers} (a : Answers (stepCall edition1 table input b) number answer′ left) where
+    first-answers : steps ≡ 0 → {n : ℕ} → n ≡ number → Answers (stepCall edition1 table input first) n answer′ left
+    first-answers e {n} is =
         subst (λ (c : Buffers). Answers (stepCall edition1 table input c) n answer′ left) (r .none e)
         (record { number-is = is ∙ a .number-is; answer-is = a .answer-is; left-is = a .left-is })
 
-    pub alone-ends : (count : ℕ) → steps < count → (n : ℕ) → n ≡ number → count ≡ 1
+    pub alone-ends : {count : ℕ} → steps < count → {n : ℕ} → n ≡ number → count ≡ 1
         → Answers (stepCall edition1 table input first) n answer′ left
-    alone-ends count below n is one = first-answers (omega (arith, below, one)) n is
+    alone-ends below is one = first-answers (omega (arith, below, one)) is
 
     pub alone-more : number ≤ 0 → Alone table input first (steps + 1) answer′ left
     alone-more zero =
         record {
           none = λ e. absurd (omega (arith, e));
-          one = λ e. first-answers (omega (arith, e)) 0 (omega (arith, zero));
+          one = λ e. first-answers (omega (arith, e)) (omega (arith, zero));
         }
 
   -- no step is left
-  pub alone-spent : (count : ℕ) → steps ≤ count → (steps < count → ⊥) → (n : ℕ) → n ≡ 0 → count ≡ 1
+  pub alone-spent : {count : ℕ} → steps ≤ count → (steps < count → ⊥) → {n : ℕ} → n ≡ 0 → count ≡ 1
       → Answers (stepCall edition1 table input first) n answer b
-  alone-spent count most above n is one =
+  alone-spent most above is one =
       let a = r .one (omega (arith, most, above, one)) in
       record { number-is = is ∙ a .number-is; answer-is = a .answer-is; left-is = a .left-is }
 
 -- a step more
-module _ (table input : List ℕ) (first : Buffers) (count steps notes : ℕ) (b : Buffers) (r : Repeats table input first count steps notes b)
-    (number : ℕ) (answer : List ℕ) (left : Buffers) (a : Answers (stepCall edition1 table input b) number answer left)
+module _ {table input : List ℕ} {first : Buffers} {count steps notes : ℕ} {b : Buffers} (r : Repeats table input first count steps notes b)
+    {number : ℕ} {answer : List ℕ} {left : Buffers} (a : Answers (stepCall edition1 table input b) number answer left)
     (below : steps < count) where
   next-run : runCall edition1 table input count first ≡ added steps notes (runCall edition1 table input (suc (count - (steps + 1))) b)
   next-run =
@@ -213,16 +210,16 @@ module _ (table input : List ℕ) (first : Buffers) (count steps notes : ℕ) (b
 
   pub repeats-stopped : 17 ≤ number
       → RunPromise (runCall edition1 table input count first) number (1 ∷ (number ∷ ((steps + 1) ∷ ((notes + getD answer 3 0) ∷ [])))) left
-  repeats-stopped h = rw next-run (run-stopped table input b number answer left a steps notes (count - (steps + 1)) h)
+  repeats-stopped h = rw next-run (run-stopped table input b a steps notes (count - (steps + 1)) h)
 
   pub repeats-refused : number < 17 → 0 < number
       → RunPromise (runCall edition1 table input count first) number (3 ∷ (number ∷ (steps ∷ (notes ∷ [])))) left
-  repeats-refused h some = rw next-run (run-refused table input b number answer left a steps notes (count - (steps + 1)) (omega arith) some)
+  repeats-refused h some = rw next-run (run-refused table input b a steps notes (count - (steps + 1)) (omega arith) some)
 
   pub repeats-finished : number ≤ 0 → eqb (getD (left .state) 0 0) 1 ≡ true
       → RunPromise (runCall edition1 table input count first) 0 (0 ∷ (0 ∷ ((steps + 1) ∷ ((notes + getD answer 3 0) ∷ [])))) left
   repeats-finished h ends =
-      rw next-run (run-finished table input b number answer left a steps notes (count - (steps + 1)) (omega arith) ends)
+      rw next-run (run-finished table input b a steps notes (count - (steps + 1)) (omega arith) ends)
 
   pub repeats-more : number ≤ 0 → eqb (getD (left .state) 0 0) 1 ≡ false → getD answer 3 0 < 4_294_967_296
       → Repeats table input first count (steps + 1) (notes + getD answer 3 0) left
@@ -230,14 +227,14 @@ module _ (table input : List ℕ) (first : Buffers) (count steps notes : ℕ) (b
       record {
         most = omega arith;
         few = omega (arith, r .few);
-        given = subst (Given table input) (sym (a .left-is)) (given-next table input b (r .given));
-        run = next-run ∙ run-goes table input b number answer left a steps notes (count - (steps + 1)) (omega arith) more;
+        given = subst (Given table input) (sym (a .left-is)) (given-next (r .given));
+        run = next-run ∙ run-goes table input b a steps notes (count - (steps + 1)) (omega arith) more;
       }
 
-pub repeats-spent : (table input : List ℕ) (first : Buffers) (count steps notes : ℕ) (b : Buffers)
+pub repeats-spent : {table input : List ℕ} {first : Buffers} {count steps notes : ℕ} {b : Buffers}
     → Repeats table input first count steps notes b → count ≤ steps
     → RunPromise (runCall edition1 table input count first) 0 (2 ∷ (0 ∷ (steps ∷ (notes ∷ [])))) b
-repeats-spent table input first count steps notes b r h =
+repeats-spent {table} {input} {first} {count} {steps} {notes} {b} r h =
     let none-left : count - steps ≡ 0 = omega arith in
     rw (r .run, none-left) (run-spent table input b steps notes)
 
@@ -257,7 +254,7 @@ unfit-run table input b n e h a count some =
     let one-less : count ≡ suc (count - 1) = omega arith in
     let small : n ≤ 16 = rw e (unfit-small (ltb (length table) 28672) (not (keepsRules edition1 table)) (not (storeKeeps (b .store)))
     (not (stateKeeps edition1 (length (programIn table .steps)) (length input) (length (b .output)) (b .state)))) in
-    rw (one-less, added-none (runCall edition1 table input (suc (count - 1)) b)) (run-refused table input b n (replicate 24 0) b a 0 0 (count - 1) small h)
+    rw (one-less, added-none (runCall edition1 table input (suc (count - 1)) b)) (run-refused table input b a 0 0 (count - 1) small h)
 
 -- no step is asked for
 pub run-none : (table input : List ℕ) (b : Buffers) (count : ℕ) → count ≡ 0

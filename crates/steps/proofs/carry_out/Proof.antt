@@ -1,7 +1,5 @@
 -- `carry_out` meets its contract: each kind of statement is carried out by its own function. Assumes nothing.
 use borrow.Author.Needs.{needs}
-use Rattle.calls.specs.TableReading.{programIn}
-use Rattle.carry.specs.Carrying.{lent}
 use Rattle.scanstep.specs.Scans.{holds-scannable}
 use Rattle.steps.specs.Laws.{going-standing, going-ready, going-holds, going-returns, carries-works, scans-works, few-returns, place-inside, written-inside, lent-again}
 use Rattle.steps.proofs.carry_out.Statement.{statement}
@@ -12,11 +10,9 @@ enum-known-x c = search needs
 
 set-number-requires : tie.Need-set-number-requires
 set-number-requires c κs =
-    let a = c .before .before .before .before .before .before .before .before .before .before .before .before .before .args in
-    let b = lent (a .store .now) (a .state .now) (a .output .now) in
     let g = c .before .before .before .before .before .before .before .before .before .before .before .before .before .pre .0 in
-    let holds = going-holds (a .table .now) (a .input .now) b (a .next) (a .x) g _ (c .before .before .before .x .given .1) in (
-      record { bytes = g .given .bytes; ready = going-ready (a .table .now) (a .input .now) b (a .next) (a .x) g; items = holds .1 },
+    let holds = going-holds g (c .before .before .before .x .given .1) in (
+      record { bytes = g .given .bytes; ready = going-ready g; items = holds .1 },
       (holds .0, g .next-is),
     )
 
@@ -25,14 +21,12 @@ enum-known-x-2 c = search needs
 
 set-string-requires : tie.Need-set-string-requires
 set-string-requires c κs =
-    let a = c .before .before .before .before .before .before .before .before .before .before .before .before .before .before .before .args in
-    let b = lent (a .store .now) (a .state .now) (a .output .now) in
     let g = c .before .before .before .before .before .before .before .before .before .before .before .before .before .before .before .pre .0 in
     let l = c .before .before .before .before .before .before .before .before .before .before .before .before .before .before .before .pre .1 .1 in
-    let holds = going-holds (a .table .now) (a .input .now) b (a .next) (a .x) g _ (c .before .before .before .before .before .x2 .given .1) in (
+    let holds = going-holds g (c .before .before .before .before .before .x2 .given .1) in (
       record {
         bytes = g .given .bytes;
-        ready = going-ready (a .table .now) (a .input .now) b (a .next) (a .x) g;
+        ready = going-ready g;
         elements = holds .1;
         spare = l .spare;
         room = l .room;
@@ -57,11 +51,9 @@ enum-known-x-4 c = search needs
 
 test-requires : tie.Need-test-requires
 test-requires c κs =
-    let a = c .before .before .before .before .before .before .before .before .before .before .before .before .before .args in
-    let b = lent (a .store .now) (a .state .now) (a .output .now) in
     let g = c .before .before .before .before .before .before .before .before .before .before .before .before .before .pre .0 in
-    let holds = going-holds (a .table .now) (a .input .now) b (a .next) (a .x) g _ (c .before .before .before .x4 .given .1) in
-    (going-ready (a .table .now) (a .input .now) b (a .next) (a .x) g, holds .0)
+    let holds = going-holds g (c .before .before .before .x4 .given .1) in
+    (going-ready g, holds .0)
 
 enum-known-x-5 : tie.Need-enum-known-x-5
 enum-known-x-5 c = search needs
@@ -69,11 +61,10 @@ enum-known-x-5 c = search needs
 scan-requires : tie.Need-scan-requires
 scan-requires c κs =
     let a = c .before .before .before .before .before .before .before .before .before .before .before .before .before .before .before .before .before .before .before .before .before .args in
-    let b = lent (a .store .now) (a .state .now) (a .output .now) in
     let g = c .before .before .before .before .before .before .before .before .before .before .before .before .before .before .before .before .before .before .before .before .before .pre .0 in
-    let holds = going-holds (a .table .now) (a .input .now) b (a .next) (a .x) g _ (c .before .before .before .before .before .before .before .before .before .before .before .x5 .given .1) in (
+    let holds = going-holds g (c .before .before .before .before .before .before .before .before .before .before .before .x5 .given .1) in (
       holds-scannable (a .table .now) (a .store .now) (a .state .now) _ _ (g .given .bytes)
-          (going-ready (a .table .now) (a .input .now) b (a .next) (a .x) g) holds,
+          (going-ready g) holds,
       c .before .before .before .before .before .before .before .before .before .before .before .before .before .before .before .before .before .before .before .before .before .pre .1 .1,
     )
 
@@ -82,30 +73,26 @@ enum-known-x-6 c = search needs
 
 read-requires : tie.Need-read-requires
 read-requires c κs =
-    let a = c .before .before .before .before .before .before .before .before .before .before .before .before .before .args in
-    let b = lent (a .store .now) (a .state .now) (a .output .now) in
     let g = c .before .before .before .before .before .before .before .before .before .before .before .before .before .pre .0 in
-    let holds = going-holds (a .table .now) (a .input .now) b (a .next) (a .x) g _ (c .before .before .before .x6 .given .1) in
-    (going-ready (a .table .now) (a .input .now) b (a .next) (a .x) g, (holds .0, place-inside (a .table .now) (a .input .now) b (g .given)))
+    let holds = going-holds g (c .before .before .before .x6 .given .1) in
+    (going-ready g, (holds .0, place-inside (g .given)))
 
 enum-known-x-7 : tie.Need-enum-known-x-7
 enum-known-x-7 c = search needs
 
 write-requires : tie.Need-write-requires
 write-requires c κs =
-    let a = c .before .before .before .before .before .before .before .before .before .before .before .before .before .before .before .before .args in
-    let b = lent (a .store .now) (a .state .now) (a .output .now) in
     let g = c .before .before .before .before .before .before .before .before .before .before .before .before .before .before .before .before .pre .0 in
     let l = c .before .before .before .before .before .before .before .before .before .before .before .before .before .before .before .before .pre .1 .1 in
-    let holds = going-holds (a .table .now) (a .input .now) b (a .next) (a .x) g _ (c .before .before .before .before .before .before .x7 .given .1) in (
+    let holds = going-holds g (c .before .before .before .before .before .before .x7 .given .1) in (
       record {
         bytes = g .given .bytes;
-        ready = going-ready (a .table .now) (a .input .now) b (a .next) (a .x) g;
+        ready = going-ready g;
         elements = holds;
         spare = l .spare;
         room = l .room;
       },
-      (record { size = g .given .size; written = written-inside (a .table .now) (a .input .now) b (g .given) }, g .next-is),
+      (record { size = g .given .size; written = written-inside (g .given) }, g .next-is),
     )
 
 enum-known-x-8 : tie.Need-enum-known-x-8
@@ -113,21 +100,17 @@ enum-known-x-8 c = search needs
 
 execute-requires : tie.Need-execute-requires
 execute-requires c κs =
-    let a = c .before .before .before .before .before .before .before .before .before .before .before .before .args in
-    let b = lent (a .store .now) (a .state .now) (a .output .now) in
     let g = c .before .before .before .before .before .before .before .before .before .before .before .before .pre .0 in
-    (going-returns (a .table .now) (a .input .now) b (a .next) (a .x) g _ (c .before .before .x8 .given .1), g .next-is)
+    (going-returns g (c .before .before .x8 .given .1), g .next-is)
 
 enum-told-2 : tie.Need-enum-told-2
 enum-told-2 c = search needs
 
 return-to-requires : tie.Need-return-to-requires
 return-to-requires c κs =
-    let a = c .before .before .before .before .before .before .before .before .before .before .before .args in
-    let b = lent (a .store .now) (a .state .now) (a .output .now) in
     let g = c .before .before .before .before .before .before .before .before .before .before .before .pre .0 in (
-      going-returns (a .table .now) (a .input .now) b (a .next) (a .x) g _ (c .before .enum-told2 .given .1),
-      few-returns (a .table .now) (a .input .now) b (g .given),
+      going-returns g (c .before .enum-told2 .given .1),
+      few-returns (g .given),
     )
 
 same-length : tie.Need-same-length
@@ -135,11 +118,9 @@ same-length c = search needs
 
 returns : tie.Need-returns
 returns c =
-    let a = c .before .before .before .before .before .before .before .before .before .before .before .before .before .before .args in
-    let b = lent (a .store .now) (a .state .now) (a .output .now) in
     let g = c .before .before .before .before .before .before .before .before .before .before .before .before .before .before .pre .0 in (
-      carries-works (a .table .now) (a .input .now) b (a .next) (a .x) g _ (c .before .before .before .before .x .given .1) _ _ _ (c .before .before .before .before .before .before .before .before .before .before .before .before .before .before .pre .1 .0)
-          (c .set-number .ensures (a .input .now) (a .output .now) (programIn (a .table .now)) (going-standing (a .table .now) (a .input .now) b (a .next) (a .x) g)),
+      carries-works g (c .before .before .before .before .x .given .1) (c .before .before .before .before .before .before .before .before .before .before .before .before .before .before .pre .1 .0)
+          (c .set-number .ensures _ _ _ (going-standing g)),
       c .before .before .before .before .before .before .before .before .before .before .before .before .before .before .pre .1 .1,
     )
 
@@ -148,31 +129,25 @@ same-length-2 c = search needs
 
 returns-2 : tie.Need-returns-2
 returns-2 c =
-    let a = c .before .before .before .before .before .before .before .before .before .before .before .before .before .before .before .before .before .before .args in
-    let b = lent (a .store .now) (a .state .now) (a .output .now) in
     let g = c .before .before .before .before .before .before .before .before .before .before .before .before .before .before .before .before .before .before .pre .0 in (
-      carries-works (a .table .now) (a .input .now) b (a .next) (a .x) g _ (c .before .before .before .before .before .before .before .before .x2 .given .1) _ _ _ (c .before .before .before .before .before .before .before .before .before .before .before .before .before .before .before .before .before .before .pre .1 .0)
-          (c .before .before .set-string .ensures .0 (a .input .now) (a .output .now) (programIn (a .table .now)) (going-standing (a .table .now) (a .input .now) b (a .next) (a .x) g)),
+      carries-works g (c .before .before .before .before .before .before .before .before .x2 .given .1) (c .before .before .before .before .before .before .before .before .before .before .before .before .before .before .before .before .before .before .pre .1 .0)
+          (c .before .before .set-string .ensures .0 _ _ _ (going-standing g)),
       lent-again (c .before .before .before .before .before .before .before .before .before .before .before .before .before .before .before .before .before .before .pre .1 .1) _ _ (c .before .before .set-string .ensures .1),
     )
 
 returns-3 : tie.Need-returns-3
 returns-3 c =
-    let a = c .before .before .before .before .before .before .before .before .before .before .before .before .before .args in
-    let b = lent (a .store .now) (a .state .now) (a .output .now) in
     let g = c .before .before .before .before .before .before .before .before .before .before .before .before .before .pre .0 in (
-      carries-works (a .table .now) (a .input .now) b (a .next) (a .x) g _ (c .before .before .before .x3 .given .1) _ _ _ (c .before .before .before .before .before .before .before .before .before .before .before .before .before .pre .1 .0)
-          (c .go-to .ensures (a .store .now) (a .input .now) (a .output .now) (programIn (a .table .now)) (going-standing (a .table .now) (a .input .now) b (a .next) (a .x) g)),
+      carries-works g (c .before .before .before .x3 .given .1) (c .before .before .before .before .before .before .before .before .before .before .before .before .before .pre .1 .0)
+          (c .go-to .ensures _ _ _ _ (going-standing g)),
       c .before .before .before .before .before .before .before .before .before .before .before .before .before .pre .1 .1,
     )
 
 returns-4 : tie.Need-returns-4
 returns-4 c =
-    let a = c .before .before .before .before .before .before .before .before .before .before .before .before .args in
-    let b = lent (a .store .now) (a .state .now) (a .output .now) in
     let g = c .before .before .before .before .before .before .before .before .before .before .before .before .pre .0 in (
-      carries-works (a .table .now) (a .input .now) b (a .next) (a .x) g _ (c .before .before .enum-told .given .1) _ _ _ (c .before .before .before .before .before .before .before .before .before .before .before .before .pre .1 .0)
-          (c .finish .ensures (a .store .now) (a .input .now) (a .output .now) (programIn (a .table .now)) (going-standing (a .table .now) (a .input .now) b (a .next) (a .x) g)),
+      carries-works g (c .before .before .enum-told .given .1) (c .before .before .before .before .before .before .before .before .before .before .before .before .pre .1 .0)
+          (c .finish .ensures _ _ _ _ (going-standing g)),
       c .before .before .before .before .before .before .before .before .before .before .before .before .pre .1 .1,
     )
 
@@ -181,11 +156,9 @@ same-length-3 c = search needs
 
 returns-5 : tie.Need-returns-5
 returns-5 c =
-    let a = c .before .before .before .before .before .before .before .before .before .before .before .before .before .before .args in
-    let b = lent (a .store .now) (a .state .now) (a .output .now) in
     let g = c .before .before .before .before .before .before .before .before .before .before .before .before .before .before .pre .0 in (
-      carries-works (a .table .now) (a .input .now) b (a .next) (a .x) g _ (c .before .before .before .before .x4 .given .1) _ _ _ (c .before .before .before .before .before .before .before .before .before .before .before .before .before .before .pre .1 .0)
-          (c .test .ensures (a .input .now) (a .output .now) (programIn (a .table .now)) (going-standing (a .table .now) (a .input .now) b (a .next) (a .x) g)),
+      carries-works g (c .before .before .before .before .x4 .given .1) (c .before .before .before .before .before .before .before .before .before .before .before .before .before .before .pre .1 .0)
+          (c .test .ensures _ _ _ (going-standing g)),
       c .before .before .before .before .before .before .before .before .before .before .before .before .before .before .pre .1 .1,
     )
 
@@ -206,12 +179,10 @@ same-length-8 c = search needs
 
 returns-6 : tie.Need-returns-6
 returns-6 c =
-    let a = c .before .before .before .before .before .before .before .before .before .before .before .before .before .before .before .before .before .before .before .before .before .before .before .before .before .before .before .before .before .before .before .before .args in
-    let b = lent (a .store .now) (a .state .now) (a .output .now) in
     let g = c .before .before .before .before .before .before .before .before .before .before .before .before .before .before .before .before .before .before .before .before .before .before .before .before .before .before .before .before .before .before .before .before .pre .0 in (
-      scans-works (a .table .now) (a .input .now) b (a .next) (a .x) g _ (c .before .before .before .before .before .before .before .before .before .before .before .before .before .before .before .before .before .before .before .before .before .before .x5 .given .1) _ _ _
-          (c .before .before .before .before .before .before .before .before .before .before .scan .ensures .0 (a .input .now) (a .output .now) (programIn (a .table .now))
-          (going-standing (a .table .now) (a .input .now) b (a .next) (a .x) g)),
+      scans-works g (c .before .before .before .before .before .before .before .before .before .before .before .before .before .before .before .before .before .before .before .before .before .before .x5 .given .1)
+          (c .before .before .before .before .before .before .before .before .before .before .scan .ensures .0 _ _ _
+          (going-standing g)),
       c .before .before .before .before .before .before .before .before .before .before .scan .ensures .1,
     )
 
@@ -220,11 +191,9 @@ same-length-9 c = search needs
 
 returns-7 : tie.Need-returns-7
 returns-7 c =
-    let a = c .before .before .before .before .before .before .before .before .before .before .before .before .before .before .before .before .args in
-    let b = lent (a .store .now) (a .state .now) (a .output .now) in
     let g = c .before .before .before .before .before .before .before .before .before .before .before .before .before .before .before .before .pre .0 in (
-      carries-works (a .table .now) (a .input .now) b (a .next) (a .x) g _ (c .before .before .before .before .before .before .x6 .given .1) _ _ _ (c .before .before .before .before .before .before .before .before .before .before .before .before .before .before .before .before .pre .1 .0)
-          (c .before .before .read .ensures (a .output .now) (programIn (a .table .now)) (going-standing (a .table .now) (a .input .now) b (a .next) (a .x) g)),
+      carries-works g (c .before .before .before .before .before .before .x6 .given .1) (c .before .before .before .before .before .before .before .before .before .before .before .before .before .before .before .before .pre .1 .0)
+          (c .before .before .read .ensures _ _ (going-standing g)),
       c .before .before .before .before .before .before .before .before .before .before .before .before .before .before .before .before .pre .1 .1,
     )
 
@@ -236,31 +205,25 @@ same-length-11 c = search needs
 
 returns-8 : tie.Need-returns-8
 returns-8 c =
-    let a = c .before .before .before .before .before .before .before .before .before .before .before .before .before .before .before .before .before .before .before .args in
-    let b = lent (a .store .now) (a .state .now) (a .output .now) in
     let g = c .before .before .before .before .before .before .before .before .before .before .before .before .before .before .before .before .before .before .before .pre .0 in (
-      carries-works (a .table .now) (a .input .now) b (a .next) (a .x) g _ (c .before .before .before .before .before .before .before .before .before .x7 .given .1) _ _ _ (c .before .before .before .before .before .before .before .before .before .before .before .before .before .before .before .before .before .before .before .pre .1 .0)
-          (c .before .before .write .ensures .0 (a .input .now) (programIn (a .table .now)) (going-standing (a .table .now) (a .input .now) b (a .next) (a .x) g)),
+      carries-works g (c .before .before .before .before .before .before .before .before .before .x7 .given .1) (c .before .before .before .before .before .before .before .before .before .before .before .before .before .before .before .before .before .before .before .pre .1 .0)
+          (c .before .before .write .ensures .0 _ _ (going-standing g)),
       lent-again (c .before .before .before .before .before .before .before .before .before .before .before .before .before .before .before .before .before .before .before .pre .1 .1) _ _ (c .before .before .write .ensures .1),
     )
 
 returns-9 : tie.Need-returns-9
 returns-9 c =
-    let a = c .before .before .before .before .before .before .before .before .before .before .before .before .before .args in
-    let b = lent (a .store .now) (a .state .now) (a .output .now) in
     let g = c .before .before .before .before .before .before .before .before .before .before .before .before .before .pre .0 in (
-      carries-works (a .table .now) (a .input .now) b (a .next) (a .x) g _ (c .before .before .before .x8 .given .1) _ _ _ (c .before .before .before .before .before .before .before .before .before .before .before .before .before .pre .1 .0)
-          (c .execute .ensures (a .store .now) (a .input .now) (a .output .now) (programIn (a .table .now)) (going-standing (a .table .now) (a .input .now) b (a .next) (a .x) g)),
+      carries-works g (c .before .before .before .x8 .given .1) (c .before .before .before .before .before .before .before .before .before .before .before .before .before .pre .1 .0)
+          (c .execute .ensures _ _ _ _ (going-standing g)),
       c .before .before .before .before .before .before .before .before .before .before .before .before .before .pre .1 .1,
     )
 
 returns-10 : tie.Need-returns-10
 returns-10 c =
-    let a = c .before .before .before .before .before .before .before .before .before .before .before .before .args in
-    let b = lent (a .store .now) (a .state .now) (a .output .now) in
     let g = c .before .before .before .before .before .before .before .before .before .before .before .before .pre .0 in (
-      carries-works (a .table .now) (a .input .now) b (a .next) (a .x) g _ (c .before .before .enum-told2 .given .1) _ _ _ (c .before .before .before .before .before .before .before .before .before .before .before .before .pre .1 .0)
-          (c .return-to .ensures (a .store .now) (a .input .now) (a .output .now) (programIn (a .table .now)) (going-standing (a .table .now) (a .input .now) b (a .next) (a .x) g)),
+      carries-works g (c .before .before .enum-told2 .given .1) (c .before .before .before .before .before .before .before .before .before .before .before .before .pre .1 .0)
+          (c .return-to .ensures _ _ _ _ (going-standing g)),
       c .before .before .before .before .before .before .before .before .before .before .before .before .pre .1 .1,
     )
 

@@ -37,8 +37,8 @@ returns c =
     let b = lent (a .store .now) (a .state .now) (a .output .now) in
     let called = c .before .before .before .before .before .before .before .before .before .before .before .before .before .before .before .carry-out in
     let left = lent (called .last .1 .0) (called .last .1 .1 .0) (called .last .1 .1 .1 .1 .0) in (
-      concluded-answers (a .table .now) (a .input .now) b (g .given) (g .running) (called .result) left _
-          (workOf (a .table .now) (a .input .now) b (a .x)) (called .ensures .0 .works) (c .conclude .result) _ _ (c .conclude .ensures),
+      concluded-answers (g .given) (g .running) (called .result) left _ (workOf (a .table .now) (a .input .now) b (a .x)) (called .ensures .0 .works)
+          (c .conclude .ensures),
       called .ensures .1,
     )
 

@@ -21,8 +21,8 @@ returns : tie.Need-returns
 returns c =
     let a = c .before .before .before .before .before .before .before .before .before .before .args in
     let b = lent (a .store .now) (a .state .now) (a .output .now) in
-    promised (a .table .now) (a .input .now) b _ _ b
-    (unfit-answers (a .table .now) (a .input .now) b (c .before .before .before .unfit .result) (c .before .before .before .unfit .ensures .0) (c .before .before .if1 .taken) _ _ (c .turn-down .ensures .0)
+    promised
+    (unfit-answers (a .table .now) (a .input .now) b (c .before .before .before .unfit .result) (c .before .before .before .unfit .ensures .0) (c .before .before .if1 .taken) (c .turn-down .ensures .0)
     (c .turn-down .ensures .1))
 
 repeat-requires : tie.Need-repeat-requires
@@ -39,9 +39,7 @@ same-length-3 : tie.Need-same-length-3
 same-length-3 c = search needs
 
 returns-2 : tie.Need-returns-2
-returns-2 c =
-    let a = c .before .before .before .before .before .before .before .before .before .before .before .before .before .before .before .before .before .before .args in
-    promised (a .table .now) (a .input .now) (lent (a .store .now) (a .state .now) (a .output .now)) _ _ _ (c .before .before .before .before .repeat .ensures .1 refl)
+returns-2 c = promised (c .before .before .before .before .repeat .ensures .1 refl)
 
 pub strigol-step-spec : {M : Type 1} → statement M
 strigol-step-spec =

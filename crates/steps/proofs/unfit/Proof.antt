@@ -1,8 +1,10 @@
 -- `unfit` meets its contract: it makes the four tests in their order. Assumes nothing.
-use mathlib.Core.Path.{sym, _∙_}
+use mathlib.Core.Bool.{Bool, cond, not}
+use mathlib.Core.Path.{_≡_, sym, ap, _∙_}
 use borrow.Author.Needs.{needs}
 use borrow.Author.Tests.{le-ltb, lt-ltb, not-false, not-true}
 use Rattle.rows.specs.Kept.{step-count}
+use Rattle.steps.specs.Contracts.{unfitNumber}
 use Rattle.steps.proofs.unfit.Statement.{statement}
 use Rattle.steps.proofs.unfit.Tie as tie
 
@@ -35,29 +37,23 @@ counts-of-requires c κs = search needs
 keeps-requires-3 : tie.Need-keeps-requires-3
 keeps-requires-3 c κs = search needs
 
+-- three tests passed, so the last one tells
+last : (c : tie.After-keeps3)
+    → (let a = c .before .before .before .before .before .before .before .before .before .before .before .args in unfitNumber (a .table .now) (a .store .now) (a .state .now) (a .input) (a .output) ≡ cond (not (c .keeps3 .result)) 15 0)
+last c =
+    rw (
+      le-ltb _ _ (c .before .before .before .before .before .before .if1 .left),
+      sym (c .before .before .before .before .before .keeps .ensures) ∙ not-false _ (c .before .before .before .before .if2 .left),
+      sym (c .before .before .before .keeps2 .ensures) ∙ not-false _ (c .before .before .if3 .left),
+      step-count (c .before .before .before .before .before .before .before .before .before .before .before .args .table .now) ∙ sym (c .before .counts-of .ensures .steps),
+      sym (c .keeps3 .ensures),
+    )
+
 returns-4 : tie.Need-returns-4
-returns-4 c = (
-  rw (
-    le-ltb _ _ (c .before .before .before .before .before .before .before .if1 .left),
-    sym (c .before .before .before .before .before .before .keeps .ensures) ∙ not-false _ (c .before .before .before .before .before .if2 .left),
-    sym (c .before .before .before .before .keeps2 .ensures) ∙ not-false _ (c .before .before .before .if3 .left),
-    step-count (c .before .before .before .before .before .before .before .before .before .before .before .before .args .table .now) ∙ sym (c .before .before .counts-of .ensures .steps),
-    sym (c .before .keeps3 .ensures) ∙ not-true _ (c .if4 .taken),
-  ),
-  c .before .before .before .before .before .before .before .before .sized .ensures,
-)
+returns-4 c = (sym (last (c .before) ∙ ap (λ (t : Bool). cond t 15 0) (c .if4 .taken)), c .before .before .before .before .before .before .before .before .sized .ensures)
 
 returns-5 : tie.Need-returns-5
-returns-5 c = (
-  rw (
-    le-ltb _ _ (c .before .before .before .before .before .before .before .if1 .left),
-    sym (c .before .before .before .before .before .before .keeps .ensures) ∙ not-false _ (c .before .before .before .before .before .if2 .left),
-    sym (c .before .before .before .before .keeps2 .ensures) ∙ not-false _ (c .before .before .before .if3 .left),
-    step-count (c .before .before .before .before .before .before .before .before .before .before .before .before .args .table .now) ∙ sym (c .before .before .counts-of .ensures .steps),
-    sym (c .before .keeps3 .ensures) ∙ not-false _ (c .if4 .left),
-  ),
-  c .before .before .before .before .before .before .before .before .sized .ensures,
-)
+returns-5 c = (sym (last (c .before) ∙ ap (λ (t : Bool). cond t 15 0) (c .if4 .left)), c .before .before .before .before .before .before .before .before .sized .ensures)
 
 pub unfit-spec : {M : Type 1} → statement M
 unfit-spec =

@@ -72,14 +72,11 @@ same-length-2 c = c .before .before .before .before .before .before .before .bef
 
 returns : tie.Need-returns Inv-loop μ-loop
 returns c =
-    let a = c .before .before .before .before .before .before .before .before .before .before .before .before .before .before .before .before .before .before .before .before .before .before .before .before .before .before .before .before .before .before .before .args in
     let s = c .before .before .before .before .before .before .before .before .before .before .before .before .before .step-on in
     let at = c .before .before .before .before .before .before .before .before .before .before .before .before .before .before .before .before .before .before .before .before .before .before .before .before .before .before .loop in (
       ended-as (ap (λ (n : ℕ). 1 ∷ (s .result ∷ ((at .done + 1) ∷ ((at .notes + n) ∷ [])))) (c .before .before .before .notes-of .ensures)) (c .end .ensures)
-          (repeats-stopped (a .table .now) (a .input .now) (lent (a .store .now) (a .state .now) (a .output .now)) (a .count) (at .done) (at .notes)
-          (lent (at .store) (at .state) (at .output)) (at .inv .0) (s .result) _ _ (s .ensures .0) (c .before .before .before .before .before .before .before .before .before .before .before .before .before .before .before .before .before .before .before .before .before .before .before .before .before .loop-test .taken) (c .before .before .if1 .taken)),
-      alone-ends (a .table .now) (a .input .now) (lent (a .store .now) (a .state .now) (a .output .now)) (at .done) (at .answer)
-          (lent (at .store) (at .state) (at .output)) (at .inv .5) (s .result) _ _ (s .ensures .0) (a .count) (c .before .before .before .before .before .before .before .before .before .before .before .before .before .before .before .before .before .before .before .before .before .before .before .before .before .loop-test .taken) _
+          (repeats-stopped (at .inv .0) (s .ensures .0) (c .before .before .before .before .before .before .before .before .before .before .before .before .before .before .before .before .before .before .before .before .before .before .before .before .before .loop-test .taken) (c .before .before .if1 .taken)),
+      alone-ends (at .inv .5) (s .ensures .0) (c .before .before .before .before .before .before .before .before .before .before .before .before .before .before .before .before .before .before .before .before .before .before .before .before .before .loop-test .taken)
           (c .end .ensures .0),
     )
 
@@ -94,14 +91,11 @@ same-length-4 c = c .before .before .before .before .before .before .before .bef
 
 returns-2 : tie.Need-returns-2 Inv-loop μ-loop
 returns-2 c =
-    let a = c .before .before .before .before .before .before .before .before .before .before .before .before .before .before .before .before .before .before .before .before .before .before .before .before .before .before .before .before .before .before .before .before .args in
     let s = c .before .before .before .before .before .before .before .before .before .before .before .before .before .before .step-on in
     let at = c .before .before .before .before .before .before .before .before .before .before .before .before .before .before .before .before .before .before .before .before .before .before .before .before .before .before .before .loop in (
       ended-as refl (c .end2 .ensures)
-          (repeats-refused (a .table .now) (a .input .now) (lent (a .store .now) (a .state .now) (a .output .now)) (a .count) (at .done) (at .notes)
-          (lent (at .store) (at .state) (at .output)) (at .inv .0) (s .result) _ _ (s .ensures .0) (c .before .before .before .before .before .before .before .before .before .before .before .before .before .before .before .before .before .before .before .before .before .before .before .before .before .before .loop-test .taken) (c .before .before .before .if1 .left) (c .before .before .if2 .taken)),
-      alone-ends (a .table .now) (a .input .now) (lent (a .store .now) (a .state .now) (a .output .now)) (at .done) (at .answer)
-          (lent (at .store) (at .state) (at .output)) (at .inv .5) (s .result) _ _ (s .ensures .0) (a .count) (c .before .before .before .before .before .before .before .before .before .before .before .before .before .before .before .before .before .before .before .before .before .before .before .before .before .before .loop-test .taken) _
+          (repeats-refused (at .inv .0) (s .ensures .0) (c .before .before .before .before .before .before .before .before .before .before .before .before .before .before .before .before .before .before .before .before .before .before .before .before .before .before .loop-test .taken) (c .before .before .before .if1 .left) (c .before .before .if2 .taken)),
+      alone-ends (at .inv .5) (s .ensures .0) (c .before .before .before .before .before .before .before .before .before .before .before .before .before .before .before .before .before .before .before .before .before .before .before .before .before .before .loop-test .taken)
           (c .end2 .ensures .0),
     )
 
@@ -122,15 +116,12 @@ same-length-6 c = c .before .before .before .before .before .before .before .bef
 
 returns-3 : tie.Need-returns-3 Inv-loop μ-loop
 returns-3 c =
-    let a = c .before .before .before .before .before .before .before .before .before .before .before .before .before .before .before .before .before .before .before .before .before .before .before .before .before .before .before .before .before .before .before .before .before .before .before .args in
     let s = c .before .before .before .before .before .before .before .before .before .before .before .before .before .before .before .before .before .step-on in
     let at = c .before .before .before .before .before .before .before .before .before .before .before .before .before .before .before .before .before .before .before .before .before .before .before .before .before .before .before .before .before .before .loop in (
       ended-as (ap (λ (n : ℕ). 0 ∷ (0 ∷ ((at .done + 1) ∷ ((at .notes + n) ∷ [])))) (c .before .before .before .before .before .before .before .notes-of .ensures)) (c .end3 .ensures)
-          (repeats-finished (a .table .now) (a .input .now) (lent (a .store .now) (a .state .now) (a .output .now)) (a .count) (at .done) (at .notes)
-          (lent (at .store) (at .state) (at .output)) (at .inv .0) (s .result) _ _ (s .ensures .0) (c .before .before .before .before .before .before .before .before .before .before .before .before .before .before .before .before .before .before .before .before .before .before .before .before .before .before .before .before .before .loop-test .taken) (c .before .before .before .before .before .if2 .left)
+          (repeats-finished (at .inv .0) (s .ensures .0) (c .before .before .before .before .before .before .before .before .before .before .before .before .before .before .before .before .before .before .before .before .before .before .before .before .before .before .before .before .before .loop-test .taken) (c .before .before .before .before .before .if2 .left)
           (sym (c .before .before .before .is-finished .ensures) ∙ c .before .before .if3 .taken)),
-      alone-ends (a .table .now) (a .input .now) (lent (a .store .now) (a .state .now) (a .output .now)) (at .done) (at .answer)
-          (lent (at .store) (at .state) (at .output)) (at .inv .5) (s .result) _ _ (s .ensures .0) (a .count) (c .before .before .before .before .before .before .before .before .before .before .before .before .before .before .before .before .before .before .before .before .before .before .before .before .before .before .before .before .before .loop-test .taken) _
+      alone-ends (at .inv .5) (s .ensures .0) (c .before .before .before .before .before .before .before .before .before .before .before .before .before .before .before .before .before .before .before .before .before .before .before .before .before .before .before .before .before .loop-test .taken)
           (omega (arith, c .end3 .ensures .0, c .before .before .before .before .before .if2 .left)),
     )
 
@@ -146,15 +137,13 @@ loop-again c =
     let left = lent (s .last .1 .0) (s .last .1 .1 .0) (s .last .1 .1 .1 .1 .0) in
     let notes = c .before .before .before .before .before .notes-of in (
       subst (λ (n : ℕ). Repeats (a .table .now) (a .input .now) b (a .count) (at .done + 1) (at .notes + n) left) (sym (notes .ensures))
-          (repeats-more (a .table .now) (a .input .now) b (a .count) (at .done) (at .notes) (lent (at .store) (at .state) (at .output)) (at .inv .0)
-          (s .result) _ left (s .ensures .0) (c .before .before .before .before .before .before .before .before .before .before .before .before .before .before .before .before .before .before .before .before .before .before .before .before .before .before .before .loop-test .taken) (c .before .before .before .if2 .left) (sym (c .before .is-finished .ensures) ∙ c .if3 .left)
+          (repeats-more (at .inv .0) (s .ensures .0) (c .before .before .before .before .before .before .before .before .before .before .before .before .before .before .before .before .before .before .before .before .before .before .before .before .before .before .before .loop-test .taken) (c .before .before .before .if2 .left) (sym (c .before .is-finished .ensures) ∙ c .if3 .left)
           (omega (arith, notes .ok, notes .ensures))),
       s .kept .1 .0 ∙ at .inv .1,
       s .kept .1 .1 .1 .1 .0 ∙ at .inv .2,
       s .ensures .1,
       s .kept .1 .1 .1 .1 .1 .0 ∙ at .inv .4,
-      alone-more (a .table .now) (a .input .now) b (at .done) (at .answer) (lent (at .store) (at .state) (at .output)) (at .inv .5) (s .result) _ left
-          (s .ensures .0) (c .before .before .before .if2 .left),
+      alone-more (at .inv .5) (s .ensures .0) (c .before .before .before .if2 .left),
     )
 
 end-requires-4 : tie.Need-end-requires-4 Inv-loop μ-loop
@@ -168,14 +157,11 @@ same-length-8 c = c .before .before .before .loop .inv .2
 
 returns-4 : tie.Need-returns-4 Inv-loop μ-loop
 returns-4 c =
-    let a = c .before .before .before .before .before .before .before .before .args in
     let at = c .before .before .before .loop in (
       ended-as refl (c .end4 .ensures)
-          (repeats-spent (a .table .now) (a .input .now) (lent (a .store .now) (a .state .now) (a .output .now)) (a .count) (at .done) (at .notes)
-          (lent (at .store) (at .state) (at .output)) (at .inv .0) (c .before .before .loop-test .left)),
-      alone-spent (a .table .now) (a .input .now) (lent (a .store .now) (a .state .now) (a .output .now)) (at .done) (at .answer)
-          (lent (at .store) (at .state) (at .output)) (at .inv .5) (a .count) (at .inv .0 .most)
-          (λ below. omega (arith, below, c .before .before .loop-test .left)) _ (c .end4 .ensures .0),
+          (repeats-spent (at .inv .0) (c .before .before .loop-test .left)),
+      alone-spent (at .inv .5) (at .inv .0 .most)
+          (λ below. omega (arith, below, c .before .before .loop-test .left)) (c .end4 .ensures .0),
     )
 
 pub repeat-spec : {M : Type 1} → statement M

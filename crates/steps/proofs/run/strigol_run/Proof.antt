@@ -2,7 +2,6 @@
 use mathlib.Core.Path.{_≡_, refl, _∙_}
 use Prim.Native.Nat.{_<_}
 use native.Mathlib.Omega.{arith}
-use lib.ListN.{replicate}
 use borrow.Author.Needs.{needs}
 use Rattle.carry.specs.Carrying.{lent}
 use Rattle.steps.specs.Laws.{unfit-answers, fit-given}
@@ -37,7 +36,7 @@ returns-2 c =
     let some : 0 < a .count = omega (arith, c .before .before .before .before .before .before .if1 .left) in
     ended-as refl (c .end2 .ensures)
     (unfit-run (a .table .now) (a .input .now) b n (c .before .before .before .unfit .ensures .0) (c .before .before .if2 .taken)
-    (unfit-answers (a .table .now) (a .input .now) b n (c .before .before .before .unfit .ensures .0) (c .before .before .if2 .taken) n (replicate 24 0) refl refl) (a .count) some)
+    (unfit-answers (a .table .now) (a .input .now) b n (c .before .before .before .unfit .ensures .0) (c .before .before .if2 .taken) refl refl) (a .count) some)
 
 repeat-requires : tie.Need-repeat-requires
 repeat-requires c κs =

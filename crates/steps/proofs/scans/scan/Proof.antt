@@ -1,13 +1,25 @@
 -- `scans::scan` meets its contract: a split goes to success, none to failure. Assumes nothing.
-use mathlib.Core.Path.{sym, ap, subst}
+use mathlib.Core.Path.{_≡_, sym, ap, subst}
 use borrow.Author.Needs.{needs}
 use Rattle.carry.specs.Carrying.{lent}
 use Rattle.machine.specs.Step.{scannedTo}
 use Rattle.rows.specs.Meaning.{branchMeaning}
 use Rattle.scanstep.specs.Scans.{Scans, scanningOf}
+use Rattle.scanstep.specs.declared.Scanned.{Scanned}
 use Rattle.steps.specs.Laws.{scan-works, scan-stops}
 use Rattle.steps.proofs.scans.scan.Statement.{statement}
 use Rattle.steps.proofs.scans.scan.Tie as tie
+
+-- what the scan came to
+scanned : (c : tie.After-scan-step) {r : Scanned} → c .scan-step .result ≡ r
+    → (let a = c .before .before .before .before .before .before .before .before .before .before .before .before .before .before .before .before .before .before .args in
+    let left = c .scan-step .last .1 in
+    Scans r (a .store .now) (left .0) (a .state .now) (left .1 .1 .1 .1 .1 .1 .1 .1 .1 .1 .0) (scanningOf (a .table .now) (a .store .now) (a .state .now) (a .s)))
+scanned c {r} e =
+    let a = c .before .before .before .before .before .before .before .before .before .before .before .before .before .before .before .before .before .before .args in
+    let left = c .scan-step .last .1 in
+    subst (λ (d : Scanned). Scans d (a .store .now) (left .0) (a .state .now) (left .1 .1 .1 .1 .1 .1 .1 .1 .1 .1 .0) (scanningOf (a .table .now) (a .store .now) (a .state .now) (a .s)))
+    e (c .scan-step .ensures .0 .scans)
 
 scan-step-requires : tie.Need-scan-step-requires
 scan-step-requires c κs = c .before .before .before .before .before .before .before .before .before .before .before .before .before .before .before .before .before .pre
@@ -45,22 +57,11 @@ same-length-5 c = search needs
 returns : tie.Need-returns
 unfolding scannedTo
 returns c =
-    let a = c .before .before .before .before .before .before .before .before .before .before .before .before .before .before .before .before .before .before .before .before .before .before .before .before .before .before .before .before .before .before .before .before .before .args in
-    let called = c .before .before .before .before .before .before .before .before .before .before .before .before .before .before .before .scan-step in
-    let store = called .last .1 .0 in
-    let answer = called .last .1 .1 .1 .1 .1 .1 .1 .1 .1 .1 .1 .0 in
-    let found = subst (λ r. Scans r (a .store .now) store (a .state .now) answer (scanningOf (a .table .now) (a .store .now) (a .state .now) (a .s)))
-    (c .before .before .before .notes .given .1) (called .ensures .0 .scans) in
-    let to = sym (ap (λ x. scannedTo x (branchMeaning (a .s .branch))) (found .found)) in (
-      λ input output p stands.
-          rw (c .go-to .ensures)
-          (record {
-            works =
-                scan-works p input (lent (a .store .now) (a .state .now) output) stands (a .table .now) (a .s) store answer (c .before .before .before .notes .given .0 .0)
-                (a .s .branch .success) (found .ended) to;
-          }),
-      called .ensures .1,
-    )
+    let s = c .before .before .before .before .before .before .before .before .before .before .before .before .before .before .before .before .before .before .before .before .before .before .before .before .before .before .before .before .before .before .before .before .before .args .s in
+    let table = c .before .before .before .before .before .before .before .before .before .before .before .before .before .before .before .before .before .before .before .before .before .before .before .before .before .before .before .before .before .before .before .before .before .args .table .now in
+    let found = scanned (c .before .before .before .before .before .before .before .before .before .before .before .before .before .before .before) (c .before .before .before .notes .given .1) in
+    let to = sym (ap (λ x. scannedTo x (branchMeaning (s .branch))) (found .found)) in
+    (λ input output p stands. rw (c .go-to .ensures) (record { works = scan-works stands table s (found .ended) to }), c .before .before .before .before .before .before .before .before .before .before .before .before .before .before .before .scan-step .ensures .1)
 
 same-length-6 : tie.Need-same-length-6
 same-length-6 c = search needs
@@ -80,22 +81,11 @@ same-length-10 c = search needs
 returns-2 : tie.Need-returns-2
 unfolding scannedTo
 returns-2 c =
-    let a = c .before .before .before .before .before .before .before .before .before .before .before .before .before .before .before .before .before .before .before .before .before .before .before .before .before .before .before .before .before .before .before .before .before .args in
-    let called = c .before .before .before .before .before .before .before .before .before .before .before .before .before .before .before .scan-step in
-    let store = called .last .1 .0 in
-    let answer = called .last .1 .1 .1 .1 .1 .1 .1 .1 .1 .1 .1 .0 in
-    let missed = subst (λ r. Scans r (a .store .now) store (a .state .now) answer (scanningOf (a .table .now) (a .store .now) (a .state .now) (a .s)))
-    (c .before .before .before .notes2 .given .1) (called .ensures .0 .scans) in
-    let to = sym (ap (λ x. scannedTo x (branchMeaning (a .s .branch))) (missed .failed)) in (
-      λ input output p stands.
-          rw (c .go-to2 .ensures)
-          (record {
-            works =
-                scan-works p input (lent (a .store .now) (a .state .now) output) stands (a .table .now) (a .s) store answer (c .before .before .before .notes2 .given .0 .0)
-                (a .s .branch .failure) (missed .ended) to;
-          }),
-      called .ensures .1,
-    )
+    let s = c .before .before .before .before .before .before .before .before .before .before .before .before .before .before .before .before .before .before .before .before .before .before .before .before .before .before .before .before .before .before .before .before .before .args .s in
+    let table = c .before .before .before .before .before .before .before .before .before .before .before .before .before .before .before .before .before .before .before .before .before .before .before .before .before .before .before .before .before .before .before .before .before .args .table .now in
+    let missed = scanned (c .before .before .before .before .before .before .before .before .before .before .before .before .before .before .before) (c .before .before .before .notes2 .given .1) in
+    let to = sym (ap (λ x. scannedTo x (branchMeaning (s .branch))) (missed .failed)) in
+    (λ input output p stands. rw (c .go-to2 .ensures) (record { works = scan-works stands table s (missed .ended) to }), c .before .before .before .before .before .before .before .before .before .before .before .before .before .before .before .scan-step .ensures .1)
 
 same-length-11 : tie.Need-same-length-11
 same-length-11 c = search needs
@@ -116,14 +106,12 @@ returns-3 : tie.Need-returns-3
 returns-3 c =
     let a = c .before .before .before .before .before .before .before .before .before .before .before .before .before .before .before .before .before .before .before .before .before .before .before .before .before .before .before .before .before .before .before .args in
     let called = c .before .before .before .before .before .before .before .before .before .before .before .before .before .scan-step in
-    let store = called .last .1 .0 in
-    let answer = called .last .1 .1 .1 .1 .1 .1 .1 .1 .1 .1 .1 .0 in
-    let halted = subst (λ r. Scans r (a .store .now) store (a .state .now) answer (scanningOf (a .table .now) (a .store .now) (a .state .now) (a .s)))
-    (c .before .k .given .1) (called .ensures .0 .scans) in
-    let k = c .before .k .given .0 .0 in (
+    let halted = scanned (c .before .before .before .before .before .before .before .before .before .before .before .before .before) (c .before .k .given .1) in (
       λ input output p stands.
           record {
-            works = scan-stops input (lent (a .store .now) (a .state .now) output) (a .table .now) (a .s) store k (halted .0) (halted .1);
+            works =
+                scan-stops input (lent (a .store .now) (a .state .now) output) (a .table .now) (a .s) (called .last .1 .0) (c .before .k .given .0 .0)
+                (halted .0) (halted .1);
           },
       called .ensures .1,
     )
