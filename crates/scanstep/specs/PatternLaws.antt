@@ -28,10 +28,15 @@ module _ (values rows rowsLeft : List ℕ) (i : ℕ) where
   unfolding rowOf elementOf rowed Good
   row-free p = record { kind = 3; from = 0; to = 0; row = p; good = tt; element = refl; before = refl }
 
+  -- a row that says how long its piece is
+  row-sized : (n : ℕ) (e : Element) → n < 2 ^ 32 → fixed n ≡ rowed e → PutRow rows rowsLeft i 2 n 0 → RowPut values values rows rowsLeft i e
+  unfolding rowOf elementOf Good
+  row-sized n e h is p = record { kind = 2; from = n; to = 0; row = p; good = h; element = is; before = refl }
+
   -- a fixed filler
   pub row-fixed : (n : ℕ) → n < 2 ^ 32 → PutRow rows rowsLeft i 2 n 0 → RowPut values values rows rowsLeft i (fixed n)
-  unfolding rowOf elementOf rowed Good
-  row-fixed n h p = record { kind = 2; from = n; to = 0; row = p; good = h; element = refl; before = refl }
+  unfolding rowed
+  row-fixed n h p = row-sized n (fixed n) h refl p
 
   -- a null string
   pub row-null : PutRow rows rowsLeft i 1 0 0 → RowPut values values rows rowsLeft i (string [])
@@ -50,18 +55,10 @@ module _ (values rows rowsLeft : List ℕ) (i : ℕ) where
   module _ (v : List ℕ) (n : ℕ) (s : StringPutting values rows i v n) (w : List ℕ) (spelt : Spells v n w) where
     -- a string that is longer than any reference
     pub row-long : 1024 < n → PutRow rows rowsLeft i 2 n 0 → RowPut values values rows rowsLeft i (string w)
-    unfolding rowOf elementOf rowed Good
+    unfolding rowed
     row-long h p =
         let long : 1024 < length w = omega (arith, spelt .size) in
-        record {
-          kind = 2;
-          from = n;
-          to = 0;
-          row = p;
-          good = omega (arith, s .short);
-          element = rw (lt-ltb 1024 (length w) long, spelt .size) refl;
-          before = refl;
-        }
+        row-sized n (string w) (omega (arith, s .short)) (rw (lt-ltb 1024 (length w) long, spelt .size) refl) p
 
     -- one that may fit
     pub row-string : n ≤ 1024 → (left : List ℕ) → left ≡ splice values (1024 * i) (take n v)

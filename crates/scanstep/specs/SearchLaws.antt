@@ -1,5 +1,5 @@
 -- Laws of a scan's answer: whether it has a split, where the pieces lie, and what naming them leaves. Assumes nothing.
-use mathlib.Core.Bool.{true, false}
+use mathlib.Core.Bool.{Bool, true, false}
 use mathlib.Core.List.{List, [], _∷_, _++_, map, map-map}
 use mathlib.Core.Option.{Option, none, some}
 use mathlib.Core.Path.{_≡_, refl, sym, ap, ap₂, subst, _∙_}
@@ -23,7 +23,7 @@ use Rattle.statements.specs.Leaving.{memoryOf}
 use Rattle.statements.specs.OtherLaws.{others-stay}
 use Rattle.scanstep.specs.LongLaws.{scan-rowed}
 use Rattle.scanstep.specs.Patterns.{Rowed, rowed}
-use Rattle.scanstep.specs.Searches.{Searchable, Searched, scanOf}
+use Rattle.scanstep.specs.Searches.{Finds, Searchable, Searched, scanOf}
 
 -- the next of a split's lengths
 next-length : (answer : List ℕ) (count i : ℕ) → length answer ≡ 24 → count ≤ 20 → i < count
@@ -111,9 +111,15 @@ unfolding Fits
 split-within p r s f =
     omega (arith, f .0, pieces-within p (drop (s .start) r) (s .lengths) (f .1), length-drop (s .start) r)
 
-module _ (table store : List ℕ) (s : Stretch) (reference values rows names : List ℕ) (q : Searchable table store s reference values rows names)
-    (notes : ℕ) (answer : List ℕ)
-    (is : answer ≡ set (answerNumbers 0 (scan (patternOf values rows (s .count)) reference)) 3 notes) where
+-- what a search that had a split, or had none, found
+pub finds-as : {is b : Bool} {table store left : List ℕ} {s : Stretch} {reference values rows names answer : List ℕ} {notes : ℕ}
+    → Searched is table store left s reference values rows names answer notes → is ≡ b → {vs : List Valued} → Rowed values rows names (s .count) vs
+    → Finds b table store left s reference answer notes vs
+finds-as {table = table} {store} {left} {s} {reference} {answer = answer} {notes} f e {vs} r =
+    subst (λ (t : Bool). Finds t table store left s reference answer notes vs) e (f .finds vs r)
+
+module _ {table store : List ℕ} {s : Stretch} {reference values rows names : List ℕ} (q : Searchable table store s reference values rows names)
+    (notes : ℕ) {answer : List ℕ} (is : answer ≡ set (answerNumbers 0 (scan (patternOf values rows (s .count)) reference)) 3 notes) where
   abbrev pattern : List Element
   pattern = patternOf values rows (s .count)
 
@@ -139,9 +145,9 @@ module _ (table store : List ℕ) (s : Stretch) (reference values rows names : L
       subst (Has (a .split)) (sym answer-is)
       (split-some (a .split) (a .trials) notes (λ e. h (ap (λ (l : List ℕ). getD l 0 0) answer-is ∙ e)))
 
-  pub missed : getD answer 0 0 ≡ 0 → (nulled : List ℕ) → Nulled table s store nulled
+  pub missed : getD answer 0 0 ≡ 0 → {nulled : List ℕ} → Nulled table s store nulled
       → Searched false table store nulled s reference values rows names answer notes
-  missed e nulled n =
+  missed e n =
       record {
         stays = n .stays;
         finds =
@@ -166,8 +172,8 @@ module _ (table store : List ℕ) (s : Stretch) (reference values rows names : L
     within : found .split .start + total (λ l. l) (found .split .lengths) ≤ length reference
     within = split-within pattern reference (found .split) fits
 
-    pub nameable : (nulled : List ℕ) → Nulled table s store nulled → Nameable nulled reference names answer (s .count)
-    nameable nulled n =
+    pub nameable : {nulled : List ℕ} → Nulled table s store nulled → Nameable nulled reference names answer (s .count)
+    nameable n =
         record {
           good = n .stays .good;
           few = q .lines .few;
@@ -179,9 +185,9 @@ module _ (table store : List ℕ) (s : Stretch) (reference values rows names : L
               (subst (λ (ls : List ℕ). found .split .start + total (λ l. l) ls ≤ length reference) (sym (found .lengths (s .count) counted)) within);
         }
 
-    pub named : (nulled left : List ℕ) → Nulled table s store nulled → Naming nulled left reference names answer (s .count)
+    pub named : {nulled left : List ℕ} → Nulled table s store nulled → Naming nulled left reference names answer (s .count)
         → Searched true table store left s reference values rows names answer notes
-    named nulled left n m =
+    named {nulled} {left} n m =
         record {
           stays = stays-on (n .stays) (m .stays);
           finds =

@@ -8,9 +8,10 @@ use native.Mathlib.Nat.{add-zero}
 use native.Mathlib.Omega.{arith}
 use lib.Dec.{leb}
 use lib.ListN.{length, take, drop, getD, set, length-drop, take-append-drop}
-use lib.Seq.{drop-drop, length-take-le}
+use lib.Seq.{length-take-le}
 use Rattle.base.specs.Choice.{cond-cases}
 use Rattle.base.specs.Edition.{edition1}
+use Rattle.base.specs.ListLaws.{stretch-behind}
 use Rattle.base.specs.Lists.{total}
 use Rattle.calls.specs.BufferLaws.{good-short}
 use Rattle.calls.specs.Buffers.{numbersIn}
@@ -59,14 +60,10 @@ few-storing s v m = cond-cases (Few 0) (leb (length v) longestString) (λ _. ome
 -- a string is its three stretches
 stretches : (v : List ℕ) (from to : ℕ) → from ≤ to → take from v ++ (stretchOf v from to ++ drop to v) ≡ v
 stretches v from to h =
-    let on : from + (to - from) ≡ to = omega arith in
-    let behind : drop to v ≡ drop (to - from) (drop from v) = sym (drop-drop (to - from) from v ∙ ap (λ (k : ℕ). drop k v) on) in
-    ap (λ (l : List ℕ). take from v ++ (stretchOf v from to ++ l)) behind
-    ∙ ap (λ (l : List ℕ). take from v ++ l) (take-append-drop (to - from) (drop from v))
-    ∙ take-append-drop from v
+    ap (λ (l : List ℕ). take from v ++ l) (stretch-behind v from (to - from) to (omega arith)) ∙ take-append-drop from v
 
-module _ (table store state : List ℕ) (d : Direction) (at : Span) (pattern : Stretch) (reference values rows names : List ℕ) (notes : ℕ)
-    (kept scratch out : List ℕ) (q : Findable table store state d at pattern reference values rows names notes kept scratch out) where
+module _ {table store state : List ℕ} {d : Direction} {at : Span} {pattern : Stretch} {reference values rows names : List ℕ} {notes : ℕ}
+    {kept scratch out : List ℕ} (q : Findable table store state d at pattern reference values rows names notes kept scratch out) where
   abbrev vs : List Valued
   vs = q .put .valued
 
@@ -103,8 +100,8 @@ module _ (table store state : List ℕ) (d : Direction) (at : Span) (pattern : S
       }
 
   -- and the lengths of the pieces found be added up
-  pub found-counting : (left answer : List ℕ) → Finds true table store left pattern reference answer notes vs → Counting answer (pattern .count)
-  found-counting left answer f =
+  pub found-counting : {left answer : List ℕ} → Finds true table store left pattern reference answer notes vs → Counting answer (pattern .count)
+  found-counting {answer = answer} f =
       let n = f .by in
       let sum : total (λ l. l) (lengthsIn answer (pattern .count)) ≡ total (λ l. l) (n .split .lengths) = ap (total (λ l. l)) (n .lengths) in
       record { size = n .size; few = q .fillers .few; short = omega (arith, sum, n .pieces, searched-short) }
@@ -118,10 +115,10 @@ module _ (table store state : List ℕ) (d : Direction) (at : Span) (pattern : S
         ∙ ap (λ (l : List ℕ). noting notes (leaving edition1 way searched vs r nulled (scanOf vs l) (scanOf vs l .split))) (sym (q .turned-is))
 
     -- no split
-    pub missed-scans : (left answer : List ℕ) → Stays store left → Finds false table store left pattern reference answer notes vs
+    pub missed-scans : {left answer : List ℕ} → Stays store left → Finds false table store left pattern reference answer notes vs
         → Scans (scans.Fails notes) store left state answer (searchedRest table store state d at pattern r)
     unfolding leaving quietly noting
-    missed-scans left answer stays f =
+    missed-scans {left} stays f =
         let end : Memory → Left = λ m. record { memory = m; scanned = answered } in
         record {
           ended =
@@ -139,7 +136,7 @@ module _ (table store state : List ℕ) (d : Direction) (at : Span) (pattern : S
         }
 
     -- a split: its pieces are named, and the replacement is left
-    module _ (left answer : List ℕ) (n : Named table store left pattern reference answer vs) where
+    module _ {left answer : List ℕ} (n : Named table store left pattern reference answer vs) where
       split-rest : searchedRest table store state d at pattern r
           ≡ noting notes (replacing edition1 way searched (n .split) r (memoryIn left state)
           >>= λ m. quietly (record { memory = m; scanned = answered }))
@@ -151,17 +148,17 @@ module _ (table store state : List ℕ) (d : Direction) (at : Span) (pattern : S
           (ap (λ (l : List ℕ). naming vs (drop (n .split .start) l) (n .split .lengths) nulled) (sym (q .turned-is)) ∙ n .work (numbersIn state))
 
   -- a split, without a replacement
-  pub plain-scans : (left answer : List ℕ) → Stays store left → Finds true table store left pattern reference answer notes vs
+  pub plain-scans : {left answer : List ℕ} → Stays store left → Finds true table store left pattern reference answer notes vs
       → Scans (scans.Splits notes) store left state answer (searchedRest table store state d at pattern none)
   unfolding replacing quietly noting _>>=_
-  plain-scans left answer stays f =
+  plain-scans {left} stays f =
       record {
         ended =
             record {
               stays = stays;
               scanned = answered;
               work =
-                  split-rest none left answer (f .by)
+                  split-rest none (f .by)
                   ∙ ap (done (record { memory = memoryIn left state; scanned = answered })) (add-zero notes);
               answer-is = f .numbers;
             };
@@ -173,7 +170,7 @@ module _ (table store state : List ℕ) (d : Direction) (at : Span) (pattern : S
   no-filler : isFiller (at .place) (patternsMeaning table pattern) ≡ false
   no-filler = q .put .clear (at .place) (q .between .known) (q .fillers)
 
-  module _ (by : Stretch) (named answer : List ℕ) (stays : Stays store named) (f : Finds true table store named pattern reference answer notes vs) where
+  module _ (by : Stretch) {named answer : List ℕ} (stays : Stays store named) (f : Finds true table store named pattern reference answer notes vs) where
     abbrev n : Named table store named pattern reference answer vs
     n = f .by
 
@@ -191,7 +188,7 @@ module _ (table store state : List ℕ) (d : Direction) (at : Span) (pattern : S
         }
 
     -- the pieces that the answer tells of
-    module _ (start sum : ℕ) (starts : start ≡ getD answer 1 0) (sums : sum ≡ total (λ l. l) (lengthsIn answer (pattern .count))) where
+    module _ {start sum : ℕ} (starts : start ≡ getD answer 1 0) (sums : sum ≡ total (λ l. l) (lengthsIn answer (pattern .count))) where
       start-is : n .split .start ≡ start
       start-is = sym (starts ∙ n .start)
 
@@ -227,19 +224,19 @@ module _ (table store state : List ℕ) (d : Direction) (at : Span) (pattern : S
           ∙ ap₂ (λ (j k : ℕ). put (stringOf named (at .place)) (at .from) (at .to - at .from) j k) start-is sum-is
 
       -- with few notes
-      pub few-stored : (more : ℕ) (left : List ℕ) → Leaves (did.Done more) named left (numbersIn state) stored → more ≤ by .count
-      few-stored more left l =
+      pub few-stored : {more : ℕ} {left : List ℕ} → Leaves (did.Done more) named left (numbersIn state) stored → more ≤ by .count
+      few-stored l =
           let m = memoryIn named state in
           let few =
           few-bind (by .count) 0 (stringIn edition1 m (elementsMeaning table by)) _ (few-elements-spelt edition1 m table (by .from) (by .count))
           (λ v. few-storing (at .place) _ m) in
           omega (arith, few-done few (l .1))
 
-      pub replaced-scans : (more : ℕ) (left : List ℕ) → Leaves (did.Done more) named left (numbersIn state) stored
+      pub replaced-scans : {more : ℕ} {left : List ℕ} → Leaves (did.Done more) named left (numbersIn state) stored
           → Scans (scans.Splits (notes + more)) store left state (set answer 3 (notes + more))
           (searchedRest table store state d at pattern (some (elementsMeaning table by)))
       unfolding _>>=_ noting quietly
-      replaced-scans more left l =
+      replaced-scans {more} {left} l =
           let rest : (w : Work Memory) → Work Left = λ w. noting notes (w >>= λ m. quietly (record { memory = m; scanned = answered })) in
           let all : notes + (more + 0) ≡ notes + more = omega arith in
           record {
@@ -248,7 +245,7 @@ module _ (table store state : List ℕ) (d : Direction) (at : Span) (pattern : S
                   stays = stays-on stays (l .0);
                   scanned = answered;
                   work =
-                      split-rest (some (elementsMeaning table by)) named answer n
+                      split-rest (some (elementsMeaning table by)) n
                       ∙ ap rest (replacing-stored ∙ l .1)
                       ∙ ap (done (record { memory = memoryIn left state; scanned = answered })) all;
                   answer-is = ap (λ (b : List ℕ). set b 3 (notes + more)) (f .numbers) ∙ answer-noted answered notes (notes + more);
@@ -258,16 +255,16 @@ module _ (table store state : List ℕ) (d : Direction) (at : Span) (pattern : S
           }
 
       -- what stops it puts the fillers back
-      pub stopped-scans : (k : ℕ) (left back saved keeping answer′ : List ℕ) → Leaves (did.Stops k) named left (numbersIn state) stored
+      pub stopped-scans : {k : ℕ} {left back saved keeping : List ℕ} → Leaves (did.Stops k) named left (numbersIn state) stored
           → Copied table pattern store saved keeping → Copied table pattern keeping left back
-          → Scans (scans.Stops k) store back state answer′ (searchedRest table store state d at pattern (some (elementsMeaning table by)))
+          → Scans (scans.Stops k) store back state answer (searchedRest table store state d at pattern (some (elementsMeaning table by)))
       unfolding _>>=_ noting
-      stopped-scans k left back saved keeping answer′ l save restore =
+      stopped-scans {back = back} {saved} {keeping} l save restore =
           let rest : (w : Work Memory) → Work Left = λ w. noting notes (w >>= λ m. quietly (record { memory = m; scanned = answered })) in (
             put-back table pattern store saved keeping named back (q .ready .strings) save stays
                 (λ i h e.
                 n .others i e
                 (pattern-names edition1 (memoryIn store state) i (patternsMeaning table pattern) vs notes (q .put .work) e))
                 (subst (λ (s : List ℕ). Copied table pattern keeping s back) (l .0) restore),
-            split-rest (some (elementsMeaning table by)) named answer n ∙ ap rest (replacing-stored ∙ l .1),
+            split-rest (some (elementsMeaning table by)) n ∙ ap rest (replacing-stored ∙ l .1),
           )

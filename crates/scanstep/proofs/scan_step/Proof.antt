@@ -1,5 +1,5 @@
 -- `scan_step` meets its contract: there is no reference, or it is copied and searched. Assumes nothing.
-use mathlib.Core.Path.{refl, sym, subst}
+use mathlib.Core.Path.{_≡_, refl, sym, subst}
 use borrow.Author.Needs.{needs}
 use Rattle.expressions.specs.Memory.{memoryIn}
 use Rattle.machine.specs.Scanning.{searchedIn}
@@ -15,6 +15,16 @@ use Rattle.scanstep.proofs.scan_step.Tie as tie
 reference-ends-requires : tie.Need-reference-ends-requires
 reference-ends-requires c κs = search needs
 
+-- where the reference lies, or what stops the scan for it
+refers : (c : tie.After-reference-ends) {r : Reference} → c .reference-ends .result ≡ r
+    → (let a = c .before .before .before .before .before .before .before .before .args in
+    Refers r (a .store .now) (a .s .part) (searchedIn (memoryIn (a .store .now) (a .state .now)) (directionMeaning (a .s .direction)) (partMeaning (a .s .part))))
+refers c e =
+    let a = c .before .before .before .before .before .before .before .before .args in
+    subst (λ (r : Reference). Refers r (a .store .now) (a .s .part)
+    (searchedIn (memoryIn (a .store .now) (a .state .now)) (directionMeaning (a .s .direction)) (partMeaning (a .s .part))))
+    e (c .reference-ends .ensures)
+
 enum-known-place : tie.Need-enum-known-place
 enum-known-place c = search needs
 
@@ -22,11 +32,7 @@ copy-reference-requires : tie.Need-copy-reference-requires
 copy-reference-requires c κs =
     let told = c .before .before .before in
     let s = told .before .before .before .before .before .before .before .before .before .before in
-    let a = s .args in
-    let found =
-    subst (λ (r : Reference). Refers r (a .store .now) (a .s .part)
-    (searchedIn (memoryIn (a .store .now) (a .state .now)) (directionMeaning (a .s .direction)) (partMeaning (a .s .part))))
-    (told .place .given .1) (told .before .before .reference-ends .ensures) in
+    let found = refers (told .before .before) (told .place .given .1) in
     (s .pre .0 .ready .strings, found .between)
 
 scan-copied-requires : tie.Need-scan-copied-requires
@@ -35,10 +41,7 @@ scan-copied-requires c κs =
     let told = copied .before .before .before .before in
     let s = told .before .before .before .before .before .before .before .before .before .before in
     let a = s .args in
-    let found =
-    subst (λ (r : Reference). Refers r (a .store .now) (a .s .part)
-    (searchedIn (memoryIn (a .store .now) (a .state .now)) (directionMeaning (a .s .direction)) (partMeaning (a .s .part))))
-    (told .place .given .1) (told .before .before .reference-ends .ensures) in
+    let found = refers (told .before .before) (told .place .given .1) in
     let at : Span = record { place = told .place .given .0 .0; from = told .place .given .0 .1 .0; to = told .place .given .0 .1 .1 .0 } in
     let after = copied .copy-reference .last .1 .1 .1 .1 .1 .0 in
     let good = s .pre .0 .ready .strings in
@@ -84,10 +87,7 @@ returns c =
     let told = done .before .before .before .before .before .before .before .before .before .before .before .before .before .before .before in
     let s = told .before .before .before .before .before .before .before .before .before .before in
     let a = s .args in
-    let found =
-    subst (λ (r : Reference). Refers r (a .store .now) (a .s .part)
-    (searchedIn (memoryIn (a .store .now) (a .state .now)) (directionMeaning (a .s .direction)) (partMeaning (a .s .part))))
-    (told .place .given .1) (told .before .before .reference-ends .ensures) in
+    let found = refers (told .before .before) (told .place .given .1) in
     let at : Span = record { place = told .place .given .0 .0; from = told .place .given .0 .1 .0; to = told .place .given .0 .1 .1 .0 } in (
       record {
         scans =
@@ -106,10 +106,7 @@ returns-2 c =
     let s = told .before .before .before .before .before .before .before .before .before .before in
     let a = s .args in
     let k = told .k .given in
-    let stops =
-    subst (λ (r : Reference). Refers r (a .store .now) (a .s .part)
-    (searchedIn (memoryIn (a .store .now) (a .state .now)) (directionMeaning (a .s .direction)) (partMeaning (a .s .part))))
-    (k .1) (told .before .before .reference-ends .ensures) in
+    let stops = refers (told .before .before) (k .1) in
     (record { scans = (refl, scanning-stops (a .table .now) (a .store .now) (a .state .now) (a .s) (k .0 .0) stops) }, s .pre .1)
 
 pub scan-step-spec : {M : Type 1} → statement M

@@ -1,5 +1,4 @@
 -- `scan_valued` meets its contract: with a replacement or without one, with a split or without one. Assumes nothing.
-use mathlib.Core.Bool.{Bool}
 use mathlib.Core.Option.{none}
 use mathlib.Core.Path.{sym, subst}
 use borrow.Author.Needs.{needs}
@@ -7,7 +6,7 @@ use Rattle.rows.specs.Holds.{ReplacementHolds}
 use Rattle.rows.specs.Meaning.{replacementMeaning}
 use Rattle.rows.specs.declared.Replacement.{Replacement}
 use Rattle.scanstep.specs.Scans.{Scans}
-use Rattle.scanstep.specs.Searches.{Finds}
+use Rattle.scanstep.specs.SearchLaws.{finds-as}
 use Rattle.scanstep.specs.StageLaws.{findable-searchable, missed-scans, plain-scans}
 use Rattle.scanstep.specs.Stages.{Found, searchedRest}
 use Rattle.scanstep.specs.declared.Scanned.the-variants as scans
@@ -19,10 +18,7 @@ enum-told c = search needs
 
 find-split-requires : tie.Need-find-split-requires
 find-split-requires c κs =
-    let s = c .before .before .before .before .before .before .before .before .before .before .before .before in
-    let a = s .args in
-    findable-searchable (a .table .now) (a .store .now) (a .state .now) (a .s .direction) (a .at) (a .s .pattern) (a .reference .now) (a .values .now) (a .rows .now) (a .names .now)
-    (a .notes) (a .kept .now) (a .scratch .now) (a .out .now) (s .pre .0)
+    findable-searchable (c .before .before .before .before .before .before .before .before .before .before .before .before .pre .0)
 
 same-length : tie.Need-same-length
 same-length c = search needs
@@ -40,11 +36,8 @@ returns c =
           subst (λ (x : Replacement). Scans (scans.Splits (a .notes)) (a .store .now) named (a .state .now) answer
           (searchedRest (a .table .now) (a .store .now) (a .state .now) (a .s .direction) (a .at) (a .s .pattern) (replacementMeaning (a .table .now) x)))
           (sym (told .enum-told .given .1))
-          (plain-scans (a .table .now) (a .store .now) (a .state .now) (a .s .direction) (a .at) (a .s .pattern) (a .reference .now) (a .values .now) (a .rows .now) (a .names .now)
-          (a .notes) (a .kept .now) (a .scratch .now) (a .out .now) (s .pre .0)
-          named answer (sought .find-split .ensures .stays)
-          (subst (λ (b : Bool). Finds b (a .table .now) (a .store .now) named (a .s .pattern) (a .reference .now) answer (a .notes) (s .pre .0 .put .valued))
-          (c .if1 .taken) (sought .find-split .ensures .finds (s .pre .0 .put .valued) (s .pre .0 .put .rows-are))));
+          (plain-scans (s .pre .0) (sought .find-split .ensures .stays)
+          (finds-as (sought .find-split .ensures) (c .if1 .taken) (s .pre .0 .put .rows-are)));
       good = s .pre .0 .good;
       spare = s .pre .0 .spare;
       room = s .pre .0 .room;
@@ -75,11 +68,8 @@ returns-2 c =
           subst (λ (x : Replacement). Scans (scans.Fails (a .notes)) (a .store .now) named (a .state .now) answer
           (searchedRest (a .table .now) (a .store .now) (a .state .now) (a .s .direction) (a .at) (a .s .pattern) (replacementMeaning (a .table .now) x)))
           (sym (told .enum-told .given .1))
-          (missed-scans (a .table .now) (a .store .now) (a .state .now) (a .s .direction) (a .at) (a .s .pattern) (a .reference .now) (a .values .now) (a .rows .now) (a .names .now)
-          (a .notes) (a .kept .now) (a .scratch .now) (a .out .now) (s .pre .0)
-          none named answer (sought .find-split .ensures .stays)
-          (subst (λ (b : Bool). Finds b (a .table .now) (a .store .now) named (a .s .pattern) (a .reference .now) answer (a .notes) (s .pre .0 .put .valued))
-          (c .if1 .left) (sought .find-split .ensures .finds (s .pre .0 .put .valued) (s .pre .0 .put .rows-are))));
+          (missed-scans (s .pre .0) none (sought .find-split .ensures .stays)
+          (finds-as (sought .find-split .ensures) (c .if1 .left) (s .pre .0 .put .rows-are)));
       good = s .pre .0 .good;
       spare = s .pre .0 .spare;
       room = s .pre .0 .room;

@@ -28,10 +28,7 @@ returns c =
     let scanned = c .before .before in
     let nulled = scanned .before .before .before .before in
     let s = nulled .before .before .before .before .before .before .before .before in
-    let a = s .args in
-    missed (a .table .now) (a .store .now) (a .pattern) (a .reference .now) (a .values .now) (a .rows .now) (a .names .now) (s .pre) (a .notes)
-    (set (scanned .scan-into .last .1 .1 .1 .1 .0) 3 (a .notes)) (ap (λ (l : List ℕ). set l 3 (a .notes)) (scanned .scan-into .ensures))
-    (c .if1 .taken) (nulled .null-fillers .last .1 .0) (nulled .null-fillers .ensures)
+    missed (s .pre) (s .args .notes) (ap (λ (l : List ℕ). set l 3 (s .args .notes)) (scanned .scan-into .ensures)) (c .if1 .taken) (nulled .null-fillers .ensures)
 
 name-fillers-requires : tie.Need-name-fillers-requires
 name-fillers-requires c κs =
@@ -39,10 +36,7 @@ name-fillers-requires c κs =
     let scanned = tested .before .before in
     let nulled = scanned .before .before .before .before in
     let s = nulled .before .before .before .before .before .before .before .before in
-    let a = s .args in
-    nameable (a .table .now) (a .store .now) (a .pattern) (a .reference .now) (a .values .now) (a .rows .now) (a .names .now) (s .pre) (a .notes)
-    (set (scanned .scan-into .last .1 .1 .1 .1 .0) 3 (a .notes)) (ap (λ (l : List ℕ). set l 3 (a .notes)) (scanned .scan-into .ensures))
-    (tested .if1 .left) (nulled .null-fillers .last .1 .0) (nulled .null-fillers .ensures)
+    nameable (s .pre) (s .args .notes) (ap (λ (l : List ℕ). set l 3 (s .args .notes)) (scanned .scan-into .ensures)) (tested .if1 .left) (nulled .null-fillers .ensures)
 
 same-length-2 : tie.Need-same-length-2
 same-length-2 c = search needs
@@ -54,10 +48,7 @@ returns-2 c =
     let scanned = tested .before .before in
     let nulled = scanned .before .before .before .before in
     let s = nulled .before .before .before .before .before .before .before .before in
-    let a = s .args in
-    named (a .table .now) (a .store .now) (a .pattern) (a .reference .now) (a .values .now) (a .rows .now) (a .names .now) (s .pre) (a .notes)
-    (set (scanned .scan-into .last .1 .1 .1 .1 .0) 3 (a .notes)) (ap (λ (l : List ℕ). set l 3 (a .notes)) (scanned .scan-into .ensures))
-    (tested .if1 .left) (nulled .null-fillers .last .1 .0) (after .name-fillers .last .0) (nulled .null-fillers .ensures) (after .name-fillers .ensures)
+    named (s .pre) (s .args .notes) (ap (λ (l : List ℕ). set l 3 (s .args .notes)) (scanned .scan-into .ensures)) (tested .if1 .left) (nulled .null-fillers .ensures) (after .name-fillers .ensures)
 
 pub find-split-spec : {M : Type 1} → statement M
 find-split-spec =

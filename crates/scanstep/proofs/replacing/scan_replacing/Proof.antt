@@ -1,6 +1,6 @@
 -- `replacing::scan_replacing` meets its contract: there is no split, the replacement takes the place of its pieces, or it stops and the
 -- fillers are put back. Assumes nothing.
-use mathlib.Core.Bool.{Bool, true}
+use mathlib.Core.Bool.{true}
 use mathlib.Core.Option.{some}
 use mathlib.Core.Path.{_≡_, sym, subst}
 use Prim.Native.Nat.{_-_}
@@ -14,8 +14,8 @@ use Rattle.statements.specs.Leaving.{Leaves}
 use Rattle.statements.specs.Replacing.{storedTurned}
 use Rattle.statements.specs.ReplacingLaws.{foundFrom, foundTo}
 use Rattle.statements.specs.declared.Did.{Did}
-use Rattle.statements.specs.declared.Did.the-variants as did
 use Rattle.values.specs.Work.{Work}
+use Rattle.scanstep.specs.SearchLaws.{finds-as}
 use Rattle.scanstep.specs.Searches.{Finds}
 use Rattle.scanstep.specs.StageLaws.{between-still, few-stored, findable-searchable, found-counting, missed-scans, pieces-inside}
 use Rattle.scanstep.specs.StageLaws.{replaced-scans, stopped-scans}
@@ -29,10 +29,7 @@ finds : (c : tie.Then1)
     (c .before .before .before .before .before .before .before .before .before .before .before .before .before .before .before .before .before .before .args .notes) (c .before .before .before .before .before .before .before .before .before .before .before .before .before .before .before .before .before .before .pre .0 .put .valued)
 finds c =
     let sought = c .before .before .before in
-    let s = sought .before .before .before .before .before .before .before .before .before .before .before .before .before .before .before in
-    let a = s .args in
-    subst (λ (b : Bool). Finds b (a .table .now) (a .store .now) (sought .find-split .last .1 .0) (a .pattern) (a .reference .now) (sought .find-split .last .1 .1 .1 .1 .1 .1 .1 .1 .0) (a .notes) (s .pre .0 .put .valued))
-    (c .if1 .taken) (sought .find-split .ensures .finds (s .pre .0 .put .valued) (s .pre .0 .put .rows-are))
+    finds-as (sought .find-split .ensures) (c .if1 .taken) (sought .before .before .before .before .before .before .before .before .before .before .before .before .before .before .before .pre .0 .put .rows-are)
 
 -- the work of the replacement
 abbrev stored-pieces : tie.After-replace-pieces → Work Memory
@@ -47,10 +44,10 @@ stored-pieces c =
     (foundTo way (a .at .from) size (c .before .before .before .before .before .before .before .start-of .result) (c .before .before .before .before .pieces-length .result)) (a .s)
 
 -- the replacement took the place of the pieces, or stopped
-leaves : (c : tie.After-replace-pieces) (r : Did) → c .replace-pieces .result ≡ r
+leaves : (c : tie.After-replace-pieces) {r : Did} → c .replace-pieces .result ≡ r
     → Leaves r (c .before .before .before .before .before .before .before .before .before .before .before .before .before .find-split .last .1 .0) (c .replace-pieces .last .1 .0) (numbersIn (c .before .before .before .before .before .before .before .before .before .before .before .before .before .before .before .before .before .before .before .before .before .before .before .before .before .before .before .before .args .state .now))
     (stored-pieces c)
-leaves c r e =
+leaves c e =
     subst (λ (x : Did). Leaves x (c .before .before .before .before .before .before .before .before .before .before .before .before .before .find-split .last .1 .0) (c .replace-pieces .last .1 .0) (numbersIn (c .before .before .before .before .before .before .before .before .before .before .before .before .before .before .before .before .before .before .before .before .before .before .before .before .before .before .before .before .args .state .now)) (stored-pieces c)) e
     (c .replace-pieces .ensures .leaves)
 
@@ -60,9 +57,7 @@ copy-fillers-requires c κs = search needs
 find-split-requires : tie.Need-find-split-requires
 find-split-requires c κs =
     let s = c .before .before .before .before .before .before .before .before .before .before .before .before .before .before in
-    let a = s .args in
-    findable-searchable (a .table .now) (a .store .now) (a .state .now) (a .d) (a .at) (a .pattern) (a .reference .now) (a .values .now) (a .rows .now) (a .names .now) (a .notes)
-    (a .kept .now) (a .scratch .now) (a .out .now) (s .pre .0)
+    findable-searchable (s .pre .0)
 
 start-of-requires : tie.Need-start-of-requires
 start-of-requires c κs = search needs
@@ -71,10 +66,7 @@ pieces-length-requires : tie.Need-pieces-length-requires
 pieces-length-requires c κs =
     let tested = c .before .before .before .before .before in
     let s = tested .before .before .before .before .before .before .before .before .before .before .before .before .before .before .before .before .before .before in
-    let a = s .args in
-    found-counting (a .table .now) (a .store .now) (a .state .now) (a .d) (a .at) (a .pattern) (a .reference .now) (a .values .now) (a .rows .now) (a .names .now) (a .notes)
-    (a .kept .now) (a .scratch .now) (a .out .now) (s .pre .0)
-    (tested .before .before .before .find-split .last .1 .0) (tested .before .before .before .find-split .last .1 .1 .1 .1 .1 .1 .1 .1 .0) (finds tested)
+    found-counting (s .pre .0) (finds tested)
 
 replace-pieces-requires : tie.Need-replace-pieces-requires
 replace-pieces-requires c κs =
@@ -84,8 +76,6 @@ replace-pieces-requires c κs =
     let sought = tested .before .before .before in
     let s = sought .before .before .before .before .before .before .before .before .before .before .before .before .before .before .before in
     let a = s .args in
-    let named = sought .find-split .last .1 .0 in
-    let answer = sought .find-split .last .1 .1 .1 .1 .1 .1 .1 .1 .0 in
     let stays = sought .find-split .ensures .stays in (
       record {
         bytes = s .pre .0 .bytes;
@@ -95,12 +85,8 @@ replace-pieces-requires c κs =
         room = s .pre .0 .room;
       },
       (
-        between-still (a .table .now) (a .store .now) (a .state .now) (a .d) (a .at) (a .pattern) (a .reference .now) (a .values .now) (a .rows .now) (a .names .now) (a .notes)
-            (a .kept .now) (a .scratch .now) (a .out .now) (s .pre .0)
-            (a .s) named answer stays (finds tested),
-        pieces-inside (a .table .now) (a .store .now) (a .state .now) (a .d) (a .at) (a .pattern) (a .reference .now) (a .values .now) (a .rows .now) (a .names .now) (a .notes)
-            (a .kept .now) (a .scratch .now) (a .out .now) (s .pre .0)
-            (a .s) named answer stays (finds tested) (started .start-of .result) (summed .pieces-length .result) (started .start-of .ensures)
+        between-still (s .pre .0) (a .s) stays (finds tested),
+        pieces-inside (s .pre .0) (a .s) stays (finds tested) (started .start-of .ensures)
             (summed .pieces-length .ensures),
       ),
     )
@@ -118,11 +104,7 @@ add-all c =
     let s = sought .before .before .before .before .before .before .before .before .before .before .before .before .before .before .before in
     let a = s .args in
     let more =
-    few-stored (a .table .now) (a .store .now) (a .state .now) (a .d) (a .at) (a .pattern) (a .reference .now) (a .values .now) (a .rows .now) (a .names .now) (a .notes)
-    (a .kept .now) (a .scratch .now) (a .out .now) (s .pre .0)
-    (a .s) (sought .find-split .last .1 .0) (sought .find-split .last .1 .1 .1 .1 .1 .1 .1 .1 .0) (sought .find-split .ensures .stays) (finds tested) (started .start-of .result)
-    (summed .pieces-length .result) (started .start-of .ensures) (summed .pieces-length .ensures) (c .before .more .given .0 .0)
-    (put .replace-pieces .last .1 .0) (leaves put (did.Done (c .before .more .given .0 .0)) (c .before .more .given .1)) in
+    few-stored (s .pre .0) (a .s) (sought .find-split .ensures .stays) (finds tested) (started .start-of .ensures) (summed .pieces-length .ensures) (leaves put (c .before .more .given .1)) in
     record { fits = omega (arith, more, s .pre .0 .put .few, s .pre .0 .fillers .few, s .pre .1 .few) }
 
 element-write-answer : tie.Need-element-write-answer
@@ -136,7 +118,7 @@ copy-fillers-requires-2 c κs =
     let put = c .before .before .before .before .before .before .before in
     let kept = put .before .before .before .before .before .before .before .before .before .before .before .before .before .before .before .before .before .before in
     let s = kept .before .before .before .before .before .before .before .before .before .before in
-    let stopped = leaves put (did.Stops (c .before .before .before .k .given .0 .0)) (c .before .before .before .k .given .1) in
+    let stopped = leaves put (c .before .before .before .k .given .1) in
     let saved : Good (kept .copy-fillers .last .1 .1 .0) = kept .copy-fillers .ensures .stays .good in
     let left : Good (put .replace-pieces .last .1 .0) = subst Good (sym (stopped .0)) (put .before .before .before .before .before .before .before .before .before .before .before .before .before .find-split .ensures .stays .good) in
     record { bytes = s .pre .0 .bytes; inside = s .pre .0 .fillers .inside; source = search needs; good = search needs }
@@ -159,11 +141,7 @@ returns c =
     let a = s .args in
     record {
       scans =
-          replaced-scans (a .table .now) (a .store .now) (a .state .now) (a .d) (a .at) (a .pattern) (a .reference .now) (a .values .now) (a .rows .now) (a .names .now) (a .notes)
-          (a .kept .now) (a .scratch .now) (a .out .now) (s .pre .0)
-          (a .s) (sought .find-split .last .1 .0) (sought .find-split .last .1 .1 .1 .1 .1 .1 .1 .1 .0) (sought .find-split .ensures .stays) (finds tested) (started .start-of .result)
-          (summed .pieces-length .result) (started .start-of .ensures) (summed .pieces-length .ensures) (c .before .more .given .0 .0)
-          (put .replace-pieces .last .1 .0) (leaves put (did.Done (c .before .more .given .0 .0)) (c .before .more .given .1));
+          replaced-scans (s .pre .0) (a .s) (sought .find-split .ensures .stays) (finds tested) (started .start-of .ensures) (summed .pieces-length .ensures) (leaves put (c .before .more .given .1));
       good = kept .copy-fillers .ensures .stays .good;
       spare = put .replace-pieces .ensures .spare;
       room = put .replace-pieces .ensures .room;
@@ -190,12 +168,7 @@ returns-2 c =
     let k = c .before .before .before .before .before .before .k .given in
     record {
       scans =
-          stopped-scans (a .table .now) (a .store .now) (a .state .now) (a .d) (a .at) (a .pattern) (a .reference .now) (a .values .now) (a .rows .now) (a .names .now) (a .notes)
-          (a .kept .now) (a .scratch .now) (a .out .now) (s .pre .0)
-          (a .s) (sought .find-split .last .1 .0) (sought .find-split .last .1 .1 .1 .1 .1 .1 .1 .1 .0) (sought .find-split .ensures .stays) (finds tested) (started .start-of .result)
-          (summed .pieces-length .result) (started .start-of .ensures) (summed .pieces-length .ensures) (k .0 .0)
-          (put .replace-pieces .last .1 .0) (back .copy-fillers2 .last .1 .1 .0) (a .kept .now) (kept .copy-fillers .last .1 .1 .0) (sought .find-split .last .1 .1 .1 .1 .1 .1 .1 .1 .0)
-          (leaves put (did.Stops (k .0 .0)) (k .1)) (kept .copy-fillers .ensures) (back .copy-fillers2 .ensures);
+          stopped-scans (s .pre .0) (a .s) (sought .find-split .ensures .stays) (finds tested) (started .start-of .ensures) (summed .pieces-length .ensures) (leaves put (k .1)) (kept .copy-fillers .ensures) (back .copy-fillers2 .ensures);
       good = kept .copy-fillers .ensures .stays .good;
       spare = put .replace-pieces .ensures .spare;
       room = put .replace-pieces .ensures .room;
@@ -215,11 +188,8 @@ returns-3 c =
     let a = s .args in
     record {
       scans =
-          missed-scans (a .table .now) (a .store .now) (a .state .now) (a .d) (a .at) (a .pattern) (a .reference .now) (a .values .now) (a .rows .now) (a .names .now) (a .notes)
-          (a .kept .now) (a .scratch .now) (a .out .now) (s .pre .0)
-          (some (elementsMeaning (a .table .now) (a .s))) (sought .find-split .last .1 .0) (sought .find-split .last .1 .1 .1 .1 .1 .1 .1 .1 .0) (sought .find-split .ensures .stays)
-          (subst (λ (b : Bool). Finds b (a .table .now) (a .store .now) (sought .find-split .last .1 .0) (a .pattern) (a .reference .now) (sought .find-split .last .1 .1 .1 .1 .1 .1 .1 .1 .0) (a .notes) (s .pre .0 .put .valued))
-          (c .if1 .left) (sought .find-split .ensures .finds (s .pre .0 .put .valued) (s .pre .0 .put .rows-are)));
+          missed-scans (s .pre .0) (some (elementsMeaning (a .table .now) (a .s))) (sought .find-split .ensures .stays)
+          (finds-as (sought .find-split .ensures) (c .if1 .left) (s .pre .0 .put .rows-are));
       good = kept .copy-fillers .ensures .stays .good;
       spare = s .pre .0 .spare;
       room = s .pre .0 .room;
