@@ -1,5 +1,4 @@
 -- Laws of a pattern's rows: one row more, and all of them. Assumes nothing.
-use mathlib.Core.Option.{none}
 use mathlib.Core.List.{List, [], _∷_, _++_, map, map-append}
 use mathlib.Core.Path.{_≡_, refl, sym, ap, ap₂, subst, _∙_}
 use Prim.Native.Nat.{ℕ, zero, suc, _+_, _*_, _-_, _≤_, _<_, _^_}
@@ -18,7 +17,7 @@ use Rattle.scan.specs.Rows.{rowOf, rowElement, elementOf, elementsAt, patternOf
 use Rattle.scan.specs.declared.Element as Lines
 use Rattle.scan.specs.declared.Element.the-variants as lines
 use Rattle.scanning.specs.Splits.{Element, string, fixed, free}
-use Rattle.statements.specs.Fillers.{nameOf, Names}
+use Rattle.statements.specs.Fillers.{nameOf, nobody, Names}
 use Rattle.statements.specs.Leaving.{Spells}
 use Rattle.scanstep.specs.Patterns.{rowed, valuesOf, RowPut, StringPutting, Rowed}
 
@@ -147,9 +146,6 @@ module _ (values rows names : List ℕ) (i : ℕ) (vs : List Valued) (p : Rowed 
         → Names namesLeft (vs ++ (v ∷ []))
     names-more place e size is = record { each = each }
       where
-        nobody : Valued
-        nobody = record { names = none; element = free }
-
         each : (j : ℕ) → j < length (vs ++ (v ∷ [])) → getD (vs ++ (v ∷ [])) j nobody .names ≡ nameOf (getD namesLeft j 0)
         each j h =
             test-cases (λ _. getD (vs ++ (v ∷ [])) j nobody .names ≡ nameOf (getD namesLeft j 0)) (eqb j i)

@@ -4,10 +4,9 @@ use mathlib.Core.List.{List, [], _∷_, _++_, map, map-map}
 use mathlib.Core.Option.{Option, none, some}
 use mathlib.Core.Path.{_≡_, refl, sym, ap, ap₂, subst, _∙_}
 use Prim.Native.Nat.{ℕ, zero, suc, _+_, _-_, _≤_, _<_}
-use native.Mathlib.Numerals.{add-one}
 use native.Mathlib.Omega.{arith}
 use lib.ListN.{length, drop, getD, set, replicate, length-append, length-drop, length-replicate, drop-of-length-le}
-use lib.Seq.{drop-cons, getD-drop, getD-take, length-take-le, take-at}
+use lib.Seq.{length-take-le, take-at}
 use Rattle.base.specs.Lists.{total}
 use Rattle.machine.specs.Scanning.{Valued, naming}
 use Rattle.rows.specs.declared.Stretch.{Stretch}
@@ -17,7 +16,7 @@ use Rattle.scanning.specs.FirstFit.{scan-first-fit}
 use Rattle.scanning.specs.Laws.{fits-count}
 use Rattle.scanning.specs.Splits.{Element, FirstFit, Fits, PiecesFit, Split}
 use Rattle.scanning.specs.Trials.{Scanned, scan}
-use Rattle.statements.specs.FillerLaws.{stays-on}
+use Rattle.statements.specs.FillerLaws.{next-length, stays-on}
 use Rattle.statements.specs.Fillers.{Nameable, Naming, Nulled, lengthsIn}
 use Rattle.statements.specs.Leaving.{memoryOf}
 use Rattle.statements.specs.OtherLaws.{others-stay}
@@ -25,16 +24,7 @@ use Rattle.scanstep.specs.LongLaws.{scan-rowed}
 use Rattle.scanstep.specs.Patterns.{Rowed, rowed}
 use Rattle.scanstep.specs.Searches.{Finds, Searchable, Searched, scanOf}
 
--- the next of a split's lengths
-next-length : (answer : List ℕ) (count i : ℕ) → length answer ≡ 24 → count ≤ 20 → i < count
-    → drop i (lengthsIn answer count) ≡ getD answer (4 + i) 0 ∷ drop (i + 1) (lengthsIn answer count)
-next-length answer count i size few h =
-    let ls = lengthsIn answer count in
-    let long : length ls ≡ count = length-take-le count (drop 4 answer) (omega (arith, length-drop 4 answer)) in
-    drop-cons ls i 0 (omega arith)
-    ∙ ap₂ (λ (l j : ℕ). l ∷ drop j ls) (getD-take count (drop 4 answer) i 0 h ∙ getD-drop 4 answer i 0) (sym (add-one i))
-
--- the sum of the lengths from it on
+-- the sum of a split's lengths from one on
 pub total-next : (answer : List ℕ) (count i : ℕ) → length answer ≡ 24 → count ≤ 20 → i < count
     → total (λ l. l) (drop i (lengthsIn answer count)) ≡ getD answer (4 + i) 0 + total (λ l. l) (drop (i + 1) (lengthsIn answer count))
 unfolding total

@@ -3,16 +3,17 @@ use mathlib.Core.Bool.{Bool, true, false, cond, _||_}
 use mathlib.Core.List.{List, [], _∷_, _++_}
 use mathlib.Core.Option.{none, some}
 use mathlib.Core.Path.{_≡_, refl, sym, ap, ap₂, subst, _∙_}
-use Prim.Native.Nat.{ℕ, suc, _+_, _*_, _-_, _≤_, _<_}
+use Prim.Native.Nat.{ℕ, _+_, _*_, _-_, _≤_, _<_}
 use native.Mathlib.Nat.{min-le-right}
 use native.Mathlib.Numerals.{add-one}
 use native.Mathlib.Omega.{arith}
 use lib.Dec.{eqb, ltb}
 use lib.IntN.{ℤ}
 use lib.ListN.{length, take, drop, getD, set, length-drop, length-take, drop-of-length-le}
-use lib.Seq.{ext-getD, getD-set-other, getD-set-same, drop-cons, drop-drop, getD-drop, getD-take, length-take-le, set-out}
+use lib.Seq.{ext-getD, getD-set-other, getD-set-same, drop-cons, drop-drop, set-out}
 use borrow.Author.Tests.{eqb-false, eqb-true, ltb-false, ltb-true, ne-eqb}
 use Rattle.base.specs.Choice.{test-cases}
+use Rattle.base.specs.ListLaws.{getD-stretch, length-stretch}
 use Rattle.base.specs.Lists.{total}
 use Rattle.calls.specs.BufferLaws.{Good, good-image, good-short, storeWith, count-strings, with-strings}
 use Rattle.calls.specs.Buffers.{storeImage, storeSize, stringsIn}
@@ -25,8 +26,7 @@ use Rattle.machine.specs.Scanning.{Valued, named, naming, withoutFillers}
 use Rattle.machine.specs.State.{withString}
 use Rattle.rows.specs.Meaning.{patternsMeaning}
 use Rattle.rows.specs.declared.Stretch.{Stretch}
-use Rattle.scanning.specs.Splits.{free}
-use Rattle.statements.specs.Fillers.{fillerOf, nameOf, renamed, lengthsIn, Nameable, Names, Naming, Nulled, Patterned, Copied, Copying, isFiller}
+use Rattle.statements.specs.Fillers.{fillerOf, nameOf, nobody, renamed, lengthsIn, Nameable, Names, Naming, Nulled, Patterned, Copied, Copying, isFiller}
 use Rattle.statements.specs.Laws.{left-is, stays-same, stays-with}
 use Rattle.statements.specs.Leaving.{memoryOf, Stays}
 
@@ -78,14 +78,14 @@ pub record Nulls (table : List ℕ) (from count : ℕ) (store : List ℕ) (at le
   pub work : (numbers : List ℤ) → withoutFillers (patternFrom table from count) (memoryOf store numbers)
       ≡ withoutFillers (patternFrom table at left) (memoryOf now numbers)
 
-pub nulls-none : (table : List ℕ) (s : Stretch) (store : List ℕ) → Patterned table store s → Nulls table (s .from) (s .count) store (s .from) (s .count) store
-nulls-none table s store p = record { stays = stays-same store (p .good); inside = p .inside; work = λ numbers. refl }
+pub nulls-none : {table : List ℕ} {s : Stretch} {store : List ℕ} → Patterned table store s → Nulls table (s .from) (s .count) store (s .from) (s .count) store
+nulls-none {store = store} p = record { stays = stays-same store (p .good); inside = p .inside; work = λ numbers. refl }
 
-module _ (table : List ℕ) (s : Stretch) (store : List ℕ) (at left : ℕ) (now : List ℕ)
+module _ {table : List ℕ} (s : Stretch) {store : List ℕ} {at left : ℕ} {now : List ℕ}
     (p : Nulls table (s .from) (s .count) store at left now) where
-  pub nulls-more : 0 < left → (x : ℕ) → x ≡ fillerOf (patternOfCell table (cellAt table (elementsAt + 8 * at)))
-      → (after : List ℕ) → after ≡ renamed now x [] → Nulls table (s .from) (s .count) store (at + 1) (left - 1) after
-  nulls-more h x e after is =
+  pub nulls-more : 0 < left → {x : ℕ} → x ≡ fillerOf (patternOfCell table (cellAt table (elementsAt + 8 * at)))
+      → {after : List ℕ} → after ≡ renamed now x [] → Nulls table (s .from) (s .count) store (at + 1) (left - 1) after
+  nulls-more h {x} e is =
       let cell = patternOfCell table (cellAt table (elementsAt + 8 * at)) in
       let rest = patternFrom table (at + 1) (left - 1) in
       record {
@@ -112,8 +112,13 @@ module _ (table : List ℕ) (s : Stretch) (store : List ℕ) (at left : ℕ) (no
             p .work numbers ∙ ap (λ (n : ℕ). withoutFillers (patternFrom table at n) (memoryOf now numbers)) none;
       }
 
-abbrev nobody : Valued
-nobody = record { names = none; element = free }
+-- the next of a split's lengths
+pub next-length : (answer : List ℕ) (count i : ℕ) → length answer ≡ 24 → count ≤ 20 → i < count
+    → drop i (lengthsIn answer count) ≡ getD answer (4 + i) 0 ∷ drop (i + 1) (lengthsIn answer count)
+next-length answer count i size few h =
+    let ls = lengthsIn answer count in
+    let long : length ls ≡ count = length-stretch answer 4 count (omega arith) in
+    drop-cons ls i 0 (omega arith) ∙ ap₂ (λ (l j : ℕ). l ∷ drop j ls) (getD-stretch answer 4 count i h) (sym (add-one i))
 
 -- the pieces from i on are to be named, the first of them at a place of the reference
 pub record Namings (store reference names answer : List ℕ) (count at i : ℕ) (now : List ℕ) : Type 0 where
@@ -124,9 +129,9 @@ pub record Namings (store reference names answer : List ℕ) (count at i : ℕ) 
       → naming vs (drop (getD answer 1 0) reference) (lengthsIn answer count) (memoryOf store numbers)
       ≡ naming (drop i vs) (drop at reference) (drop i (lengthsIn answer count)) (memoryOf now numbers)
 
-pub namings-none : (store reference names answer : List ℕ) (count at : ℕ) → Nameable store reference names answer count
+pub namings-none : {store reference names answer : List ℕ} {count at : ℕ} → Nameable store reference names answer count
     → at ≡ getD answer 1 0 → Namings store reference names answer count at 0 store
-namings-none store reference names answer count at p e =
+namings-none {store} {reference} {answer = answer} {count} p e =
     record {
       stays = stays-same store (p .good);
       most = omega arith;
@@ -136,26 +141,19 @@ namings-none store reference names answer count at p e =
           ap (λ (j : ℕ). naming vs (drop j reference) (lengthsIn answer count) (memoryOf store numbers)) (sym e);
     }
 
-module _ (store reference names answer : List ℕ) (count at i : ℕ) (now : List ℕ) (q : Nameable store reference names answer count)
+module _ {store reference names answer : List ℕ} {count at i : ℕ} {now : List ℕ} (q : Nameable store reference names answer count)
     (p : Namings store reference names answer count at i now) where
   -- the next piece
-  pub next-length : i < count → drop i (lengthsIn answer count) ≡ getD answer (4 + i) 0 ∷ drop (suc i) (lengthsIn answer count)
-  next-length h =
-      let size : length (lengthsIn answer count) ≡ count =
-      length-take-le count (drop 4 answer) (omega (arith, length-drop 4 answer, q .size, q .few)) in
-      drop-cons (lengthsIn answer count) i 0 (omega arith)
-      ∙ ap (λ (l : ℕ). l ∷ drop (suc i) (lengthsIn answer count)) (getD-take count (drop 4 answer) i 0 h ∙ getD-drop 4 answer i 0)
-
-  pub next-inside : i < count → at + (getD answer (4 + i) 0 + total (λ l. l) (drop (suc i) (lengthsIn answer count))) ≤ length reference
+  pub next-inside : i < count → at + (getD answer (4 + i) 0 + total (λ l. l) (drop (i + 1) (lengthsIn answer count))) ≤ length reference
   unfolding total
   next-inside h =
-      subst (λ (ls : List ℕ). at + total (λ l. l) ls ≤ length reference) (next-length h) (p .inside)
+      subst (λ (ls : List ℕ). at + total (λ l. l) ls ≤ length reference) (next-length answer count i (q .size) (q .few) h) (p .inside)
 
-  pub namings-more : i < count → (l : ℕ) → l ≡ getD answer (4 + i) 0 → (after : List ℕ)
+  pub namings-more : i < count → {l : ℕ} → l ≡ getD answer (4 + i) 0 → {after : List ℕ}
       → after ≡ renamed now (getD names i 0) (take (at + l - at) (drop at reference))
       → Namings store reference names answer count (at + l) (i + 1) after
   unfolding naming
-  namings-more h l e after is =
+  namings-more h {l} e {after} is =
       let ls = lengthsIn answer count in
       let piece = take l (drop at reference) in
       let cut : at + l - at ≡ l = omega arith in
@@ -165,10 +163,9 @@ module _ (store reference names answer : List ℕ) (count at i : ℕ) (now : Lis
       is ∙ ap (λ (n : ℕ). renamed now (getD names i 0) (take n (drop at reference))) cut in
       let behind : drop l (drop at reference) ≡ drop (at + l) reference = drop-drop l at reference in
       let lengths : drop i ls ≡ l ∷ drop (i + 1) ls =
-      next-length h ∙ ap₂ (λ (x j : ℕ). x ∷ drop j ls) (sym e) (sym (add-one i)) in
+      next-length answer count i (q .size) (q .few) h ∙ ap (λ (x : ℕ). x ∷ drop (i + 1) ls) (sym e) in
       let rest : at + (l + total (λ x. x) (drop (i + 1) ls)) ≤ length reference =
-      subst (λ (j : ℕ). at + (l + total (λ x. x) (drop j ls)) ≤ length reference) (sym (add-one i))
-      (subst (λ (x : ℕ). at + (x + total (λ y. y) (drop (suc i) ls)) ≤ length reference) (sym e) (next-inside h)) in
+      subst (λ (x : ℕ). at + (x + total (λ y. y) (drop (i + 1) ls)) ≤ length reference) (sym e) (next-inside h) in
       record {
         stays = stays-on (p .stays) (subst (Stays now) (sym one) (stays-renamed now (p .stays .good) (getD names i 0) piece short));
         most = omega arith;
@@ -224,17 +221,17 @@ pub record Copies (table : List ℕ) (from count : ℕ) (source to : List ℕ) (
       → cond (isFiller i (patternFrom table at left)) (stringOf source i) (stringOf now i)
       ≡ cond (isFiller i (patternFrom table from count)) (stringOf source i) (stringOf to i)
 
-pub copies-none : (table : List ℕ) (s : Stretch) (source to : List ℕ) → Copying table source to s
+pub copies-none : {table : List ℕ} {s : Stretch} {source to : List ℕ} → Copying table source to s
     → Copies table (s .from) (s .count) source to (s .from) (s .count) to
-copies-none table s source to p = record { stays = stays-same to (p .good); inside = p .inside; each = λ i h. refl }
+copies-none {to = to} p = record { stays = stays-same to (p .good); inside = p .inside; each = λ i h. refl }
 
-module _ (table : List ℕ) (s : Stretch) (source to : List ℕ) (at left : ℕ) (now : List ℕ)
+module _ {table : List ℕ} (s : Stretch) {source to : List ℕ} {at left : ℕ} {now : List ℕ}
     (p : Copies table (s .from) (s .count) source to at left now) where
-  pub copies-more : Good source → 0 < left → (x : ℕ) → x ≡ fillerOf (patternOfCell table (cellAt table (elementsAt + 8 * at)))
-      → (after : List ℕ) → after ≡ renamed now x (stringOf source x)
+  pub copies-more : Good source → 0 < left → {x : ℕ} → x ≡ fillerOf (patternOfCell table (cellAt table (elementsAt + 8 * at)))
+      → {after : List ℕ} → after ≡ renamed now x (stringOf source x)
       → Copies table (s .from) (s .count) source to (at + 1) (left - 1) after
   unfolding isFiller
-  copies-more g h x e after is =
+  copies-more g h {x} e {after} is =
       let cell = patternOfCell table (cellAt table (elementsAt + 8 * at)) in
       let rest = patternFrom table (at + 1) (left - 1) in
       let short : length (stringOf source x) ≤ 1024 = good-short source g x in

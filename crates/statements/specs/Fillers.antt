@@ -55,9 +55,13 @@ pub record Nameable (store reference names answer : List ℕ) (count : ℕ) : Ty
   pub size : length answer ≡ 24
   pub pieces : getD answer 1 0 + total (λ l. l) (lengthsIn answer count) ≤ length reference
 
+-- an element that names nothing: what lies behind the last of them
+abbrev pub nobody : Valued
+nobody = record { names = none; element = free }
+
 -- these places are those that the elements' pieces are to name
 pub record Names (names : List ℕ) (vs : List Valued) : Type 0 where
-  pub each : (i : ℕ) → i < length vs → getD vs i (record { names = none; element = free }) .names ≡ nameOf (getD names i 0)
+  pub each : (i : ℕ) → i < length vs → getD vs i nobody .names ≡ nameOf (getD names i 0)
 
 -- the pieces are named
 pub record Naming (store left reference names answer : List ℕ) (count : ℕ) : Type 0 where

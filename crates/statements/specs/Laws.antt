@@ -17,12 +17,19 @@ use Rattle.calls.specs.Buffers.{cellImage, storeImage, storeSize, stringsIn}
 use Rattle.calls.specs.Splices.{splice, behind-splice, length-splice, set-splice, splice-behind, take-written}
 use Rattle.cards.specs.Bytes.{newline}
 use Rattle.cells.specs.Contracts.{stringOf, replaced}
+use Rattle.convert.specs.Numbers.{Gives}
+use Rattle.convert.specs.declared.Int.{Int}
 use Rattle.machine.specs.Scanning.{storing}
 use Rattle.machine.specs.State.{State, goingTo, withInput, withOutput, withString}
 use Rattle.machine.specs.Step.{chosen, putting, recordLength, taking}
 use Rattle.values.specs.Conversion.{longestString}
+use Rattle.values.specs.Numbers.{isNegative}
 use Rattle.values.specs.Work.{done, stop, noting, quietly}
 use Rattle.statements.specs.Leaving.{memoryOf, Stays, Taking, Took, Wrote, Full, Setting, Spells}
+
+-- whether a number is negative, as the code tests the one that it has for it
+pub negative-as : {z : Int} {n : ℤ} {b t : Bool} → Gives z n → b ≡ isNegative (z .value) → b ≡ t → isNegative n ≡ t
+negative-as g tests e = sym (ap isNegative (g .value)) ∙ sym tests ∙ e
 
 -- a store that nothing is written to
 pub stays-same : (store : List ℕ) → Good store → Stays store store
@@ -68,7 +75,7 @@ moved c next strings input =
     }
 
 -- the first bytes of a record, and what lies behind a record that may end the input
-take-least : (l : List ℕ) (a n : ℕ) → take a (take n l) ≡ take (min n a) l
+pub take-least : (l : List ℕ) (a n : ℕ) → take a (take n l) ≡ take (min n a) l
 take-least l a n =
     test-cases (λ _. take a (take n l) ≡ take (min n a) l) (leb a n)
     (λ e.

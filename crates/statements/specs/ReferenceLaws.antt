@@ -3,12 +3,12 @@ use mathlib.Core.Bool.{true, false}
 use mathlib.Core.List.{List, []}
 use mathlib.Core.Path.{_≡_, sym, ap, ap₂, subst, _∙_}
 use Prim.Native.Nat.{ℕ, _+_, _*_, _-_, _≤_, _<_, min}
-use native.Mathlib.Nat.{min-eq-left, min-eq-right, min-le-right}
+use native.Mathlib.Nat.{min-comm, min-eq-left, min-eq-right, min-le-right}
 use native.Mathlib.Omega.{arith}
 use lib.Dec.{leb}
 use lib.IntN.{natAbs}
 use lib.ListN.{length, take, drop, length-drop}
-use lib.Seq.{drop-at, drop-drop, drop-length, length-take-le, take-add, take-all, take-take}
+use lib.Seq.{drop-at, drop-drop, drop-length, length-take-le, take-add, take-all, take-length, take-take}
 use borrow.Author.Tests.{leb-false, leb-true}
 use Rattle.base.specs.Choice.{test-cases}
 use Rattle.calls.specs.BufferLaws.{Good, good-short, string-part}
@@ -23,17 +23,13 @@ use Rattle.rows.specs.Holds.{placeIn}
 use Rattle.rows.specs.declared.Part.{Part}
 use Rattle.values.specs.Numbers.{isNegative}
 use Rattle.values.specs.Work.{done, stop, quietly}
-use Rattle.statements.specs.Laws.{drop-least}
+use Rattle.statements.specs.Laws.{drop-least, take-least}
 use Rattle.statements.specs.References.{Refers, referenceOf, restrictedBy}
 use Rattle.statements.specs.Valued.{Between}
 
 take-least-all : (l : List ℕ) (n : ℕ) → take (min n (length l)) l ≡ take n l
 take-least-all l n =
-    test-cases (λ _. take (min n (length l)) l ≡ take n l) (leb n (length l))
-    (λ e. let h : n ≤ length l = leb-true n (length l) e in ap (λ (j : ℕ). take j l) (min-eq-left h))
-    (λ e.
-    let h : length l ≤ n = omega (arith, leb-false n (length l) e) in
-    ap (λ (j : ℕ). take j l) (min-eq-right h) ∙ take-all (length l) l (omega arith) ∙ sym (take-all n l h))
+    ap (λ (j : ℕ). take j l) (min-comm n (length l)) ∙ sym (take-least l n (length l)) ∙ ap (take n) (take-length l)
 
 -- a string restricted to its first or last n bytes
 found-restricted : (d : Direction) (store : List ℕ) (place n : ℕ) (p : Part) → place < 32 → place ≡ placeIn p

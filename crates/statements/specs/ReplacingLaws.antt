@@ -1,7 +1,7 @@
 -- Laws of a scan's replacement: it is a stretch of the string searched that is set, in either direction. Assumes nothing.
 use mathlib.Core.List.{List, _++_, append-assoc, reverse, reverse-append, reverse-reverse}
 use mathlib.Core.Option.{some}
-use mathlib.Core.Path.{_≡_, sym, ap, ap₂, subst, _∙_}
+use mathlib.Core.Path.{_≡_, sym, ap, ap₂, _∙_}
 use Prim.Native.Nat.{ℕ, _+_, _-_, _≤_, _<_}
 use native.Mathlib.Nat.{min-le-left}
 use native.Mathlib.Omega.{arith}
@@ -23,8 +23,7 @@ use Rattle.machine.specs.State.{Memory}
 use Rattle.scanning.specs.Splits.{Split}
 use Rattle.values.specs.Conversion.{longestString}
 use Rattle.values.specs.Work.{Work, stop, noting, _>>=_}
-use Rattle.statements.specs.Leaving.{memoryOf, Leaves, Sets, Spells}
-use Rattle.statements.specs.declared.Did.{Did}
+use Rattle.statements.specs.Leaving.{memoryOf, Spells}
 
 -- a stretch of the middle of three lists
 middle : (p r q v : List ℕ) (s e : ℕ) → s ≤ e → e ≤ length r
@@ -75,7 +74,7 @@ foundTo forward before reference start total = before + (start + total)
 foundTo backward before reference start total = before + (reference - start)
 
 -- the reference replaced and turned back, with what lies around it
-pub replaced-found : (d : Direction) (p r q v : List ℕ) (s : Split) → s .start + total (λ l. l) (s .lengths) ≤ length r
+replaced-found : (d : Direction) (p r q v : List ℕ) (s : Split) → s .start + total (λ l. l) (s .lengths) ≤ length r
     → p ++ (turned d (Scanning.replaced (turned d r) s v) ++ q)
     ≡ replaced (p ++ (r ++ q)) (foundFrom d (length p) (length r) (s .start) (total (λ l. l) (s .lengths)))
     (foundTo d (length p) (length r) (s .start) (total (λ l. l) (s .lengths))) (turned d v)
@@ -100,9 +99,10 @@ replacing-found e d x s xs m h i =
     stringIn e m xs >>= λ v. storing (x .place) (replaced-found d (x .before) (x .reference) (x .behind) v s h i) m
 
 -- a buffer that has the value turned round spells it
-pub turned-spelt : (out spare after : List ℕ) (n notes : ℕ) (w : Work (List ℕ)) (s : Values.Spells n notes out w) → n ≤ 1024
-    → after ≡ splice spare 0 (reverse (take n out)) → Spells after n (reverse (s .value))
-turned-spelt out spare after n notes w s h e =
+pub turned-spelt : (spare : List ℕ) {after out : List ℕ} {n notes : ℕ} {w : Work (List ℕ)} (s : Values.Spells n notes out w) → n ≤ 1024
+    → after ≡ splice spare 0 (reverse (take n out)) → Spells after n (turned backward (s .value))
+unfolding turned
+turned-spelt spare {out = out} {n} s h e =
     let all : take n out ≡ s .value = ap (λ (j : ℕ). take j out) (s .size) ∙ s .kept ∙ take-all 1024 (s .value) (omega (arith, s .size)) in
     let size : length (reverse (s .value)) ≡ n = length-reverse (s .value) ∙ sym (s .size) in
     record {
@@ -123,21 +123,12 @@ turned-room out spare after n h room e =
     omega (arith, length-reverse (take n out), length-take n out, min-le-left n (length out)) in
     ap length e ∙ length-splice spare 0 v (omega arith) ∙ room
 
--- a value turned round that is stored
-pub turned-leaves : (r : Did) (store left : List ℕ) (place from to : ℕ) (out after : List ℕ) (n notes : ℕ) (zs : List ℤ) (w : Work (List ℕ))
-    (s : Values.Spells n notes out w) → Spells after n (reverse (s .value)) → Sets r store left place from to after n notes
-    → Leaves r store left zs (w >>= λ v. storing place (replaced (stringOf store place) from to (turned backward v)) (memoryOf store zs))
-unfolding _>>=_ turned
-turned-leaves r store left place from to out after n notes zs w s p h =
-    subst (λ x. Leaves r store left zs (x >>= λ v. storing place (replaced (stringOf store place) from to (turned backward v)) (memoryOf store zs)))
-    (sym (s .work)) (h (reverse (s .value)) zs p)
-
 -- a value too long to be stored
-pub turned-long : (store : List ℕ) (place from to : ℕ) (out : List ℕ) (n notes : ℕ) (zs : List ℤ) (w : Work (List ℕ))
+pub turned-long : (store : List ℕ) (place from to : ℕ) (zs : List ℤ) {out : List ℕ} {n notes : ℕ} {w : Work (List ℕ)}
     → Values.Spells n notes out w → 1024 < n
     → (w >>= λ v. storing place (replaced (stringOf store place) from to (turned backward v)) (memoryOf store zs)) ≡ stop 20
 unfolding _>>=_ turned storing longestString noting
-turned-long store place from to out n notes zs w s h =
+turned-long store place from to zs s h =
     let new = replaced (stringOf store place) from to (reverse (s .value)) in
     let long : 1024 < length new =
     omega (

@@ -38,17 +38,18 @@ use Rattle.statements.specs.Valued.{Assigned, Put, Unput, PutBy, Recorde
 use Rattle.statements.specs.declared.Did.{Did}
 
 -- a buffer that spells the value of an expression spells it here
-pub spelt : (n notes : ℕ) (out : List ℕ) (w : Work (List ℕ)) (s : Values.Spells n notes out w) → Spells out n (s .value)
-spelt n notes out w s = record { size = sym (s .size); bytes = ap (λ (j : ℕ). take j out) (s .size) ∙ s .kept }
+pub spelt : {n notes : ℕ} {out : List ℕ} {w : Work (List ℕ)} (s : Values.Spells n notes out w) → Spells out n (s .value)
+spelt {out = out} s = record { size = sym (s .size); bytes = ap (λ (j : ℕ). take j out) (s .size) ∙ s .kept }
 
--- a value that is spelt is stored
-pub spelt-leaves : (r : Did) (store left : List ℕ) (place from to : ℕ) (out : List ℕ) (n notes : ℕ) (zs : List ℤ) (w : Work (List ℕ))
-    → Values.Spells n notes out w → Sets r store left place from to out n notes
-    → Leaves r store left zs (w >>= λ v. storing place (replaced (stringOf store place) from to v) (memoryOf store zs))
+-- a value that is spelt is stored, as it is or turned round
+pub kept-leaves : (f : List ℕ → List ℕ) (r : Did) (store left : List ℕ) (place from to : ℕ) (after : List ℕ) (zs : List ℤ)
+    {n notes : ℕ} {out : List ℕ} {w : Work (List ℕ)} (s : Values.Spells n notes out w) → Spells after n (f (s .value))
+    → Sets r store left place from to after n notes
+    → Leaves r store left zs (w >>= λ v. storing place (replaced (stringOf store place) from to (f v)) (memoryOf store zs))
 unfolding _>>=_
-spelt-leaves r store left place from to out n notes zs w s h =
-    subst (λ x. Leaves r store left zs (x >>= λ v. storing place (replaced (stringOf store place) from to v) (memoryOf store zs)))
-    (sym (s .work)) (h (s .value) zs (spelt n notes out w s))
+kept-leaves f r store left place from to after zs s p h =
+    subst (λ x. Leaves r store left zs (x >>= λ v. storing place (replaced (stringOf store place) from to (f v)) (memoryOf store zs)))
+    (sym (s .work)) (h (f (s .value)) zs p)
 
 -- a number that is valued
 pub assigned : (r : Number) (z : Int) (notes : ℕ) (w : Work ℤ) (state left : List ℕ) (place : ℕ) → r ≡ numbers.Is z notes → worked r ≡ w
@@ -88,7 +89,7 @@ module _ (table store state : List ℕ) (place : ℕ) (s : Stretch) where
   first-none n e = rw e
 
 -- a record of the bytes that a buffer spells
-pub shortened-as : (v : List ℕ) (n : ℕ) (value : List ℕ) → length v ≡ 1024 → Spells v n value
+shortened-as : (v : List ℕ) (n : ℕ) (value : List ℕ) → length v ≡ 1024 → Spells v n value
     → shortened value ≡ done (take (min n 1024) v) (tailNotes n)
 unfolding shortened tailNotes longestString
 shortened-as v n value room s =
@@ -144,19 +145,19 @@ module _ (state output v : List ℕ) (n notes : ℕ) (room : length v ≡ 1024) 
       }
 
 -- how many notes come with a string expression of so many elements
-pub few-notes : (table : List ℕ) (s : Stretch) (m : Memory) (n notes : ℕ) (out : List ℕ)
+pub few-notes : (table : List ℕ) (s : Stretch) (m : Memory) {n notes : ℕ} {out : List ℕ}
     → Values.Spells n notes out (stringIn edition1 m (elementsMeaning table s)) → notes ≤ s .count
-few-notes table s m n notes out p =
+few-notes table s m p =
     few-done (few-elements-spelt edition1 m table (s .from) (s .count)) (p .work)
 
 -- a record of a value that is spelt
-pub spelt-puts : (r : Did) (state stateLeft output left out : List ℕ) (n notes : ℕ) (w : Work (List ℕ)) → Values.Spells n notes out w
+pub spelt-puts : (r : Did) (state stateLeft output left : List ℕ) {out : List ℕ} {n notes : ℕ} {w : Work (List ℕ)} → Values.Spells n notes out w
     → Recorded r state stateLeft output left out n notes
     → PutBy r state stateLeft output left (λ c. w >>= λ v. shortened v >>= λ u. putting (length output) u c)
 unfolding _>>=_
-spelt-puts r state stateLeft output left out n notes w s h =
+spelt-puts r state stateLeft output left s h =
     subst (λ (x : Work (List ℕ)). PutBy r state stateLeft output left (λ c. x >>= λ v. shortened v >>= λ u. putting (length output) u c))
-    (sym (s .work)) (h (s .value) (spelt n notes out w s))
+    (sym (s .work)) (h (s .value) (spelt s))
 
 -- a stored string, by another name of the work
 pub stored-as : (r : Did) (store left state scratch out : List ℕ) (w u : Work Memory) → u ≡ w → Stored r store left state scratch out w

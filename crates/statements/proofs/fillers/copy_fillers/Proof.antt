@@ -14,9 +14,7 @@ abbrev μ-loop : tie.MeasureT-loop
 μ-loop table from to₀ at₀ left₀ to at left = left
 
 loop-holds : tie.Need-loop-holds Inv-loop μ-loop
-loop-holds c =
-    let s = c .before .before .before in
-    copies-none (s .args .table .now) (s .args .pattern) (s .args .from .now) (s .args .to .now) (s .pre)
+loop-holds c = copies-none (c .before .before .before .pre)
 
 pattern-at-requires : tie.Need-pattern-at-requires Inv-loop μ-loop
 pattern-at-requires c κs = search needs
@@ -41,20 +39,14 @@ loop-again c =
     let read = c .before .before .before .before .before in
     let l = read .before .before .loop in
     let s = read .before .before .before .before .before .before in
-    let a = s .args in
-    copies-more (a .table .now) (a .pattern) (a .from .now) (a .to .now) (l .at) (l .left) (l .to) (l .inv) (s .pre .source)
-    (read .before .loop-test .taken) (c .before .before .before .before .filler-of .result)
-    (c .before .before .before .before .filler-of .ensures (a .table .now) ∙ ap fillerOf (read .pattern-at .ensures .means)) (c .before .before .copy-named .last .1 .0)
-    (c .before .before .copy-named .ensures)
+    copies-more (s .args .pattern) (l .inv) (s .pre .source) (read .before .loop-test .taken)
+    (c .before .before .before .before .filler-of .ensures (s .args .table .now) ∙ ap fillerOf (read .pattern-at .ensures .means)) (c .before .before .copy-named .ensures)
 
 same-length : tie.Need-same-length Inv-loop μ-loop
 same-length c = search needs
 
 returns : tie.Need-returns Inv-loop μ-loop
-returns c =
-    let l = c .before .loop in
-    let a = c .before .before .before .before .before .args in
-    copies-all (a .table .now) (a .pattern) (a .from .now) (a .to .now) (l .at) (l .left) (l .to) (l .inv) (c .loop-test .left)
+returns c = copies-all (c .before .before .before .before .before .args .pattern) (c .before .loop .inv) (c .loop-test .left)
 
 pub copy-fillers-spec : {M : Type 1} → statement M
 copy-fillers-spec =

@@ -25,11 +25,7 @@ number-requires : tie.Need-number-requires Inv-loop μ-loop
 number-requires c κs = search needs
 
 loop-holds : tie.Need-loop-holds Inv-loop μ-loop
-loop-holds c =
-    let s = c .before .before .before .before .before .before in
-    let a = s .args in
-    namings-none (a .store .now) (a .reference .now) (a .names .now) (a .answer .now) (a .count) (c .number .result) (s .pre)
-    (c .number .ensures)
+loop-holds c = namings-none (c .before .before .before .before .before .before .pre) (c .number .ensures)
 
 -- a piece of a short reference
 piece-short : (r : List ℕ) (n at : ℕ) → length r ≤ 1024 → length (take n (drop at r)) ≤ 1024
@@ -45,8 +41,7 @@ inside c =
     let a = s .args in
     let l = c .before .before .before .loop in
     first (l .at) (c .number2 .result) (getD (a .answer .now) (4 + l .i) 0) _ (length (a .reference .now)) (c .number2 .ensures)
-    (next-inside (a .store .now) (a .reference .now) (a .names .now) (a .answer .now) (a .count) (l .at) (l .i) (l .store) (s .pre) (l .inv)
-    (c .before .before .loop-test .taken))
+    (next-inside (s .pre) (l .inv) (c .before .before .loop-test .taken))
   where
     first : (at n l rest size : ℕ) → n ≡ l → at + (l + rest) ≤ size → at + n ≤ size
     first at n l rest size e h = omega arith
@@ -102,8 +97,7 @@ loop-again c =
     let l = added .before .before .before .loop in
     let s = added .before .before .before .before .before .before .before .before .before .before in
     let a = s .args in
-    namings-more (a .store .now) (a .reference .now) (a .names .now) (a .answer .now) (a .count) (l .at) (l .i) (l .store) (s .pre) (l .inv)
-    (added .before .before .loop-test .taken) (added .number2 .result) (added .number2 .ensures) (c .before .before .set-named .last .0)
+    namings-more (s .pre) (l .inv) (added .before .before .loop-test .taken) (added .number2 .ensures)
     (c .before .before .set-named .ensures
     ∙ ap (λ (n : ℕ). renamed (l .store) n (take (l .at + added .number2 .result - l .at) (drop (l .at) (a .reference .now))))
     (c .before .before .before .before .wide .ensures .0))
@@ -112,12 +106,7 @@ same-length : tie.Need-same-length Inv-loop μ-loop
 same-length c = search needs
 
 returns : tie.Need-returns Inv-loop μ-loop
-returns c =
-    let l = c .before .loop in
-    let s = c .before .before .before .before .before .before .before .before in
-    let a = s .args in
-    namings-all (a .store .now) (a .reference .now) (a .names .now) (a .answer .now) (a .count) (l .at) (l .i) (l .store) (s .pre) (l .inv)
-    (c .loop-test .left)
+returns c = namings-all (c .before .before .before .before .before .before .before .before .pre) (c .before .loop .inv) (c .loop-test .left)
 
 pub name-fillers-spec : {M : Type 1} → statement M
 name-fillers-spec =

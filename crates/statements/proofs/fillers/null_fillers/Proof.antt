@@ -14,9 +14,7 @@ abbrev μ-loop : tie.MeasureT-loop
 μ-loop table store₀ at₀ left₀ store at left = left
 
 loop-holds : tie.Need-loop-holds Inv-loop μ-loop
-loop-holds c =
-    let s = c .before .before in
-    nulls-none (s .args .table .now) (s .args .pattern) (s .args .store .now) (s .pre)
+loop-holds c = nulls-none (c .before .before .pre)
 
 pattern-at-requires : tie.Need-pattern-at-requires Inv-loop μ-loop
 pattern-at-requires c κs = search needs
@@ -44,19 +42,14 @@ loop-again c =
     let read = c .before .before .before .before .before .before in
     let l = read .before .before .loop in
     let s = read .before .before .before .before .before in
-    nulls-more (s .args .table .now) (s .args .pattern) (s .args .store .now) (l .at) (l .left) (l .store) (l .inv)
-    (read .before .loop-test .taken) (c .before .before .before .before .before .filler-of .result)
-    (c .before .before .before .before .before .filler-of .ensures (s .args .table .now) ∙ ap fillerOf (read .pattern-at .ensures .means))
-    (c .before .before .set-named .last .0) (c .before .before .set-named .ensures)
+    nulls-more (s .args .pattern) (l .inv) (read .before .loop-test .taken)
+    (c .before .before .before .before .before .filler-of .ensures (s .args .table .now) ∙ ap fillerOf (read .pattern-at .ensures .means)) (c .before .before .set-named .ensures)
 
 same-length : tie.Need-same-length Inv-loop μ-loop
 same-length c = search needs
 
 returns : tie.Need-returns Inv-loop μ-loop
-returns c =
-    let l = c .before .loop in
-    let s = c .before .before .before .before in
-    nulls-all (s .args .table .now) (s .args .pattern) (s .args .store .now) (l .at) (l .left) (l .store) (l .inv) (c .loop-test .left)
+returns c = nulls-all (c .before .before .before .before .args .pattern) (c .before .loop .inv) (c .loop-test .left)
 
 pub null-fillers-spec : {M : Type 1} → statement M
 null-fillers-spec =

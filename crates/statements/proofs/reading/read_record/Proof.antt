@@ -1,13 +1,11 @@
 -- `reading::read_record` meets its contract: the whole string or n bytes are asked for, or n is negative. Assumes nothing.
-use mathlib.Core.Path.{_≡_, sym, ap, subst, _∙_}
+use mathlib.Core.Path.{sym, ap, subst, _∙_}
 use Prim.Native.Nat.{ℕ}
 use native.Mathlib.Omega.{arith}
 use lib.IntN.{natAbs}
-use Rattle.expressions.specs.Memory.{memoryIn}
-use Rattle.machine.specs.Expressions.{lengthIn}
 use Rattle.rows.specs.Holds.{PartHolds}
 use Rattle.rows.specs.Meaning.{lengthMeaning, partMeaning}
-use Rattle.values.specs.Numbers.{isNegative}
+use Rattle.statements.specs.Laws.{negative-as}
 use Rattle.statements.specs.Reading.{Halts, Next, Reads}
 use Rattle.statements.specs.ReadingLaws.{first-halts, first-reads, whole-reads}
 use borrow.Author.Needs.{needs}
@@ -48,7 +46,7 @@ returns c =
     let n = lengthMeaning (told .0 .1 .0) in
     subst (λ p. Halts (a .store .now) (a .store .now) (a .state .now) (a .state .now) (a .input .now) 17 (partMeaning p)) (sym (told .1))
     (first-halts (a .store .now) (a .state .now) (a .input .now) (told .0 .0) n
-    (sym (ap isNegative (valued .length-value .ensures (a .store .now) .value)) ∙ sym (c .before .is-negative .ensures) ∙ c .if1 .taken))
+    (negative-as (valued .length-value .ensures (a .store .now)) (c .before .is-negative .ensures) (c .if1 .taken)))
 
 size-requires : tie.Need-size-requires
 size-requires c κs =
@@ -92,16 +90,15 @@ returns-3 c =
     let a = valued .before .before .before .before .before .before .before .args in
     let told = valued .before .before .before .p2 .given in
     let n = lengthMeaning (told .0 .1 .0) in
-    let is : valued .length-value .result .value ≡ lengthIn (memoryIn (a .store .now) (a .state .now)) n =
-    valued .length-value .ensures (a .store .now) .value in
-    let most = called .before .size .ensures ∙ ap natAbs is in
+    let gives = valued .length-value .ensures (a .store .now) in
+    let most = called .before .size .ensures ∙ ap natAbs (gives .value) in
     subst
     (λ p.
     Reads (called .read-next2 .result) (a .store .now) (called .read-next2 .last .0) (a .state .now) (called .read-next2 .last .1 .0)
     (a .input .now) (partMeaning p))
     (sym (told .1))
     (first-reads (a .store .now) (called .read-next2 .last .0) (a .state .now) (called .read-next2 .last .1 .0) (a .input .now) (told .0 .0) n
-    (sym (ap isNegative is) ∙ sym (called .before .before .before .before .before .is-negative .ensures) ∙ called .before .before .before .before .if1 .left) (called .read-next2 .result)
+    (negative-as gives (called .before .before .before .before .before .is-negative .ensures) (called .before .before .before .before .if1 .left)) (called .read-next2 .result)
     (subst
     (λ (j : ℕ).
     Next (called .read-next2 .result) (a .store .now) (called .read-next2 .last .0) (a .state .now) (called .read-next2 .last .1 .0) (a .input .now)

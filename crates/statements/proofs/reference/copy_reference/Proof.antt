@@ -1,15 +1,15 @@
 -- `reference::copy_reference` meets its contract, in either direction: the bytes copied are those of the string. Assumes nothing.
 use mathlib.Core.List.{List}
-use mathlib.Core.Path.{sym, ap, _∙_}
+use mathlib.Core.Path.{_≡_, sym, ap₂, _∙_}
 use Prim.Native.Nat.{ℕ, _+_, _-_, _≤_}
 use native.Mathlib.Nat.{min-le-left}
 use native.Mathlib.Omega.{arith}
 use lib.ListN.{length, take, drop, length-take}
 use Rattle.calls.specs.BufferLaws.{good-short}
 use Rattle.calls.specs.Splices.{splice}
-use Rattle.language.specs.Program.{forward, backward}
 use Rattle.machine.specs.Scanning.{turned}
 use Rattle.rows.specs.Meaning.{directionMeaning}
+use Rattle.rows.specs.declared.Direction.{Direction}
 use Rattle.statements.specs.ReferenceLaws.{reference-bytes}
 use Rattle.statements.specs.References.{referenceOf}
 use borrow.Author.Needs.{needs}
@@ -86,31 +86,25 @@ copy-turned-requires c κs =
     let a = c .before .before .before .before .before .before .args in
     short (a .store .now) (c .before .before .before .before .string-start .result) (a .from) (a .to) (i .order) (i .short)
 
+-- the bytes copied, turned as they are, are the reference turned as the direction says
+copied : (c : tie.After-string-start) {e : Direction} → c .before .before .args .d ≡ e
+    → (let a = c .before .before .args in
+    let start = c .string-start .result in
+    splice (a .out .now) 0 (turned (directionMeaning e) (take (start + a .to - (start + a .from)) (drop (start + a .from) (a .store .now))))
+    ≡ splice (a .out .now) 0 (turned (directionMeaning (a .d)) (referenceOf (a .store .now) (a .place) (a .from) (a .to))))
+copied c told =
+    let s = c .before .before in
+    let a = s .args in
+    ap₂ (λ (d : Direction) (l : List ℕ). splice (a .out .now) 0 (turned (directionMeaning d) l)) (sym told)
+    (reference-bytes (a .store .now) (a .place) (a .from) (a .to) (s .pre .0) (s .pre .1) (c .string-start .result) (c .string-start .ensures))
+
 returns : tie.Need-returns
 unfolding turned
-returns c =
-    let started = c .before .before .before .before .before in
-    let s = started .before .before in
-    let a = s .args in
-    let r = referenceOf (a .store .now) (a .place) (a .from) (a .to) in
-    c .copy .ensures
-    ∙ ap (λ (l : List ℕ). splice (a .out .now) 0 (turned forward l))
-    (reference-bytes (a .store .now) (a .place) (a .from) (a .to) (s .pre .0) (s .pre .1) (started .string-start .result)
-    (started .string-start .ensures))
-    ∙ ap (λ x. splice (a .out .now) 0 (turned (directionMeaning x) r)) (sym (c .before .before .before .enum-told .given .1))
+returns c = c .copy .ensures ∙ copied (c .before .before .before .before .before) (c .before .before .before .enum-told .given .1)
 
 returns-2 : tie.Need-returns-2
 unfolding turned
-returns-2 c =
-    let started = c .before .before .before .before .before in
-    let s = started .before .before in
-    let a = s .args in
-    let r = referenceOf (a .store .now) (a .place) (a .from) (a .to) in
-    c .copy-turned .ensures
-    ∙ ap (λ (l : List ℕ). splice (a .out .now) 0 (turned backward l))
-    (reference-bytes (a .store .now) (a .place) (a .from) (a .to) (s .pre .0) (s .pre .1) (started .string-start .result)
-    (started .string-start .ensures))
-    ∙ ap (λ x. splice (a .out .now) 0 (turned (directionMeaning x) r)) (sym (c .before .before .before .enum-told2 .given .1))
+returns-2 c = c .copy-turned .ensures ∙ copied (c .before .before .before .before .before) (c .before .before .before .enum-told2 .given .1)
 
 pub copy-reference-spec : {M : Type 1} → statement M
 copy-reference-spec =

@@ -1,5 +1,4 @@
 -- `reference::reference_ends` meets its contract: the whole string or n bytes are searched, or n is negative. Assumes nothing.
-use mathlib.Core.Bool.{false}
 use mathlib.Core.Path.{_≡_, refl, sym, ap, ap₂, subst, _∙_}
 use Prim.Native.Nat.{ℕ, min}
 use native.Mathlib.Omega.{arith}
@@ -13,7 +12,7 @@ use Rattle.machine.specs.Scanning.{searchedIn}
 use Rattle.rows.specs.Holds.{PartHolds}
 use Rattle.rows.specs.Meaning.{directionMeaning, lengthMeaning, partMeaning}
 use Rattle.rows.specs.declared.Part.the-variants.{Whole, First}
-use Rattle.values.specs.Numbers.{isNegative}
+use Rattle.statements.specs.Laws.{negative-as}
 use Rattle.statements.specs.ReferenceLaws.{first-refers, first-stops, whole-refers}
 use Rattle.statements.specs.References.{Refers, restrictedBy}
 use borrow.Author.Needs.{needs}
@@ -51,7 +50,7 @@ returns c =
     let n = lengthMeaning (told .0 .1 .0) in
     ap (λ p. searchedIn (memoryIn (a .store .now) (a .state .now)) (directionMeaning (a .d)) (partMeaning p)) (told .1)
     ∙ first-stops (directionMeaning (a .d)) (a .store .now) (a .state .now) (told .0 .0) n
-    (sym (ap isNegative (valued .length-value .ensures (a .store .now) .value)) ∙ sym (c .before .is-negative .ensures) ∙ c .if1 .taken)
+    (negative-as (valued .length-value .ensures (a .store .now)) (c .before .is-negative .ensures) (c .if1 .taken))
 
 string-length-requires-2 : tie.Need-string-length-requires-2
 string-length-requires-2 c κs =
@@ -97,13 +96,12 @@ returns-3 c =
     let d = directionMeaning (a .d) in
     let m = memoryIn (a .store .now) (a .state .now) in
     let size = length (stringOf (a .store .now) place) in
-    let value : valued .length-value .result .value ≡ lengthIn m n = valued .length-value .ensures (a .store .now) .value in
+    let gives = valued .length-value .ensures (a .store .now) in
     let most : c .before .least .result ≡ min (natAbs (lengthIn m n)) size =
-    c .before .least .ensures ∙ ap₂ min (c .before .before .size .ensures ∙ ap natAbs value) (measured .string-length2 .ensures .0) in
+    c .before .least .ensures ∙ ap₂ min (c .before .before .size .ensures ∙ ap natAbs (gives .value)) (measured .string-length2 .ensures .0) in
     let is : c .restrict2 .result ≡ restrictedBy d place (min (natAbs (lengthIn m n)) size) size =
     c .restrict2 .ensures ∙ ap₂ (λ (j k : ℕ). restrictedBy d place j k) most (measured .string-length2 .ensures .0) in
-    let natural : isNegative (lengthIn m n) ≡ false =
-    sym (ap isNegative value) ∙ sym (c .before .before .before .before .before .is-negative .ensures) ∙ c .before .before .before .before .if1 .left in
+    let natural = negative-as gives (c .before .before .before .before .before .is-negative .ensures) (c .before .before .before .before .if1 .left) in
     subst (λ p. Refers (c .restrict2 .result) (a .store .now) p (searchedIn m d (partMeaning p))) (sym (told .1))
     (subst (λ r. Refers r (a .store .now) (First place (told .0 .1 .0)) (searchedIn m d (Program.first place n))) (sym is)
     (first-refers d (a .store .now) (a .state .now) place (First place (told .0 .1 .0)) (subst PartHolds (told .1) (s .pre .1) .0) refl n natural))

@@ -1,14 +1,13 @@
 -- `replacing::set_turned` meets its contract: the value spelt is too long, or it is turned and stored, or the work stops.
 -- Assumes nothing.
-use mathlib.Core.Path.{refl, subst}
-use Rattle.base.specs.Edition.{edition1}
+use mathlib.Core.Path.{refl}
 use Rattle.calls.specs.Buffers.{numbersIn}
-use Rattle.expressions.specs.Memory.{memoryIn}
-use Rattle.expressions.specs.Values.{Spelt}
-use Rattle.machine.specs.Expressions.{stringIn}
-use Rattle.rows.specs.Meaning.{elementsMeaning}
+use Rattle.expressions.specs.Laws.{string-is, string-stops}
+use Rattle.language.specs.Program.{backward}
+use Rattle.machine.specs.Scanning.{turned}
 use Rattle.values.specs.WorkLaws.{stopped}
-use Rattle.statements.specs.ReplacingLaws.{turned-leaves, turned-long, turned-room, turned-spelt}
+use Rattle.statements.specs.ReplacingLaws.{turned-long, turned-room, turned-spelt}
+use Rattle.statements.specs.ValuedLaws.{kept-leaves}
 use borrow.Author.Needs.{needs}
 use Rattle.statements.proofs.replacing.set_turned.Statement.{statement}
 use Rattle.statements.proofs.replacing.set_turned.Tie as tie
@@ -28,14 +27,12 @@ returns c =
     let valued = c .before .before .before .before in
     let s = valued .before .before .before .before .before .before in
     let a = s .args in
-    let out = valued .string-value .last .1 .1 .1 .1 .1 .0 in
     let written = valued .string-value .ensures in
-    let w = stringIn edition1 (memoryIn (a .store .now) (a .state .now)) (elementsMeaning (a .table .now) (a .s)) in
     record {
       leaves = (
         refl,
-        turned-long (a .store .now) (a .place) (a .from) (a .to) out (told .0 .0) (told .0 .1 .0) (numbersIn (a .state .now)) w
-            (subst (λ r. Spelt r out w) (told .1) (written .spelt)) (c .if1 .taken),
+        turned-long (a .store .now) (a .place) (a .from) (a .to) (numbersIn (a .state .now)) (string-is written (told .1))
+            (c .if1 .taken),
       );
       spare = written .spare;
       room = written .room;
@@ -55,24 +52,20 @@ same-length-2 c = search needs
 
 returns-2 : tie.Need-returns-2
 returns-2 c =
-    let turned = c .before .before .before .before .before .before in
-    let told = turned .before .before .before .before .before .before .length .given in
-    let valued = turned .before .before .before .before .before .before .before .before in
+    let put = c .before .before .before .before .before .before in
+    let told = put .before .before .before .before .before .before .length .given in
+    let valued = put .before .before .before .before .before .before .before .before in
     let s = valued .before .before .before .before .before .before in
     let a = s .args in
     let out = valued .string-value .last .1 .1 .1 .1 .1 .0 in
     let written = valued .string-value .ensures in
-    let w = stringIn edition1 (memoryIn (a .store .now) (a .state .now)) (elementsMeaning (a .table .now) (a .s)) in
-    let after = turned .turn-first .last .1 .1 .0 in
-    let spells = subst (λ r. Spelt r out w) (told .1) (written .spelt) in
+    let after = put .turn-first .last .1 .1 .0 in
+    let spells = string-is written (told .1) in
     record {
       leaves =
-          turned-leaves (c .before .before .set-between .result) (a .store .now) (c .before .before .set-between .last .0) (a .place) (a .from) (a .to) out after
-          (told .0 .0) (told .0 .1 .0) (numbersIn (a .state .now)) w spells
-          (turned-spelt out (valued .string-value .last .1 .1 .1 .1 .0) after (told .0 .0) (told .0 .1 .0) w spells (turned .before .before .before .before .if1 .left)
-          (turned .turn-first .ensures))
-          (c .before .before .set-between .ensures);
-      spare = turned-room out (valued .string-value .last .1 .1 .1 .1 .0) after (told .0 .0) (turned .before .before .before .before .if1 .left) (written .spare) (turned .turn-first .ensures);
+          kept-leaves (turned backward) (c .before .before .set-between .result) (a .store .now) (c .before .before .set-between .last .0) (a .place) (a .from) (a .to) after (numbersIn (a .state .now)) spells
+          (turned-spelt (valued .string-value .last .1 .1 .1 .1 .0) spells (put .before .before .before .before .if1 .left) (put .turn-first .ensures)) (c .before .before .set-between .ensures);
+      spare = turned-room out (valued .string-value .last .1 .1 .1 .1 .0) after (told .0 .0) (put .before .before .before .before .if1 .left) (written .spare) (put .turn-first .ensures);
       room = written .room;
     }
 
@@ -83,13 +76,9 @@ returns-3 : tie.Need-returns-3
 returns-3 c =
     let told = c .before .k .given in
     let valued = c .before .before .before in
-    let s = valued .before .before .before .before .before .before in
-    let a = s .args in
-    let out = valued .string-value .last .1 .1 .1 .1 .1 .0 in
     let written = valued .string-value .ensures in
-    let w = stringIn edition1 (memoryIn (a .store .now) (a .state .now)) (elementsMeaning (a .table .now) (a .s)) in
     record {
-      leaves = (refl, stopped w _ (told .0 .0) (subst (λ r. Spelt r out w) (told .1) (written .spelt)));
+      leaves = (refl, stopped _ _ _ (string-stops written (told .1)));
       spare = written .spare;
       room = written .room;
     }

@@ -1,19 +1,16 @@
 -- `valued::set_string` meets its contract: the whole string or its first bytes give way to the value, or a length is negative.
 -- Assumes nothing.
-use mathlib.Core.Bool.{true, false}
-use mathlib.Core.Path.{_≡_, sym, ap, ap₂, subst, _∙_}
+use mathlib.Core.Path.{sym, ap, ap₂, subst, _∙_}
 use Prim.Native.Nat.{ℕ, min}
 use native.Mathlib.Nat.{min-le-right}
 use native.Mathlib.Omega.{arith}
 use lib.IntN.{natAbs}
 use Rattle.base.specs.Edition.{edition1}
 use Rattle.expressions.specs.Memory.{memoryIn}
-use Rattle.machine.specs.Expressions.{lengthIn}
 use Rattle.machine.specs.Step.{setStringIn}
 use Rattle.rows.specs.Holds.{PartHolds}
 use Rattle.rows.specs.Meaning.{elementsMeaning, lengthMeaning, partMeaning}
-use Rattle.values.specs.Numbers.{isNegative}
-use Rattle.statements.specs.Laws.{stays-same}
+use Rattle.statements.specs.Laws.{negative-as, stays-same}
 use Rattle.statements.specs.Valued.{storedBetween}
 use Rattle.statements.specs.ValuedLaws.{first-between, first-none, stored-as, whole-between}
 use borrow.Author.Needs.{needs}
@@ -60,8 +57,7 @@ returns c =
     let told = valued .before .before .p2 .given in
     let m = memoryIn (a .store .now) (a .state .now) in
     let n = lengthMeaning (told .0 .1 .0) in
-    let below : isNegative (lengthIn m n) ≡ true =
-    sym (ap isNegative (valued .length-value .ensures (a .store .now) .value)) ∙ sym (c .before .is-negative .ensures) ∙ c .if1 .taken in
+    let below = negative-as (valued .length-value .ensures (a .store .now)) (c .before .is-negative .ensures) (c .if1 .taken) in
     record {
       leaves = (
         stays-same (a .store .now) (s .pre .0 .ready .strings),
@@ -130,16 +126,15 @@ returns-3 c =
     let told = valued .before .before .p2 .given in
     let m = memoryIn (a .store .now) (a .state .now) in
     let n = lengthMeaning (told .0 .1 .0) in
-    let is : valued .length-value .result .value ≡ lengthIn m n = valued .length-value .ensures (a .store .now) .value in
-    let natural : isNegative (lengthIn m n) ≡ false =
-    sym (ap isNegative is) ∙ sym (sized .before .before .is-negative .ensures) ∙ sized .before .if1 .left in
+    let gives = valued .length-value .ensures (a .store .now) in
+    let natural = negative-as gives (sized .before .before .is-negative .ensures) (sized .before .if1 .left) in
     stored-as _ (a .store .now) _ (a .state .now) _ _ _ _
     (ap (λ p. setStringIn edition1 m (partMeaning p) (elementsMeaning (a .table .now) (a .s))) (told .1)
     ∙ first-between (a .table .now) (a .store .now) (a .state .now) (told .0 .0) (a .s) n natural
     ∙ ap (λ (j : ℕ). storedBetween (a .table .now) (a .store .now) (a .state .now) (told .0 .0) 0 j (a .s))
     (sym
     (chosen .least .ensures
-    ∙ ap₂ min (sized .size .ensures ∙ ap natAbs is) (chosen .before .string-length2 .ensures .0))))
+    ∙ ap₂ min (sized .size .ensures ∙ ap natAbs (gives .value)) (chosen .before .string-length2 .ensures .0))))
     (c .before .before .set-value2 .ensures)
 
 pub set-string-spec : {M : Type 1} → statement M

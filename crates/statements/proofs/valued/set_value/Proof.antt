@@ -1,13 +1,9 @@
 -- `valued::set_value` meets its contract: the value spelt is stored, or the work stops. Assumes nothing.
-use mathlib.Core.Path.{refl, subst}
-use Rattle.base.specs.Edition.{edition1}
+use mathlib.Core.Path.{refl}
 use Rattle.calls.specs.Buffers.{numbersIn}
-use Rattle.expressions.specs.Memory.{memoryIn}
-use Rattle.expressions.specs.Values.{Spelt}
-use Rattle.machine.specs.Expressions.{stringIn}
-use Rattle.rows.specs.Meaning.{elementsMeaning}
+use Rattle.expressions.specs.Laws.{string-is, string-stops}
 use Rattle.values.specs.WorkLaws.{stopped}
-use Rattle.statements.specs.ValuedLaws.{spelt-leaves}
+use Rattle.statements.specs.ValuedLaws.{kept-leaves, spelt}
 use borrow.Author.Needs.{needs}
 use Rattle.statements.proofs.valued.set_value.Statement.{statement}
 use Rattle.statements.proofs.valued.set_value.Tie as tie
@@ -33,14 +29,11 @@ returns c =
     let valued = c .before .before .before .before .before .before .before .before .before in
     let s = valued .before .before .before .before .before .before in
     let a = s .args in
-    let out = valued .string-value .last .1 .1 .1 .1 .1 .0 in
     let written = valued .string-value .ensures in
-    let w = stringIn edition1 (memoryIn (a .store .now) (a .state .now)) (elementsMeaning (a .table .now) (a .s)) in
+    let spells = string-is written (told .1) in
     record {
       leaves =
-          spelt-leaves (c .before .before .set-between .result) (a .store .now) (c .before .before .set-between .last .0) (a .place) (a .from)
-          (a .to) out (told .0 .0) (told .0 .1 .0) (numbersIn (a .state .now)) w (subst (λ r. Spelt r out w) (told .1) (written .spelt))
-          (c .before .before .set-between .ensures);
+          kept-leaves (λ v. v) (c .before .before .set-between .result) (a .store .now) (c .before .before .set-between .last .0) (a .place) (a .from) (a .to) _ (numbersIn (a .state .now)) spells (spelt spells) (c .before .before .set-between .ensures);
       spare = written .spare;
       room = written .room;
     }
@@ -52,12 +45,9 @@ returns-2 : tie.Need-returns-2
 returns-2 c =
     let told = c .before .k .given in
     let valued = c .before .before .before in
-    let a = valued .before .before .before .before .before .before .args in
-    let out = valued .string-value .last .1 .1 .1 .1 .1 .0 in
     let written = valued .string-value .ensures in
-    let w = stringIn edition1 (memoryIn (a .store .now) (a .state .now)) (elementsMeaning (a .table .now) (a .s)) in
     record {
-      leaves = (refl, stopped w _ (told .0 .0) (subst (λ r. Spelt r out w) (told .1) (written .spelt)));
+      leaves = (refl, stopped _ _ _ (string-stops written (told .1)));
       spare = written .spare;
       room = written .room;
     }

@@ -1,11 +1,8 @@
 -- `valued::write_record` meets its contract: the value spelt is put, or the work stops. Assumes nothing.
-use mathlib.Core.Path.{refl, subst}
+use mathlib.Core.Path.{refl}
 use native.Mathlib.Omega.{arith}
-use Rattle.base.specs.Edition.{edition1}
+use Rattle.expressions.specs.Laws.{string-is, string-stops}
 use Rattle.expressions.specs.Memory.{memoryIn}
-use Rattle.expressions.specs.Values.{Spelt}
-use Rattle.machine.specs.Expressions.{stringIn}
-use Rattle.rows.specs.Meaning.{elementsMeaning}
 use Rattle.values.specs.WorkLaws.{stopped}
 use Rattle.statements.specs.ValuedLaws.{few-notes, spelt-puts}
 use borrow.Author.Needs.{needs}
@@ -24,11 +21,8 @@ write-value-requires c κs =
     let valued = c .before .before .before .before .before .before .before in
     let s = valued .before .before .before .before .before .before .before in
     let a = s .args in
-    let out = valued .string-value .last .1 .1 .1 .1 .1 .0 in
     let written = valued .string-value .ensures in
-    let m = memoryIn (a .store .now) (a .state .now) in
-    let notes = few-notes (a .table .now) (a .s) m (told .0 .0) (told .0 .1 .0) out
-    (subst (λ r. Spelt r out (stringIn edition1 m (elementsMeaning (a .table .now) (a .s)))) (told .1) (written .spelt)) in
+    let notes = few-notes (a .table .now) (a .s) (memoryIn (a .store .now) (a .state .now)) (string-is written (told .1)) in
     record { writable = s .pre .1; room = written .room; few = omega (arith, notes, s .pre .0 .elements .few) }
 
 enum-known-k : tie.Need-enum-known-k
@@ -43,11 +37,9 @@ returns c =
     let valued = c .before .before .before .before .before .before .before .before .before .before in
     let s = valued .before .before .before .before .before .before .before in
     let a = s .args in
-    let out = valued .string-value .last .1 .1 .1 .1 .1 .0 in
-    let written = valued .string-value .ensures in
-    let w = stringIn edition1 (memoryIn (a .store .now) (a .state .now)) (elementsMeaning (a .table .now) (a .s)) in (
+    let written = valued .string-value .ensures in (
       spelt-puts (c .before .before .write-value .result) (a .state .now) (c .before .before .write-value .last .0) (a .output .now)
-          (c .before .before .write-value .last .1 .0) out (told .0 .0) (told .0 .1 .0) w (subst (λ r. Spelt r out w) (told .1) (written .spelt))
+          (c .before .before .write-value .last .1 .0) (string-is written (told .1))
           (c .before .before .write-value .ensures),
       (written .spare, written .room),
     )
@@ -56,14 +48,11 @@ returns-2 : tie.Need-returns-2
 returns-2 c =
     let told = c .before .k .given in
     let valued = c .before .before .before in
-    let a = valued .before .before .before .before .before .before .before .args in
-    let out = valued .string-value .last .1 .1 .1 .1 .1 .0 in
-    let written = valued .string-value .ensures in
-    let w = stringIn edition1 (memoryIn (a .store .now) (a .state .now)) (elementsMeaning (a .table .now) (a .s)) in (
+    let written = valued .string-value .ensures in (
       record {
         state-same = refl;
         same = refl;
-        work = λ c _. stopped w _ (told .0 .0) (subst (λ r. Spelt r out w) (told .1) (written .spelt));
+        work = λ c _. stopped _ _ _ (string-stops written (told .1));
       },
       (written .spare, written .room),
     )
