@@ -51,6 +51,19 @@ fn pieces_length(answer: &[u32], count: usize) -> usize
     sum
 }
 
+// Where n bytes from start on of the reference, which is turned round in a BACKSCAN, lie in the string.
+fn found_from(d: Direction, at: Span, start: usize, n: usize) -> usize
+    requires { ⌜ at .from ≤ at .to ⌝ }
+    requires { ⌜ start + n ≤ at .to - at .from ⌝ }
+    ensures { λ r. ⌜ (r ≡ foundFrom (directionMeaning d) (at .from) (at .to - at .from) start n)
+        × (r + n ≡ foundTo (directionMeaning d) (at .from) (at .to - at .from) start n) × (r + n ≤ at .to) ⌝ }
+{
+    match d {
+        Direction::Forward => at.from + start,
+        Direction::Backward => at.to - (start + n),
+    }
+}
+
 // The value of the replacement takes the place of n bytes from start on of the reference, which is turned round in a BACKSCAN.
 fn replace_pieces(
     table: &[u8],
@@ -71,19 +84,19 @@ fn replace_pieces(
         (storedTurned (now (table .entry)) (now (store .entry)) (now (state .entry)) (directionMeaning d) (at .place)
         (foundFrom (directionMeaning d) (at .from) (at .to - at .from) start n) (foundTo (directionMeaning d) (at .from) (at .to - at .from) start n) s) ⌝ }
 {
-    let size = at.to - at.from;
-    match d {
-        Direction::Forward => {
-            let from = at.from + start;
-            let to = at.from + (start + n);
-            replace_found(table, store, state, d, at.place, from, to, s, scratch, out)
-        }
-        Direction::Backward => {
-            let from = at.from + (size - (start + n));
-            let to = at.from + (size - start);
-            replace_found(table, store, state, d, at.place, from, to, s, scratch, out)
-        }
-    }
+    let from = found_from(d, at, start, n);
+    replace_found(
+        table,
+        store,
+        state,
+        d,
+        at.place,
+        from,
+        from + n,
+        s,
+        scratch,
+        out,
+    )
 }
 
 // A scan with a replacement, whose pattern's values stand in rows with so many notes.
