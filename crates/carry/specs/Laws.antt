@@ -6,10 +6,10 @@ use Prim.Native.Nat.{ℕ, suc, _+_, _-_, _≤_, _<_}
 use native.Mathlib.Numerals.{add-one}
 use native.Mathlib.Omega.{arith}
 use lib.ListN.{length, take, drop, getD, set, take-append-drop, length-reverse, length-drop}
-use lib.Seq.{length-take-le, drop-set-lt, getD-set-same}
+use lib.Seq.{length-take-le, getD-set-same}
 use Rattle.base.specs.Edition.{edition1}
 use Rattle.calls.specs.BufferLaws.{Good, keeps-good}
-use Rattle.calls.specs.Buffers.{stringsIn, numbersIn, numbersAt, returnsIn, returnsAt, statusOf, stateIn, storeImage, storeLeft, outputLeft, storeSize, stateSize}
+use Rattle.calls.specs.Buffers.{stringsIn, numbersIn, returnsIn, returnsAt, statusOf, stateIn, storeImage, storeLeft, outputLeft, storeSize, stateSize}
 use Rattle.calls.specs.Calls.{Buffers, leftOf}
 use Rattle.calls.specs.GivenLaws.{StateInRange, state-in-range, given-holds}
 use Rattle.expressions.specs.Memory.{memoryIn}
@@ -26,15 +26,10 @@ use Rattle.statements.specs.Valued.{Assigns, PutBy, Stored}
 use Rattle.statements.specs.declared.Did.{Did}
 use Rattle.statements.specs.declared.Did.the-variants as did
 use Rattle.states.specs.Contracts.{Popped}
-use Rattle.states.specs.Laws.{Leaves, leaves-all, holding-leaves, leaves-going, leaves-finished, leaves-stopped, leaves-input, leaves-output, leaves-number, leaves-push, leaves-return, leaves-front}
+use Rattle.states.specs.Laws.{Leaves, leaves-all, holding-leaves, leaves-going, leaves-finished, leaves-stopped, leaves-input, leaves-output, leaves-number, leaves-push, leaves-return, leaves-front, numbers-stay}
 use Rattle.values.specs.Work.{Work, done, stop, quietly, _>>=_}
 use Rattle.values.specs.WorkLaws.{bound, stopped, bound-twice}
 use Rattle.carry.specs.Carrying.{lent, Standing, machineIn, Moved, Unmoved, Carries, movedOn, MovesOn}
-
--- the numbers of a state with one of the first five numbers set
-numbers-stay : (state : List ℕ) (i x : ℕ) → i < 21 → numbersIn (set state i x) ≡ numbersIn state
-unfolding numbersIn numbersAt
-numbers-stay state i x h = rw (drop-set-lt 21 state i x h)
 
 -- a return changes no string and no output
 returning-keeps : (rs : List ℕ) (c : State) → (returning rs c .memory ≡ c .memory) × (returning rs c .output ≡ c .output)

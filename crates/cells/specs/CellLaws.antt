@@ -70,7 +70,7 @@ unfolding startCall storeSize
 start-large store left h e = record { number-right = rw (le-ltb _ _ h); left-right = rw (le-ltb _ _ h) e }
 
 -- the list behind a part of the first n elements
-drop-take : (x : List ℕ) (i n : ℕ) → i ≤ n → n ≤ length x → drop i (take n x) ≡ take (n - i) (drop i x)
+pub drop-take : (x : List ℕ) (i n : ℕ) → i ≤ n → n ≤ length x → drop i (take n x) ≡ take (n - i) (drop i x)
 drop-take x i n h k =
     let parts : n ≡ i + (n - i) = omega arith in
     ap (λ (j : ℕ). drop i (take j x)) parts
@@ -120,7 +120,7 @@ module _ (store : List ℕ) (g : Good store) (s : ℕ) (h : s < 32) where
       ∙ sym (with-splice store g s v k h)
 
   -- a part of the string is that part of the store
-  part-of : (i : ℕ) → i ≤ length (stringOf store s)
+  pub part-of : (i : ℕ) → i ≤ length (stringOf store s)
       → drop i (stringOf store s) ≡ take (length (stringOf store s) - i) (drop (1026 * s + 2 + i) store)
   part-of i k =
       let o = length (stringOf store s) in

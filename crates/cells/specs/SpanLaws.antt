@@ -9,7 +9,7 @@ use native.Mathlib.Numerals.{add-one}
 use native.Mathlib.Omega.{arith}
 use lib.Bits.{bitOr, or-zero-l, or-add-and, and-le-r}
 use lib.Dec.{eqb, ltb}
-use lib.ListN.{length, take, drop, getD, set, length-set, drop-of-length-le, length-reverse, List·getD-append}
+use lib.ListN.{length, take, drop, getD, set, replicate, length-set, drop-of-length-le, getD-replicate, length-reverse, List·getD-append}
 use lib.Seq.{getD-append-seam, drop-cons, length-take-le, paste, paste-suc, paste-zero, take-all}
 use borrow.Author.Tests.{ne-eqb, ltb-false, ltb-true}
 use Rattle.base.specs.Choice.{test-cases}
@@ -17,7 +17,7 @@ use Rattle.base.specs.Lists.{all}
 use Rattle.calls.specs.Splices.{splice, getD-splice-before, getD-splice-behind, paste-splice, set-splice, splice-before, splice-behind, splice-nil}
 use Rattle.cards.specs.Bytes.{newline}
 use Rattle.machine.specs.Step.{recordLength}
-use Rattle.search.specs.NextLaws.{next-until}
+use Rattle.search.specs.NextLaws.{next-until, until-within}
 use Rattle.search.specs.Passing.{NextByte, until}
 
 -- the first k of the n bytes of x stand in d from a place on
@@ -57,6 +57,15 @@ module _ (d : List ℕ) (at : ℕ) (x : List ℕ) (n : ℕ) where
       let count : k ≤ length x = omega (arith, p .whole, p .count) in
       ap (λ (l : List ℕ). getD l i 0) (p .bytes ∙ paste-splice d at x k count)
       ∙ getD-splice-behind d at (take k x) i 0 h (omega (arith, length-take-le k x count))
+
+-- n times the same element, up to the place i
+pub pasted-fill : (d : List ℕ) (at n b i : ℕ) (out : List ℕ) → at ≤ i → Pasted d at (replicate n b) n (i - at) out → at + n ≤ length d
+    → i < at + n → Pasted d at (replicate n b) n (i + 1 - at) (set out i b)
+pasted-fill d at n b i out low p fits h =
+    let k = i - at in
+    let place : at + k ≡ i = omega arith in
+    let next : k + 1 ≡ i + 1 - at = omega arith in
+    rw (place, next) at (pasted-more d at (replicate n b) n k out b p fits (omega arith) (sym (getD-replicate n k b 0 (omega arith))))
 
 -- the n bytes of x but the first k stand in d, as when x is written from its end
 pub record Hung (d : List ℕ) (at : ℕ) (x : List ℕ) (n k : ℕ) (out : List ℕ) : Type 0 where
@@ -164,6 +173,10 @@ record-until : (s : List ℕ) → recordLength s ≡ until 10 s
 unfolding recordLength newline until
 record-until [] = refl
 record-until (b ∷ s) = ap (λ (n : ℕ). elim (eqb b 10) [ true ↦ 0 | false ↦ suc n ]) (record-until s)
+
+-- so it lies in the bytes that it begins
+pub record-within : (s : List ℕ) → recordLength s ≤ length s
+record-within s = rw (record-until s) (until-within 10 s)
 
 pub record-next : (s : List ℕ) (from at : ℕ) → NextByte s 10 from at → at - from ≡ recordLength (drop from s)
 record-next s from at n = omega (arith, next-until s 10 from at n, record-until (drop from s))

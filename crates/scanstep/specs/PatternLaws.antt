@@ -6,10 +6,11 @@ use native.Mathlib.Nat.{not-suc-le-zero}
 use native.Mathlib.Omega.{arith}
 use lib.Dec.{eqb}
 use lib.ListN.{length, take, drop, getD, set, length-append, length-drop, take-append-drop, List·getD-append}
-use lib.Seq.{drop-append-le, getD-append-seam, getD-set-other, getD-set-same, length-take-le, take-add, take-all, take-append-le, take-at, take-take, drop-at}
+use lib.Seq.{drop-append-le, getD-append-seam, getD-set-other, getD-set-same, length-take-le, take-add, take-all, take-append-le, take-at, take-take}
 use borrow.Author.Tests.{eqb-false, eqb-true, le-ltb, lt-ltb}
 use Rattle.base.specs.Choice.{test-cases}
 use Rattle.calls.specs.Splices.{splice, length-splice, take-splice, drop-splice}
+use Rattle.cells.specs.CellLaws.{drop-take}
 use Rattle.machine.specs.Scanning.{Valued}
 use Rattle.pattern.specs.Putting.{PutRow}
 use Rattle.pattern.proofs.Patterns.{good-put, pattern-put}
@@ -71,11 +72,9 @@ module _ (values rows rowsLeft : List ℕ) (i : ℕ) where
         let long : length left ≡ 20480 = ap length e ∙ length-splice values at u room ∙ s .strings in
         let fits : length w ≤ 1024 = omega (arith, spelt .size) in
         let all : length (valuesOf left (i + 1)) ≡ 1024 * (i + 1) = length-take-le (1024 * (i + 1)) left (omega (arith, s .few)) in
-        let more : 1024 * (i + 1) ≡ at + 1024 = omega arith in
+        let more : 1024 * (i + 1) - at ≡ 1024 = omega arith in
         let cut : drop at (valuesOf left (i + 1)) ≡ take 1024 (drop at left) =
-        ap (λ (k : ℕ). drop at (take k left)) more
-        ∙ ap (drop at) (take-add at 1024 left)
-        ∙ drop-at (take at left) (take 1024 (drop at left)) at (length-take-le at left (omega (arith, s .few))) in
+        drop-take left at (1024 * (i + 1)) (omega arith) (omega (arith, s .few)) ∙ ap (λ (k : ℕ). take k (drop at left)) more in
         let back : at + n - at ≡ n = omega arith in
         let behind : drop at left ≡ u ++ drop (at + length u) values = ap (drop at) e ∙ drop-splice values at u (omega arith) in
         let bytes : take (at + n - at) (drop at (valuesOf left (i + 1))) ≡ w =

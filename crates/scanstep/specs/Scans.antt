@@ -28,9 +28,9 @@ pub record Scannable (table store state : List ℕ) (s : Scan) : Type 0 where
   pub replacement : ReplacementHolds table (s .replacement)
 
 -- so is one of a table that keeps the rules
-pub holds-scannable : (table store state : List ℕ) (steps : ℕ) (s : Scan) → tableSize ≤ length table → Ready store state
+pub holds-scannable : {table store state : List ℕ} {steps : ℕ} {s : Scan} → tableSize ≤ length table → Ready store state
     → ScanHolds table steps s → Scannable table store state s
-holds-scannable table store state steps s bytes ready h =
+holds-scannable bytes ready h =
     record {
       bytes = bytes;
       ready = ready;

@@ -2,7 +2,7 @@
 use mathlib.Core.Bool.{Bool, true, false, _||_}
 use mathlib.Core.List.{List, [], _∷_, _++_}
 use mathlib.Core.Path.{_≡_, refl, sym, ap, ap₂, subst, _∙_}
-use Prim.Native.Nat.{ℕ, suc, _+_, _*_, _-_, _≤_, _<_, min}
+use Prim.Native.Nat.{ℕ, _+_, _*_, _-_, _≤_, _<_, min}
 use native.Mathlib.Nat.{add-zero, min-eq-left, min-eq-right, min-le-left, min-le-right}
 use native.Mathlib.Omega.{arith}
 use lib.Dec.{eqb, leb}
@@ -105,14 +105,6 @@ not-nil : (l : List ℕ) → 0 < length l → isNil l ≡ false
 unfolding isNil
 not-nil [] h = absurd (omega arith)
 not-nil (x ∷ l) h = refl
-
--- a record lies in the bytes that it begins
-pub record-within : (l : List ℕ) → recordLength l ≤ length l
-unfolding recordLength
-record-within [] = omega arith
-record-within (b ∷ l) =
-    test-cases (λ x. elim x [ true ↦ 0 | false ↦ suc (recordLength l) ] ≤ suc (length l)) (eqb b newline) (λ _. omega arith)
-    (λ _. omega (arith, record-within l))
 
 -- no record is read
 took-none : (store input : List ℕ) (place most from : ℕ) → Taking store place input from

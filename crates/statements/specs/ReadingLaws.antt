@@ -6,25 +6,21 @@ use Prim.Native.Nat.{ℕ}
 use native.Mathlib.Omega.{arith}
 use lib.Dec.{ltb}
 use lib.IntN.{ℤ, natAbs}
-use lib.ListN.{length, drop, getD, set}
-use lib.Seq.{drop-set-lt, getD-set-same}
-use Rattle.calls.specs.Buffers.{numbersIn, numbersAt}
+use lib.ListN.{drop, getD, set}
+use lib.Seq.{getD-set-same}
+use Rattle.calls.specs.Buffers.{numbersIn}
 use Rattle.expressions.specs.Memory.{memoryIn}
 use Rattle.language.specs.Program as Program
 use Rattle.machine.specs.Expressions.{lengthIn}
 use Rattle.machine.specs.State.{goingTo, withInput}
 use Rattle.machine.specs.Step.{chosen, moving, reading, taking}
+use Rattle.states.specs.Laws.{numbers-stay}
 use Rattle.values.specs.Conversion.{longestString}
 use Rattle.values.specs.Numbers.{isNegative}
 use Rattle.statements.specs.Leaving.{memoryOf, Took}
 use Rattle.statements.specs.Reading.{Goes, Halts, Moves, Next, Reading, Reads}
 use Rattle.statements.specs.declared.Went.{Went}
 use Rattle.statements.specs.declared.Went.the-variants as went
-
--- the numbers of a state with another input place
-numbers-stay : (state : List ℕ) (to : ℕ) → numbersIn (set state 3 to) ≡ numbersIn state
-unfolding numbersIn numbersAt
-numbers-stay state to = rw (drop-set-lt 21 state 3 to (omega arith))
 
 -- a record taken
 pub goes-on : (store left state input : List ℕ) (place most to : ℕ) (takes : Bool) → Reading store state input place
@@ -41,7 +37,7 @@ goes-on store left state input place most to takes r t e =
       work =
           λ b c h.
           let numbers : c .memory .numbers ≡ numbersIn (set state 3 to) =
-          ap (λ m. m .numbers) (h .memory) ∙ sym (numbers-stay state to) in
+          ap (λ m. m .numbers) (h .memory) ∙ sym (numbers-stay state 3 to (omega arith)) in
           t .work b c (ap (λ m. m .strings) (h .memory)) (h .input-left)
           ∙ ap₂ (λ (x : Bool) (zs : List ℤ). withInput (drop to input) (goingTo (chosen x b) (memoryOf left zs) c)) e numbers
           ∙ ap (λ (j : ℕ). withInput (drop j input) (goingTo (chosen takes b) (memoryIn left (set state 3 to)) c)) (sym here);

@@ -8,10 +8,11 @@ use native.Mathlib.Omega.{arith}
 use lib.Dec.{leb}
 use lib.IntN.{natAbs}
 use lib.ListN.{length, take, drop, length-drop}
-use lib.Seq.{drop-at, drop-drop, drop-length, length-take-le, take-add, take-all, take-length, take-take}
+use lib.Seq.{drop-length, take-all, take-length, take-take}
 use borrow.Author.Tests.{leb-false, leb-true}
 use Rattle.base.specs.Choice.{test-cases}
-use Rattle.calls.specs.BufferLaws.{Good, good-short, string-part}
+use Rattle.calls.specs.BufferLaws.{Good}
+use Rattle.cells.specs.CellLaws.{part-of}
 use Rattle.cells.specs.Contracts.{stringOf}
 use Rattle.expressions.specs.Memory.{memoryIn}
 use Rattle.language.specs.Program as Program
@@ -71,20 +72,10 @@ pub reference-bytes : (store : List ℕ) (place from to : ℕ) → Good store �
     → take (start + to - (start + from)) (drop (start + from) store) ≡ referenceOf store place from to
 reference-bytes store place from to g b start e =
     let n = length (stringOf store place) in
-    let x = drop (1026 * place + 2) store in
     let cut : start + to - (start + from) ≡ to - from = omega arith in
-    let parts : n ≡ from + (n - from) = omega (arith, b .order, b .within) in
-    let room : from ≤ length x = omega (arith, b .known, b .order, b .within, good-short store g place, length-drop (1026 * place + 2) store, g .size) in
-    let inside : drop from (stringOf store place) ≡ take (n - from) (drop from x) =
-    ap (drop from) (string-part store g place (b .known))
-    ∙ ap (λ (j : ℕ). drop from (take j x)) parts
-    ∙ ap (drop from) (take-add from (n - from) x)
-    ∙ drop-at (take from x) (take (n - from) (drop from x)) from (length-take-le from x room) in
-    ap (λ (j : ℕ). take j (drop (start + from) store)) cut
-    ∙ ap (λ (j : ℕ). take (to - from) (drop (j + from) store)) e
-    ∙ ap (take (to - from)) (sym (drop-drop from (1026 * place + 2) store))
-    ∙ sym (take-take (to - from) (n - from) (drop from x) (omega (arith, b .order, b .within)))
-    ∙ ap (take (to - from)) (sym inside)
+    ap₂ (λ (i j : ℕ). take i (drop (j + from) store)) cut e
+    ∙ sym (take-take (to - from) (n - from) (drop (1026 * place + 2 + from) store) (omega (arith, b .order, b .within)))
+    ∙ ap (take (to - from)) (sym (part-of store g place (b .known) from (omega (arith, b .order, b .within))))
 
 -- a statement's reference: the whole string, or its first or last n bytes
 module _ (d : Direction) (store state : List ℕ) (place : ℕ) (p : Part) (h : place < 32) (e : place ≡ placeIn p) where

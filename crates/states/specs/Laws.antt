@@ -40,6 +40,11 @@ pub record Leaves (state input : List ℕ) (c : State) (left : List ℕ) : Type 
   pub numbers : take 32 (drop 21 left) ≡ map biased (c .memory .numbers)
   pub behind : drop 53 left ≡ drop 53 state
 
+-- a number set in front of them leaves the numbers as they are
+pub numbers-stay : (state : List ℕ) (i x : ℕ) → i < 21 → numbersIn (set state i x) ≡ numbersIn state
+unfolding numbersIn numbersAt
+numbers-stay state i x h = rw (drop-set-lt 21 state i x h)
+
 -- the numbers in front, the returns held and not, the numbers and the rest
 parts : (l : List ℕ) (n : ℕ) → n ≤ 16
     → l ≡ take 5 l ++ (take n (drop 5 l) ++ (take (16 - n) (drop (5 + n) l) ++ (take 32 (drop 21 l) ++ drop 53 l)))

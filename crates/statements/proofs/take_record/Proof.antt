@@ -10,8 +10,9 @@ use mir.Syntax.{w64}
 use mir.Val.{Fits}
 use borrow.Author.Needs.{needs}
 use Rattle.calls.specs.BufferLaws.{storeWith}
+use Rattle.cells.specs.SpanLaws.{record-within}
 use Rattle.machine.specs.Step.{recordLength}
-use Rattle.statements.specs.Laws.{record-within, none-asked, none-left, took-some}
+use Rattle.statements.specs.Laws.{none-asked, none-left, took-some}
 use Rattle.statements.specs.Leaving.{Took}
 use Rattle.statements.proofs.take_record.Statement.{statement}
 use Rattle.statements.proofs.take_record.Tie as tie

@@ -1,10 +1,10 @@
 -- `states::start` meets its contract. The invariant: the numbers written so far stand over zeros.
 -- Assumes nothing.
-use mathlib.Core.Path.{_≡_, refl, sym, _∙_}
-use Prim.Native.Nat.{ℕ, _+_, _-_, _≤_}
+use mathlib.Core.Path.{refl, _∙_}
+use Prim.Native.Nat.{_-_, _≤_}
 use native.Mathlib.Omega.{arith}
-use lib.ListN.{replicate, getD-replicate}
-use Rattle.cells.specs.SpanLaws.{Pasted, pasted-none, pasted-more, pasted-all}
+use lib.ListN.{replicate}
+use Rattle.cells.specs.SpanLaws.{Pasted, pasted-none, pasted-fill, pasted-all}
 use Rattle.states.specs.KeepLaws.{started}
 use Rattle.states.proofs.start.Statement.{statement}
 use Rattle.states.proofs.start.Tie as tie
@@ -32,17 +32,8 @@ loop-less c = omega arith
 
 loop-again : tie.Need-loop-again Inv-loop μ-loop
 loop-again c =
-    let b : ℕ = 140_737_488_355_328 in
     let l = c .before .loop in
-    let k = l .i - 21 in
-    let place : 21 + k ≡ l .i = omega arith in
-    let next : k + 1 ≡ l .i + 1 - 21 = omega arith in
-    let more = pasted-more (replicate 64 0) 21 (replicate 32 b) 32 k (l .state) b (l .inv .2) (omega arith) (omega arith)
-    (sym (getD-replicate 32 k b 0 (omega arith))) in (
-      omega arith,
-      omega arith,
-      rw (place, next) at more,
-    )
+    (omega arith, omega arith, pasted-fill (replicate 64 0) 21 32 140_737_488_355_328 (l .i) (l .state) (l .inv .0) (l .inv .2) (omega arith) (omega arith))
 
 returns : tie.Need-returns Inv-loop μ-loop
 returns c =

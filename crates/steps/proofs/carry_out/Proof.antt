@@ -60,11 +60,9 @@ enum-known-x-5 c = search needs
 
 scan-requires : tie.Need-scan-requires
 scan-requires c κs =
-    let a = c .before .before .before .before .before .before .before .before .before .before .before .before .before .before .before .before .before .before .before .before .before .args in
     let g = c .before .before .before .before .before .before .before .before .before .before .before .before .before .before .before .before .before .before .before .before .before .pre .0 in
     let holds = going-holds g (c .before .before .before .before .before .before .before .before .before .before .before .x5 .given .1) in (
-      holds-scannable (a .table .now) (a .store .now) (a .state .now) _ _ (g .given .bytes)
-          (going-ready g) holds,
+      holds-scannable (g .given .bytes) (going-ready g) holds,
       c .before .before .before .before .before .before .before .before .before .before .before .before .before .before .before .before .before .before .before .before .before .pre .1 .1,
     )
 

@@ -1,10 +1,9 @@
 -- `cells::spans::blank` meets its contract. The loop's invariant: zeros are pasted up to i.
 -- Assumes nothing.
-use mathlib.Core.Path.{_≡_, sym}
-use Prim.Native.Nat.{ℕ, _+_, _-_, _≤_}
+use Prim.Native.Nat.{_-_, _≤_}
 use native.Mathlib.Nat.{sub-self}
-use lib.ListN.{getD, replicate, getD-replicate, length-replicate}
-use Rattle.cells.specs.SpanLaws.{Pasted, pasted-none, pasted-more, pasted-all}
+use lib.ListN.{replicate, length-replicate}
+use Rattle.cells.specs.SpanLaws.{Pasted, pasted-none, pasted-fill, pasted-all}
 use borrow.Author.Needs.{needs}
 use native.Mathlib.Omega.{arith}
 use Rattle.cells.proofs.spans.blank.Statement.{statement}
@@ -35,15 +34,7 @@ loop-again : tie.Need-loop-again Inv-loop μ-loop
 loop-again c =
     let a = c .before .before .args in
     let l = c .before .loop in
-    let n = a .to - a .from in
-    let k = l .i - a .from in
-    let place : a .from + k ≡ l .i = omega arith in
-    let next : k + 1 ≡ l .i + 1 - a .from = omega arith in
-    let byte : 0 ≡ getD (replicate {A = ℕ} n 0) k 0 = sym (getD-replicate n k 0 0 (omega arith)) in (
-      omega arith,
-      rw (place, next) at
-          (pasted-more (a .out .now) (a .from) (replicate n 0) n k (l .out) 0 (l .inv .1) (omega arith) (omega arith) byte),
-    )
+    (omega arith, pasted-fill (a .out .now) (a .from) (a .to - a .from) 0 (l .i) (l .out) (l .inv .0) (l .inv .1) (omega arith) (omega arith))
 
 same-length : tie.Need-same-length Inv-loop μ-loop
 same-length c = c .before .loop .inv .1 .size
