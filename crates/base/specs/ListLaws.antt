@@ -1,16 +1,18 @@
 -- What the tests on lists tell of the lists, and stretches of a list. Assumes nothing.
-use mathlib.Core.Bool.{Bool, true, false, false≢true, and-eq-true-iff}
+use mathlib.Core.Bool.{Bool, true, false, _&&_, false≢true, and-eq-true-iff}
 use mathlib.Core.List.{List, [], _∷_, _++_}
 use mathlib.Core.Logic.{_↔_}
 use mathlib.Core.Path.{_≡_, refl, ap₂, subst, sym, _∙_, ap}
-use Prim.Native.Nat.{ℕ, _+_, _-_, _≤_, _<_}
+use Prim.Native.Nat.{ℕ, zero, suc, _+_, _-_, _≤_, _<_}
+use native.Mathlib.Nat.{min-le-left, min-le-right}
+use native.Mathlib.Numerals.{add-one}
 use native.Mathlib.Omega.{arith}
 use lib.Dec.{eqb}
-use lib.ListN.{take, length, drop, getD, length-drop, take-append-drop}
-use lib.Seq.{length-take-le, take-all, getD-take, getD-drop, drop-drop}
-use borrow.Author.Tests.{eqb-true, eq-eqb}
+use lib.ListN.{take, length, drop, getD, length-take, length-drop, drop-of-length-le, take-append-drop}
+use lib.Seq.{length-take-le, take-all, getD-take, getD-drop, drop-drop, drop-cons}
+use borrow.Author.Tests.{eqb-true, eq-eqb, ne-eqb}
 use Rattle.base.specs.Choice.{both-pass}
-use Rattle.base.specs.Lists.{same, begins, all}
+use Rattle.base.specs.Lists.{same, begins, all, isNil}
 
 -- lists that pass the test are equal
 pub same-true : (xs ys : List ℕ) → same xs ys ≡ true → xs ≡ ys
@@ -37,6 +39,35 @@ pub begins-iff : (w ys : List ℕ) → (begins w ys ≡ true) ↔ (take (length 
 unfolding begins
 begins-iff w ys = same-iff (take (length w) ys) w
 
+-- a list has room for what it begins with
+pub begins-room : (w ys : List ℕ) → begins w ys ≡ true → length w ≤ length ys
+begins-room w ys e =
+    let same : length (take (length w) ys) ≡ length w = ap length (begins-iff w ys .0 e) in
+    omega (arith, simp length-take at same)
+
+-- a word that stands at a place of a list lies inside
+pub begins-inside : (w : ℕ) (ws l : List ℕ) (at : ℕ) → begins (w ∷ ws) (drop at l) ≡ true → at + length (w ∷ ws) ≤ length l
+begins-inside w ws l at e = omega (arith, begins-room (w ∷ ws) (drop at l) e, length-drop at l)
+
+-- the list with no elements
+pub nil-length : {A : Type 0} (l : List A) → isNil l ≡ eqb (length l) 0
+unfolding isNil
+nil-length [] = refl
+nil-length (x ∷ l) = sym (ne-eqb (suc (length l)) 0 (λ e. omega arith))
+
+-- the element at a place and what lies behind it
+pub drop-next : {A : Type 0} (l : List A) (i : ℕ) (d : A) → i < length l → drop i l ≡ getD l i d ∷ drop (i + 1) l
+drop-next l i d h = drop-cons l i d h ∙ ap (λ (k : ℕ). getD l i d ∷ drop k l) (sym (add-one i))
+
+-- a test on all elements from a place on: on that one and all behind it, and where none is left
+pub all-next : (f : ℕ → Bool) (l : List ℕ) (i : ℕ) → i < length l → all f (drop i l) ≡ (f (getD l i 0) && all f (drop (i + 1) l))
+unfolding all
+all-next f l i h = ap (all f) (drop-next l i 0 h)
+
+pub all-end : (f : ℕ → Bool) (l : List ℕ) (i : ℕ) → length l ≤ i → all f (drop i l) ≡ true
+unfolding all
+all-end f l i h = ap (all f) (drop-of-length-le l h)
+
 -- a test that two lists pass is passed by one behind the other
 pub all-append : {A : Type 0} (f : A → Bool) (xs ys : List A) → all f xs ≡ true → all f ys ≡ true → all f (xs ++ ys) ≡ true
 unfolding all
@@ -45,12 +76,32 @@ all-append f (x ∷ xs) ys h g =
     let both = and-eq-true-iff (f x) (all f xs) .0 h in
     both-pass (both .0) (all-append f xs ys (both .1) g)
 
+-- where all pass a test, and what is read behind the last does, each place does
+pub all-at : {A : Type 0} (f : A → Bool) (l : List A) (d : A) → f d ≡ true → all f l ≡ true → (i : ℕ) → f (getD l i d) ≡ true
+unfolding all
+all-at f [] d last h i = last
+all-at f (x ∷ l) d last h zero = and-eq-true-iff (f x) (all f l) .0 h .0
+all-at f (x ∷ l) d last h (suc i) = all-at f l d last (and-eq-true-iff (f x) (all f l) .0 h .1) i
+
 -- a stretch of a list has the size asked for, and its elements
 pub length-stretch : (l : List ℕ) (at n : ℕ) → at + n ≤ length l → length (take n (drop at l)) ≡ n
 length-stretch l at n h = length-take-le n (drop at l) (omega (arith, length-drop at l))
 
 pub getD-stretch : (l : List ℕ) (at n i : ℕ) → i < n → getD (take n (drop at l)) i 0 ≡ getD l (at + i) 0
 getD-stretch l at n i h = getD-take n (drop at l) i 0 h ∙ getD-drop at l i 0
+
+-- it is no longer than asked for, nor than the list
+pub stretch-few : (l : List ℕ) (at n : ℕ) → length (take n (drop at l)) ≤ n
+stretch-few l at n = omega (arith, length-take n (drop at l), min-le-left n (length (drop at l)))
+
+pub stretch-within : (l : List ℕ) (at n : ℕ) → length (take n (drop at l)) ≤ length l
+stretch-within l at n = omega (arith, length-take n (drop at l), min-le-right n (length (drop at l)), length-drop at l)
+
+-- a stretch by the place where it ends
+pub stretch-cut : (l : List ℕ) (at n : ℕ) → take (at + n - at) (drop at l) ≡ take n (drop at l)
+stretch-cut l at n =
+    let size : at + n - at ≡ n = omega arith in
+    ap (λ (k : ℕ). take k (drop at l)) size
 
 -- a stretch up to the end
 pub stretch-end : (l : List ℕ) (at n : ℕ) → n ≡ length l - at → take n (drop at l) ≡ drop at l

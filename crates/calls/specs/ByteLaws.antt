@@ -1,26 +1,29 @@
 -- The table of a program in range is made of bytes, where the literals are. Assumes nothing.
 use mathlib.Core.Bool.{Bool, true, _&&_, not, and-eq-true-iff}
 use mathlib.Core.List.{List, [], _∷_, _++_, map}
-use mathlib.Core.Option.{Option, none, some}
-use mathlib.Core.Path.{_≡_, refl}
+use mathlib.Core.Option.{Option}
+use mathlib.Core.Path.{_≡_}
 use Prim.Native.Nat.{ℕ, zero, suc, _+_, _-_, _^_, _≤_, _<_}
 use native.Mathlib.Omega.{arith}
 use lib.Dec.{leb, ltb, eqb}
 use lib.ListN.{length, replicate}
-use borrow.Author.Tests.{ltb-true}
+use borrow.Author.Tests.{ltb-true, leb-true}
+use Rattle.base.specs.Choice.{both-true}
 use Rattle.base.specs.Edition.{Edition}
 use Rattle.base.specs.Lists.{all}
 use Rattle.language.specs.Placed.{Each, each-join}
 use Rattle.language.specs.Program.{Part, whole, first, Operand, constant, number, lengthOf, numberOf}
 use Rattle.language.specs.Program.{plus, minus, times, over, positive, negative, Item, operand, operator, sign}
 use Rattle.language.specs.Program.{Element, literal, part, text, PatternElement, value, freeFiller, fixedFiller}
-use Rattle.language.specs.Program.{Comparison, equal, unequal, less, greater, atMost, atLeast, Test, isNull, isNumeric, compares}
-use Rattle.language.specs.Program.{Direction, forward, backward, Branch, Statement, setNumber, setString, goto, finish, ifTest, scan}
+use Rattle.language.specs.Program.{Comparison, Test, isNull, isNumeric, compares}
+use Rattle.language.specs.Program.{Direction, Branch, Statement, setNumber, setString, goto, finish, ifTest, scan}
 use Rattle.language.specs.Program.{read, write, execute, return, Step, Program}
-use Rattle.calls.specs.CellLaws.{length-kinds, length-place, part-kinds}
+use Rattle.calls.specs.CellLaws.{length-kinds, length-place, part-kinds, part-cell-place}
 use Rattle.calls.specs.Numerals.{inBytes}
+use Rattle.calls.specs.RowLaws.{comparison-flag, scan-flag}
+use Rattle.calls.specs.RuleLaws.{scan-parts, number-parts}
 use Rattle.calls.specs.Rules.{signedLengthHolds, lengthHolds, partHolds, operandHolds, itemHolds, elementHolds, patternHolds}
-use Rattle.calls.specs.Rules.{rowHolds, branchHolds, testHolds, balanced, placeOf, statementHolds, stepHolds, isProgram}
+use Rattle.calls.specs.Rules.{rowHolds, branchHolds, testHolds, placeOf, statementHolds, stepHolds, isProgram}
 use Rattle.calls.specs.Table.{Cell, cell, noCell, cellBytes, partCell, operandCell, operatorKind, signKind, itemCell}
 use Rattle.calls.specs.Table.{elementCell, patternCell, replacementOf, elementsOf, itemsOf, Row, rowBytes, row, rangeCell}
 use Rattle.calls.specs.Table.{comparisonNumber, directionNumber, replacementFlag, testRow, rowOf, stepRows, allElements, allItems}
@@ -83,21 +86,15 @@ row-bytes card r s = omega arith
 
 -- the number of a sign of comparison is a byte
 comparison-small : (c : Comparison) → comparisonNumber c < 256
-unfolding comparisonNumber
-comparison-small equal = omega arith
-comparison-small unequal = omega arith
-comparison-small less = omega arith
-comparison-small greater = omega arith
-comparison-small atMost = omega arith
-comparison-small atLeast = omega arith
+comparison-small c =
+    let n = comparisonNumber c in
+    omega (arith, leb-true n 6 (both-true (leb 1 n) (leb n 6) (comparison-flag c) .1))
 
 -- and so is the flag of a scan
 flag-small : (d : Direction) (r : Option (List Element)) → directionNumber d + replacementFlag r < 256
-unfolding directionNumber replacementFlag
-flag-small forward none = omega arith
-flag-small forward (some xs) = omega arith
-flag-small backward none = omega arith
-flag-small backward (some xs) = omega arith
+flag-small d r =
+    let n = directionNumber d + replacementFlag r in
+    omega (arith, leb-true n 4 (both-true (leb 1 n) (leb n 4) (scan-flag d r) .1))
 
 -- the kind and the place of an element's cell are bytes, wherever its literal bytes stand
 abbrev SmallElement : PatternElement → Type 0
@@ -119,12 +116,6 @@ record SmallSteps (ss : List Step) : Type 0 where
   elements : Each SmallElement (allElements ss)
   items : Each SmallItem (allItems ss)
 
--- the place of a string or substring
-part-place : (shift : ℕ) (p : Part) → partCell shift p .place ≡ placeOf p
-unfolding partCell placeOf cell
-part-place shift (whole s) = refl
-part-place shift (first s n) = length-place (shift + 2) s n
-
 -- what is in range in a program of so many strings, numbers and steps
 module _ (e : Edition) (strings numbers steps : ℕ) (short : strings ≤ 32) (few : numbers ≤ 32) where
   -- the kinds and the places of cells that hold something in range
@@ -132,7 +123,7 @@ module _ (e : Edition) (strings numbers steps : ℕ) (short : strings ≤ 32) (f
   unfolding partHolds placeOf
   part-small shift low p h =
       let kinds = part-kinds shift p in
-      let place = part-place shift p in
+      let place = part-cell-place shift p in
       let inside = placed p h in
       omega arith
     where
@@ -195,12 +186,11 @@ module _ (e : Edition) (strings numbers steps : ℕ) (short : strings ≤ 32) (f
   statement-small : (s : Statement) → statementHolds e strings numbers steps s ≡ true → SmallStatement s
   unfolding statementHolds elementsOf itemsOf rowOf row rangeCell noCell cell Each
   statement-small (setNumber i x) h =
-      let one = and-eq-true-iff (ltb i numbers) (balanced 0 x && all (itemHolds e strings numbers steps) x) .0 h in
-      let two = and-eq-true-iff (balanced 0 x) (all (itemHolds e strings numbers steps) x) .0 (one .1) in
+      let holds = number-parts e strings numbers steps i x h in
       record {
-        row = λ element item. omega (arith, ltb-true i numbers (one .0));
+        row = λ element item. omega (arith, ltb-true i numbers (holds .0));
         elements = tt;
-        items = all-tested SmallItem (itemHolds e strings numbers steps) item-small x (two .1);
+        items = all-tested SmallItem (itemHolds e strings numbers steps) item-small x (holds .2);
       }
   statement-small (setString p xs) h =
       let holds = and-eq-true-iff (partHolds e strings numbers steps p) (rowHolds e strings numbers steps xs) .0 h in
@@ -213,18 +203,13 @@ module _ (e : Edition) (strings numbers steps : ℕ) (short : strings ≤ 32) (f
       record { row = λ element item. test-small x b (holds .0); elements = tt; items = tt }
   statement-small (scan d p xs r b) h =
       let more = replacementOf r in
-      let rest = rowHolds e strings numbers steps more && branchHolds e strings numbers steps b in
-      let patterns = all (patternHolds e strings numbers steps (placeOf p)) xs in
-      let one = and-eq-true-iff (partHolds e strings numbers steps p) (leb (length xs) 20 && (patterns && rest)) .0 h in
-      let two = and-eq-true-iff (leb (length xs) 20) (patterns && rest) .0 (one .1) in
-      let three = and-eq-true-iff patterns rest .0 (two .1) in
-      let four = and-eq-true-iff (rowHolds e strings numbers steps more) (branchHolds e strings numbers steps b) .0 (three .1) in
-      let left = part-small 0 (omega arith) p (one .0) in
+      let holds = scan-parts e strings numbers steps d p xs r b h in
+      let left = part-small 0 (omega arith) p (holds .part) in
       let pattern =
-      all-tested SmallElement (patternHolds e strings numbers steps (placeOf p)) (pattern-small (placeOf p)) xs (three .0) in
+      all-tested SmallElement (patternHolds e strings numbers steps (placeOf p)) (pattern-small (placeOf p)) xs (holds .patterns) in
       record {
         row = λ element item. omega (arith, flag-small d r);
-        elements = each-join SmallElement xs (map value more) pattern (row-elements-small more (four .0));
+        elements = each-join SmallElement xs (map value more) pattern (row-elements-small more (holds .row));
         items = tt;
       }
   statement-small (read p b) h =

@@ -15,7 +15,7 @@ use Rattle.language.specs.Program.{Element, literal, part, text, PatternElement
 use Rattle.values.specs.Numbers.{isNegative, isInRange}
 use Rattle.calls.specs.NumeralLaws.{Stands, stands-back, byte-read, bytes-read, number-read, biased-small, unbiased-biased}
 use Rattle.calls.specs.Numerals.{inBytes, bias}
-use Rattle.calls.specs.Rules.{signedLengthHolds, lengthHolds, partHolds, operandHolds, itemHolds, elementHolds, patternHolds}
+use Rattle.calls.specs.Rules.{signedLengthHolds, lengthHolds, partHolds, operandHolds, itemHolds, elementHolds, patternHolds, placeOf}
 use Rattle.calls.specs.Table.{Cell, cell, cellBytes, lengthCell, partCell, operandCell, operatorKind, signKind, itemCell}
 use Rattle.calls.specs.Table.{range, elementCell, patternCell, literalIn, literalsAt}
 use Rattle.calls.specs.TableReading.{cellAt, rangeFrom, rangeCount, rangeMore, lengthOfCell, partOfCell, operandOfCell}
@@ -75,6 +75,12 @@ pub part-kinds : (shift : ℕ) (p : Part) → (shift + 1 ≤ partCell shift p .k
 unfolding partCell cell
 part-kinds shift (whole s) = omega arith
 part-kinds shift (first s n) = let kinds = length-kinds (shift + 2) s n in omega arith
+
+-- and their place
+pub part-cell-place : (shift : ℕ) (p : Part) → partCell shift p .place ≡ placeOf p
+unfolding partCell placeOf cell
+part-cell-place shift (whole s) = refl
+part-cell-place shift (first s n) = length-place (shift + 2) s n
 
 -- the kinds of operands
 operand-kinds : (a : Operand) → operandCell a .kind ≤ 9

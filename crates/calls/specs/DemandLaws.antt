@@ -6,11 +6,11 @@ use mathlib.Core.Option.{Option, none}
 use mathlib.Core.Path.{_≡_, refl, sym, _∙_, ap, ap₂, subst, subst₂}
 use Prim.Native.Nat.{ℕ, zero, suc, _+_, _≤_, _<_}
 use native.Mathlib.Omega.{arith}
-use lib.Dec.{leb, ltb, eqb, lit<, lit≤}
+use lib.Dec.{ltb, eqb, lit<, lit≤}
 use lib.ListN.{length, getD}
 use lib.Seq.{getD-set-other}
 use borrow.Author.Tests.{ltb-true, ltb-false, eqb-true, eqb-false, not-true}
-use Rattle.base.specs.Choice.{test-cases}
+use Rattle.base.specs.Choice.{test-cases, both-true}
 use Rattle.base.specs.Edition.{Edition, edition1}
 use Rattle.base.specs.Lists.{all}
 use Rattle.judgement.specs.Deck.{accepted, judge}
@@ -30,24 +30,15 @@ use Rattle.calls.specs.Calls.{carried, stepCall, buffersAfter, runCall}
 use Rattle.calls.specs.Demands.{LeftBy, Scans, StepClaim, ListClaim, HoldsProgram, startedWith, Demand3}
 use Rattle.calls.specs.Holding.{Holding}
 use Rattle.calls.specs.Invariant.{Sound, returns-enough, next-sound, fresh-sound}
-use Rattle.calls.specs.ProgramLaws.{Runs, statement-holds, right-true, program-runs}
+use Rattle.calls.specs.ProgramLaws.{Runs, statement-holds, program-runs}
 use Rattle.calls.specs.Numerals.{bias}
-use Rattle.calls.specs.Rules.{
-  lengthHolds,
-  elementHolds,
-  partHolds,
-  patternHolds,
-  rowHolds,
-  branchHolds,
-  statementHolds,
-  placeOf,
-  isProgram,
-}
+use Rattle.calls.specs.RuleLaws.{scan-parts}
+use Rattle.calls.specs.Rules.{lengthHolds, elementHolds, patternHolds, statementHolds, placeOf, isProgram}
 use Rattle.calls.specs.ScanLaws.{concluded-scans}
 use Rattle.calls.specs.RunLaws.{RunSame, run-same}
 use Rattle.calls.specs.StartLaws.{read-short, read-tabled, started-small, started-holds}
 use Rattle.calls.specs.StepLaws.{Tabled, small-refused, small-called, small-after, refusal-held, call-held, step-holds, after-holds}
-use Rattle.calls.specs.Table.{literalsAt, replacementOf}
+use Rattle.calls.specs.Table.{literalsAt}
 
 -- a string made null leaves every other
 null-apart : (s place : ℕ) (m : Memory) → not (eqb s place) ≡ true → stringAt (withString m s []) place ≡ stringAt m place
@@ -62,7 +53,7 @@ unfolding all patternHolds withoutFillers stringAt withString
 fillers-apart e strings numbers steps place [] m h = refl
 fillers-apart e strings numbers steps place (value x ∷ xs) m h =
     fillers-apart e strings numbers steps place xs m
-    (right-true (elementHolds e strings numbers steps x) (all (patternHolds e strings numbers steps place) xs) h)
+    (both-true (elementHolds e strings numbers steps x) (all (patternHolds e strings numbers steps place) xs) h .1)
 fillers-apart e strings numbers steps place (freeFiller s ∷ xs) m h =
     let both = and-eq-true-iff (ltb s strings && not (eqb s place)) (all (patternHolds e strings numbers steps place) xs) .0 h in
     let apart = and-eq-true-iff (ltb s strings) (not (eqb s place)) .0 (both .0) .1 in
@@ -111,7 +102,7 @@ module _ (e : Edition) (limit : e .limit < bias) (wide : longestString ≤ e .li
         → stepCall e table input b .number ≡ 0
         → getD (stepCall e table input b .answer) 0 0 ≡ 0
         → stringAt (givenIn e table input (stepCall e table input b .left) .memory) (placeOf q) ≡ stringAt (c .memory) (placeOf q)
-    unfolding LeftBy splitIn statementAt statementHolds
+    unfolding LeftBy splitIn statementAt
     failure-held d q xs r f is passes fails =
         let claim = scans-held d q xs r f is passes in
         let unfound : splitIn (length (claim .valued)) (stepCall e table input b .answer) ≡ none = rw (fails, splitIn) in
@@ -120,13 +111,7 @@ module _ (e : Edition) (limit : e .limit < bias) (wide : longestString ≤ e .li
         let steps = length (p .steps) in
         let holds = statement-holds e (p .strings) (p .numbers) steps (p .steps) (c .next) (runs .hold) in
         let scan-holds = subst (λ (x : Program.Statement). statementHolds e (p .strings) (p .numbers) steps x ≡ true) is holds in
-        let inner = right-true (partHolds e (p .strings) (p .numbers) steps q) (leb (length xs) 20
-        && (all (patternHolds e (p .strings) (p .numbers) steps (placeOf q)) xs
-        && (rowHolds e (p .strings) (p .numbers) steps (replacementOf r) && branchHolds e (p .strings) (p .numbers) steps f))) scan-holds in
-        let elements = right-true (leb (length xs) 20) (all (patternHolds e (p .strings) (p .numbers) steps (placeOf q)) xs
-        && (rowHolds e (p .strings) (p .numbers) steps (replacementOf r) && branchHolds e (p .strings) (p .numbers) steps f)) inner in
-        let apart = and-eq-true-iff (all (patternHolds e (p .strings) (p .numbers) steps (placeOf q)) xs)
-        (rowHolds e (p .strings) (p .numbers) steps (replacementOf r) && branchHolds e (p .strings) (p .numbers) steps f) .0 elements .0 in
+        let apart = scan-parts e (p .strings) (p .numbers) steps d q xs r f scan-holds .patterns in
         ap (λ (x : Memory). stringAt x (placeOf q)) left ∙ fillers-apart e (p .strings) (p .numbers) steps (placeOf q) xs (c .memory) apart
 
     -- the claim of a step on such buffers

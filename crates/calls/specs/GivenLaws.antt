@@ -1,9 +1,9 @@
 -- What a step that nothing refuses is given: a table that holds a program in range, and buffers that hold a machine in range.
 -- Assumes nothing.
 use mathlib.Core.Bool.{Bool, true, false, cond, not, _&&_, and-eq-true-iff}
-use mathlib.Core.List.{List, [], _∷_, reverse}
+use mathlib.Core.List.{List, reverse}
 use mathlib.Core.Path.{_≡_, refl, _∙_}
-use Prim.Native.Nat.{ℕ, zero, suc, _≤_, _<_}
+use Prim.Native.Nat.{ℕ, _+_, _≤_, _<_}
 use native.Mathlib.Omega.{arith}
 use lib.Dec.{leb, ltb}
 use lib.IntN.{pos}
@@ -11,6 +11,7 @@ use lib.ListN.{length, take, drop, getD, length-take, length-drop, length-map, l
 use lib.Seq.{length-take-le}
 use borrow.Author.Tests.{leb-true, ltb-true, ltb-false, le-leb, lt-ltb, not-false}
 use Rattle.base.specs.Edition.{Edition}
+use Rattle.base.specs.ListLaws.{all-at, length-stretch}
 use Rattle.base.specs.Lists.{all}
 use Rattle.language.specs.Program.{Program}
 use Rattle.machine.specs.Bounds.{Bounded}
@@ -19,7 +20,7 @@ use Rattle.machine.specs.Step.{mostReturns, turnedDownBy}
 use Rattle.values.specs.Conversion.{longestString}
 use Rattle.values.specs.Numbers.{isInRange}
 use Rattle.calls.specs.BufferLaws.{keeps-good, good-short, count-strings}
-use Rattle.calls.specs.Buffers.{storeKeeps, stateSize, numbersAt, returnsIn, numbersIn, stateKeeps, stateIn}
+use Rattle.calls.specs.Buffers.{storeKeeps, stateSize, returnsAt, numbersAt, returnsIn, numbersIn, stateKeeps, stateIn}
 use Rattle.calls.specs.Calls.{Buffers, givenIn, outOfRange, stepRefusal}
 use Rattle.calls.specs.Holding.{Holding, all-reverse}
 use Rattle.calls.specs.Invariant.{Sound, unread-any}
@@ -62,12 +63,10 @@ state-in-range e steps input output state h =
       written = leb-true _ _ (five .1);
     }
 
--- where all pass a test, and what is read behind the last does, each place does
-all-at : {A : Type 0} (f : A → Bool) (l : List A) (d : A) → f d ≡ true → all f l ≡ true → (i : ℕ) → f (getD l i d) ≡ true
-unfolding all
-all-at f [] d last h i = last
-all-at f (x ∷ l) d last h zero = and-eq-true-iff (f x) (all f l) .0 h .0
-all-at f (x ∷ l) d last h (suc i) = all-at f l d last (and-eq-true-iff (f x) (all f l) .0 h .1) i
+-- a state holds as many returns as it says, where there are so many
+pub returns-count : (state : List ℕ) → 5 + getD state 2 0 ≤ length state → length (reverse (returnsIn state)) ≡ getD state 2 0
+unfolding returnsIn returnsAt
+returns-count state h = length-reverse (take (getD state 2 0) (drop 5 state)) ∙ length-stretch state 5 (getD state 2 0) h
 
 -- buffers that pass the tests
 module _ (e : Edition) (p : Program) (input : List ℕ) (b : Buffers) (size : length (b .state) ≡ stateSize)
@@ -120,7 +119,7 @@ module _ (e : Edition) (p : Program) (input : List ℕ) (b : Buffers) (size : le
   given-holds = record { given = refl; storeGood = good; stateGood = range; stateLength = size; outputLength = refl }
 
 -- what the tests in their order tell where nothing refuses
-refusal-none : (small rules store bad : Bool) (n : ℕ) → cond small 2 (cond (not rules) 13 (cond (not store) 14 (cond bad 15 n))) ≡ 0
+pub refusal-none : (small rules store bad : Bool) (n : ℕ) → cond small 2 (cond (not rules) 13 (cond (not store) 14 (cond bad 15 n))) ≡ 0
     → (small ≡ false) × (rules ≡ true) × (store ≡ true) × (bad ≡ false) × (n ≡ 0)
 refusal-none true rules store bad n h = absurd (omega arith)
 refusal-none false false store bad n h = absurd (omega arith)

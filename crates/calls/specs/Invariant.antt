@@ -1,18 +1,18 @@
 -- What a machine that runs a program in range holds is in range, before the first step and behind every one. Assumes nothing.
-use mathlib.Core.Bool.{Bool, true, false, cond, _&&_, _||_, and-eq-true-iff}
+use mathlib.Core.Bool.{Bool, true, false, cond, _||_, and-eq-true-iff}
 use mathlib.Core.List.{List, [], _∷_, _++_}
 use mathlib.Core.Option.{Option, none, some}
 use mathlib.Core.Path.{_≡_, refl, sym, _∙_, ap}
 use Prim.Native.Nat.{ℕ, zero, suc, _+_, _-_, _≤_, _<_, min}
 use native.Mathlib.Omega.{arith}
-use lib.Dec.{leb, ltb, eqb}
+use lib.Dec.{leb, eqb}
 use lib.IntN.{natAbs}
 use lib.ListN.{length, take, drop, getD, length-append, length-take, length-drop}
 use lib.Seq.{drop-drop}
 use borrow.Author.Tests.{leb-true, leb-false, ltb-true, eqb-true}
-use Rattle.base.specs.Choice.{cond-cases}
+use Rattle.base.specs.Choice.{cond-cases, both-true}
 use Rattle.base.specs.Edition.{Edition}
-use Rattle.base.specs.Lists.{all, isNil}
+use Rattle.base.specs.Lists.{isNil}
 use Rattle.cards.specs.Bytes.{newline}
 use Rattle.language.specs.Program as Program
 use Rattle.language.specs.Program.{Part, whole, first, PatternElement, Direction, Branch, Statement, setNumber, setString, goto}
@@ -29,10 +29,9 @@ use Rattle.values.specs.Conversion.{longestString}
 use Rattle.values.specs.Numbers.{isNegative}
 use Rattle.values.specs.Work.{Work, done, stop, quietly}
 use Rattle.calls.specs.NumberBounds.{expression-ranged, test-ends}
-use Rattle.calls.specs.ProgramLaws.{Runs, right-true, statement-holds, step-behind, first-step}
-use Rattle.calls.specs.Rules.{balanced, itemHolds, partHolds, rowHolds, branchHolds, testHolds, patternHolds, statementHolds}
-use Rattle.calls.specs.Rules.{placeOf}
-use Rattle.calls.specs.Table.{replacementOf}
+use Rattle.calls.specs.ProgramLaws.{Runs, statement-holds, step-behind, first-step}
+use Rattle.calls.specs.RuleLaws.{scan-parts, number-parts, branch-inside}
+use Rattle.calls.specs.Rules.{partHolds, branchHolds, testHolds, statementHolds}
 
 -- every step, held return, string, number, and the places in input and output, are in range
 pub record Sound (e : Edition) (p : Program) (lent : ℕ) (input : List ℕ) (c : State) : Type 0 where
@@ -107,12 +106,6 @@ module _ (e : Edition) (wide : longestString ≤ e .limit) (p : Program) (runs :
   abbrev BranchInside : Branch → Type 0
   BranchInside b = (b .success < length (p .steps)) × (b .failure < length (p .steps))
 
-  branch-inside : (b : Branch) → branchHolds e (p .strings) (p .numbers) (length (p .steps)) b ≡ true → BranchInside b
-  unfolding branchHolds
-  branch-inside b h =
-      let both = and-eq-true-iff (ltb (b .success) (length (p .steps))) (ltb (b .failure) (length (p .steps))) .0 h in
-      (ltb-true _ _ (both .0), ltb-true _ _ (both .1))
-
   taking-sound : (s most : ℕ) (b : Branch) (c : State) → Kept c → BranchInside b → Kept (taking s most b c)
   unfolding taking goingTo
   taking-sound s most b c k inside =
@@ -171,33 +164,25 @@ module _ (e : Edition) (wide : longestString ≤ e .limit) (p : Program) (runs :
   abbrev Holds : Statement → Type 0
   Holds x = statementHolds e (p .strings) (p .numbers) (length (p .steps)) x ≡ true
 
+  inside-of : (b : Branch) → branchHolds e (p .strings) (p .numbers) (length (p .steps)) b ≡ true → BranchInside b
+  inside-of = branch-inside e (p .strings) (p .numbers) (length (p .steps))
+
   scan-branch : (d : Direction) (q : Part) (xs : List PatternElement) (r : Option (List Program.Element)) (b : Branch)
       → Holds (Program.scan d q xs r b) → BranchInside b
-  unfolding statementHolds
-  scan-branch d q xs r b h =
-      let steps = length (p .steps) in
-      let place = partHolds e (p .strings) (p .numbers) steps q in
-      let few = leb (length xs) 20 in
-      let pattern = all (patternHolds e (p .strings) (p .numbers) steps (placeOf q)) xs in
-      let row = rowHolds e (p .strings) (p .numbers) steps (replacementOf r) in
-      let branch = branchHolds e (p .strings) (p .numbers) steps b in
-      let two = right-true few (pattern && (row && branch)) (right-true place (few && (pattern && (row && branch))) h) in
-      branch-inside b (right-true row branch (right-true pattern (row && branch) two))
+  scan-branch d q xs r b h = inside-of b (scan-parts e (p .strings) (p .numbers) (length (p .steps)) d q xs r b h .branch)
 
   read-branch : (q : Part) (b : Branch) → Holds (read q b) → BranchInside b
   unfolding statementHolds
   read-branch q b h =
       let steps = length (p .steps) in
-      branch-inside b
-      (right-true (partHolds e (p .strings) (p .numbers) steps q) (branchHolds e (p .strings) (p .numbers) steps b) h)
+      inside-of b (both-true (partHolds e (p .strings) (p .numbers) steps q) (branchHolds e (p .strings) (p .numbers) steps b) h .1)
 
   -- what a statement in range makes of a state in range
   pub carrying-sound : (c : State) (x : Statement) → Kept c → Holds x → (isFinish x ≡ false → suc (c .next) < length (p .steps))
       → lacksReturn x (c .returns) ≡ false → Ends KeptDone (carrying e lent x c)
   unfolding carrying statementHolds isFinish lacksReturn moving quietly
   carrying-sound c (setNumber i x) k h behind returns =
-      let items = all (itemHolds e (p .strings) (p .numbers) (length (p .steps))) x in
-      let r = right-true (balanced 0 x) items (right-true (ltb i (p .numbers)) (balanced 0 x && items) h) in
+      let r = number-parts e (p .strings) (p .numbers) (length (p .steps)) i x h .2 in
       ends-bind (expression-ranged e wide (p .strings) (p .numbers) (length (p .steps)) (c .memory) (k .memory) x r)
       (λ z inside.
       let m = withNumber (c .memory) i z in
@@ -210,7 +195,7 @@ module _ (e : Edition) (wide : longestString ≤ e .limit) (p : Program) (runs :
       let test = testHolds e (p .strings) (p .numbers) (length (p .steps)) t in
       let both = and-eq-true-iff test (branchHolds e (p .strings) (p .numbers) (length (p .steps)) b) .0 h in
       ends-bind (test-ends e wide (p .strings) (p .numbers) (length (p .steps)) (c .memory) (k .memory) t (both .0))
-      (λ r _. ends (going-sound c (chosen r b) (c .memory) k (chosen-inside r b (branch-inside b (both .1))) (k .memory)))
+      (λ r _. ends (going-sound c (chosen r b) (c .memory) k (chosen-inside r b (inside-of b (both .1))) (k .memory)))
   carrying-sound c (Program.scan d q xs r b) k h behind returns =
       let inside = scan-branch d q xs r b h in
       ends-bind (scanning-bounded e (c .memory) d q xs r (k .memory))

@@ -1,6 +1,6 @@
 -- The calls: numbers as bytes (Numerals), a program as a table (Table) and back (TableReading), when a program is in range (Rules), store
 -- and state (Buffers) with their laws (BufferLaws, over Splices), what each call answers and leaves (Calls), the demands (Demands).
--- Laws: numbers (NumeralLaws), cells (CellLaws), rows (RowLaws) and programs (TableLaws) are read back from their bytes (ByteLaws); rows one
+-- Laws: what the rules tell of a statement's parts (RuleLaws); numbers (NumeralLaws), cells (CellLaws), rows (RowLaws) and programs (TableLaws) are read back from their bytes (ByteLaws); rows one
 -- behind the other (ReadingLaws).
 -- Demand 3 proved (DemandLaws): programs in range run (ProgramLaws, NumberBounds, Invariant), buffers hold the machine (Holding, GivenLaws,
 -- StartLaws), calls on them do what it does (StepLaws, ScanLaws, RunLaws), and stopped steps change the status alone (StopLaws).
@@ -24,6 +24,7 @@ pub mod Numerals
 pub mod ProgramLaws
 pub mod ReadingLaws
 pub mod RowLaws
+pub mod RuleLaws
 pub mod Rules
 pub mod RunLaws
 pub mod ScanLaws

@@ -10,8 +10,10 @@ use lib.Dec.{ltb}
 use lib.IntN.{ℤ, pos, negsuc, natAbs}
 use lib.ListN.{length, take, drop, getD}
 use lib.Seq.{getD-drop, drop-drop, drop-append-seam, take-append-seam}
-use borrow.Author.Tests.{ltb-true, ltb-false, lt-ltb, le-ltb}
-use Rattle.base.specs.Choice.{cond-cases}
+use borrow.Author.Tests.{ltb-true, ltb-false, lt-ltb, le-ltb, le-leb}
+use Rattle.base.specs.Choice.{cond-cases, test-cases}
+use Rattle.base.specs.Edition.{edition1}
+use Rattle.values.specs.Numbers.{isInRange}
 use Rattle.calls.specs.Numerals.{inBytes, numberAt, bias, biased, unbiased}
 
 -- the bytes bs stand in the list t from a place on
@@ -95,3 +97,17 @@ size-low n h = rw (lt-ltb n (2 ^ 47) h) (omega arith)
 pub size-high : (n : ℕ) → 2 ^ 47 ≤ n → natAbs (unbiased n) ≡ n - 2 ^ 47
 unfolding unbiased bias
 size-high n h = rw (le-ltb n (2 ^ 47) h)
+
+-- the words that keep the least number in range and the greatest, and those between them
+abbrev pub lowest : ℕ
+lowest = 2 ^ 47 - 8_388_607
+
+abbrev pub highest : ℕ
+highest = 2 ^ 47 + 8_388_607
+
+pub number-between : (n : ℕ) → lowest ≤ n → n ≤ highest → isInRange edition1 (unbiased n) ≡ true
+unfolding isInRange edition1
+number-between n low high =
+    le-leb (natAbs (unbiased n)) 8_388_607
+    (test-cases (λ _. natAbs (unbiased n) ≤ 8_388_607) (ltb n (2 ^ 47)) (λ e. omega (arith, size-low n (ltb-true n (2 ^ 47) e)))
+    (λ e. omega (arith, size-high n (ltb-false n (2 ^ 47) e))))

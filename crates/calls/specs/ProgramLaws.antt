@@ -44,10 +44,6 @@ unfolding lastFinishes
 first-step [] h = absurd (false≢true h)
 first-step (s ∷ ss) h = omega arith
 
--- a conjunction that is true has a true right part
-pub right-true : (a b : Bool) → (a && b) ≡ true → b ≡ true
-right-true a b h = and-eq-true-iff a b .0 h .1
-
 -- what a run relies on: the last step finishes, and every statement is in range
 pub record Runs (e : Edition) (p : Program) : Type 0 where
   pub last : lastFinishes (p .steps) ≡ true

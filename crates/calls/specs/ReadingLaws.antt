@@ -1,17 +1,42 @@
--- Items and elements that are read one behind the other: how many, and the first of them. Assumes nothing.
+-- Rows that are read one behind the other: how many, the first of them, and each; of items and elements so. Assumes nothing.
+use mathlib.Core.Bool.{Bool, true}
 use mathlib.Core.List.{List, [], _∷_}
-use mathlib.Core.Path.{_≡_, refl, _∙_, ap}
+use mathlib.Core.Path.{_≡_, refl, sym, _∙_, ap, subst}
 use Prim.Native.Nat.{ℕ, zero, suc, _+_, _*_, _-_, _≤_, _<_}
 use native.Mathlib.Nat.{not-suc-le-zero}
 use native.Mathlib.Omega.{arith}
-use lib.ListN.{length}
+use lib.ListN.{length, getD}
+use Rattle.base.specs.Choice.{both-true}
+use Rattle.base.specs.Lists.{all}
 use Rattle.calls.specs.Table.{elementsAt, itemsAt}
 use Rattle.calls.specs.TableReading.{cellAt, itemOfCell, elementOfCell, patternOfCell, itemsFrom, elementsFrom, patternFrom}
 
 -- rows of any kind, of which one stands before the rest
+module _ {A : Type 0} (single : ℕ → A) (rows : ℕ → ℕ → List A) (next : (at n : ℕ) → rows at (suc n) ≡ single at ∷ rows (at + 1) n) where
+  -- each passes a test that all pass
+  pub rows-each : (f : A → Bool) (at n j : ℕ) → j < n → all f (rows at n) ≡ true → f (single (at + j)) ≡ true
+  unfolding all
+  rows-each f at zero j h g = absurd (not-suc-le-zero h)
+  rows-each f at (suc n) zero h g =
+      let both = both-true (f (single at)) (all f (rows (at + 1) n)) (sym (ap (all f) (next at n)) ∙ g) in
+      subst (λ (k : ℕ). f (single k) ≡ true) (omega arith) (both .0)
+  rows-each f at (suc n) (suc j) h g =
+      let both = both-true (f (single at)) (all f (rows (at + 1) n)) (sym (ap (all f) (next at n)) ∙ g) in
+      let place : at + 1 + j ≡ at + suc j = omega arith in
+      subst (λ (k : ℕ). f (single k) ≡ true) place (rows-each f (at + 1) n j (omega arith) (both .1))
+
+  -- the one at a place is the one read there
+  pub rows-at : (at n j : ℕ) (d : A) → j < n → getD (rows at n) j d ≡ single (at + j)
+  rows-at at zero j d h = absurd (not-suc-le-zero h)
+  rows-at at (suc n) zero d h = ap (λ l. getD l 0 d) (next at n) ∙ ap single (omega arith)
+  rows-at at (suc n) (suc j) d h =
+      let place : at + 1 + j ≡ at + suc j = omega arith in
+      ap (λ l. getD l (suc j) d) (next at n) ∙ rows-at (at + 1) n j d (omega arith) ∙ ap single place
+
+-- and of which there may be none
 module _ {A : Type 0} (single : ℕ → A) (rows : ℕ → ℕ → List A) (none : (at : ℕ) → rows at 0 ≡ [])
     (next : (at n : ℕ) → rows at (suc n) ≡ single at ∷ rows (at + 1) n) where
-  rows-length : (at n : ℕ) → length (rows at n) ≡ n
+  pub rows-length : (at n : ℕ) → length (rows at n) ≡ n
   rows-length at zero = ap length (none at)
   rows-length at (suc n) = ap length (next at n) ∙ ap suc (rows-length (at + 1) n)
 

@@ -1,6 +1,6 @@
 -- What a row of the table keeps is read back from it: the items and elements of a stretch, the statement of a step, the steps of a
 -- program. Assumes nothing.
-use mathlib.Core.Bool.{true, cond, _&&_, and-eq-true-iff}
+use mathlib.Core.Bool.{true, false, cond, _&&_, and-eq-true-iff}
 use mathlib.Core.List.{List, [], _∷_, _++_, map}
 use mathlib.Core.Option.{Option, none, some}
 use mathlib.Core.Path.{_≡_, refl, _∙_, ap, ap₂, subst}
@@ -8,7 +8,7 @@ use Prim.Native.Nat.{ℕ, suc, _+_, _*_, _%_, _^_, _≤_, _<_}
 use native.Mathlib.Omega.{arith}
 use lib.Dec.{leb, ltb, eqb}
 use lib.ListN.{length, length-append, length-map}
-use borrow.Author.Tests.{ltb-true}
+use borrow.Author.Tests.{ltb-true, lt-leb, ne-eqb}
 use Rattle.base.specs.Edition.{Edition}
 use Rattle.base.specs.Lists.{all}
 use Rattle.language.specs.Program.{Item, Element, PatternElement, value}
@@ -19,8 +19,9 @@ use Rattle.calls.specs.CellLaws.{cell-read, range-read, Kept, kept-read,
 use Rattle.calls.specs.CellLaws.{element-kept, pattern-kept}
 use Rattle.calls.specs.NumeralLaws.{Stands, stands-moved, stands-front, stands-back, byte-read, number-behind}
 use Rattle.calls.specs.Numerals.{inBytes, numberAt, bias}
+use Rattle.calls.specs.RuleLaws.{scan-parts, number-parts, branch-inside}
 use Rattle.calls.specs.Rules.{partHolds, operandHolds, itemHolds, elementHolds, patternHolds, rowHolds, branchHolds, testHolds}
-use Rattle.calls.specs.Rules.{balanced, placeOf, statementHolds, stepHolds}
+use Rattle.calls.specs.Rules.{placeOf, statementHolds, stepHolds}
 use Rattle.calls.specs.Table.{cell, noCell, cellBytes, itemCell, elementCell, patternCell, literalIn, replacementOf}
 use Rattle.calls.specs.Table.{elementsOf, itemsOf, Row, rowBytes, row, rangeCell, comparisonNumber, directionNumber}
 use Rattle.calls.specs.Table.{replacementFlag, testRow, rowOf, stepRows, allElements, allItems}
@@ -175,10 +176,7 @@ module _ (e : Edition) (limit : e .limit < bias) (strings numbers steps : ℕ) (
 
   -- the steps of a branch field that holds fit into their bytes
   branch-fits : (b : Branch) → branchHolds e strings numbers steps b ≡ true → (b .success < 2 ^ 16) × (b .failure < 2 ^ 16)
-  unfolding branchHolds
-  branch-fits b h =
-      let holds = and-eq-true-iff (ltb (b .success) steps) (ltb (b .failure) steps) .0 h in
-      omega (arith, ltb-true (b .success) steps (holds .0), ltb-true (b .failure) steps (holds .1))
+  branch-fits b h = omega (arith, branch-inside e strings numbers steps b h)
 
   -- a test that holds is kept by its row
   test-kept : (x : Test) (b : Branch) → testHolds e strings numbers steps x ≡ true → branchHolds e strings numbers steps b ≡ true
@@ -215,8 +213,7 @@ module _ (e : Edition) (limit : e .limit < bias) (strings numbers steps : ℕ) (
   unfolding statementHolds elementsOf itemsOf rowOf statementOfRow elementsOfRow patternOfRow replacementOfRow directionOf branchOf row
       rangeCell noCell cell
   statement-kept element item (setNumber i x) h es is fewElements fewItems =
-      let holds = and-eq-true-iff (ltb i numbers) (balanced 0 x && all (itemHolds e strings numbers steps) x) .0 h .1 in
-      let items = and-eq-true-iff (balanced 0 x) (all (itemHolds e strings numbers steps) x) .0 holds .1 in
+      let items = number-parts e strings numbers steps i x h .2 in
       let ranges = range-read item (length x) 0 (omega arith) (omega arith) (omega arith) in
       record { fits = omega arith; same = rw (ranges .first, ranges .second, items-read item x items is) }
   statement-kept element item (setString p xs) h es is fewElements fewItems =
@@ -231,22 +228,16 @@ module _ (e : Edition) (limit : e .limit < bias) (strings numbers steps : ℕ) (
       test-kept x b (holds .0) (holds .1)
   statement-kept element item (scan d p xs r b) h es is fewElements fewItems =
       let more = replacementOf r in
-      let row = rowHolds e strings numbers steps more in
-      let branch = branchHolds e strings numbers steps b in
-      let patterns = all (patternHolds e strings numbers steps (placeOf p)) xs in
-      let one = and-eq-true-iff (partHolds e strings numbers steps p) (leb (length xs) 20 && (patterns && (row && branch))) .0 h in
-      let two = and-eq-true-iff (leb (length xs) 20) (patterns && (row && branch)) .0 (one .1) in
-      let three = and-eq-true-iff patterns (row && branch) .0 (two .1) in
-      let four = and-eq-true-iff row branch .0 (three .1) in
+      let holds = scan-parts e strings numbers steps d p xs r b h in
       let count = length-append xs (map value more) in
       let moreCount = length-map more value in
-      let targets = branch-fits b (four .1) in
-      let kept = part-kept e limit strings numbers steps few 0 p (one .0) in
+      let targets = branch-fits b (holds .branch) in
+      let kept = part-kept e limit strings numbers steps few 0 p (holds .part) in
       let ranges = range-read element (length xs) (length more) (omega arith) (omega arith) (omega arith) in
       let front = each-front (ElementStands t) element xs (map value more) es in
-      let pattern = patterns-read (placeOf p) element xs (three .0) front in
+      let pattern = patterns-read (placeOf p) element xs (holds .patterns) front in
       let back = each-back (ElementStands t) element xs (map value more) es in
-      let replacement = elements-read (element + length xs) more (row-elements-hold more (four .0)) back in
+      let replacement = elements-read (element + length xs) more (row-elements-hold more (holds .row)) back in
       record {
         fits = omega arith;
         same = rw (direction-read d r, kept .same, ranges .first, ranges .second, ranges .third, pattern, replacement, replacement-read d r);
@@ -299,3 +290,39 @@ module _ (e : Edition) (limit : e .limit < bias) (strings numbers steps : ℕ) (
       let tail = steps-read (k + 1) (element + length own) (item + length ownItems) xs (holds .1) next back backItems in
       let head = step-read (stepsAt + 24 * k) r x (ltb-true (x .card) (2 ^ 16) (step .0)) kept here in
       ap₂ {C = List Step} _∷_ head (tail (omega arith) (omega arith))
+
+-- a row of a kind above 11 is that of RETURN
+pub return-row : (t : List ℕ) (r : Row) → 11 < r .kind → statementOfRow t r ≡ return
+unfolding statementOfRow
+return-row t r high =
+    let kind = r .kind in
+    let other : (k : ℕ) → k ≤ 11 → eqb kind k ≡ false = λ k low. ne-eqb kind k (λ q. omega arith) in
+    rw (
+      other 1 (omega arith),
+      other 2 (omega arith),
+      other 3 (omega arith),
+      other 4 (omega arith),
+      lt-leb kind 7 (omega arith),
+      other 8 (omega arith),
+      other 9 (omega arith),
+      other 10 (omega arith),
+      other 11 (omega arith),
+    )
+
+-- the flags of a comparison and of a scan
+pub comparison-flag : (c : Comparison) → (leb 1 (comparisonNumber c) && leb (comparisonNumber c) 6) ≡ true
+unfolding comparisonNumber
+comparison-flag equal = refl
+comparison-flag unequal = refl
+comparison-flag less = refl
+comparison-flag greater = refl
+comparison-flag atMost = refl
+comparison-flag atLeast = refl
+
+pub scan-flag : (d : Direction) (r : Option (List Element))
+    → (leb 1 (directionNumber d + replacementFlag r) && leb (directionNumber d + replacementFlag r) 4) ≡ true
+unfolding directionNumber replacementFlag
+scan-flag forward none = refl
+scan-flag forward (some xs) = refl
+scan-flag backward none = refl
+scan-flag backward (some xs) = refl

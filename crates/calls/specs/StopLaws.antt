@@ -6,7 +6,7 @@ use mathlib.Core.Path.{_≡_, refl, sym, _∙_, ap}
 use Prim.Native.Nat.{ℕ, _+_, _-_, _≤_, _<_}
 use native.Mathlib.Omega.{arith}
 use lib.Dec.{ltb, eqb}
-use lib.ListN.{length, take, drop, getD, length-drop, length-reverse, take-append-drop}
+use lib.ListN.{length, take, drop, getD, length-drop, take-append-drop}
 use lib.Seq.{drop-cons, length-take-le}
 use borrow.Author.Tests.{eqb-true, eqb-false}
 use Rattle.base.specs.Choice.{cond-cases}
@@ -21,7 +21,7 @@ use Rattle.calls.specs.BufferLaws.{good-image, keeps-good}
 use Rattle.calls.specs.Buffers.{storeKeeps, stateSize, returnsAt, numbersAt, statusNumber, returnsIn, numbersIn}
 use Rattle.calls.specs.Buffers.{stateKeeps, stateIn, storeLeft, stateLeft, outputLeft}
 use Rattle.calls.specs.Calls.{Buffers, leftOf, StepCalled, givenIn, outOfRange, stepRefusal, carried, stepCall}
-use Rattle.calls.specs.GivenLaws.{StateInRange, state-in-range, Unrefused, unrefused}
+use Rattle.calls.specs.GivenLaws.{StateInRange, state-in-range, returns-count, Unrefused, unrefused}
 use Rattle.calls.specs.Rules.{keepsRules}
 use Rattle.calls.specs.TableReading.{programIn}
 
@@ -30,15 +30,21 @@ abbrev pub withState : List ℕ → Buffers → Buffers
 withState s b = record { store = b .store; state = s; output = b .output }
 
 -- the five numbers in front, and the rest
-five-front : (l : List ℕ) → 5 ≤ length l → drop 1 l ≡ getD l 1 0 ∷ (getD l 2 0 ∷ (getD l 3 0 ∷ (getD l 4 0 ∷ drop 5 l)))
+pub five-front : (l : List ℕ) → 5 ≤ length l → drop 1 l ≡ getD l 1 0 ∷ (getD l 2 0 ∷ (getD l 3 0 ∷ (getD l 4 0 ∷ drop 5 l)))
 five-front l h = rw (drop-cons l 1 0 (omega arith), drop-cons l 2 0 (omega arith), drop-cons l 3 0 (omega arith), drop-cons l 4 0 (omega arith))
 
 -- the returns held and not, the numbers and the rest
-behind-five : (l : List ℕ) (n : ℕ) → n ≤ 16
+pub behind-five : (l : List ℕ) (n : ℕ) → n ≤ 16
     → take n (drop 5 l) ++ (take (16 - n) (drop (5 + n) l) ++ (take 32 (drop 21 l) ++ drop 53 l)) ≡ drop 5 l
 behind-five l n few =
     let all-places : 5 + n + (16 - n) ≡ 21 = omega arith in
     rw (stretch-behind l 21 32 53 refl, stretch-behind l (5 + n) (16 - n) 21 all-places, stretch-behind l 5 n (5 + n) refl)
+
+-- an output whose first n bytes a machine has written is left as it is
+pub output-whole : (output : List ℕ) (n : ℕ) (m : State) → n ≤ length output → m .output ≡ take n output → outputLeft output m ≡ output
+unfolding outputLeft
+output-whole output n m h e =
+    ap (λ (o : List ℕ). o ++ drop (length o) output) e ∙ rw (length-take-le n output h) (take-append-drop n output)
 
 -- buffers with a state in range
 module _ (e : Edition) (steps : ℕ) (store state input output : List ℕ) (size : length state ≡ stateSize)
@@ -46,18 +52,13 @@ module _ (e : Edition) (steps : ℕ) (store state input output : List ℕ) (size
   held : State
   held = stateIn store state input output
 
-  output-same : (x : Status) → outputLeft output (withStatus x held) ≡ output
-  unfolding outputLeft withStatus held stateIn
-  output-same x = rw (length-take-le (getD state 4 0) output (facts .written)) (take-append-drop (getD state 4 0) output)
-
   state-same : (x : Status) → stateLeft state input (withStatus x held) ≡ statusNumber x ∷ drop 1 state
   unfolding stateLeft withStatus held stateIn returnsIn numbersIn returnsAt numbersAt mostReturns mostNumbers stateSize
   state-same x =
       let n = getD state 2 0 in
       let behind = drop 5 state in
       let few : n ≤ 16 = facts .count in
-      let returns : length (reverse (take n behind)) ≡ n =
-      length-reverse (take n behind) ∙ length-take-le n behind (simp length-drop (omega arith)) in
+      let returns : length (reverse (take n behind)) ≡ n = returns-count state (omega arith) in
       let place : length input - length (drop (getD state 3 0) input) ≡ getD state 3 0 =
       simp length-drop (omega (arith, facts .place)) in
       let written : length (take (getD state 4 0) output) ≡ getD state 4 0 = length-take-le (getD state 4 0) output (facts .written) in
@@ -80,11 +81,11 @@ left-same e steps input b x size good range =
     let facts = state-in-range e steps (length input) (length (b .output)) (b .state) range in
     let stores = good-image (b .store) (keeps-good (b .store) good) in
     let states = state-same e steps (b .store) (b .state) input (b .output) size facts x in
-    let outputs = output-same e steps (b .store) (b .state) input (b .output) size facts x in
+    let outputs = output-whole (b .output) (getD (b .state) 4 0) (withStatus x (stateIn (b .store) (b .state) input (b .output))) (facts .written) refl in
     λ i. record { store = stores i; state = states i; output = outputs i }
 
 -- every refusal is 16 at most
-refusal-small : (small rules store bad : Bool) (n : ℕ) → n ≤ 16
+pub refusal-small : (small rules store bad : Bool) (n : ℕ) → n ≤ 16
     → cond small 2 (cond (not rules) 13 (cond (not store) 14 (cond bad 15 n))) ≤ 16
 refusal-small true rules store bad n h = omega arith
 refusal-small false false store bad n h = omega arith

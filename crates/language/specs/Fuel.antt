@@ -1,6 +1,6 @@
 -- Numeric expressions with no fuel: the readers leave fewer bytes than they got, so that from fuelFor on fuel changes nothing, and each
 -- is what its form says by the readers of the forms in it. Assumes nothing.
-use mathlib.Core.Bool.{Bool, true, false, _&&_, _||_, and-eq-true-iff, false≢true}
+use mathlib.Core.Bool.{Bool, true, false, _&&_, _||_, and-eq-true-iff}
 use mathlib.Core.List.{List, [], _∷_, _++_}
 use mathlib.Core.Path.{_≡_, refl, sym, _∙_}
 use Prim.Native.Nat.{ℕ, zero, suc, _+_, _*_, _≤_, _<_}
@@ -10,7 +10,8 @@ use lib.ListN.{length, take, drop, getD, length-drop}
 use borrow.Author.Tests.{leb-true}
 use Rattle.base.specs.Choice.{test-cases, cond-cases}
 use Rattle.base.specs.Edition.{Edition}
-use Rattle.base.specs.Lists.{begins, same}
+use Rattle.base.specs.ListLaws.{begins-room}
+use Rattle.base.specs.Lists.{begins}
 use Rattle.base.specs.Text.{bytes}
 use Rattle.cards.specs.Bytes.{isLetter, isDigit, isNameByte}
 use Rattle.language.specs.Program.{Item, operand, operator}
@@ -87,9 +88,7 @@ name-within bs =
 
 -- bytes that begin with a word of one or more are one or more
 begins-some : (w : ℕ) (ws bs : List ℕ) → begins (w ∷ ws) bs ≡ true → length (drop 1 bs) < length bs
-unfolding begins same
-begins-some w ws [] e = absurd (false≢true e)
-begins-some w ws (b ∷ bs) e = omega arith
+begins-some w ws bs e = omega (arith, begins-room (w ∷ ws) bs e, length-drop 1 bs)
 
 -- ---- what each reader leaves, in the order of the definitions
 

@@ -34,7 +34,8 @@ set-everywhere P (x ∷ l) zero a d h g (suc j) = g (suc j)
 set-everywhere P (x ∷ l) (suc i) a d h g zero = g 0
 set-everywhere P (x ∷ l) (suc i) a d h g (suc j) = set-everywhere P l i a d h (λ k. g (suc k)) j
 
-replicate-everywhere : {A : Type 0} (P : A → Type 0) (n : ℕ) (d : A) → P d → (j : ℕ) → P (getD (replicate n d) j d)
+-- what holds of an element holds everywhere in a list of it
+pub replicate-everywhere : {A : Type 0} (P : A → Type 0) (n : ℕ) (d : A) → P d → (j : ℕ) → P (getD (replicate n d) j d)
 replicate-everywhere P zero d h j = h
 replicate-everywhere P (suc n) d h zero = h
 replicate-everywhere P (suc n) d h (suc j) = replicate-everywhere P n d h j
