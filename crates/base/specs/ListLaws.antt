@@ -55,6 +55,9 @@ unfolding isNil
 nil-length [] = refl
 nil-length (x ∷ l) = sym (ne-eqb (suc (length l)) 0 (λ e. omega arith))
 
+pub not-nil : {A : Type 0} (l : List A) → 0 < length l → isNil l ≡ false
+not-nil l h = nil-length l ∙ ne-eqb (length l) 0 (λ e. omega arith)
+
 -- the element at a place and what lies behind it
 pub drop-next : {A : Type 0} (l : List A) (i : ℕ) (d : A) → i < length l → drop i l ≡ getD l i d ∷ drop (i + 1) l
 drop-next l i d h = drop-cons l i d h ∙ ap (λ (k : ℕ). getD l i d ∷ drop k l) (sym (add-one i))

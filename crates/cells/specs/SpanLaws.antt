@@ -13,6 +13,7 @@ use lib.ListN.{length, take, drop, getD, set, replicate, length-set, drop-of-len
 use lib.Seq.{getD-append-seam, drop-cons, length-take-le, paste, paste-suc, paste-zero, take-all}
 use borrow.Author.Tests.{ne-eqb, ltb-false, ltb-true}
 use Rattle.base.specs.Choice.{test-cases}
+use Rattle.base.specs.ListLaws.{all-next, all-end}
 use Rattle.base.specs.Lists.{all}
 use Rattle.calls.specs.Splices.{splice, getD-splice-before, getD-splice-behind, paste-splice, set-splice, splice-before, splice-behind, splice-nil}
 use Rattle.cards.specs.Bytes.{newline}
@@ -154,19 +155,15 @@ or-test (suc a) b =
 -- the zeros of a list, behind those passed
 pub zeros-more : (s : List ℕ) (i seen : ℕ) → i < length s
     → (eqb seen 0 && all (λ b. eqb b 0) (drop i s)) ≡ (eqb (bitOr seen (getD s i 0)) 0 && all (λ b. eqb b 0) (drop (i + 1) s))
-unfolding all
 zeros-more s i seen h =
     let b = getD s i 0 in
     let rest = all (λ b. eqb b 0) (drop (i + 1) s) in
-    let first : all (λ b. eqb b 0) (drop i s) ≡ (eqb b 0 && rest) =
-    ap (all (λ b. eqb b 0)) (drop-cons s i 0 h ∙ ap (λ (n : ℕ). b ∷ drop n s) (sym (add-one i))) in
-    ap (λ t. eqb seen 0 && t) first
+    ap (λ t. eqb seen 0 && t) (all-next (λ b. eqb b 0) s i h)
     ∙ sym (and-assoc (eqb seen 0) (eqb b 0) rest)
     ∙ ap (λ t. t && rest) (sym (or-test seen b))
 
 pub zeros-end : (s : List ℕ) (i seen : ℕ) → length s ≤ i → (eqb seen 0 && all (λ b. eqb b 0) (drop i s)) ≡ eqb seen 0
-unfolding all
-zeros-end s i seen h = ap (λ l. eqb seen 0 && all (λ b. eqb b 0) l) (drop-of-length-le s h) ∙ and-true (eqb seen 0)
+zeros-end s i seen h = ap (λ t. eqb seen 0 && t) (all-end (λ b. eqb b 0) s i h) ∙ and-true (eqb seen 0)
 
 -- a record reaches to byte 10 or the end
 record-until : (s : List ℕ) → recordLength s ≡ until 10 s

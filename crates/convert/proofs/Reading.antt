@@ -1,17 +1,16 @@
 -- Signs, digits and their value, read from the front of a string. Assumes nothing.
 use mathlib.Core.Bool.{Bool, true, false, cond, not, _&&_, _||_, or-false, and-true, and-eq-true-iff}
 use mathlib.Core.List.{List, [], _∷_}
-use mathlib.Core.Path.{_≡_, refl, sym, _∙_}
+use mathlib.Core.Path.{_≡_, refl, sym, ap, _∙_}
 use Prim.Native.Nat.{ℕ, zero, suc, _+_, _*_, _-_, _≤_, _<_}
-use native.Mathlib.Numerals.{add-one}
 use native.Mathlib.Omega.{arith}
 use lib.Dec.{leb, ltb, eqb, leb·suc-suc}
 use lib.IntN.{pos, negℤ, natAbs}
 use lib.ListN.{length, drop, getD, drop-of-length-le}
-use lib.Seq.{drop-cons}
 use borrow.Author.Tests.{ltb-true, le-leb, lt-leb, eq-eqb, ne-eqb, le-ltb, lt-ltb}
 use Rattle.base.specs.Choice.{test-cases, cond-cases}
 use Rattle.base.specs.Edition.{edition1}
+use Rattle.base.specs.ListLaws.{drop-next}
 use Rattle.base.specs.Lists.{same, begins, all, isNil}
 use Rattle.base.specs.Text.{bytes}
 use Rattle.values.specs.Conversion.{isDigitOrBlank, isSigned, unsignedPart, isNumeric, digitOf, decimal, signedBy, numberOf}
@@ -80,22 +79,12 @@ numeric-some s e =
     ltb-true (signLength s) (length s) (and-eq-true-iff (ltb (signLength s) (length s)) (all isDigitOrBlank (drop (signLength s) s)) .0
     (sym (numeric-from s) ∙ e) .0)
 
--- one more byte
-pub all-next : (s : List ℕ) (i : ℕ) → i < length s
-    → all isDigitOrBlank (drop i s) ≡ (isDigitOrBlank (getD s i 0) && all isDigitOrBlank (drop (i + 1) s))
-unfolding all
-all-next s i h = rw (add-one, drop-cons s i 0)
-
-pub all-end : (s : List ℕ) (i : ℕ) → length s ≤ i → all isDigitOrBlank (drop i s) ≡ true
-unfolding all
-all-end s i h = rw (drop-of-length-le s h)
-
 -- ---- the value
 
 pub decimal-next : (v : ℕ) (s : List ℕ) (i : ℕ) → i < length s
     → decimal v (drop i s) ≡ decimal (v * 10 + digitOf (getD s i 0)) (drop (i + 1) s)
 unfolding decimal
-decimal-next v s i h = rw (add-one, drop-cons s i 0)
+decimal-next v s i h = ap (decimal v) (drop-next s i 0 h)
 
 pub decimal-end : (v : ℕ) (s : List ℕ) (i : ℕ) → length s ≤ i → decimal v (drop i s) ≡ v
 unfolding decimal

@@ -1,5 +1,6 @@
 -- The code's sizes are those of the definitions, a number is what its bits are read as, and what an answer tells once its case is known.
 -- Assumes nothing.
+use mathlib.Core.Bool.{true}
 use mathlib.Core.List.{List}
 use mathlib.Core.Path.{_≡_, refl, sym, ap, subst, _∙_}
 use Prim.Native.Nat.{ℕ, _≤_, _<_, _^_}
@@ -9,8 +10,10 @@ use lib.ListN.{take}
 use mir.Syntax.{w64}
 use mir.Val.{SFits, ofZ, toZ}
 use mir.ValLaws.{toZ-ofZ}
+use borrow.Author.Tests.{leb-true}
 use Rattle.base.specs.Edition.{edition1}
 use Rattle.values.specs.Conversion.{longestString, textOf}
+use Rattle.values.specs.Numbers.{isInRange}
 use Rattle.values.specs.Work.{Work, done, stop}
 use Rattle.convert.specs.declared.Int.{Int}
 use Rattle.convert.specs.declared.Number as Number
@@ -23,7 +26,12 @@ pub limit-is : edition1 .limit ≡ limit
 unfolding edition1
 limit-is = refl
 
--- and its longest string that of the definitions
+-- a number that passes the test is in range
+pub in-range : (z : ℤ) → isInRange edition1 z ≡ true → natAbs z ≤ limit
+unfolding isInRange
+in-range z h = rw limit-is at (leb-true (natAbs z) (edition1 .limit) h)
+
+-- the code's longest string is that of the definitions
 pub longest-is : longestString ≡ longest
 unfolding longestString
 longest-is = refl

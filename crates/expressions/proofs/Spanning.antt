@@ -11,6 +11,7 @@ use lib.ListN.{length, take, drop, getD, length-drop}
 use lib.Seq.{getD-drop, getD-take, length-take-le, take-all, take-take}
 use borrow.Author.Tests.{leb-true, leb-false}
 use Rattle.base.specs.Choice.{test-cases}
+use Rattle.base.specs.ListLaws.{stretch-cut}
 use Rattle.calls.specs.BufferLaws.{Good, string-part}
 use Rattle.calls.specs.Buffers.{numbersIn, numbersAt}
 use Rattle.calls.specs.NumeralLaws.{biased-small, biased-unbiased}
@@ -72,12 +73,11 @@ module _ (store : List ℕ) (g : Good store) (s : ℕ) (h : s < 32) (from : ℕ)
   pub first-spans : (k : ℕ) → k ≤ length string → length string ≤ 1024
       → Spans store (record { from = from; to = from + k; notes = 0 }) (done (take k string) 0)
   first-spans k few short =
-      let size : from + k - from ≡ k = omega arith in
       let bytes : take k string ≡ take (from + k - from) (drop from store) =
       ap (take k) (string-part store g s h)
       ∙ take-take k (length string) (drop (1026 * s + 2) store) few
       ∙ ap (λ (i : ℕ). take k (drop i store)) (sym start)
-      ∙ ap (λ (i : ℕ). take i (drop from store)) (sym size) in
+      ∙ sym (stretch-cut store from k) in
       record {
         lies = record { order = omega arith; within = omega (arith, g .size); short = omega arith; few = omega arith };
         string = omega arith;

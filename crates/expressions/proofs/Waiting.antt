@@ -6,14 +6,13 @@ use Prim.Native.Nat.{ℕ, zero, suc, _+_, _-_, _≤_, _<_}
 use native.Mathlib.Nat.{add-zero, not-suc-le-zero}
 use native.Mathlib.Numerals.{add-one}
 use native.Mathlib.Omega.{arith}
-use lib.Dec.{eqb, leb, ltb}
+use lib.Dec.{leb, ltb}
 use lib.IntN.{ℤ, pos, natAbs}
 use lib.ListN.{length, getD, set, replicate, length-set, length-replicate}
 use lib.Seq.{getD-set-same, getD-set-other}
 use mir.Syntax.{w64}
 use mir.Val.{ofZ, toZ}
-use borrow.Author.Tests.{eqb-true, eqb-false, ltb-true, leb-true}
-use Rattle.base.specs.Choice.{test-cases}
+use borrow.Author.Tests.{eqb-true, ltb-true, leb-true}
 use Rattle.base.specs.Edition.{edition1}
 use Rattle.calls.specs.Rules.{balanced, mostWaiting}
 use Rattle.convert.specs.Laws.{plain}
@@ -22,6 +21,7 @@ use Rattle.convert.specs.declared.Int.{Int}
 use Rattle.convert.specs.declared.Number.{Number}
 use Rattle.convert.specs.declared.Number.the-variants as numbers
 use Rattle.language.specs.Program as Program
+use Rattle.machine.specs.Bounds.{set-everywhere, replicate-everywhere}
 use Rattle.machine.specs.Expressions.{operation, combined, signIn, itemIn}
 use Rattle.machine.specs.State.{Memory}
 use Rattle.rows.specs.Meaning.{itemMeaning}
@@ -43,26 +43,12 @@ waiting-put w at z h =
     ap (waitingIn (set w at z)) (add-one at)
     ∙ ap₂ {C = List ℤ} _∷_ (getD-set-same w at z (pos 0) h) (waiting-set w at z at (omega arith))
 
-pub waits-set : (w : List ℤ) (at : ℕ) (z : ℤ) → Waits w → at < 64 → natAbs z ≤ limit → Waits (set w at z)
-waits-set w at z h place small = record { size = length-set w at z ∙ h .size; range = each }
-  where
-    each : (i : ℕ) → natAbs (getD (set w at z) i (pos 0)) ≤ limit
-    each i =
-        test-cases (λ _. natAbs (getD (set w at z) i (pos 0)) ≤ limit) (eqb i at)
-        (λ e. subst (λ (x : ℤ). natAbs x ≤ limit)
-        (sym (ap (λ (j : ℕ). getD (set w at z) j (pos 0)) (eqb-true i at e) ∙ getD-set-same w at z (pos 0) (omega (arith, h .size)))) small)
-        (λ e. subst (λ (x : ℤ). natAbs x ≤ limit) (sym (getD-set-other w at i z (pos 0) (eqb-false i at e))) (h .range i))
+pub waits-set : (w : List ℤ) (at : ℕ) (z : ℤ) → Waits w → natAbs z ≤ limit → Waits (set w at z)
+waits-set w at z h small =
+    record { size = length-set w at z ∙ h .size; range = set-everywhere (λ x. natAbs x ≤ limit) w at z (pos 0) small (h .range) }
 
 pub waits-none : Waits (replicate 64 (pos 0))
-waits-none = record { size = length-replicate 64 (pos 0); range = each }
-  where
-    each : (i : ℕ) → natAbs (getD (replicate 64 (pos 0)) i (pos 0)) ≤ limit
-    each i = subst (λ (x : ℤ). natAbs x ≤ limit) (sym (zeros 64 i)) (omega arith)
-      where
-        zeros : (n j : ℕ) → getD (replicate n (pos 0)) j (pos 0) ≡ pos 0
-        zeros zero j = refl
-        zeros (suc n) zero = refl
-        zeros (suc n) (suc j) = zeros n j
+waits-none = record { size = length-replicate 64 (pos 0); range = replicate-everywhere (λ x. natAbs x ≤ limit) 64 (pos 0) (omega arith) }
 
 -- the latest number, and the latest two
 pub waiting-one : (w : List ℤ) (n : ℕ) → 1 ≤ n → waitingIn w n ≡ getD w (n - 1) (pos 0) ∷ waitingIn w (n - 1)
@@ -114,7 +100,7 @@ module _ (w : List ℤ) (at : ℕ) {v : Number} (k : Keepable v w at) where
       rw (plain (z .value) (omega arith), e)
       (record {
         work = ap (λ l. done l notes) front ∙ ap (done (z .value ∷ waitingIn w at)) (sym (add-zero notes));
-        waits = waits-set w at (z .value) (k .waits) (k .place) small;
+        waits = waits-set w at (z .value) (k .waits) small;
         counted = refl;
       })
 

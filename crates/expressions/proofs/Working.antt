@@ -3,13 +3,8 @@ use mathlib.Core.List.{List, [], _∷_, _++_, append-assoc, append-nil}
 use mathlib.Core.Path.{_≡_, refl, sym, ap, ap₂, _∙_}
 use Prim.Native.Nat.{ℕ, _+_, _-_, _≤_}
 use native.Mathlib.Nat.{add-zero}
-use native.Mathlib.Omega.{arith}
-use lib.Dec.{eqb}
 use lib.IntN.{ℤ}
-use lib.ListN.{length}
-use borrow.Author.Tests.{eq-eqb, ne-eqb}
 use Rattle.base.specs.Edition.{edition1}
-use Rattle.base.specs.Lists.{isNil}
 use Rattle.convert.specs.Laws.{number-is, number-range, number-stops}
 use Rattle.convert.specs.Numbers.{Answers}
 use Rattle.convert.specs.declared.Int.{Int}
@@ -116,9 +111,3 @@ module _ {A B C : Type 0} (f : A → B → C) where
   pub first-stops : {u : Work A} (v : Work B) {k : ℕ} → u ≡ stop k → both u v ≡ stop k
   unfolding _>>=_
   first-stops v e = ap (λ (w : Work A). both w v) e
-
--- a string is null that has no bytes
-pub nil-counted : (n : ℕ) (l : List ℕ) → n ≡ length l → eqb n 0 ≡ isNil l
-unfolding isNil
-nil-counted n [] e = eq-eqb n 0 e
-nil-counted n (x ∷ l) e = ne-eqb n 0 (λ z. omega arith)

@@ -1,18 +1,18 @@
 -- The memory that a store and a state hold, and when values can be found in it. Assumes nothing.
-use mathlib.Core.Bool.{true, and-eq-true-iff}
-use mathlib.Core.List.{List, [], _∷_}
-use mathlib.Core.Path.{_≡_, subst}
-use Prim.Native.Nat.{ℕ, zero, suc, _≤_}
+use mathlib.Core.Bool.{true}
+use mathlib.Core.List.{List}
+use mathlib.Core.Path.{_≡_}
+use Prim.Native.Nat.{ℕ, _≤_}
 use native.Mathlib.Omega.{arith}
-use lib.IntN.{ℤ, pos, natAbs}
+use lib.IntN.{pos, natAbs}
 use lib.ListN.{length, getD}
-use borrow.Author.Tests.{leb-true}
+use borrow.Author.Tests.{le-leb}
 use Rattle.base.specs.Edition.{edition1}
-use Rattle.base.specs.Lists.{all}
+use Rattle.base.specs.ListLaws.{all-at}
 use Rattle.calls.specs.BufferLaws.{Good, keeps-good}
 use Rattle.calls.specs.Buffers.{stringsIn, numbersIn, storeKeeps, stateKeeps}
 use Rattle.calls.specs.GivenLaws.{state-in-range}
-use Rattle.convert.specs.Laws.{limit-is}
+use Rattle.convert.specs.Laws.{in-range}
 use Rattle.convert.specs.Numbers.{limit}
 use Rattle.machine.specs.State.{Memory}
 use Rattle.values.specs.Numbers.{isInRange}
@@ -30,21 +30,14 @@ pub record Ready (store state : List ℕ) : Type 0 where
   pub strings : Good store
   pub numbers : Numbered state
 
--- numbers that pass the test are in range
-all-ranged : (zs : List ℤ) → all (isInRange edition1) zs ≡ true → (i : ℕ) → natAbs (getD zs i (pos 0)) ≤ limit
-unfolding all isInRange
-all-ranged [] h i = omega arith
-all-ranged (z ∷ zs) h zero =
-    subst (λ (n : ℕ). natAbs z ≤ n) limit-is
-    (leb-true _ _ (and-eq-true-iff (isInRange edition1 z) (all (isInRange edition1) zs) .0 h .0))
-all-ranged (z ∷ zs) h (suc i) =
-    all-ranged zs (and-eq-true-iff (isInRange edition1 z) (all (isInRange edition1) zs) .0 h .1) i
-
 -- buffers that a step may be given
 module _ (steps input output : ℕ) (state : List ℕ) (size : length state ≡ 64) (keeps : stateKeeps edition1 steps input output state ≡ true) where
   pub keeps-numbered : Numbered state
+  unfolding isInRange
   keeps-numbered =
-      record { size = size; range = all-ranged (numbersIn state) (state-in-range edition1 steps input output state keeps .numbers) }
+      let numbers = state-in-range edition1 steps input output state keeps .numbers in
+      let none = le-leb 0 (edition1 .limit) (omega arith) in
+      record { size = size; range = λ i. in-range (getD (numbersIn state) i (pos 0)) (all-at (isInRange edition1) (numbersIn state) (pos 0) none numbers i) }
 
   pub keeps-ready : (store : List ℕ) → storeKeeps store ≡ true → Ready store state
   keeps-ready store h = record { strings = keeps-good store h; numbers = keeps-numbered }

@@ -5,6 +5,7 @@ use Prim.Native.Nat.{ℕ, _+_, _%_, _/_, _≤_, _<_}
 use native.Mathlib.Omega.{arith}
 use borrow.Author.Tests.{eq-eqb, ne-eqb, le-leb, lt-leb}
 use Rattle.language.specs.Program as Program
+use Rattle.calls.specs.RowLaws.{return-row}
 use Rattle.calls.specs.Table.{Row}
 use Rattle.calls.specs.TableReading.{partOfCell, operandOfCell, comparisonOf, branchOf, testOf, directionOf, statementOfRow}
 use Rattle.calls.specs.TableReading.{rangeMore, elementsOfRow, patternOfRow, replacementOfRow}
@@ -126,22 +127,5 @@ module _ (r : Row) where
 
     pub returns-there : 7 < r .kind → (r .kind ≡ 8 → ⊥) → (r .kind ≡ 9 → ⊥) → (r .kind ≡ 10 → ⊥) → (r .kind ≡ 11 → ⊥)
         → StatementRead t r statements.Return
-    unfolding statementOfRow
     returns-there high eight nine ten eleven =
-        let kind = r .kind in
-        let other : (k : ℕ) → k ≤ 7 → kind ≡ k → ⊥ = λ k low q. omega arith in
-        record {
-          means =
-              rw (
-                ne-eqb kind 1 (other 1 (omega arith)),
-                ne-eqb kind 2 (other 2 (omega arith)),
-                ne-eqb kind 3 (other 3 (omega arith)),
-                ne-eqb kind 4 (other 4 (omega arith)),
-                lt-leb kind 7 high,
-                ne-eqb kind 8 eight,
-                ne-eqb kind 9 nine,
-                ne-eqb kind 10 ten,
-                ne-eqb kind 11 eleven,
-              );
-          stretches = tt;
-        }
+        record { means = sym (return-row t r (omega arith)); stretches = tt }

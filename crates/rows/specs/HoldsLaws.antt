@@ -4,15 +4,15 @@ use mathlib.Core.Path.{_≡_, refl}
 use Prim.Native.Nat.{ℕ, _≤_, _<_}
 use native.Mathlib.Omega.{arith}
 use lib.Dec.{ltb, eqb}
-use lib.IntN.{natAbs}
-use borrow.Author.Tests.{ltb-true, leb-true, eqb-false, not-true}
+use borrow.Author.Tests.{ltb-true, eqb-false, not-true}
 use Rattle.base.specs.Edition.{edition1}
 use Rattle.base.specs.Limits as Limits
 use Rattle.values.specs.Numbers.{isNegative, isInRange}
 use Rattle.language.specs.Program as Program
+use Rattle.calls.specs.RuleLaws.{branch-inside}
 use Rattle.calls.specs.Rules as Rules
 use Rattle.calls.specs.Rules.{placeOf}
-use Rattle.convert.specs.Laws.{limit-is}
+use Rattle.convert.specs.Laws.{in-range}
 use Rattle.convert.specs.Numbers.{InRange}
 use Rattle.convert.specs.declared.Int.{Int}
 use Rattle.rows.specs.Holds.{LengthHolds, PartHolds, OperandHolds, ItemHolds, placeIn}
@@ -32,8 +32,7 @@ use Rattle.rows.specs.declared.Test.the-variants.{IsNull, IsNumeric, Com
 
 -- a constant that passes the test is in range
 pub constant-holds : (z : Int) → isInRange edition1 (z .value) ≡ true → InRange z
-unfolding isInRange
-constant-holds z h = rw limit-is at (leb-true (natAbs (z .value)) (edition1 .limit) h)
+constant-holds z = in-range (z .value)
 
 -- the string that is searched
 pub place-is : (p : Part) → placeOf (partMeaning p) ≡ placeIn p
@@ -108,10 +107,9 @@ module _ (strings numbers steps : ℕ) (short : strings ≤ Limits.strings) (few
       )
 
   pub branch-holds : (b : Branch) → Rules.branchHolds edition1 strings numbers steps (branchMeaning b) ≡ true → BranchHolds steps b
-  unfolding Rules.branchHolds
   branch-holds b h =
-      let both = and-eq-true-iff (ltb (b .success) steps) (ltb (b .failure) steps) .0 h in
-      record { success = ltb-true (b .success) steps (both .0); failure = ltb-true (b .failure) steps (both .1) }
+      let both = branch-inside edition1 strings numbers steps (branchMeaning b) h in
+      record { success = both .0; failure = both .1 }
 
   pub test-holds : (x : Test) → Rules.testHolds edition1 strings numbers steps (testMeaning x) ≡ true → TestHolds x
   unfolding Rules.testHolds

@@ -1,11 +1,11 @@
 -- What a table that keeps the rules lets callers rely on: each statement that is read from it holds, and a step behind it is there.
 -- Assumes nothing.
-use mathlib.Core.Bool.{Bool, true, false, not, _&&_, and-eq-true-iff, false≢true}
+use mathlib.Core.Bool.{Bool, true, false, not, and-eq-true-iff, false≢true}
 use mathlib.Core.List.{List, _∷_, map}
 use mathlib.Core.Path.{_≡_, refl, sym, _∙_, ap, subst}
 use Prim.Native.Nat.{ℕ, zero, suc, _+_, _*_, _-_, _≤_, _<_}
 use native.Mathlib.Omega.{arith}
-use lib.Dec.{leb, ltb, eqb}
+use lib.Dec.{leb, eqb}
 use lib.ListN.{length, take, drop, getD, length-append, length-map, List·getD-map}
 use borrow.Author.Tests.{leb-true, ltb-true, eqb-true}
 use Rattle.base.specs.Choice.{cond-cases}
@@ -18,8 +18,10 @@ use Rattle.machine.specs.Step.{statementAt}
 use Rattle.calls.specs.NumeralLaws.{Stands}
 use Rattle.calls.specs.Numerals.{numberAt}
 use Rattle.calls.specs.ProgramLaws.{program-runs, statement-holds, step-behind, first-step}
+use Rattle.calls.specs.ReadingLaws.{rows-each, rows-at, rows-length}
+use Rattle.calls.specs.RuleLaws.{scan-parts, number-parts}
 use Rattle.calls.specs.Rules as Rules
-use Rattle.calls.specs.Rules.{keepsRules, balanced, placeOf}
+use Rattle.calls.specs.Rules.{keepsRules, balanced}
 use Rattle.calls.specs.Table as Table
 use Rattle.calls.specs.Table.{stepsAt, elementsAt, itemsAt, literalsAt, elementsOf, itemsOf, replacementOf, rowBytes, rowOf, row}
 use Rattle.calls.specs.Table.{rangeCell, allElements, allItems}
@@ -29,7 +31,7 @@ use Rattle.calls.specs.TableReading.{statementOfRow, stepIn, stepsFrom, program
 use Rattle.rows.specs.Holds.{ItemsHold, ElementsHold, PatternsHold, ReplacementHolds, ElementHolds, PatternHolds}
 use Rattle.rows.specs.Holds.{Within, placeIn, ScanHolds, StatementHolds}
 use Rattle.rows.specs.HoldsLaws.{place-is, part-holds, item-holds, text-holds, free-holds, fixed-holds, branch-holds, test-holds}
-use Rattle.rows.specs.Meaning.{partMeaning, elementMeaning, patternMeaning, itemsMeaning, elementsMeaning}
+use Rattle.rows.specs.Meaning.{partMeaning, elementMeaning, patternMeaning, itemsMeaning, elementsMeaning, directionMeaning}
 use Rattle.rows.specs.Meaning.{patternsMeaning, branchMeaning, testMeaning, replacementMeaning, statementMeaning}
 use Rattle.rows.specs.Reading.{ElementRead, PatternRead, StretchRead, BehindRead, ScanStretches, StretchesRead, StatementRead}
 use Rattle.rows.specs.Regions.{RowPlace, RangeIs, row-range, program-in-range, kept-row, kept-literal}
@@ -47,23 +49,11 @@ use Rattle.rows.specs.declared.Statement.the-variants as statements
 
 -- rows that are read one behind the other
 module _ {A : Type 0} (single : ℕ → A) (rows : ℕ → ℕ → List A) (next : (at n : ℕ) → rows at (suc n) ≡ single at ∷ rows (at + 1) n) where
-  -- each passes a test that all pass
-  each-row : (f : A → Bool) (at n j : ℕ) → j < n → all f (rows at n) ≡ true → f (single (at + j)) ≡ true
-  unfolding all
-  each-row f at zero j h g = absurd (omega arith)
-  each-row f at (suc n) zero h g =
-      let both = and-eq-true-iff (f (single at)) (all f (rows (at + 1) n)) .0 (sym (ap (all f) (next at n)) ∙ g) in
-      subst (λ (k : ℕ). f (single k) ≡ true) (omega arith) (both .0)
-  each-row f at (suc n) (suc j) h g =
-      let both = and-eq-true-iff (f (single at)) (all f (rows (at + 1) n)) .0 (sym (ap (all f) (next at n)) ∙ g) in
-      let place : at + 1 + j ≡ at + suc j = omega arith in
-      subst (λ (k : ℕ). f (single k) ≡ true) place (each-row f (at + 1) n j (omega arith) (both .1))
-
-  -- and so does the one at a place within a stretch
+  -- the one at a place within a stretch passes a test that all pass
   within-row : (f : A → Bool) (s : Stretch) (k : ℕ) → Within s k → all f (rows (s .from) (s .count)) ≡ true → f (single k) ≡ true
   within-row f s k w g =
       let place : s .from + (k - s .from) ≡ k = omega arith in
-      subst (λ (i : ℕ). f (single i) ≡ true) place (each-row f (s .from) (s .count) (k - s .from) (omega arith) g)
+      subst (λ (i : ℕ). f (single i) ≡ true) place (rows-each single rows next f (s .from) (s .count) (k - s .from) (omega arith) g)
 
 -- a cell that is read as a literal is of kind 16
 literal-kind : (t : List ℕ) (c : Table.Cell) (w : List ℕ) → Program.literal w ≡ elementOfCell t c → c .kind ≡ 16
@@ -93,30 +83,17 @@ unfolding isNil
 cut-some zero l h = absurd (false≢true h)
 cut-some (suc n) l h = omega arith
 
--- the step at a place is the one read there
-step-at : (t : List ℕ) (at n j : ℕ) (d : Program.Step) → j < n → getD (stepsFrom t at n) j d ≡ stepIn t (stepsAt + 24 * (at + j))
-unfolding stepsFrom
-step-at t at zero j d h = absurd (omega arith)
-step-at t at (suc n) zero d h = ap (λ k. stepIn t (stepsAt + 24 * k)) (omega arith)
-step-at t at (suc n) (suc j) d h =
-    let place : at + 1 + j ≡ at + suc j = omega arith in
-    step-at t (at + 1) n j d (omega arith) ∙ ap (λ k. stepIn t (stepsAt + 24 * k)) place
-
--- and there are as many as asked for
-length-stepsFrom : (t : List ℕ) (at n : ℕ) → length (stepsFrom t at n) ≡ n
-unfolding stepsFrom
-length-stepsFrom t at zero = refl
-length-stepsFrom t at (suc n) = ap suc (length-stepsFrom t (at + 1) n)
-
 -- the header's count is that of the program's steps
 pub step-count : (t : List ℕ) → length (programIn t .steps) ≡ numberAt 2 t 2
-unfolding programIn
-step-count t = length-stepsFrom t 0 (numberAt 2 t 2)
+unfolding programIn stepsFrom
+step-count t = rows-length (λ k. stepIn t (stepsAt + 24 * k)) (stepsFrom t) (λ at. refl) (λ at n. refl) 0 (numberAt 2 t 2)
 
 -- the program's step k is the one of row k
 program-step : (t : List ℕ) (k : ℕ) (d : Program.Step) → k < numberAt 2 t 2 → getD (programIn t .steps) k d ≡ stepIn t (stepsAt + 24 * k)
-unfolding programIn
-program-step t k d h = step-at t 0 (numberAt 2 t 2) k d h ∙ ap (λ j. stepIn t (stepsAt + 24 * j)) (omega arith)
+unfolding programIn stepsFrom
+program-step t k d h =
+    rows-at (λ j. stepIn t (stepsAt + 24 * j)) (stepsFrom t) (λ at n. refl) 0 (numberAt 2 t 2) k d h
+    ∙ ap (λ j. stepIn t (stepsAt + 24 * j)) (omega arith)
 
 -- what stands behind the last step
 abbrev noStep : Program.Step
@@ -246,30 +223,24 @@ module _ (t : List ℕ) (kept : keepsRules edition1 t ≡ true) where
   scan-holds at card x p r h =
       let xs = patternsMeaning t (x .pattern) in
       let more = replacementOf (replacementMeaning t (x .replacement)) in
-      let whole = partMeaning (x .part) in
-      let rowTest = Rules.rowHolds edition1 strings numbers steps more in
-      let branchTest = Rules.branchHolds edition1 strings numbers steps (branchMeaning (x .branch)) in
-      let patternTest = all (Rules.patternHolds edition1 strings numbers steps (placeOf whole)) xs in
-      let rest = patternTest && (rowTest && branchTest) in
-      let one = and-eq-true-iff (Rules.partHolds edition1 strings numbers steps whole) (leb (length xs) Limits.row && rest) .0 h in
-      let two = and-eq-true-iff (leb (length xs) Limits.row) rest .0 (one .1) in
-      let three = and-eq-true-iff patternTest (rowTest && branchTest) .0 (two .1) in
-      let four = and-eq-true-iff rowTest branchTest .0 (three .1) in
+      let d = directionMeaning (x .direction) in
+      let b = branchMeaning (x .branch) in
+      let tests = scan-parts edition1 strings numbers steps d (partMeaning (x .part)) xs (replacementMeaning t (x .replacement)) b h in
       let count = length-append xs (map Program.value more) in
       let moreCount = length-map more Program.value in
       let end : p .element + (length xs + length more) ≤ elements = omega (arith, p .elementsEnd) in
       let own = rowOf (p .element) (p .item) (statementMeaning t (statements.Scan x)) in
       let range = row-range t at card (p .element) (length xs) (length more) own (p .bytes) refl (omega (arith, ok .elements)) in
-      let few = leb-true (length xs) Limits.row (two .0) in
+      let few = leb-true (length xs) Limits.row (tests .few) in
       let size = r .pattern .count ∙ range .second in
       let inside : x .pattern .from + x .pattern .count ≤ elements = omega (arith, r .pattern .from, range .first) in
-      let pattern = rw (place-is (x .part)) at (three .0) in
+      let pattern = rw (place-is (x .part)) at (tests .patterns) in
       record {
-        part = part-holds strings numbers steps (ok .strings) (ok .numbers) (x .part) (one .0);
+        part = part-holds strings numbers steps (ok .strings) (ok .numbers) (x .part) (tests .part);
         pattern = patterns-hold (placeIn (x .part)) (x .pattern) inside (omega arith) pattern;
         replacement =
-            replacement-holds (x .replacement) (rowAt t at .right .value) (p .element) (length xs) range (r .replacement) end (four .0);
-        branch = branch-holds strings numbers steps (ok .strings) (ok .numbers) (x .branch) (four .1);
+            replacement-holds (x .replacement) (rowAt t at .right .value) (p .element) (length xs) range (r .replacement) end (tests .row);
+        branch = branch-holds strings numbers steps (ok .strings) (ok .numbers) (x .branch) (tests .branch);
       }
 
   -- a statement that is read from its row
@@ -279,13 +250,11 @@ module _ (t : List ℕ) (kept : keepsRules edition1 t ≡ true) where
   unfolding Rules.statementHolds rowOf row elementsOf itemsOf
   statement-kept at card (statements.SetNumber i s) p r h =
       let l = itemsMeaning t s in
-      let test = all (Rules.itemHolds edition1 strings numbers steps) l in
-      let one = and-eq-true-iff (ltb i numbers) (balanced 0 l && test) .0 h in
-      let two = and-eq-true-iff (balanced 0 l) test .0 (one .1) in
+      let tests = number-parts edition1 strings numbers steps i l h in
       let own = rowOf (p .element) (p .item) (Program.setNumber i l) in
       let range = row-range t at card (p .item) (length l) 0 own (p .bytes) refl (omega (arith, p .itemsEnd, ok .items)) in
       let end : s .from + s .count ≤ items = omega (arith, r .from, r .count, range .first, range .second, p .itemsEnd) in
-      (omega (arith, ltb-true i numbers (one .0), ok .numbers), items-hold s end (two .0) (two .1))
+      (omega (arith, ltb-true i numbers (tests .0), ok .numbers), items-hold s end (tests .1) (tests .2))
   statement-kept at card (statements.SetString q s) p r h =
       let l = elementsMeaning t s in
       let both =

@@ -1,16 +1,16 @@
 -- The tests of elements one behind the other ask for what the rules say: their cells stand at their places, with their literals one behind
 -- the other, and they hold. Assumes nothing.
-use mathlib.Core.Bool.{Bool, true, cond, not, _&&_, _||_, true≢false}
+use mathlib.Core.Bool.{Bool, true, cond, not, _&&_, _||_}
 use mathlib.Core.List.{List, [], _∷_, _++_, map}
 use mathlib.Core.Path.{_≡_, refl, sym, _∙_, ap, ap₂}
 use Prim.Native.Nat.{ℕ, zero, suc, _+_, _*_, _/_, _%_, _≤_, _<_}
 use native.Mathlib.Omega.{arith}
 use lib.Dec.{leb, ltb, eqb}
 use lib.ListN.{length, take, drop, getD, length-append}
-use borrow.Author.Tests.{ltb-true, leb-true, lt-ltb, le-leb, eqb-true, eq-eqb}
+use borrow.Author.Tests.{ltb-true, leb-true, lt-ltb, le-leb, eqb-true, eq-eqb, eqb-false, not-true}
 use Rattle.base.specs.Choice.{test-cases, both-true}
 use Rattle.base.specs.Edition.{edition1}
-use Rattle.base.specs.ListLaws.{length-stretch}
+use Rattle.base.specs.ListLaws.{length-stretch, nil-length, not-nil}
 use Rattle.base.specs.Lists.{all, isNil}
 use Rattle.language.specs.Program.{constantly, numbered, whole, first, Element, literal, part, text, PatternElement, value, freeFiller, fixedFiller}
 use Rattle.values.specs.Numbers.{isNegative, isInRange}
@@ -32,14 +32,10 @@ use Rattle.rules.specs.Written.{piece, piece-stands, cell-written}
 
 -- a string with bytes is not empty
 some-bytes : (w : List ℕ) → 1 ≤ length w → not (isNil w) ≡ true
-unfolding isNil
-some-bytes [] h = absurd (omega arith)
-some-bytes (b ∷ w) h = refl
+some-bytes w h = ap not (not-nil w h)
 
 bytes-some : (w : List ℕ) → not (isNil w) ≡ true → 1 ≤ length w
-unfolding isNil
-bytes-some [] h = absurd (true≢false (sym h))
-bytes-some (b ∷ w) h = omega arith
+bytes-some w h = omega (arith, eqb-false (length w) 0 (sym (nil-length w) ∙ not-true (isNil w) h))
 
 -- a range with nothing more
 literal-range : (at count : ℕ) → range at count 0 ≡ at + 65_536 * count

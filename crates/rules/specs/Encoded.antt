@@ -11,22 +11,23 @@ use borrow.Author.Tests.{ltb-true, leb-true, le-leb, eq-eqb}
 use Rattle.base.specs.Choice.{true-behind, both-true}
 use Rattle.base.specs.Edition.{edition1}
 use Rattle.base.specs.Lists.{all}
-use Rattle.language.specs.Program.{constantly, numbered, Part, whole, first, Item, Element, PatternElement, value}
-use Rattle.language.specs.Program.{Comparison, equal, unequal, less, greater, atMost, atLeast, Test, isNull, isNumeric, compares}
+use Rattle.language.specs.Program.{Part, Item, Element, PatternElement, value}
+use Rattle.language.specs.Program.{Test, isNull, isNumeric, compares}
 use Rattle.language.specs.Program.{Direction, forward, backward, Branch, Statement, setNumber, setString, goto, finish, ifTest, scan, read, write}
 use Rattle.language.specs.Program.{execute, return}
-use Rattle.calls.specs.CellLaws.{range-read}
-use Rattle.calls.specs.RowLaws.{Each, RowFits}
-use Rattle.calls.specs.Rules.{balanced, placeOf, rowHolds, branchHolds, testHolds, statementHolds}
+use Rattle.calls.specs.CellLaws.{range-read, part-cell-place}
+use Rattle.calls.specs.RowLaws.{Each, RowFits, comparison-flag, scan-flag}
+use Rattle.calls.specs.RuleLaws.{scan-parts, number-parts}
+use Rattle.calls.specs.Rules.{placeOf, rowHolds, branchHolds, testHolds, statementHolds}
 use Rattle.calls.specs.Table.{cell, noCell, range, rangeCell, row, rowOf, testRow, comparisonNumber, directionNumber, replacementFlag}
-use Rattle.calls.specs.Table.{replacementOf, elementsOf, itemsOf, allLiterals, lengthCell, partCell, operandCell}
+use Rattle.calls.specs.Table.{replacementOf, elementsOf, itemsOf, allLiterals, partCell, operandCell}
 use Rattle.calls.specs.TableReading.{rangeFrom, rangeCount, rangeMore}
 use Rattle.calls.specs.YieldingForms.{literals-append}
 use Rattle.rows.specs.declared.Counts.{Counts}
 use Rattle.rules.specs.Decoded.{places-same, none-end}
-use Rattle.rules.specs.Elements.{elementOk, patternOk, patterns-forth, values-forth}
+use Rattle.rules.specs.Elements.{elementOk, patterns-forth, values-forth}
 use Rattle.rules.specs.Items.{items-forth}
-use Rattle.rules.specs.Kinds.{passed, passes-small, partOk, operandOk, itemOk, part-forth, operand-forth}
+use Rattle.rules.specs.Kinds.{passed, passes-small, partOk, operandOk, part-forth, operand-forth}
 use Rattle.rules.specs.Rows.{Tested}
 use Rattle.rules.specs.Same.{ItemSame, SameElements}
 use Rattle.rules.specs.Split.{same-front, same-back}
@@ -34,23 +35,6 @@ use Rattle.rules.specs.Tests.{isString, isNumber, isNatural, isSigned, i
 use Rattle.rules.specs.Tests.{cellTest, flagsTest, branchTest, leftTest, rightTest, startTest, stretchesTest, stretches, stretchesOf, hasElements}
 use Rattle.rules.specs.Tests.{numbersLeft, lastKind, places, itemsEnd, elementsEnd, cellsEnd, Few}
 use Rattle.rules.specs.declared.steps.Places.{Places}
-
-comparison-flag : (c : Comparison) → (leb 1 (comparisonNumber c) && leb (comparisonNumber c) 6) ≡ true
-unfolding comparisonNumber
-comparison-flag equal = refl
-comparison-flag unequal = refl
-comparison-flag less = refl
-comparison-flag greater = refl
-comparison-flag atMost = refl
-comparison-flag atLeast = refl
-
-scan-flag : (d : Direction) (r : Option (List Element))
-    → (leb 1 (directionNumber d + replacementFlag r) && leb (directionNumber d + replacementFlag r) 4) ≡ true
-unfolding directionNumber replacementFlag
-scan-flag forward none = refl
-scan-flag forward (some xs) = refl
-scan-flag backward none = refl
-scan-flag backward (some xs) = refl
 
 -- only a scan with a replacement has more elements
 more-test : (d : Direction) (r : Option (List Element)) → length (replacementOf r) ≤ 20
@@ -60,13 +44,6 @@ more-test forward none h = refl
 more-test forward (some xs) h = true-behind (eqb (length xs) 0) (leb (length xs) 20) (le-leb (length xs) 20 h)
 more-test backward none h = refl
 more-test backward (some xs) h = true-behind (eqb (length xs) 0) (leb (length xs) 20) (le-leb (length xs) 20 h)
-
--- the place of a part's cell
-part-cell-place : (q : Part) → partCell 0 q .place ≡ placeOf q
-unfolding partCell lengthCell cell placeOf
-part-cell-place (whole s) = refl
-part-cell-place (first s (constantly z)) = refl
-part-cell-place (first s (numbered i)) = refl
 
 module _ (n : Counts) (few : Few n) (t : List ℕ) (p : Places) where
   -- what the tests find in the row of a statement
@@ -213,11 +190,10 @@ module _ (n : Counts) (few : Few n) (t : List ℕ) (p : Places) where
   set-number-forth i xs h =
       let at = p .items in
       let size = length xs in
-      let ok = both-true (ltb i (n .numbers)) (balanced 0 xs && all (itemOk n) xs) (h .holds) in
-      let items = both-true (balanced 0 xs) (all (itemOk n) xs) (ok .1) in
+      let ok = number-parts edition1 (n .strings) (n .numbers) (n .steps) i xs (h .holds) in
       let inside = h .itemsEnd in
       let ranges = range-read at size 0 (omega (arith, few .items)) (omega (arith, few .items)) (omega arith) in
-      let known = items-forth n few t at 0 xs (omega (arith, few .items)) (omega arith) (h .items) (items .1) (items .0) in
+      let known = items-forth n few t at 0 xs (omega (arith, few .items)) (omega arith) (h .items) (ok .2) (ok .1) in
       record {
         fits = record { success = omega arith; failure = omega arith; left = plain-small 5 i; right = ranges .small };
         tested =
@@ -324,16 +300,10 @@ module _ (n : Counts) (few : Few n) (t : List ℕ) (p : Places) where
       let zs = map value ys in
       let first-size = length xs in
       let more = length ys in
-      let branch = ltb (b .success) (n .steps) && ltb (b .failure) (n .steps) in
-      let row-ok = leb more 20 && all (elementOk n) ys in
-      let patterns = all (patternOk n (placeOf q)) xs in
-      let one = both-true (partOk n q) (leb first-size 20 && (patterns && (row-ok && branch))) (h .holds) in
-      let two = both-true (leb first-size 20) (patterns && (row-ok && branch)) (one .1) in
-      let three = both-true patterns (row-ok && branch) (two .1) in
-      let four = both-true row-ok branch (three .1) in
-      let five = both-true (leb more 20) (all (elementOk n) ys) (four .0) in
-      let targets = branch-fits (b .success) (b .failure) (four .1) in
-      let own = part-forth n q (one .0) in
+      let tests = scan-parts edition1 (n .strings) (n .numbers) (n .steps) d q xs o b (h .holds) in
+      let replacing = both-true (leb more 20) (all (elementOk n) ys) (tests .row) in
+      let targets = branch-fits (b .success) (b .failure) (tests .branch) in
+      let own = part-forth n q (tests .part) in
       let count = length-append xs zs in
       let mapped = length-map ys value in
       let joined = ap length (literals-append xs zs) ∙ length-append (allLiterals xs) (allLiterals zs) in
@@ -343,9 +313,9 @@ module _ (n : Counts) (few : Few n) (t : List ℕ) (p : Places) where
       let ranges = range-read at first-size more (omega (arith, few .elements)) (omega (arith, few .elements)) (omega (arith, few .elements)) in
       let front = same-front t at (p .literals) xs zs (h .elements) in
       let back = same-back t at (p .literals) xs zs (h .elements) in
-      let middle = patterns-forth n few t (placeOf q) xs at (p .literals) front (three .0) (omega arith) in
+      let middle = patterns-forth n few t (placeOf q) xs at (p .literals) front (tests .patterns) (omega arith) in
       let last =
-      values-forth n few t (placeOf q) ys (at + first-size) (p .literals + length (allLiterals xs)) back (five .1) (omega arith) in
+      values-forth n few t (placeOf q) ys (at + first-size) (p .literals + length (allLiterals xs)) back (replacing .1) (omega arith) in
       let end : p .literals + length (allLiterals xs) + length (allLiterals zs) ≡ p .literals + length (allLiterals (xs ++ zs)) = omega arith in
       let flag = directionNumber d + replacementFlag o in
       record {
@@ -361,7 +331,7 @@ module _ (n : Counts) (few : Few n) (t : List ℕ) (p : Places) where
               least = omega arith;
               most = omega arith;
               flags = scan-flag d o;
-              branch = four .1;
+              branch = tests .branch;
               left = passed n 1 3 (partCell 0 q) own;
               right = range-passes at first-size more (ranges .small);
               start = eq-eqb (rangeFrom (range at first-size more)) at (ranges .first);
@@ -369,13 +339,13 @@ module _ (n : Counts) (few : Few n) (t : List ℕ) (p : Places) where
                   rw (
                     ranges .third,
                     ranges .second,
-                    more-test d o (leb-true more 20 (five .0)),
-                    two .0,
+                    more-test d o (leb-true more 20 (replacing .0)),
+                    tests .few,
                     le-leb (at + first-size + more) (n .elements) (omega arith),
                     le-leb (p .items + 0) (n .items) (h .itemsEnd),
                   );
             };
-        end = rw (ranges .third, ranges .second, part-cell-place q) (places-same sum refl (rw (middle, last) end));
+        end = rw (ranges .third, ranges .second, part-cell-place 0 q) (places-same sum refl (rw (middle, last) end));
       }
 
   pub row-forth : (s : Statement) → Placed s → RowForth s

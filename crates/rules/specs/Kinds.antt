@@ -5,14 +5,14 @@ use mathlib.Core.Path.{_≡_, refl, sym, _∙_, ap, subst}
 use Prim.Native.Nat.{ℕ, zero, suc, _+_, _-_, _^_, _≤_, _<_}
 use native.Mathlib.Omega.{arith}
 use lib.Dec.{leb, ltb, eqb}
-use lib.IntN.{ℤ, pos, negsuc, natAbs}
-use borrow.Author.Tests.{ltb-true, ltb-false, leb-true, leb-false, eqb-true, eqb-false, not-true, lt-ltb, le-ltb, le-leb}
+use lib.IntN.{ℤ, pos, negsuc}
+use borrow.Author.Tests.{ltb-true, leb-true, leb-false, eqb-true, eqb-false, not-true, lt-ltb, le-ltb, le-leb}
 use Rattle.base.specs.Choice.{test-cases, cond-cases, both-true}
 use Rattle.base.specs.Edition.{edition1}
 use Rattle.language.specs.Program.{constantly, numbered, Part, whole, first, Operand, constant, number, lengthOf, numberOf}
 use Rattle.language.specs.Program.{plus, minus, times, over, positive, negative, Item, operand, operator, sign}
 use Rattle.values.specs.Numbers.{isNegative, isInRange}
-use Rattle.calls.specs.NumeralLaws.{biased-unbiased, size-low, size-high}
+use Rattle.calls.specs.NumeralLaws.{biased-unbiased, number-between}
 use Rattle.calls.specs.Numerals.{bias, biased, unbiased}
 use Rattle.calls.specs.Rules.{lengthHolds, partHolds, operandHolds, itemHolds}
 use Rattle.calls.specs.Table.{Cell, cell, lengthCell, partCell, operandCell, operatorKind, signKind, itemCell}
@@ -34,11 +34,7 @@ from P k (suc m) b j low high =
 
 -- a constant between its limits is in range, and one that is not under 0 is natural
 pub constant-holds : (v : ℕ) → 140_737_479_966_721 ≤ v → v < 140_737_496_743_936 → isInRange edition1 (unbiased v) ≡ true
-unfolding isInRange edition1
-constant-holds v low high =
-    le-leb (natAbs (unbiased v)) 8_388_607
-    (test-cases (λ _. natAbs (unbiased v) ≤ 8_388_607) (ltb v (2 ^ 47)) (λ e. omega (arith, size-low v (ltb-true v (2 ^ 47) e)))
-    (λ e. omega (arith, size-high v (ltb-false v (2 ^ 47) e))))
+constant-holds v low high = number-between v low (omega arith)
 
 pub natural-holds : (v : ℕ) → 140_737_488_355_328 ≤ v → isNegative (unbiased v) ≡ false
 unfolding isNegative unbiased bias

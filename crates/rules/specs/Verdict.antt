@@ -6,7 +6,7 @@ use Prim.Native.Nat.{ℕ, zero, suc, _+_, _*_, _-_, _≤_, _<_}
 use native.Mathlib.Omega.{arith}
 use lib.Dec.{leb, eqb}
 use lib.ListN.{length, getD, replicate}
-use borrow.Author.Tests.{leb-true, leb-false, eqb-true, le-leb, lt-leb, eq-eqb, ne-eqb}
+use borrow.Author.Tests.{leb-true, leb-false, eqb-true, le-leb, eq-eqb, ne-eqb}
 use Rattle.base.specs.Choice.{test-cases, same-truth}
 use Rattle.base.specs.Edition.{edition1}
 use Rattle.base.specs.ListLaws.{length-stretch}
@@ -15,6 +15,7 @@ use Rattle.language.specs.Program.{isFinish, lastFinishes}
 use Rattle.calls.specs.BufferLaws.{zeros-are, all-zeros}
 use Rattle.calls.specs.Numerals.{numberAt}
 use Rattle.calls.specs.ProgramLaws.{program-runs, first-step}
+use Rattle.calls.specs.RowLaws.{return-row}
 use Rattle.calls.specs.Rules.{stepHolds, isProgram, keepsRules}
 use Rattle.calls.specs.Table.{Row, row, allElements, allItems, allLiterals, stepsAt}
 use Rattle.calls.specs.TableLaws.{in-range}
@@ -54,18 +55,7 @@ finish-kind t r =
     (λ e. from P 0 12 low k (omega arith) (omega (arith, leb-true k 11 e)))
     (λ e.
     let more = leb-false k 11 e in
-    let other : (j : ℕ) → j ≤ 11 → eqb k j ≡ false = λ j small. ne-eqb k j (λ q. omega arith) in
-    rw (
-      other 1 (omega arith),
-      other 2 (omega arith),
-      other 3 (omega arith),
-      other 4 (omega arith),
-      lt-leb k 7 (omega arith),
-      other 8 (omega arith),
-      other 9 (omega arith),
-      other 10 (omega arith),
-      other 11 (omega arith),
-    ))
+    ap isFinish (return-row t r more) ∙ sym (ne-eqb k 4 (λ q. omega arith)))
 
 last-kind : (t : List ℕ) (k m : ℕ) → lastFinishes (stepsFrom t k (suc m)) ≡ eqb (getD t (64 + 24 * (k + m)) 0) 4
 unfolding lastFinishes stepsFrom stepIn rowAt stepsAt

@@ -2,10 +2,10 @@
 use mathlib.Core.List.{List, _∷_, _++_}
 use mathlib.Core.Path.{_≡_, refl, sym, _∙_, ap, ap₂}
 use Prim.Native.Nat.{ℕ, zero, suc, _+_, _*_, _/_, _%_, _≤_, _<_}
-use native.Mathlib.Numerals.{add-one}
 use native.Mathlib.Omega.{arith}
 use lib.ListN.{length, take, drop, getD, take-append-drop}
-use lib.Seq.{drop-cons, drop-drop, take-add}
+use lib.Seq.{drop-drop, take-add}
+use Rattle.base.specs.ListLaws.{drop-next}
 use Rattle.calls.specs.NumeralLaws.{Stands}
 use Rattle.calls.specs.Numerals.{inBytes, numberAt}
 use Rattle.calls.specs.Table.{cellBytes, rowBytes}
@@ -37,7 +37,7 @@ piece-stands t at n e =
 module _ (t : List ℕ) (bytes : (i : ℕ) → getD t i 0 < 256) where
   -- the first byte of a piece
   pub piece-first : (at n : ℕ) → at < length t → piece t at (suc n) ≡ getD t at 0 ∷ piece t (at + 1) n
-  piece-first at n h = rw (drop-cons t at 0 h, add-one at)
+  piece-first at n h = ap (take (suc n)) (drop-next t at 0 h)
 
   pub number-written : (k at : ℕ) → at + k ≤ length t → inBytes k (numberAt k t at) ≡ piece t at k
   unfolding inBytes numberAt

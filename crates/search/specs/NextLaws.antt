@@ -4,13 +4,13 @@ use mathlib.Core.List.{List, [], _∷_}
 use mathlib.Core.Path.{_≡_, ap, sym, _∙_}
 use Prim.Native.Nat.{ℕ, zero, suc, _+_, _-_, _≤_, _<_}
 use native.Mathlib.Nat.{add-zero}
-use native.Mathlib.Numerals.{add-one}
 use native.Mathlib.Omega.{arith}
 use lib.Dec.{eqb, ltb}
 use lib.ListN.{length, drop, getD, drop-of-length-le}
 use lib.Seq.{drop-cons}
 use borrow.Author.Tests.{eq-eqb, ltb-false, ltb-true, ne-eqb}
 use Rattle.base.specs.Choice.{test-cases}
+use Rattle.base.specs.ListLaws.{drop-next}
 use Rattle.search.specs.Passing.{NextByte, until}
 
 pub until-within : (byte : ℕ) (xs : List ℕ) → until byte xs ≤ length xs
@@ -30,7 +30,7 @@ until-now byte b bs same = ap (λ t. elim t [ true ↦ 0 | false ↦ suc (until 
 
 module _ (text : List ℕ) (byte : ℕ) where
   until-passed : (i : ℕ) → i < length text → (getD text i 0 ≡ byte → ⊥) → i + 1 + until byte (drop (i + 1) text) ≡ i + until byte (drop i text)
-  until-passed i h differs = rw (add-one i, drop-cons text i 0 h, until-further byte _ _ differs) (omega arith)
+  until-passed i h differs = rw (drop-next text i 0 h, until-further byte _ _ differs) (omega arith)
 
   until-here : (i : ℕ) → i < length text → getD text i 0 ≡ byte → until byte (drop i text) ≡ 0
   until-here i h same = rw (drop-cons text i 0 h) (until-now byte _ _ same)

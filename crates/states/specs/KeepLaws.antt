@@ -3,20 +3,20 @@
 use mathlib.Core.Bool.{Bool, true, false, _&&_}
 use mathlib.Core.List.{List, [], _∷_, map}
 use mathlib.Core.Path.{_≡_, refl, ap, _∙_}
-use Prim.Native.Nat.{ℕ, suc, _+_, _-_, _≤_, _<_, _^_}
-use native.Mathlib.Numerals.{add-one}
+use Prim.Native.Nat.{ℕ, suc, _+_, _-_, _≤_, _<_}
 use native.Mathlib.Omega.{arith}
 use lib.Dec.{ltb, leb}
 use lib.IntN.{natAbs}
 use lib.ListN.{length, take, drop, getD, replicate}
-use lib.Seq.{drop-cons}
-use borrow.Author.Tests.{le-leb, lt-leb, ltb-false, ltb-true}
-use Rattle.base.specs.Choice.{cond-cases, test-cases}
+use borrow.Author.Tests.{lt-leb}
+use Rattle.base.specs.Choice.{cond-cases}
 use Rattle.base.specs.Edition.{edition1}
+use Rattle.base.specs.ListLaws.{drop-next}
 use Rattle.base.specs.Lists.{all}
 use Rattle.calls.specs.Calls.{StartCalled, startCall}
 use Rattle.calls.specs.Buffers.{storeSize, firstState, stateLeft, stateSize, returnsAt, numbersAt, statusNumber, returnsIn, numbersIn, stateKeeps}
-use Rattle.calls.specs.NumeralLaws.{size-low, size-high}
+use Rattle.calls.specs.NumeralLaws as NumeralLaws
+use Rattle.calls.specs.NumeralLaws.{size-low, size-high, lowest, highest}
 use Rattle.calls.specs.Numerals.{bias, biased, unbiased}
 use Rattle.calls.specs.Splices.{splice}
 use Rattle.machine.specs.State.{mostNumbers, fresh, freshMemory}
@@ -32,7 +32,7 @@ module _ (f : ℕ → Bool) (l : List ℕ) where
   unfolding all
   from-more i to h k =
       let count : to - i ≡ suc (to - (i + 1)) = omega arith in
-      rw (count, drop-cons l i 0 (omega arith), add-one i)
+      rw (count, drop-next l i 0 (omega arith))
 
   pub from-none : (i to : ℕ) → to ≤ i → allFrom f l i to ≡ true
   unfolding all
@@ -60,13 +60,6 @@ pub returns-from : (f : ℕ → Bool) (state : List ℕ) → all f (returnsIn st
 unfolding returnsIn returnsAt
 returns-from f state = let count : 5 + getD state 2 0 - 5 ≡ getD state 2 0 = omega arith in rw count
 
--- the words that keep the least number in range and the greatest
-abbrev pub lowest : ℕ
-lowest = 2 ^ 47 - 8_388_607
-
-abbrev pub highest : ℕ
-highest = 2 ^ 47 + 8_388_607
-
 pub number-low : (n : ℕ) → n < lowest → keepsNumber n ≡ false
 unfolding keepsNumber isInRange edition1
 number-low n h = lt-leb (natAbs (unbiased n)) 8_388_607 (omega (arith, size-low n (omega arith)))
@@ -76,11 +69,8 @@ unfolding keepsNumber isInRange edition1
 number-high n h = lt-leb (natAbs (unbiased n)) 8_388_607 (omega (arith, size-high n (omega arith)))
 
 pub number-between : (n : ℕ) → lowest ≤ n → n ≤ highest → keepsNumber n ≡ true
-unfolding keepsNumber isInRange edition1
-number-between n low high =
-    le-leb (natAbs (unbiased n)) 8_388_607
-    (test-cases (λ _. natAbs (unbiased n) ≤ 8_388_607) (ltb n (2 ^ 47)) (λ e. omega (arith, size-low n (ltb-true n (2 ^ 47) e)))
-    (λ e. omega (arith, size-high n (ltb-false n (2 ^ 47) e))))
+unfolding keepsNumber
+number-between = NumeralLaws.number-between
 
 -- zeros with 32 numbers that are 0 written over them are the state before the first step
 pub started : splice (replicate 64 0) 21 (replicate 32 140_737_488_355_328) ≡ firstState

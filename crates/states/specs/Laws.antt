@@ -13,13 +13,14 @@ use lib.Seq.{drop-cons, length-take-le, take-suc-set, take-set-le, take-set-lt, 
 use borrow.Author.Tests.{eqb-true}
 use Rattle.base.specs.Choice.{cond-cases, test-cases}
 use Rattle.base.specs.Edition.{Edition}
-use Rattle.base.specs.ListLaws.{stretch-behind, length-stretch, getD-stretch}
+use Rattle.base.specs.ListLaws.{length-stretch, getD-stretch}
 use Rattle.calls.specs.Buffers.{stateSize, returnsAt, numbersAt, statusNumber, statusOf, returnsIn, numbersIn, stateKeeps, stateIn, stateLeft}
 use Rattle.calls.specs.Calls.{Buffers}
-use Rattle.calls.specs.GivenLaws.{StateInRange, state-in-range}
+use Rattle.calls.specs.GivenLaws.{StateInRange, state-in-range, returns-count}
 use Rattle.calls.specs.Holding.{Holding}
 use Rattle.calls.specs.NumeralLaws.{numbers-same}
 use Rattle.calls.specs.Numerals.{biased}
+use Rattle.calls.specs.StopLaws.{five-front, behind-five}
 use Rattle.language.specs.Program.{Program}
 use Rattle.machine.specs.State.{running, finished, stopped, isRunning, Memory, State, mostNumbers, withNumber, goingTo, withReturns, withInput, withOutput, withStatus}
 use Rattle.machine.specs.Step.{mostReturns, returning}
@@ -48,9 +49,7 @@ numbers-stay state i x h = rw (drop-set-lt 21 state i x h)
 -- the numbers in front, the returns held and not, the numbers and the rest
 parts : (l : List ℕ) (n : ℕ) → n ≤ 16
     → l ≡ take 5 l ++ (take n (drop 5 l) ++ (take (16 - n) (drop (5 + n) l) ++ (take 32 (drop 21 l) ++ drop 53 l)))
-parts l n few =
-    let places : 5 + n + (16 - n) ≡ 21 = omega arith in
-    rw (stretch-behind l 21 32 53 refl, stretch-behind l (5 + n) (16 - n) 21 places, stretch-behind l 5 n (5 + n) refl) (sym (take-append-drop 5 l))
+parts l n few = rw (behind-five l n few) (sym (take-append-drop 5 l))
 
 -- two stretches with the same numbers are the same
 same-stretch : (l r : List ℕ) (at n : ℕ) → length l ≡ length r → at + n ≤ length l
@@ -83,10 +82,7 @@ running-number n =
 
 -- the first five numbers
 five : (l : List ℕ) → 5 ≤ length l → take 5 l ≡ getD l 0 0 ∷ (getD l 1 0 ∷ (getD l 2 0 ∷ (getD l 3 0 ∷ (getD l 4 0 ∷ []))))
-five l h =
-    let rest : drop 1 l ≡ getD l 1 0 ∷ (getD l 2 0 ∷ (getD l 3 0 ∷ (getD l 4 0 ∷ drop 5 l))) =
-    rw (drop-cons l 1 0 (omega arith), drop-cons l 2 0 (omega arith), drop-cons l 3 0 (omega arith), drop-cons l 4 0 (omega arith)) in
-    ap (take 5) (drop-cons l 0 0 (omega arith) ∙ ap (λ (r : List ℕ). getD l 0 0 ∷ r) rest)
+five l h = ap (take 5) (drop-cons l 0 0 (omega arith) ∙ ap (λ (r : List ℕ). getD l 0 0 ∷ r) (five-front l h))
 
 -- the state as it is given to a step leaves the machine that is given, if that runs
 module _ (e : Edition) (steps : ℕ) (store state input output : List ℕ) (size : length state ≡ 64)
@@ -98,7 +94,7 @@ module _ (e : Edition) (steps : ℕ) (store state input output : List ℕ) (size
       let held = take n (drop 5 state) in
       let few : n ≤ 16 = facts .count in
       let status : getD state 0 0 ≡ statusNumber (statusOf (getD state 0 0)) = rw runs in
-      let count : length (reverse held) ≡ n = length-reverse held ∙ length-take-le n (drop 5 state) (simp length-drop (omega arith)) in
+      let count : length (reverse held) ≡ n = returns-count state (omega arith) in
       let place : getD state 3 0 ≡ length input - length (drop (getD state 3 0) input) = simp length-drop (omega (arith, facts .place)) in
       let written = sym (length-take-le (getD state 4 0) output (facts .written)) in
       record {

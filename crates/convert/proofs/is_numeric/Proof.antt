@@ -6,9 +6,10 @@ use Prim.Native.Nat.{_-_, _≤_}
 use native.Mathlib.Omega.{arith}
 use lib.ListN.{length, drop}
 use borrow.Author.Tests.{le-ltb, lt-ltb, not-true, not-false}
+use Rattle.base.specs.ListLaws.{all-next, all-end}
 use Rattle.base.specs.Lists.{all}
 use Rattle.values.specs.Conversion.{isDigitOrBlank}
-use Rattle.convert.proofs.Reading.{numeric-from, all-next, all-end}
+use Rattle.convert.proofs.Reading.{numeric-from}
 use Rattle.convert.proofs.is_numeric.Statement.{statement}
 use Rattle.convert.proofs.is_numeric.Tie as tie
 
@@ -46,7 +47,7 @@ returns-2 c =
       sym (call .sign-length .ensures),
       lt-ltb (call .sign-length .result) (length s) (c .before .before .before .before .before .if1 .left),
       c .before .before .before .before .loop .inv .1,
-      all-next s i (c .before .before .before .loop-test .taken),
+      all-next isDigitOrBlank s i (c .before .before .before .loop-test .taken),
       sym (c .before .is-digit-or-blank .ensures),
       other,
     )
@@ -64,7 +65,7 @@ loop-again c =
     let kind = not-false (c .before .is-digit-or-blank .result) (c .if2 .left) in (
       omega arith,
       c .before .before .before .before .loop .inv .1
-          ∙ all-next s i (c .before .before .before .loop-test .taken)
+          ∙ all-next isDigitOrBlank s i (c .before .before .before .loop-test .taken)
           ∙ rw (sym (c .before .is-digit-or-blank .ensures), kind),
     )
 
@@ -77,7 +78,7 @@ returns-3 c =
       sym (call .sign-length .ensures),
       lt-ltb (call .sign-length .result) (length s) (c .before .before .if1 .left),
       c .before .loop .inv .1,
-      all-end s (c .before .loop .i) (c .loop-test .left),
+      all-end isDigitOrBlank s (c .before .loop .i) (c .loop-test .left),
     )
 
 pub is-numeric-spec : {M : Type 1} → statement M

@@ -3,13 +3,15 @@
 use borrow.Author.Needs.{needs}
 use mathlib.Core.Bool.{Bool}
 use mathlib.Core.Path.{sym, ap, subst, _∙_}
+use Prim.Native.Nat.{ℕ}
+use lib.Dec.{eqb}
+use Rattle.base.specs.ListLaws.{nil-length}
 use Rattle.cells.specs.Contracts.{stringOf}
 use Rattle.machine.specs.Expressions.{numericPart, testIn}
 use Rattle.machine.specs.State.{stringAt}
 use Rattle.rows.specs.Holds.{TestHolds}
 use Rattle.values.specs.Work.{done, quietly}
 use Rattle.expressions.specs.Values.{thenNumeric}
-use Rattle.expressions.proofs.Working.{nil-counted}
 use Rattle.expressions.proofs.test_value.Statement.{statement}
 use Rattle.expressions.proofs.test_value.Tie as tie
 
@@ -45,7 +47,7 @@ unfolding testIn quietly stringAt
 returns c =
     let string = stringOf (c .before .before .before .before .before .args .store .now) (c .before .before .t .given .0 .0) in
     rw (c .before .before .t .given .1)
-    (ap (λ (t : Bool). done t 0) (nil-counted (c .string-length .result) string (c .string-length .ensures .0)))
+    (ap (λ (t : Bool). done t 0) (ap (λ (n : ℕ). eqb n 0) (c .string-length .ensures .0) ∙ sym (nil-length string)))
 
 returns-2 : tie.Need-returns-2
 unfolding testIn numericPart
