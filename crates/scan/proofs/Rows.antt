@@ -182,7 +182,7 @@ behind-passed ls l (few n) =
     ap few (omega (arith, length-append ls (l ∷ [])))
 
 -- a group of elements from row g on, tested from a place on, as far as row i
-module _ (reference values rows : List ℕ) (count g place : ℕ) where
+module _ {reference values rows : List ℕ} {count g place : ℕ} where
   pub group-begins : g ≤ count → place ≤ length reference → Reached reference values rows count g place g place
   unfolding sizesAt
   group-begins start inside =
@@ -197,7 +197,7 @@ module _ (reference values rows : List ℕ) (count g place : ℕ) where
             ∙ behind-nil (groupAt values rows count g (drop place reference)));
       }
 
-  module _ (i at : ℕ) (r : Reached reference values rows count g place i at) (more : i < count) where
+  module _ {i at : ℕ} (r : Reached reference values rows count g place i at) (more : i < count) where
     abbrev here : Splits.Element
     here = elementOf values (rowElement rows i)
 
@@ -211,9 +211,9 @@ module _ (reference values rows : List ℕ) (count g place : ℕ) where
         ∙ ap (λ (p : List Splits.Element). behind (sizesAt rows (i - g) g) (match p (drop at reference))) (elements-cons values rows count i more)
         ∙ ap (behind (sizesAt rows (i - g) g)) e
 
-    pub group-piece : (n : ℕ) → Good values (rowElement rows i) → testOf here (drop at reference) ≡ Piece n
+    pub group-piece : {n : ℕ} → Good values (rowElement rows i) → testOf here (drop at reference) ≡ Piece n
         → Reached reference values rows count g place (i + 1) (at + n)
-    group-piece n good h =
+    group-piece {n} good h =
         let size = piece-size values (drop at reference) (rowElement rows i) n good h in
         let t : Tried = match rest (drop (at + n) reference) in
         record {
@@ -247,8 +247,7 @@ group-known reference values rows count g place zero more inside good most passe
     let e : g ≡ g + 0 = omega arith in
     let f : place ≡ place + 0 = omega arith in
     subst (λ (n : ℕ). Reached reference values rows count g place n (place + 0)) e
-    (subst (Reached reference values rows count g place g) f (group-begins reference values rows count g place (omega arith) inside))
+    (subst (Reached reference values rows count g place g) f (group-begins (omega arith) inside))
 group-known reference values rows count g place (suc zero) more inside good most passes =
-    group-piece reference values rows count g place g place (group-begins reference values rows count g place (omega arith) inside) more 1 good
-    (passes refl)
+    group-piece (group-begins (omega arith) inside) more good (passes refl)
 group-known reference values rows count g place (suc (suc k)) more inside good most passes = absurd (omega arith)

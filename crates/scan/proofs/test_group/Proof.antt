@@ -67,11 +67,10 @@ loop-less c = search needs
 
 loop-again : tie.Need-loop-again Inv-loop μ-loop
 loop-again c =
-    let a = c .before .before .before .before .before .before .before .before .before .before .args in
     let s = c .before .before .before .before .before .before .loop in
     let h = test-told (c .before .before .before) (c .before .n .given .1) in
-    group-piece (a .reference .now) (a .values .now) (a .rows .now) (a .count) (a .g) (a .place) (s .i) (s .at) (s .inv)
-    (c .before .before .before .before .before .loop-test .taken) (c .before .n .given .0 .0) (c .before .before .before .before .before .before .before .before .before .before .pre .0 .good (s .i) (c .before .before .before .before .before .loop-test .taken)) h
+    group-piece (s .inv) (c .before .before .before .before .before .loop-test .taken)
+    (c .before .before .before .before .before .before .before .before .before .before .pre .0 .good (s .i) (c .before .before .before .before .before .loop-test .taken)) h
 
 enum-told : tie.Need-enum-told Inv-loop μ-loop
 enum-told c = search needs
@@ -85,14 +84,11 @@ add-t15 c = search needs
 returns : tie.Need-returns Inv-loop μ-loop
 unfolding GroupSays
 returns c =
-    let a = c .before .before .before .before .before .before .before .before .before .args in
     let s = c .before .before .before .before .before .loop in
     let h = test-told (c .before .before) (c .enum-told .given .1) in
     record {
       few = omega (arith, c .before .before .before .before .before .before .before .before .before .pre .0 .few);
-      same =
-          group-other (a .reference .now) (a .values .now) (a .rows .now) (a .count) (a .g) (a .place) (s .i) (s .at) (s .inv)
-          (c .before .before .before .before .loop-test .taken) h;
+      same = group-other (s .inv) (c .before .before .before .before .loop-test .taken) h;
     }
 
 enum-told-2 : tie.Need-enum-told-2 Inv-loop μ-loop
@@ -107,14 +103,11 @@ add-t17 c = search needs
 returns-2 : tie.Need-returns-2 Inv-loop μ-loop
 unfolding GroupSays
 returns-2 c =
-    let a = c .before .before .before .before .before .before .before .before .before .args in
     let s = c .before .before .before .before .before .loop in
     let h = test-told (c .before .before) (c .enum-told2 .given .1) in
     record {
       few = omega (arith, c .before .before .before .before .before .before .before .before .before .pre .0 .few);
-      same =
-          group-few (a .reference .now) (a .values .now) (a .rows .now) (a .count) (a .g) (a .place) (s .i) (s .at) (s .inv)
-          (c .before .before .before .before .loop-test .taken) h;
+      same = group-few (s .inv) (c .before .before .before .before .loop-test .taken) h;
     }
 
 enum-told-3 : tie.Need-enum-told-3 Inv-loop μ-loop
