@@ -194,7 +194,7 @@ static int step_right(struct lent *l, const struct oracle_program *p, struct mac
 
 long list_right(struct lent *l, const struct oracle_program *p, long most)
 {
-    static _Alignas(MACHINE_ALIGNED) struct machine m;
+    static struct machine m;
     long steps = 0;
     int ended = 0, right = 1;
     make_right(l, START);

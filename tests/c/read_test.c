@@ -27,17 +27,16 @@ static void try_deck(const struct deck *d, enum side side)
     if (seed % 50 == 1) try_size(d, side, STRIGOL_TABLE_SIZE + MORE);
 }
 
-/* All decks of a kind, against both fences; answers how many. */
+/* All decks of a kind: how many. */
 static int try_all(int (*deck_at)(int, struct deck *))
 {
     static struct deck d;
     int tried = 0;
-    for (; deck_at(tried, &d); tried++)
-        for (int side = 0; side < SIDES; side++) {
-            doing.seed = (uint64_t)tried;
-            try_deck(&d, (enum side)side);
-            try_size(&d, (enum side)side, STRIGOL_TABLE_SIZE - 1);
-        }
+    for (; deck_at(tried, &d); tried++) {
+        doing.seed = (uint64_t)tried;
+        try_deck(&d, (enum side)(tried % SIDES));
+        try_size(&d, (enum side)(tried % SIDES), STRIGOL_TABLE_SIZE - 1);
+    }
     return tried;
 }
 

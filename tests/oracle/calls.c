@@ -91,7 +91,7 @@ uint32_t oracle_step_call(const uint8_t *table, size_t table_len, uint8_t *store
                           size_t input_len, uint8_t *output, size_t output_len, uint32_t *answer)
 {
     static struct oracle_program p;
-    static _Alignas(MACHINE_ALIGNED) struct machine m;
+    static struct machine m;
     struct answer a;
     memset(answer, 0, ANSWER_SIZE * sizeof answer[0]);
     if (table_len < TABLE_SIZE) return 2;

@@ -9,11 +9,11 @@ struct value { int length; uint8_t bytes[MOST_VALUE]; };
 
 /* One step's work: on a copy of the machine, which counts only if nothing stops the step. */
 struct work {
-    uint8_t record[MOST_STRING + 1];
-    struct machine m;
     const struct oracle_program *p;
+    struct machine m;
     const uint8_t *input;
     size_t input_len, output_len;
+    uint8_t record[MOST_STRING + 1];
     int record_length;
     uint32_t notes;
     int stop;
@@ -492,16 +492,26 @@ void oracle_fresh(struct machine *m)
     memset(m, 0, sizeof *m);
 }
 
+/* Of strings only the bytes that count. */
+static void copy_machine(struct machine *to, const struct machine *from)
+{
+    memcpy(to, from, offsetof(struct machine, strings));
+    for (int i = 0; i < MOST_STRINGS; i++) {
+        to->strings[i].length = from->strings[i].length;
+        memcpy(to->strings[i].bytes, from->strings[i].bytes, (size_t)from->strings[i].length);
+    }
+}
+
 void oracle_step(const struct oracle_program *p, struct machine *m, const uint8_t *input, size_t input_len, uint8_t *output,
                  size_t output_len, struct answer *a)
 {
-    static _Alignas(MACHINE_ALIGNED) struct work w;
+    static struct work w;
     int next;
     memset(a, 0, sizeof *a);
     a->number = turned_down(p, m, input_len, output_len);
     if (a->number != 0) return;
     w.p = p;
-    w.m = *m;
+    copy_machine(&w.m, m);
     w.input = input;
     w.input_len = input_len;
     w.output_len = output_len;
@@ -519,5 +529,5 @@ void oracle_step(const struct oracle_program *p, struct machine *m, const uint8_
     if (w.record_length > 0) memcpy(output + w.m.put, w.record, (size_t)w.record_length);
     w.m.put += (uint64_t)w.record_length;
     w.m.next = (uint64_t)next;
-    *m = w.m;
+    copy_machine(m, &w.m);
 }

@@ -78,7 +78,6 @@ struct text { int length; uint8_t bytes[MOST_STRING]; };
 
 /* The run's state. It can hold any state lent, also one that is out of range. */
 enum { RUNNING, FINISHED, STOPPED };
-enum { MACHINE_ALIGNED = 4096 }; /* a machine is copied slowly to a place that lies alike in its page; so machines begin pages, copies don't */
 struct machine {
     uint64_t status, next, held, taken, put, returns[MOST_HELD];
     int64_t numbers[MOST_NUMBERS];
