@@ -75,29 +75,12 @@ pub fn is_over(known: &[u64; KNOWN], longest: usize) -> bool
     requires { ⌜ length (now known) ≡ 326 ⌝ }
     ensures { λ r. ⌜ r ≡ isOver (now (known .entry)) longest ⌝ }
 {
-    if known[STATEMENTS] > 256 {
-        return true;
-    }
-    if known[STRING_COUNT] > 32 {
-        return true;
-    }
-    if known[NUMBER_COUNT] > 32 {
-        return true;
-    }
-    if known[LABEL_COUNT] > 64 {
-        return true;
-    }
-    if known[ROUTINE_COUNT] > 16 {
-        return true;
-    }
-    if longest > 20 {
-        return true;
-    }
-    if known[ELEMENTS] > 1024 {
-        return true;
-    }
-    if known[ITEMS] > 1024 {
-        return true;
-    }
-    known[LITERALS] > 4096
+    (known[STATEMENTS] > 256)
+        | ((known[STRING_COUNT] > 32)
+            | ((known[NUMBER_COUNT] > 32)
+                | ((known[LABEL_COUNT] > 64)
+                    | ((known[ROUTINE_COUNT] > 16)
+                        | ((longest > 20)
+                            | ((known[ELEMENTS] > 1024)
+                                | ((known[ITEMS] > 1024) | (known[LITERALS] > 4096))))))))
 }
