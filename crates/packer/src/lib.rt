@@ -39,7 +39,7 @@ pub struct Gathered {
 fn joins(b: u8) -> bool
     ensures { λ r. ⌜ r ≡ joins b ⌝ }
 {
-    b != b' ' && b != b'/'
+    (b != b' ') & (b != b'/')
 }
 
 // nothing of a statement yet, whose first line starts at from

@@ -89,7 +89,7 @@ pub fn is_blank_line(line: &[u8]) -> bool
 pub fn is_skipped(line: &[u8]) -> bool
     ensures { λ r. ⌜ r ≡ isSkipped (now (line .entry)) ⌝ }
 {
-    is_comment(line) || is_blank_line(line)
+    is_comment(line) | is_blank_line(line)
 }
 
 // the byte that joins the next line
