@@ -7,7 +7,7 @@ use Prim.Native.Nat.{ℕ, zero, suc, _+_, _-_, _*_, _≤_, _<_}
 use native.Mathlib.Nat.{add-zero, zero-add}
 use native.Mathlib.Omega.{arith}
 use lib.Dec.{ltb}
-use lib.ListN.{length, take, drop, length-append, length-drop}
+use lib.ListN.{length, take, drop, length-append, length-drop, drop-of-length-le}
 use lib.Seq.{drop-drop}
 use borrow.Author.Tests.{ltb-true, ltb-false}
 use Rattle.base.specs.Choice.{cond-cases}
@@ -29,14 +29,14 @@ use Rattle.language.specs.Strings.{moreOf, listOf}
 use Rattle.language.specs.Words as Words
 use Rattle.language.specs.Words.{nameAs, numberName}
 use Rattle.met.specs.Elements.{withElements}
-use Rattle.met.specs.Entries.{entry, nameOf, metIn}
+use Rattle.met.specs.Entries.{Entry, entry, nameOf, metIn}
 use Rattle.met.specs.EntryLaws.{met-both, name-key, declared-met}
 use Rattle.met.specs.Items.{withItems}
 use Rattle.met.specs.Known.{placesIn}
 use Rattle.met.specs.ReadingLaws.{give-then, skip-then, skip-broken, got-broken, bind-assoc, bind-same}
 use Rattle.met.specs.declared.Cursor.{Cursor}
 use Rattle.numeric.specs.OperandLaws.{noting-more, met-nothing, then-broken, chosen, begins-room, ready-moved, skipped, drop-moved, named-by, name-met, name-as-broken}
-use Rattle.numeric.specs.Operands.{Ready, Gets, Names, Skips, moved, meaning}
+use Rattle.numeric.specs.Operands.{Ready, Gets, Names, Noting, Skips, moved, meaning}
 use Rattle.numeric.specs.Reads.{GetsItems}
 use Rattle.numeric.specs.declared.operands.Cell.{Cell}
 use Rattle.packer.specs.Keys.{keyOf, isKeyByte}
@@ -48,71 +48,79 @@ use Rattle.words.specs.Places.{NameAt}
 use Rattle.words.specs.declared.keywords.Keyword.{Keyword}
 use Rattle.forms.specs.Contracts.{itemsIn, elementsIn, Formed, FormRead}
 use Rattle.forms.specs.Ends.{unsteppedAt}
-use Rattle.forms.specs.FormLaws.{drop-nothing, step-here, step-not, no-step-here, no-step-not, formed-elements}
+use Rattle.forms.specs.FormLaws.{step-here, step-not, no-step-here, no-step-not, formed-elements}
 use Rattle.forms.specs.Rows.{rangeIn}
+use Rattle.forms.specs.StageLaws.{form-same}
 use Rattle.forms.specs.Steps.{FormAt, BehindUnit, stringSet, assignedTo, numberSet, numbersLeft}
 use Rattle.forms.specs.declared.Form as FormCode
 use Rattle.forms.specs.declared.Form.{Form}
 
 -- ---- a form behind names
-module _ {A : Type 0} {x : Read A} {a : A} {text table keys tags : List ℕ} {c : Cursor} {k g : List ℕ} {d : Cursor} (ready : Ready text keys tags c)
-    (r : GetsElements text table keys tags c x a [] [] table k g d) (next : A × List ℕ → Read (Option Statement)) where
-  formed-behind : {v : Option Statement} {t k′ g′ : List ℕ} {e : Cursor}
-      → Formed v (length text - d .at) table k g d (next (a, drop (d .at) text)) t k′ g′ e
-      → Formed v (length text - c .at) table keys tags c (x >>= next) t k′ g′ e
-  unfolding _>>=_ meeting allLiterals any
-  formed-behind {v} f =
-      let size = length-append (r .entries) (f .entries) in
-      let items : d .items ≡ c .items = r .goes .items in
-      let elements : d .elements ≡ c .elements = r .goes .elements ∙ add-zero (c .elements) in
-      let literals : d .literals ≡ c .literals = r .goes .literals ∙ add-zero (c .literals) in
+-- these are noted before it, and nothing else is read
+module _ {es : List Entry} {table keys tags : List ℕ} {c : Cursor} {x : Read (Option Statement)} {k g : List ℕ} {d : Cursor} {t k′ g′ : List ℕ}
+    {most most′ : ℕ} (room : (c .names ≤ length keys) × (c .names ≤ length tags)) (noting : Noting keys tags (c .names) es k g)
+    (names : d .names ≡ c .names + length es) (items : d .items ≡ c .items) (elements : d .elements ≡ c .elements)
+    (literals : d .literals ≡ c .literals) (longest : ltb Limits.row (d .longest) ≡ ltb Limits.row (c .longest)) (fits : length es + most ≤ most′) where
+  formed-noted : {v : Option Statement} {e : Cursor} → Formed v most table k g d x t k′ g′ e
+      → Formed v most′ table keys tags c (meeting (metIn es 0 [] 0) x) t k′ g′ e
+  unfolding meeting
+  formed-noted {v} f =
+      let size = length-append es (f .entries) in
       let i = length (itemsIn v) in
       let l = length (allLiterals (elementsIn v)) in
       record {
-        entries = r .entries ++ f .entries;
+        entries = es ++ f .entries;
         rows = f .rows;
         is =
-            ap (λ (y : Read A). y >>= next) (r .is)
-            ∙ ap (meeting (metIn (r .entries) 0 [] 0)) (f .is)
+            ap (meeting (metIn es 0 [] 0)) (f .is)
             ∙ ap (λ (m : Met). got v m [])
-            (met-both (r .entries) (f .entries) 0 i [] (f .rows) 0 l
-            ∙ ap₂ (λ (m n : ℕ). metIn (r .entries ++ f .entries) m (f .rows) n) (zero-add i) (zero-add l));
+            (met-both es (f .entries) 0 i [] (f .rows) 0 l
+            ∙ ap₂ (λ (m n : ℕ). metIn (es ++ f .entries) m (f .rows) n) (zero-add i) (zero-add l));
         counted = f .counted;
-        longest =
-            f .longest ∙ ap (λ b. b || any (ltb Limits.row) (f .rows)) (r .goes .longest ∙ or-false (ltb Limits.row (c .longest)));
+        longest = f .longest ∙ ap (λ b. b || any (ltb Limits.row) (f .rows)) longest;
         written =
             f .written
             ∙ ap (λ n. withElements (withItems table n (itemsIn v)) (d .elements) (d .literals) (elementsIn v)) items
             ∙ ap₂ (λ (m n : ℕ). withElements (withItems table (c .items) (itemsIn v)) m n (elementsIn v)) elements literals;
-        noting = noting-more (omega (arith, ready)) (omega (arith, ready)) (r .goes .names) (r .noting) (f .noting);
-        names = omega (arith, r .goes .names, f .names);
+        noting = noting-more (room .0) (room .1) names noting (f .noting);
+        names = omega (arith, f .names);
         items = f .items ∙ ap (λ n. n + i) items;
         elements = f .elements ∙ ap (λ n. n + length (elementsIn v)) elements;
         literals = f .literals ∙ ap (λ n. n + l) literals;
-        few = omega (arith, r .few, f .few, r .ready .inside);
+        few = omega (arith, f .few);
         keysSize = f .keysSize;
         tagsSize = f .tagsSize;
       }
 
-  pub form-behind : (q : Form) {t k′ g′ : List ℕ} → FormRead (length text - d .at) table k g d (next (a, drop (d .at) text)) q t k′ g′
-      → FormRead (length text - c .at) table keys tags c (x >>= next) q t k′ g′
-  unfolding _>>=_ meeting allLiterals
-  form-behind FormCode.the-variants.Broken f =
-      record {
-        answer = ap (λ (y : Read A). y >>= next) (r .is) ∙ ap (meeting (metIn (r .entries) 0 [] 0)) (f .answer);
-      }
-  form-behind (FormCode.the-variants.NoStep e) f = record { answer = formed-behind (f .answer) }
-  form-behind (FormCode.the-variants.Step row e) f =
+  pub form-noted : (q : Form) → FormRead most table k g d x q t k′ g′
+      → FormRead most′ table keys tags c (meeting (metIn es 0 [] 0) x) q t k′ g′
+  unfolding meeting
+  form-noted FormCode.the-variants.Broken f = record { answer = ap (meeting (metIn es 0 [] 0)) (f .answer) }
+  form-noted (FormCode.the-variants.NoStep e) f = record { answer = formed-noted (f .answer) }
+  form-noted (FormCode.the-variants.Step row e) f =
       let s = f .answer in
-      let elements : d .elements ≡ c .elements = r .goes .elements ∙ add-zero (c .elements) in
       record {
         answer =
             record {
               statement = s .statement;
-              made = s .made ∙ ap₂ (λ (m n : ℕ). rowOf m n (s .statement)) elements (r .goes .items);
-              formed = formed-behind (s .formed);
+              made = s .made ∙ ap₂ (λ (m n : ℕ). rowOf m n (s .statement)) elements items;
+              formed = formed-noted (s .formed);
             };
       }
+
+-- they are met by a reading
+module _ {A : Type 0} {x : Read A} {a : A} {text table keys tags : List ℕ} {c : Cursor} {k g : List ℕ} {d : Cursor} (ready : Ready text keys tags c)
+    (r : GetsElements text table keys tags c x a [] [] table k g d) (next : A × List ℕ → Read (Option Statement)) where
+  pub form-behind : (q : Form) {t k′ g′ : List ℕ} → FormRead (length text - d .at) table k g d (next (a, drop (d .at) text)) q t k′ g′
+      → FormRead (length text - c .at) table keys tags c (x >>= next) q t k′ g′
+  unfolding _>>=_ meeting allLiterals any
+  form-behind q f =
+      let is : (x >>= next) ≡ meeting (metIn (r .entries) 0 [] 0) (next (a, drop (d .at) text)) = ap (λ (y : Read A). y >>= next) (r .is) in
+      let room : (c .names ≤ length keys) × (c .names ≤ length tags) = (omega (arith, ready), omega (arith, ready)) in
+      let fits : length (r .entries) + (length text - d .at) ≤ length text - c .at = omega (arith, r .few, r .ready .inside) in
+      form-same is
+      (form-noted room (r .noting) (r .goes .names) (r .goes .items) (r .goes .elements ∙ add-zero (c .elements))
+      (r .goes .literals ∙ add-zero (c .literals)) (r .goes .longest ∙ or-false (ltb Limits.row (c .longest))) fits q f)
 
 -- behind skipped bytes
 pub form-skip : {text table keys tags : List ℕ} (n : ℕ) {b c : Cursor} → Skips b n c → Ready text keys tags b → Ready text keys tags c
@@ -168,7 +176,7 @@ module _ (known : List ℕ) (place : ℕ) where
                       is =
                           assigned-is (give (some s) (drop (d .at) text)) (step-here text (d .at) end s)
                           ∙ ap (λ (m : Met). got (some s) m (drop (d .at) text)) (met-nothing met)
-                          ∙ ap (got (some s) met) (drop-nothing (d .at) text end);
+                          ∙ ap (got (some s) met) (drop-of-length-le text end);
                       counted = refl;
                       longest = ap (ltb Limits.row) (a .goes .longest) ∙ sym (or-false (ltb Limits.row (c .longest)));
                       written = a .written;

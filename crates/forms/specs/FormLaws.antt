@@ -7,7 +7,7 @@ use Prim.Native.Nat.{ℕ, _+_, _-_, _≤_, _<_}
 use native.Mathlib.Nat.{add-zero}
 use native.Mathlib.Omega.{arith}
 use lib.Dec.{ltb}
-use lib.ListN.{length, drop, length-append, length-drop}
+use lib.ListN.{length, drop, length-append, length-drop, drop-of-length-le}
 use borrow.Author.Tests.{ltb-true, ltb-false}
 use Rattle.base.specs.Lists.{total}
 use Rattle.branches.specs.Rows.{rowMeaning}
@@ -137,13 +137,6 @@ module _ {A U S : Type 0} {form : Read S} {left : A → List ℕ → Read S} {mk
   going-more DraftCode.the-variants.Broken DraftCode.the-variants.Broken a s = record { answer = a .answer }
 
 -- ---- the end of a statement
-pub drop-nothing : (n : ℕ) (bs : List ℕ) → length bs ≤ n → drop n bs ≡ []
-drop-nothing n bs h = none-left (drop n bs) (omega (arith, length-drop n bs))
-  where
-    none-left : (l : List ℕ) → length l ≤ 0 → l ≡ []
-    none-left [] h = refl
-    none-left (x ∷ l) h = absurd (omega arith)
-
 drop-something : (n : ℕ) (bs : List ℕ) → n < length bs → finished (drop n bs) ≡ broken
 unfolding finished
 drop-something n bs h = some-left (drop n bs) (omega (arith, length-drop n bs))
@@ -157,9 +150,9 @@ module _ (text : List ℕ) (at : ℕ) where
     end-here : {B : Type 0} (b : B) → (finished (drop at text) >>= λ (_, rest). give b rest) ≡ give b (drop at text)
     unfolding finished
     end-here b =
-        ap (λ (l : List ℕ). finished l >>= λ (_, rest). give b rest) (drop-nothing at text e)
+        ap (λ (l : List ℕ). finished l >>= λ (_, rest). give b rest) (drop-of-length-le text e)
         ∙ give-then tt [] (λ (_, rest). give b rest)
-        ∙ ap (give b) (sym (drop-nothing at text e))
+        ∙ ap (give b) (sym (drop-of-length-le text e))
 
     pub step-here : (s : Statement) → stepEnd s (drop at text) ≡ give (some s) (drop at text)
     unfolding stepEnd
@@ -192,7 +185,7 @@ formed-elements {v} {es} {rows} {text} {table} {keys} {tags} {c} {x} {t} {k} {g}
       rows = rows;
       is =
           a .is
-          ∙ ap (got v (metIn (a .entries) 0 rows (length (allLiterals es)))) (drop-nothing (d .at) text end)
+          ∙ ap (got v (metIn (a .entries) 0 rows (length (allLiterals es)))) (drop-of-length-le text end)
           ∙ ap₂ (λ (i j : ℕ). got v (metIn (a .entries) i rows j) []) items bytes;
       counted = counted ∙ size;
       longest = a .goes .longest;

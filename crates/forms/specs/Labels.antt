@@ -4,18 +4,17 @@ use mathlib.Core.List.{List, [], _∷_}
 use mathlib.Core.Option.{Option}
 use mathlib.Core.Path.{_≡_, refl, sym, ap, ap₂, _∙_}
 use Prim.Native.Nat.{ℕ, zero, suc, _+_, _*_, _/_, _%_, _≤_}
-use native.Mathlib.Nat.{zero-add}
+use native.Mathlib.Nat.{add-zero}
 use native.Mathlib.Omega.{arith}
-use lib.Dec.{eqb, leb, ltb}
+use lib.Dec.{eqb, leb, ltb, eqb·suc-suc}
 use lib.ListN.{length, drop}
-use borrow.Author.Tests.{eqb-true, eqb-false, eq-eqb, ne-eqb, le-leb, leb-true}
+use borrow.Author.Tests.{eqb-false, eq-eqb, ne-eqb, le-leb, leb-true}
 use Rattle.base.specs.Choice.{test-cases}
 use Rattle.base.specs.Edition.{edition1}
 use Rattle.base.specs.Limits as Limits
-use Rattle.base.specs.Lists.{all, any}
+use Rattle.base.specs.Lists.{all}
 use Rattle.branches.specs.Places.{numberIn}
-use Rattle.calls.specs.Splices.{length-splice}
-use Rattle.calls.specs.Table.{allLiterals, rowOf}
+use Rattle.calls.specs.Splices.{length-splice, splice-nil}
 use Rattle.cards.specs.Bytes.{between, isLetter, isDigit, isNameByte}
 use Rattle.cards.specs.Packing.{packed, literalsWhole}
 use Rattle.judgement.specs.Refusals.{labelForm, labelled, readStatement}
@@ -27,22 +26,20 @@ use Rattle.language.specs.Reading.{label, declaring, purposeNumber, Met, nothin
 use Rattle.language.specs.Fuel.{run-within}
 use Rattle.language.specs.Words.{run, nameLength}
 use Rattle.met.specs.Contracts.{Noted}
-use Rattle.met.specs.Elements.{withElements}
-use Rattle.met.specs.Entries.{entry, nameFrom, nameOf, metIn}
-use Rattle.met.specs.EntryLaws.{met-both, name-key, declared-met}
-use Rattle.met.specs.Items.{withItems}
+use Rattle.met.specs.Entries.{entry, nameFrom, nameOf, gather, metIn}
+use Rattle.met.specs.EntryLaws.{name-key, declared-met}
 use Rattle.met.specs.ReadingLaws.{meeting-nothing}
 use Rattle.met.specs.Known.{placesIn}
 use Rattle.met.specs.declared.Cursor.{Cursor}
-use Rattle.numeric.specs.OperandLaws.{noting-more, ready-on}
-use Rattle.numeric.specs.Operands.{Ready, Noting, moved}
+use Rattle.numeric.specs.OperandLaws.{ready-on}
+use Rattle.numeric.specs.Operands.{Ready, moved}
 use Rattle.packer.specs.Keys.{keyOf, isKeyByte}
 use Rattle.words.specs.Kinds.{kindOf, leads}
 use Rattle.words.specs.declared.keywords.Keyword.{Keyword}
-use Rattle.forms.specs.BehindLaws.{lead-fits, of-kind}
+use Rattle.forms.specs.BehindLaws.{form-noted, lead-fits, of-kind}
+use Rattle.forms.specs.StageLaws.{form-same}
 use Rattle.forms.specs.Steps.{FormAt}
-use Rattle.forms.specs.Contracts.{Starts, itemsIn, elementsIn, Formed, FormRead, Wording}
-use Rattle.forms.specs.declared.Form as FormCode
+use Rattle.forms.specs.Contracts.{Starts, FormRead, Wording}
 use Rattle.forms.specs.declared.Form.{Form}
 
 -- ---- the bytes of a key, one by one
@@ -109,17 +106,12 @@ unfolding nameShown
 shown-not key e = sym (ap (λ b. b && all isNameByte (nameOf (key / 256))) e)
 
 -- ---- a label's form
-eqb-suc : (a b : ℕ) → eqb (suc a) (suc b) ≡ eqb a b
-eqb-suc a b =
-    test-cases (λ t. eqb a b ≡ t → eqb (suc a) (suc b) ≡ t) (eqb a b) (λ _ e. eq-eqb (suc a) (suc b) (ap suc (eqb-true a b e)))
-    (λ _ e. ne-eqb (suc a) (suc b) (λ h. eqb-false a b e (omega arith))) refl
-
 run-whole : (f : ℕ → Bool) (bs : List ℕ) → eqb (run f bs) (length bs) ≡ all f bs
 unfolding run all
 run-whole f [] = refl
 run-whole f (b ∷ bs) =
     test-cases (λ t. f b ≡ t → eqb (elim t [ true ↦ suc (run f bs) | false ↦ 0 ]) (suc (length bs)) ≡ (t && all f bs)) (f b)
-    (λ _ _. eqb-suc (run f bs) (length bs) ∙ run-whole f bs) (λ _ _. ne-eqb 0 (suc (length bs)) (λ h. omega arith)) refl
+    (λ _ _. eqb·suc-suc (run f bs) (length bs) ∙ run-whole f bs) (λ _ _. ne-eqb 0 (suc (length bs)) (λ h. omega arith)) refl
 
 label-name : (b : ℕ) (bs : List ℕ) → length (b ∷ bs) ≤ 8
     → eqb (nameLength (b ∷ bs)) (length (b ∷ bs)) ≡ (isLetter b && all isNameByte bs)
@@ -137,7 +129,7 @@ label-name b bs h =
     (λ _ e.
     let few : suc (run isNameByte bs) ≤ 8 = omega (arith, run-within isNameByte bs) in
     ap (λ t. eqb (cond t (suc (run isNameByte bs)) 0) (suc (length bs))) (le-leb (suc (run isNameByte bs)) 8 few)
-    ∙ eqb-suc (run isNameByte bs) (length bs)
+    ∙ eqb·suc-suc (run isNameByte bs) (length bs)
     ∙ run-whole isNameByte bs)
     (λ _ e. ne-eqb 0 (suc (length bs)) (λ z. omega arith))
     refl
@@ -230,96 +222,25 @@ module _ (known : List ℕ) where
       (sym (declared-met (b ∷ bs) (w .clean) label) ∙ ap (λ j. metIn (entry j 9 ∷ []) 0 [] 0) (sym (w .key))) (w .bytes)
 
 -- ---- what is met with the label
-module _ {table keys tags : List ℕ} {c : Cursor} {x : Read (Option Statement)} {t k g : List ℕ} where
-  formed-most : {v : Option Statement} {most most′ : ℕ} {d : Cursor} → most ≤ most′ → Formed v most table keys tags c x t k g d
-      → Formed v most′ table keys tags c x t k g d
-  formed-most h f =
-      record {
-        entries = f .entries;
-        rows = f .rows;
-        is = f .is;
-        counted = f .counted;
-        longest = f .longest;
-        written = f .written;
-        noting = f .noting;
-        names = f .names;
-        items = f .items;
-        elements = f .elements;
-        literals = f .literals;
-        few = omega (arith, f .few);
-        keysSize = f .keysSize;
-        tagsSize = f .tagsSize;
-      }
-
-  pub form-most : {most most′ : ℕ} (q : Form) → most ≤ most′ → FormRead most table keys tags c x q t k g → FormRead most′ table keys tags c x q t k g
-  form-most FormCode.the-variants.Broken h f = record { answer = f .answer }
-  form-most (FormCode.the-variants.NoStep d) h f = record { answer = formed-most h (f .answer) }
-  form-most (FormCode.the-variants.Step row d) h f =
-      record {
-        answer =
-            record { statement = f .answer .statement; made = f .answer .made; formed = formed-most h (f .answer .formed) };
-      }
-
-label-noted : {key : ℕ} {keys tags : List ℕ} {c : Cursor} {k g : List ℕ} {d : Cursor} → Noted keys tags c key 9 k g d
-    → Noting keys tags (c .names) (entry key 9 ∷ []) k g
-unfolding entry
-label-noted n = record { keyed = n .keyed; tagged = n .tagged }
-
-module _ {most key : ℕ} {table keys tags : List ℕ} {c : Cursor} {x : Read (Option Statement)} {k g : List ℕ} {d : Cursor} {t k′ g′ : List ℕ}
-    (room : (c .names ≤ length keys) × (c .names ≤ length tags)) (n : Noted keys tags c key 9 k g d) where
-  formed-labelled : {v : Option Statement} {e : Cursor} → Formed v most table k g d x t k′ g′ e
-      → Formed v (most + 1) table keys tags c (meeting (metIn (entry key 9 ∷ []) 0 [] 0) x) t k′ g′ e
-  unfolding meeting
-  formed-labelled {v} f =
-      let names : d .names ≡ c .names + 1 = ap (λ (z : Cursor). z .names) (n .goes) in
-      let items : d .items ≡ c .items = ap (λ (z : Cursor). z .items) (n .goes) in
-      let elements : d .elements ≡ c .elements = ap (λ (z : Cursor). z .elements) (n .goes) in
-      let literals : d .literals ≡ c .literals = ap (λ (z : Cursor). z .literals) (n .goes) in
-      let i = length (itemsIn v) in
-      let l = length (allLiterals (elementsIn v)) in
-      record {
-        entries = entry key 9 ∷ f .entries;
-        rows = f .rows;
-        is =
-            ap (meeting (metIn (entry key 9 ∷ []) 0 [] 0)) (f .is)
-            ∙ ap (λ (m : Met). got v m [])
-            (met-both (entry key 9 ∷ []) (f .entries) 0 i [] (f .rows) 0 l
-            ∙ ap₂ (λ (m j : ℕ). metIn (entry key 9 ∷ f .entries) m (f .rows) j) (zero-add i) (zero-add l));
-        counted = f .counted;
-        longest =
-            f .longest ∙ ap (λ j. ltb Limits.row j || any (ltb Limits.row) (f .rows)) (ap (λ (z : Cursor). z .longest) (n .goes));
-        written =
-            f .written
-            ∙ ap (λ j. withElements (withItems table j (itemsIn v)) (d .elements) (d .literals) (elementsIn v)) items
-            ∙ ap₂ (λ (m j : ℕ). withElements (withItems table (c .items) (itemsIn v)) m j (elementsIn v)) elements literals;
-        noting = noting-more (room .0) (room .1) names (label-noted n) (f .noting);
-        names = omega (arith, f .names);
-        items = f .items ∙ ap (λ j. j + i) items;
-        elements = f .elements ∙ ap (λ j. j + length (elementsIn v)) elements;
-        literals = f .literals ∙ ap (λ j. j + l) literals;
-        few = omega (arith, f .few);
-        keysSize = f .keysSize;
-        tagsSize = f .tagsSize;
-      }
-
-  pub form-labelled : (q : Form) → FormRead most table k g d x q t k′ g′
+module _ {most : ℕ} {table keys tags : List ℕ} {c : Cursor} {x : Read (Option Statement)} {t k′ g′ : List ℕ}
+    (room : (c .names ≤ length keys) × (c .names ≤ length tags)) where
+  pub form-labelled : {key : ℕ} {k g : List ℕ} {d : Cursor} → Noted keys tags c key 9 k g d → (q : Form) → FormRead most table k g d x q t k′ g′
       → FormRead (most + 1) table keys tags c (meeting (metIn (entry key 9 ∷ []) 0 [] 0) x) q t k′ g′
-  unfolding meeting
-  form-labelled FormCode.the-variants.Broken f = record { answer = ap (meeting (metIn (entry key 9 ∷ []) 0 [] 0)) (f .answer) }
-  form-labelled (FormCode.the-variants.NoStep e) f = record { answer = formed-labelled (f .answer) }
-  form-labelled (FormCode.the-variants.Step row e) f =
-      let s = f .answer in
-      record {
-        answer =
-            record {
-              statement = s .statement;
-              made =
-                  s .made
-                  ∙ ap₂ (λ (m j : ℕ). rowOf m j (s .statement)) (ap (λ (z : Cursor). z .elements) (n .goes))
-                  (ap (λ (z : Cursor). z .items) (n .goes));
-              formed = formed-labelled (s .formed);
-            };
-      }
+  unfolding entry
+  form-labelled n q f =
+      let fits : 1 + most ≤ most + 1 = omega arith in
+      form-noted room (record { keyed = n .keyed; tagged = n .tagged }) (ap (λ (z : Cursor). z .names) (n .goes))
+      (ap (λ (z : Cursor). z .items) (n .goes)) (ap (λ (z : Cursor). z .elements) (n .goes)) (ap (λ (z : Cursor). z .literals) (n .goes))
+      (ap (λ (z : Cursor). ltb Limits.row (z .longest)) (n .goes)) fits q f
+
+  -- and with no label
+  pub form-unlabelled : (q : Form) → FormRead most table keys tags c x q t k′ g′ → FormRead (most + 1) table keys tags c x q t k′ g′
+  unfolding nothing metIn gather
+  form-unlabelled q f =
+      let fits : 0 + most ≤ most + 1 = omega arith in
+      form-same (sym (meeting-nothing x))
+      (form-noted {es = []} room (record { keyed = sym (splice-nil keys (c .names)); tagged = sym (splice-nil tags (c .names)) })
+      (sym (add-zero (c .names))) refl refl refl refl fits q f)
 
 -- ---- before a statement the cursor is ready, and so it is behind its label
 pub starts-ready : {text keys tags : List ℕ} {c : Cursor} → Starts text keys tags c → Ready text keys tags c

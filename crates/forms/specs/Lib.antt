@@ -1,7 +1,6 @@
 -- Statements read in code: what the readers do (Contracts), rows that are filled part by part (Rows), the parts of forms (Stages,
--- StageLaws), how many elements an expression has (Bounds), forms as their parts (FormLaws) up to the end (Ends).
+-- StageLaws), forms as their parts (FormLaws) up to the end (Ends).
 pub mod BehindLaws
-pub mod Bounds
 pub mod Contracts
 pub mod Ends
 pub mod FormLaws

@@ -43,33 +43,27 @@ pub standing-case : {text keys tags : List ℕ} {r : Draft} {row : Row} {c : Cur
     → Standing text keys tags r → Ready text keys tags c
 standing-case {text} {keys} {tags} e s = subst (Standing text keys tags) e s
 
+-- a stage from the same draft
+pub from-draft : {U : Type 0} {y : List ℕ → Read U} {puts : ℕ → U → Table.Row → Table.Row} {es : U → List PatternElement}
+    {text table keys tags : List ℕ} {r r′ q : Draft} {t k g : List ℕ} → r ≡ r′ → StageRead y puts es text table keys tags r q t k g
+    → StageRead y puts es text table keys tags r′ q t k g
+from-draft {U} {y} {puts} {es} {text} {table} {keys} {tags} {q = q} {t = t} {k = k} {g = g} e a =
+    subst (λ z. StageRead y puts es text table keys tags z q t k g) e a
+
+-- by the case of its draft
 module _ {U : Type 0} (y : List ℕ → Read U) (puts : ℕ → U → Table.Row → Table.Row) (es : U → List PatternElement) {text table keys tags : List ℕ}
     {r : Draft} where
   pub stage-none : r ≡ DraftCode.the-variants.Broken → StageRead y puts es text table keys tags r DraftCode.the-variants.Broken table keys tags
-  stage-none e =
-      subst (λ z. StageRead y puts es text table keys tags z DraftCode.the-variants.Broken table keys tags) (sym e)
-      (record { stands = tt; answer = tt })
+  stage-none e = from-draft (sym e) (record { stands = tt; answer = tt })
 
   module _ {row : Row} {c : Cursor} (e : r ≡ DraftCode.the-variants.Got row c) {t k g : List ℕ} where
     pub stage-broken : y (drop (c .at) text) ≡ broken → StageRead y puts es text table keys tags r DraftCode.the-variants.Broken t k g
-    stage-broken h =
-        subst (λ z. StageRead y puts es text table keys tags z DraftCode.the-variants.Broken t k g) (sym e)
-        (record { stands = tt; answer = h })
+    stage-broken h = from-draft (sym e) (record { stands = tt; answer = h })
 
     pub stage-got : {row′ : Row} {d : Cursor}
         → Drawn (y (drop (c .at) text)) (puts (c .elements)) es text table keys tags row c row′ t k g d
         → StageRead y puts es text table keys tags r (DraftCode.the-variants.Got row′ d) t k g
-    stage-got {row′} {d} a =
-        subst (λ z. StageRead y puts es text table keys tags z (DraftCode.the-variants.Got row′ d) t k g) (sym e)
-        (record { stands = a .gets .ready; answer = a })
-
--- a stage from a draft whose case is known
-pub stage-from : {U : Type 0} {y : List ℕ → Read U} {puts : ℕ → U → Table.Row → Table.Row} {es : U → List PatternElement}
-    {text table keys tags : List ℕ} {r : Draft} {row : Row} {c : Cursor} {q : Draft} {t k g : List ℕ} → r ≡ DraftCode.the-variants.Got row c
-    → StageRead y puts es text table keys tags (DraftCode.the-variants.Got row c) q t k g
-    → StageRead y puts es text table keys tags r q t k g
-stage-from {U} {y} {puts} {es} {text} {table} {keys} {tags} {q = q} {t = t} {k = k} {g = g} e a =
-    subst (λ z. StageRead y puts es text table keys tags z q t k g) (sym e) a
+    stage-got a = from-draft (sym e) (record { stands = a .gets .ready; answer = a })
 
 -- names alone are drawn with any table
 pub drawn-names : {U C : Type 0} {f : U → C} {v : C} {y : Read U} (puts : U → Table.Row → Table.Row) {text keys tags : List ℕ} {row : Row}
@@ -256,13 +250,7 @@ pub marked-standing : (text : List ℕ) (mark : ℕ) (keys tags : List ℕ) (r :
     → Standing text keys tags (markedBy text mark r)
 marked-standing text mark keys tags r s = marked-stage text mark {table = []} r s .stands
 
--- a stage from the same draft, and a form that ends in the same way or reads the same
-pub from-draft : {U : Type 0} {y : List ℕ → Read U} {puts : ℕ → U → Table.Row → Table.Row} {es : U → List PatternElement}
-    {text table keys tags : List ℕ} {r r′ q : Draft} {t k g : List ℕ} → r ≡ r′ → StageRead y puts es text table keys tags r q t k g
-    → StageRead y puts es text table keys tags r′ q t k g
-from-draft {U} {y} {puts} {es} {text} {table} {keys} {tags} {q = q} {t = t} {k = k} {g = g} e a =
-    subst (λ z. StageRead y puts es text table keys tags z q t k g) e a
-
+-- a form that ends in the same way or reads the same
 pub form-ends : {most : ℕ} {table keys tags : List ℕ} {c : Cursor} {x : Read (Option Statement)} {q r : Form} {t k g : List ℕ} → q ≡ r
     → FormRead most table keys tags c x r t k g → FormRead most table keys tags c x q t k g
 form-ends {most} {table} {keys} {tags} {c} {x} {t = t} {k = k} {g = g} e a =

@@ -66,6 +66,7 @@ names-elements {c = c} {d = d} table r =
           };
       ready = r .ready;
       few = r .few;
+      short = omega (arith, r .few);
     }
 
 -- nothing is read
@@ -88,6 +89,7 @@ elements-none a {c = c} ready =
           };
       ready = ready;
       few = omega arith;
+      short = omega arith;
     }
 
 module _ {A B : Type 0} {text table keys tags : List ℕ} {c : Cursor} {x : Read A} {a : A} {es : List PatternElement} {rows : List ℕ}
@@ -109,6 +111,7 @@ module _ {A B : Type 0} {text table keys tags : List ℕ} {c : Cursor} {x : Read
         goes = r .goes;
         ready = r .ready;
         few = r .few;
+        short = r .short;
       }
 
   -- a reading behind another
@@ -148,6 +151,7 @@ module _ {A B : Type 0} {text table keys tags : List ℕ} {c : Cursor} {x : Read
             };
         ready = q .ready;
         few = omega (arith, r .few, q .few);
+        short = omega (arith, r .short, q .short);
       }
 
   -- what follows is broken
@@ -177,4 +181,5 @@ module _ {A : Type 0} {text table keys tags : List ℕ} {c : Cursor} {x : Read A
             };
         ready = r .ready;
         few = omega (arith, r .few, s .at);
+        short = omega (arith, r .short, s .at);
       }

@@ -43,6 +43,7 @@ pub record GetsElements {A : Type 0} (text table keys tags : List ℕ) (c : Curs
   pub goes : Passes c (length entries) es rows d
   pub ready : Ready text keys′ tags′ d
   pub few : length entries + c .at ≤ d .at
+  pub short : length es + c .at ≤ d .at
 
 -- the rows that are met where a row of n elements is read: none where nothing stands
 unfoldable pub rowsOf : ℕ → List ℕ

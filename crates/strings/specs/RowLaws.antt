@@ -110,6 +110,7 @@ literal-spelt {text} {table} {keys} {tags} {c} n size {t} {d} ready inside end m
                   tagsSize = ready .tagsSize;
                 };
             few = omega arith;
+            short = omega arith;
           };
       further = omega arith;
     }
@@ -181,6 +182,7 @@ cell-element f {text} table {c = c} {x} (OperandCode.the-variants.Got v d) {k} {
                       ready-here (r .ready) refl refl (r .ready .items) (omega (arith, ready .elements, r .goes, r .further))
                       (r .ready .literals);
                   few = r .few;
+                  short = omega (arith, r .further);
                 };
             further = r .further;
           };
@@ -421,6 +423,7 @@ module _ {A : Type 0} (f : A → PatternElement) (one : List ℕ → Read A) {te
                     };
                 ready = ready-here (a .ready) refl refl (a .ready .items) (a .ready .elements) (a .ready .literals);
                 few = a .few;
+                short = a .short;
               });
           size = a .goes .elements ∙ ap (λ i. c .elements + i) (length-map (x ∷ xs) f);
         }

@@ -4,7 +4,7 @@ use mathlib.Core.Path.{sym, subst, _∙_}
 use native.Mathlib.Omega.{arith}
 use borrow.Author.Tests.{not-true, not-false}
 use Rattle.forms.specs.Contracts.{Wording}
-use Rattle.forms.specs.Labels.{statement-off, statement-plain, statement-unnamed, statement-named, form-most, form-labelled, starts-labelled}
+use Rattle.forms.specs.Labels.{statement-off, statement-plain, statement-unnamed, statement-named, form-unlabelled, form-labelled, starts-labelled}
 use Rattle.forms.specs.StageLaws.{form-same}
 use borrow.Author.Needs.{needs}
 use Rattle.forms.proofs.read_statement.Statement.{statement}
@@ -27,8 +27,9 @@ returns-2 : tie.Need-returns-2
 returns-2 c =
     λ labelBytes raw w.
     let whole = subst (Wording labelBytes raw (c .before .before .before .before .before .before .before .before .before .before .args .text .now) (c .before .before .before .before .before .before .before .before .before .before .args .label)) (not-false _ (c .before .before .before .before .before .before .before .if1 .left)) w in
+    let s = c .before .before .before .before .before .before .before .before .before .before .pre .0 in
     form-same (statement-plain (c .before .before .before .before .before .before .before .before .before .before .args .known .now) labelBytes whole (c .before .before .before .before .before .before .if2 .taken))
-    (form-most (c .before .before .read-form .result) (omega arith) (c .before .before .read-form .ensures))
+    (form-unlabelled (omega (arith, s), omega (arith, s)) (c .before .before .read-form .result) (c .before .before .read-form .ensures))
 
 is-name-requires : tie.Need-is-name-requires
 is-name-requires c κs = search needs

@@ -9,7 +9,7 @@ use Rattle.branches.specs.Rows.{rowMeaning}
 use Rattle.language.specs.Forms.{branchIfAny}
 use Rattle.met.specs.Known.{placesIn}
 use Rattle.forms.specs.Rows.{withBranch, withSteps}
-use Rattle.forms.specs.StageLaws.{standing-case, stage-none, stage-got, stage-from, stage-same, branch-any, branch-not, steps-made}
+use Rattle.forms.specs.StageLaws.{standing-case, stage-none, stage-got, from-draft, stage-same, branch-any, branch-not, steps-made}
 use borrow.Author.Needs.{needs}
 use Rattle.forms.proofs.stages.branched_if_any.Statement.{statement}
 use Rattle.forms.proofs.stages.branched_if_any.Tie as tie
@@ -31,7 +31,7 @@ returns c =
     let a = c .before .before .before .before .before .before .before .before .before .args in
     let slash = sym (c .before .before .before .before .stands-at .ensures) ∙ c .before .before .before .if1 .taken in
     λ table.
-    stage-from (c .before .before .before .before .before .before .r .given .1)
+    from-draft (sym (c .before .before .before .before .before .before .r .given .1))
     (stage-same (c .branched .result) (branch-any (a .known .now) (drop (c .before .before .before .before .before .before .r .given .0 .1 .0 .at) (a .text .now)) slash) (c .branched .ensures table))
 
 next-step-requires : tie.Need-next-step-requires

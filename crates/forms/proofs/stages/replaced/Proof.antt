@@ -1,23 +1,22 @@
 -- `forms::stages::replaced` goes on by a replacement, if there is one.
 -- Assumes nothing.
+use mathlib.Core.Bool.{true}
 use mathlib.Core.List.{[], _∷_, map}
-use mathlib.Core.Path.{sym, subst, _∙_}
-use Prim.Native.Nat.{_+_}
-use lib.ListN.{drop, length-drop}
+use mathlib.Core.Path.{_≡_, sym, subst, _∙_}
+use Prim.Native.Nat.{_+_, _≤_}
+use lib.ListN.{drop}
 use native.Mathlib.Omega.{arith}
 use borrow.Author.Tests.{not-true, not-false}
 use Rattle.base.specs.Edition.{edition1}
-use Rattle.branches.specs.Places.{numberIn}
-use Rattle.calls.specs.Table.{replacementOf}
-use Rattle.language.specs.Forms.{replacementIfAny}
+use Rattle.base.specs.Lists.{begins}
 use Rattle.language.specs.Program.{value}
 use Rattle.language.specs.Strings.{stringExpression}
 use Rattle.met.specs.Known.{placesIn}
+use Rattle.met.specs.declared.Cursor.{Cursor}
 use Rattle.numeric.specs.OperandLaws.{ready-moved}
+use Rattle.numeric.specs.Operands.{Ready, moved}
 use Rattle.strings.specs.ElementLaws.{row-case, row-none}
 use Rattle.strings.specs.Elements.{RowRead}
-use Rattle.forms.specs.Bounds.{strings-count}
-use Rattle.forms.specs.Rows.{withReplacement}
 use Rattle.forms.specs.StageLaws.{stage-none, stage-broken, stage-got, replaced-not, replaced-broken, replaced-got}
 use Rattle.forms.specs.Stages.{Following}
 use borrow.Author.Needs.{needs}
@@ -33,20 +32,56 @@ enum-known-r c = search needs
 stands-at-requires : tie.Need-stands-at-requires
 stands-at-requires c κs = search needs
 
+-- the draft's cursor, from which it may go on
+module _ (c : tie.After-stands-at) where
+  abbrev here : Cursor
+  here = c .before .before .r .given .0 .1 .0
+
+  before : Ready (c .before .before .before .before .before .before .args .text .now) (c .before .before .before .before .before .before .args .keys .now) (c .before .before .before .before .before .before .args .tags .now) here × (c .before .before .before .before .before .before .args .from ≤ here .elements)
+  before =
+      subst (Following (c .before .before .before .before .before .before .args .text .now) (c .before .before .before .before .before .before .args .keys .now) (c .before .before .before .before .before .before .args .tags .now) (c .before .before .before .before .before .before .args .from)) (c .before .before .r .given .1)
+      (c .before .before .before .before .before .before .pre .0)
+
+-- the elements behind the mark
+module _ (c : tie.After-string-expression) where
+  abbrev mark : tie.After-stands-at
+  mark = c .before .before .before .before .before .before
+
+  marked : begins (61 ∷ []) (drop (here mark .at) (mark .before .before .before .before .before .before .args .text .now)) ≡ true
+  marked = sym (mark .stands-at .ensures) ∙ not-false _ (c .before .before .before .before .before .if1 .left)
+
+  read : RowRead (map value) (mark .before .before .before .before .before .before .args .text .now)
+      (mark .before .before .before .before .before .before .args .table .now)
+      (mark .before .before .before .before .before .before .args .keys .now)
+      (mark .before .before .before .before .before .before .args .tags .now) (moved (here mark) 1)
+      (stringExpression edition1 (placesIn (mark .before .before .before .before .before .before .args .known .now))
+      (drop (here mark .at + 1) (mark .before .before .before .before .before .before .args .text .now)))
+      (c .string-expression .result) (c .string-expression .last .1 .1 .0) (c .string-expression .last .1 .1 .1 .0)
+      (c .string-expression .last .1 .1 .1 .1 .0)
+  read =
+      let a = mark .before .before .before .before .before .before .args in
+      let s = c .string-expression in
+      subst
+      (λ z.
+      RowRead (map value) (a .text .now) (a .table .now) (a .keys .now) (a .tags .now) z
+      (stringExpression edition1 (placesIn (a .known .now)) (drop (z .at) (a .text .now))) (s .result) (s .last .1 .1 .0) (s .last .1 .1 .1 .0)
+      (s .last .1 .1 .1 .1 .0))
+      (c .before .skip .ensures) (s .ensures)
+
 returns : tie.Need-returns
 returns c =
-    let before = subst (Following (c .before .before .before .before .before .before .before .args .text .now) (c .before .before .before .before .before .before .before .args .keys .now) (c .before .before .before .before .before .before .before .args .tags .now) (c .before .before .before .before .before .before .before .args .from)) (c .before .before .before .r .given .1) (c .before .before .before .before .before .before .before .pre .0) in
-    stage-got (replacementIfAny edition1 (numberIn (c .before .before .before .before .before .before .before .args .known .now)) (placesIn (c .before .before .before .before .before .before .before .args .known .now))) (λ n o. withReplacement (c .before .before .before .before .before .before .before .args .direction) (c .before .before .before .before .before .before .before .args .from) n o) (λ o. map value (replacementOf o)) (c .before .before .before .r .given .1)
-    (replaced-not (c .before .before .before .before .before .before .before .args .known .now) (c .before .before .before .before .before .before .before .args .direction) (c .before .before .before .before .before .before .before .args .from) (before .0) (sym (c .before .stands-at .ensures) ∙ not-true _ (c .if1 .taken)))
+    let a = c .before .before .before .before .before .before .before .args in
+    stage-got _ _ _ (c .before .before .before .r .given .1)
+    (replaced-not (a .known .now) (a .direction) (a .from) (before (c .before) .0) (sym (c .before .stands-at .ensures) ∙ not-true _ (c .if1 .taken)))
 
 skip-requires : tie.Need-skip-requires
-skip-requires c κs = let before = subst (Following (c .before .before .before .before .before .before .before .before .before .before .args .text .now) (c .before .before .before .before .before .before .before .before .before .before .args .keys .now) (c .before .before .before .before .before .before .before .before .before .before .args .tags .now) (c .before .before .before .before .before .before .before .before .before .before .args .from)) (c .before .before .before .before .before .before .r .given .1) (c .before .before .before .before .before .before .before .before .before .before .pre .0) in omega (arith, before .0)
+skip-requires c κs = omega (arith, before (c .before .before .before .before) .0)
 
 string-expression-requires : tie.Need-string-expression-requires
 string-expression-requires c κs =
-    let before = subst (Following (c .before .before .before .before .before .before .before .before .before .before .before .args .text .now) (c .before .before .before .before .before .before .before .before .before .before .before .args .keys .now) (c .before .before .before .before .before .before .before .before .before .before .before .args .tags .now) (c .before .before .before .before .before .before .before .before .before .before .before .args .from)) (c .before .before .before .before .before .before .before .r .given .1) (c .before .before .before .before .before .before .before .before .before .before .before .pre .0) in
+    let a = c .before .before .before .before .before .before .before .before .before .before .before .args in
     let mark = sym (c .before .before .before .before .before .stands-at .ensures) ∙ not-false _ (c .before .before .before .before .if1 .left) in (
-      ready-moved (61 ∷ []) (before .0) (c .skip .ensures) mark,
+      ready-moved (61 ∷ []) (before (c .before .before .before .before .before) .0) (c .skip .ensures) mark,
       (c .before .before .before .before .before .before .before .before .before .before .before .pre .1 .0, c .before .before .before .before .before .before .before .before .before .before .before .pre .1 .1 .0),
     )
 
@@ -57,33 +92,16 @@ enum-known-d : tie.Need-enum-known-d
 enum-known-d c = search needs
 
 sub-range-cell : tie.Need-sub-range-cell
-sub-range-cell c = let before = subst (Following (c .before .before .before .before .before .before .before .before .before .before .before .before .before .before .before .before .before .before .args .text .now) (c .before .before .before .before .before .before .before .before .before .before .before .before .before .before .before .before .before .before .args .keys .now) (c .before .before .before .before .before .before .before .before .before .before .before .before .before .before .before .before .before .before .args .tags .now) (c .before .before .before .before .before .before .before .before .before .before .before .before .before .before .before .before .before .before .args .from)) (c .before .before .before .before .before .before .before .before .before .before .before .before .before .before .r .given .1) (c .before .before .before .before .before .before .before .before .before .before .before .before .before .before .before .before .before .before .pre .0) in omega (arith, before .1)
+sub-range-cell c = omega (arith, before (c .before .before .before .before .before .before .before .before .before .before .before .before) .1)
 
 sub-range-cell-2 : tie.Need-sub-range-cell-2
-sub-range-cell-2 c =
-    let a = c .before .before .before .before .before .before .before .before .before .before .before .before .before .before .before .before .before .before .before .before .args in
-    let s = c .before .before .before .before .before .before .before .before .string-expression in
-    let read = subst
-    (λ z.
-    RowRead (map value) (a .text .now) (a .table .now) (a .keys .now) (a .tags .now) z
-    (stringExpression edition1 (placesIn (a .known .now)) (drop (z .at) (a .text .now))) (s .result) (s .last .1 .1 .0) (s .last .1 .1 .1 .0) (s .last .1 .1 .1 .1 .0))
-    (c .before .before .before .before .before .before .before .before .before .skip .ensures) (s .ensures) in
-    omega (arith, row-case read (c .before .before .before .before .d .given .1) .size)
+sub-range-cell-2 c = omega (arith, row-case (read (c .before .before .before .before .before .before .before .before)) (c .before .before .before .before .d .given .1) .size)
 
 range-cell-requires : tie.Need-range-cell-requires
 range-cell-requires c κs =
-    let a = c .before .before .before .before .before .before .before .before .before .before .before .before .before .before .before .before .before .before .before .before .args in
-    let s = c .before .before .before .before .before .before .before .before .string-expression in
-    let read = subst
-    (λ z.
-    RowRead (map value) (a .text .now) (a .table .now) (a .keys .now) (a .tags .now) z
-    (stringExpression edition1 (placesIn (a .known .now)) (drop (z .at) (a .text .now))) (s .result) (s .last .1 .1 .0) (s .last .1 .1 .1 .0) (s .last .1 .1 .1 .1 .0))
-    (c .before .before .before .before .before .before .before .before .before .skip .ensures) (s .ensures) in
-    let before = subst (Following (c .before .before .before .before .before .before .before .before .before .before .before .before .before .before .before .before .before .before .before .before .args .text .now) (c .before .before .before .before .before .before .before .before .before .before .before .before .before .before .before .before .before .before .before .before .args .keys .now) (c .before .before .before .before .before .before .before .before .before .before .before .before .before .before .before .before .before .before .before .before .args .tags .now) (c .before .before .before .before .before .before .before .before .before .before .before .before .before .before .before .before .before .before .before .before .args .from)) (c .before .before .before .before .before .before .before .before .before .before .before .before .before .before .before .before .r .given .1) (c .before .before .before .before .before .before .before .before .before .before .before .before .before .before .before .before .before .before .before .before .pre .0) in
-    let row = row-case read (c .before .before .before .before .d .given .1) in
-    let few = strings-count 32_768 edition1 (placesIn (a .known .now)) (drop (c .before .before .before .before .before .before .before .before .before .before .before .before .before .before .before .before .r .given .0 .1 .0 .at + 1) (a .text .now))
-    (omega (arith, length-drop (c .before .before .before .before .before .before .before .before .before .before .before .before .before .before .before .before .r .given .0 .1 .0 .at + 1) (a .text .now), before .0)) (row .gets .is) in
-    (omega (arith, before .1, before .0), (omega (arith, before .0), omega (arith, row .size, few)))
+    let start = before (c .before .before .before .before .before .before .before .before .before .before .before .before .before .before) in
+    let row = row-case (read (c .before .before .before .before .before .before .before .before)) (c .before .before .before .before .d .given .1) .gets in
+    (omega (arith, start .1, start .0), (omega (arith, start .0), omega (arith, row .short, row .goes .elements, row .ready)))
 
 add-with-right : tie.Need-add-with-right
 add-with-right c = omega (arith, c .before .before .before .before .before .before .before .before .before .before .before .before .before .before .before .before .before .before .before .before .before .pre .1 .1 .1)
@@ -92,7 +110,7 @@ with-right-requires : tie.Need-with-right-requires
 with-right-requires c κs = search needs
 
 returns-2 : tie.Need-returns-2
-returns-2 c = stage-none (replacementIfAny edition1 (numberIn (c .before .before .before .before .args .known .now)) (placesIn (c .before .before .before .before .args .known .now))) (λ n o. withReplacement (c .before .before .before .before .args .direction) (c .before .before .before .before .args .from) n o) (λ o. map value (replacementOf o)) (c .enum-told .given .1)
+returns-2 c = stage-none _ _ _ (c .enum-told .given .1)
 
 same-length : tie.Need-same-length
 same-length c = search needs
@@ -100,14 +118,9 @@ same-length c = search needs
 returns-3 : tie.Need-returns-3
 returns-3 c =
     let a = c .before .before .before .before .before .before .before .before .before .before .before .before .before .before .before .before .args in
-    let s = c .before .before .before .before .string-expression in
-    let read = subst
-    (λ z.
-    RowRead (map value) (a .text .now) (a .table .now) (a .keys .now) (a .tags .now) z
-    (stringExpression edition1 (placesIn (a .known .now)) (drop (z .at) (a .text .now))) (s .result) (s .last .1 .1 .0) (s .last .1 .1 .1 .0) (s .last .1 .1 .1 .1 .0))
-    (c .before .before .before .before .before .skip .ensures) (s .ensures) in
-    stage-broken (replacementIfAny edition1 (numberIn (c .before .before .before .before .before .before .before .before .before .before .before .before .before .before .before .before .args .known .now)) (placesIn (c .before .before .before .before .before .before .before .before .before .before .before .before .before .before .before .before .args .known .now))) (λ n o. withReplacement (c .before .before .before .before .before .before .before .before .before .before .before .before .before .before .before .before .args .direction) (c .before .before .before .before .before .before .before .before .before .before .before .before .before .before .before .before .args .from) n o) (λ o. map value (replacementOf o)) (c .before .before .before .before .before .before .before .before .before .before .before .before .r .given .1)
-    (replaced-broken (a .known .now) (a .text .now) (c .before .before .before .before .before .before .before .before .before .before .before .before .r .given .0 .1 .0 .at) (sym (c .before .before .before .before .before .before .before .before .before .before .stands-at .ensures) ∙ not-false _ (c .before .before .before .before .before .before .before .before .before .if1 .left)) (row-none read (c .enum-told2 .given .1)))
+    let s = c .before .before .before .before in
+    stage-broken _ _ _ (c .before .before .before .before .before .before .before .before .before .before .before .before .r .given .1)
+    (replaced-broken (a .known .now) (a .text .now) (c .before .before .before .before .before .before .before .before .before .before .before .before .r .given .0 .1 .0 .at) (marked s) (row-none (read s) (c .enum-told2 .given .1)))
 
 same-length-2 : tie.Need-same-length-2
 same-length-2 c = search needs
@@ -115,14 +128,10 @@ same-length-2 c = search needs
 returns-4 : tie.Need-returns-4
 returns-4 c =
     let a = c .before .before .before .before .before .before .before .before .before .before .before .before .before .before .before .before .before .before .before .before .before .before .args in
-    let s = c .before .before .before .before .before .before .before .before .before .before .string-expression in
-    let read = subst
-    (λ z.
-    RowRead (map value) (a .text .now) (a .table .now) (a .keys .now) (a .tags .now) z
-    (stringExpression edition1 (placesIn (a .known .now)) (drop (z .at) (a .text .now))) (s .result) (s .last .1 .1 .0) (s .last .1 .1 .1 .0) (s .last .1 .1 .1 .1 .0))
-    (c .before .before .before .before .before .before .before .before .before .before .before .skip .ensures) (s .ensures) in
-    stage-got (replacementIfAny edition1 (numberIn (c .before .before .before .before .before .before .before .before .before .before .before .before .before .before .before .before .before .before .before .before .before .before .args .known .now)) (placesIn (c .before .before .before .before .before .before .before .before .before .before .before .before .before .before .before .before .before .before .before .before .before .before .args .known .now))) (λ n o. withReplacement (c .before .before .before .before .before .before .before .before .before .before .before .before .before .before .before .before .before .before .before .before .before .before .args .direction) (c .before .before .before .before .before .before .before .before .before .before .before .before .before .before .before .before .before .before .before .before .before .before .args .from) n o) (λ o. map value (replacementOf o)) (c .before .before .before .before .before .before .before .before .before .before .before .before .before .before .before .before .before .before .r .given .1)
-    (replaced-got (a .known .now) (a .direction) (a .from) (sym (c .before .before .before .before .before .before .before .before .before .before .before .before .before .before .before .before .stands-at .ensures) ∙ not-false _ (c .before .before .before .before .before .before .before .before .before .before .before .before .before .before .before .if1 .left)) (row-case read (c .before .before .before .before .before .before .d .given .1)) (c .with-right .ensures) (c .before .range-cell .ensures))
+    let s = c .before .before .before .before .before .before .before .before .before .before in
+    stage-got _ _ _ (c .before .before .before .before .before .before .before .before .before .before .before .before .before .before .before .before .before .before .r .given .1)
+    (replaced-got (a .known .now) (a .direction) (a .from) (marked s) (row-case (read s) (c .before .before .before .before .before .before .d .given .1)) (c .with-right .ensures)
+    (c .before .range-cell .ensures))
 
 pub replaced-spec : {M : Type 1} → statement M
 replaced-spec =
