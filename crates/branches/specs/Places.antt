@@ -5,7 +5,7 @@ use mathlib.Core.Path.{_≡_, refl, sym, ap, ap₂, subst, _∙_}
 use Prim.Native.Nat.{ℕ, zero, suc, _+_, _-_, _≤_, _<_}
 use native.Mathlib.Nat.{add-zero}
 use native.Mathlib.Omega.{arith}
-use lib.Dec.{eqb, ltb}
+use lib.Dec.{eqb, ltb, leb·suc-suc}
 use lib.ListN.{length, take, drop, getD}
 use lib.Seq.{drop-cons}
 use borrow.Author.Tests.{eq-eqb, ne-eqb, lt-ltb, le-ltb}
@@ -13,8 +13,9 @@ use Rattle.base.specs.Choice.{test-cases}
 use Rattle.judgement.specs.Deck.{stepOf, routineNamed}
 use Rattle.judgement.specs.Known.{Routine, isOneOf}
 use Rattle.met.specs.Entries.{nameOf}
+use Rattle.met.specs.From.{valuesFrom}
 use Rattle.met.specs.Known.{numberKeys, keyPlace, labelIn, labelsFrom, labelsIn, routineIn, routinesDown, routinesIn, placesIn}
-use Rattle.met.specs.KnownLaws.{name-same, ltb-suc}
+use Rattle.met.specs.KnownLaws.{name-same}
 
 -- whether a name is one of the numbers known
 abbrev pub numberIn : List ℕ → List ℕ → Bool
@@ -46,7 +47,7 @@ module _ (known : List ℕ) (key : ℕ) where
 
   pub label-place : (i n : ℕ) → 80 + i + n ≤ length known
       → stepOf (labelsFrom known i n) (nameOf key) ≡ stepFound i n (keyPlace key (take n (drop (80 + i) known)))
-  unfolding stepOf labelsFrom labelIn keyPlace
+  unfolding stepOf valuesFrom labelIn keyPlace
   label-place i zero h = refl
   label-place i (suc n) h =
       let k = getD known (80 + i) 0 in
@@ -64,7 +65,7 @@ module _ (known : List ℕ) (key : ℕ) where
       (λ _. ap₂ (λ (b : Bool) (m : ℕ). cond b (getD known m 0) 0) (sym (lt-ltb 0 (suc n) (omega arith))) (sym (add-zero (145 + i))))
       (λ _.
       label-place (suc i) n (omega arith)
-      ∙ ap₂ (λ (b : Bool) (m : ℕ). cond b (getD known m 0) 0) (sym (ltb-suc p n)) further)
+      ∙ ap₂ (λ (b : Bool) (m : ℕ). cond b (getD known m 0) 0) (sym (leb·suc-suc (suc p) n)) further)
       ∙ sym (ap (stepFound i (suc n)) place)
 
   -- of all labels: found, or not

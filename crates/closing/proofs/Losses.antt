@@ -13,6 +13,7 @@ use Rattle.base.specs.Lists.{any, same}
 use Rattle.judgement.specs.Deck.{is11}
 use Rattle.judgement.specs.Known.{Label, Routine, Use}
 use Rattle.met.specs.Entries.{nameOf}
+use Rattle.met.specs.From.{valuesFrom}
 use Rattle.met.specs.Holding.{usesFrom}
 use Rattle.met.specs.Known.{labelIn, labelsFrom, labelsIn, routineIn, routinesDown, routinesIn, labelCountAt, routineCountAt, routineKeysAt, usesAt}
 use Rattle.met.specs.KnownLaws.{name-same, routines-have}
@@ -22,7 +23,7 @@ use Rattle.closing.specs.Lost.{labelAt, hasLabel, hasRoutine, isLost}
 
 -- some label, routine or use passes a test
 labels-from : (g : Label → Bool) (known : List ℕ) (i n : ℕ) → any g (labelsFrom known i n) ≡ below (λ j. g (labelIn known (i + j))) n
-unfolding any labelsFrom below
+unfolding any valuesFrom below
 labels-from g known i zero = refl
 labels-from g known i (suc n) =
     ap (λ t. g (labelIn known i) || t) (labels-from g known (suc i) n) ∙ below-from (λ j. g (labelIn known j)) i n

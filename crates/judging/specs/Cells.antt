@@ -1,47 +1,32 @@
 -- Numbers of an array one by one, and lists that are cut at a size. Assumes nothing.
+use mathlib.Core.Bool.{cond}
 use mathlib.Core.List.{List, [], _∷_, _++_}
-use mathlib.Core.Path.{_≡_, refl, sym, _∙_, ap, ap₂}
+use mathlib.Core.Path.{_≡_, refl, sym, _∙_, ap}
 use Prim.Native.Nat.{ℕ, zero, suc, _+_, _≤_, _<_}
-use native.Mathlib.Nat.{add-zero}
 use native.Mathlib.Omega.{arith}
-use lib.Dec.{leb}
+use lib.Dec.{leb, ltb}
 use lib.ListN.{length, take, drop, getD, set, length-set, length-append}
 use lib.Seq.{take-all, take-append-le, length-take-le, drop-cons, sets, getD-set-same, getD-set-other}
-use borrow.Author.Tests.{leb-true, leb-false}
+use borrow.Author.Tests.{leb-true, leb-false, ltb-true, ltb-false}
 use Rattle.base.specs.Choice.{test-cases}
+use Rattle.met.specs.From.{valuesFrom}
 
--- n numbers from place i on
-unfoldable pub cells : List ℕ → (i n : ℕ) → List ℕ
-cells l i zero = []
-cells l i (suc n) = getD l i 0 ∷ cells l (suc i) n
+-- number j, and n numbers from place i on
+abbrev pub cellIn : List ℕ → ℕ → ℕ
+cellIn l j = getD l j 0
+
+abbrev pub cells : List ℕ → (i n : ℕ) → List ℕ
+cells l = valuesFrom (cellIn l)
 
 pub cells-part : (l : List ℕ) (i n : ℕ) → i + n ≤ length l → take n (drop i l) ≡ cells l i n
-unfolding cells
+unfolding valuesFrom
 cells-part l i zero h = refl
 cells-part l i (suc n) h =
     ap (take (suc n)) (drop-cons l i 0 (omega arith)) ∙ ap (λ (r : List ℕ). getD l i 0 ∷ r) (cells-part l (suc i) n (omega arith))
 
-pub cells-kept : (l m : List ℕ) (i n : ℕ) → ((j : ℕ) → i ≤ j → j < i + n → getD m j 0 ≡ getD l j 0) → cells m i n ≡ cells l i n
-unfolding cells
-cells-kept l m i zero f = refl
-cells-kept l m i (suc n) f =
-    ap₂ {C = List ℕ} _∷_ (f i (omega arith) (omega arith)) (cells-kept l m (suc i) n (λ j h g. f j (omega arith) (omega arith)))
-
-pub cells-more : (l : List ℕ) (i n : ℕ) → cells l i (suc n) ≡ cells l i n ++ (getD l (i + n) 0 ∷ [])
-unfolding cells
-cells-more l i zero = ap (λ j. getD l j 0 ∷ []) (sym (add-zero i))
-cells-more l i (suc n) =
-    let next : suc i + n ≡ i + suc n = omega arith in
-    ap (λ (r : List ℕ). getD l i 0 ∷ r) (cells-more l (suc i) n ∙ ap (λ j. cells l (suc i) n ++ (getD l j 0 ∷ [])) next)
-
-pub length-cells : (l : List ℕ) (i n : ℕ) → length (cells l i n) ≡ n
-unfolding cells
-length-cells l i zero = refl
-length-cells l i (suc n) = ap suc (length-cells l (suc i) n)
-
 -- one more element of a list that is cut at a size
 module _ {A : Type 0} (cap : ℕ) (l : List A) (x : A) where
-  pub cut-more : length (take cap l) < cap → take cap (l ++ (x ∷ [])) ≡ take cap l ++ (x ∷ [])
+  cut-more : length (take cap l) < cap → take cap (l ++ (x ∷ [])) ≡ take cap l ++ (x ∷ [])
   cut-more h =
       test-cases (λ t. leb cap (length l) ≡ t → take cap (l ++ (x ∷ [])) ≡ take cap l ++ (x ∷ [])) (leb cap (length l))
       (λ _ e. absurd (omega (arith, length-take-le cap l (leb-true cap (length l) e))))
@@ -50,7 +35,7 @@ module _ {A : Type 0} (cap : ℕ) (l : List A) (x : A) where
       take-all cap (l ++ (x ∷ [])) (omega (arith, length-append l (x ∷ [])))
       ∙ ap (λ (r : List A). r ++ (x ∷ [])) (sym (take-all cap l (omega arith)))) refl
 
-  pub cut-full : cap ≤ length (take cap l) → take cap (l ++ (x ∷ [])) ≡ take cap l
+  cut-full : cap ≤ length (take cap l) → take cap (l ++ (x ∷ [])) ≡ take cap l
   cut-full h =
       test-cases (λ t. leb cap (length l) ≡ t → take cap (l ++ (x ∷ [])) ≡ take cap l) (leb cap (length l))
       (λ _ e. take-append-le cap l (x ∷ []) (leb-true cap (length l) e))
@@ -58,6 +43,17 @@ module _ {A : Type 0} (cap : ℕ) (l : List A) (x : A) where
       let less = leb-false cap (length l) e in
       let whole = ap length (take-all cap l (omega arith)) in
       absurd (omega arith)) refl
+
+-- so it is behind those there, unless there are as many as can be
+pub cut-next : {A : Type 0} (cap : ℕ) (l whole : List A) (n : ℕ) (x : A) → length l ≡ n → l ≡ take cap whole
+    → cond (ltb n cap) (l ++ (x ∷ [])) l ≡ take cap (whole ++ (x ∷ []))
+cut-next {A} cap l whole n x size is =
+    let same = ap length (sym is) ∙ size in
+    test-cases (λ t. ltb n cap ≡ t → cond t (l ++ (x ∷ [])) l ≡ take cap (whole ++ (x ∷ []))) (ltb n cap)
+    (λ _ e.
+    let less = ltb-true n cap e in
+    ap (λ (r : List A). r ++ (x ∷ [])) is ∙ sym (cut-more cap whole x (omega arith)))
+    (λ _ e. let full = ltb-false n cap e in is ∙ sym (cut-full cap whole x (omega arith))) refl
 
 -- a list that is cut and not full is whole
 pub cut-whole : {A : Type 0} (cap : ℕ) (l : List A) → length (take cap l) < cap → take cap l ≡ l

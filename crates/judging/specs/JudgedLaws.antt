@@ -18,19 +18,18 @@ use Rattle.language.specs.Keywords as Keywords
 use Rattle.language.specs.Keywords.{kindNumber, sameKind, END}
 use Rattle.language.specs.Reading.{label, routine, number, string, samePurpose, Naming, Met}
 use Rattle.met.specs.Entries.{Entry, nameOf, nameFrom, gather, declaredBy, usedBy, rolesBy, metIn}
+use Rattle.met.specs.From.{length-from}
 use Rattle.met.specs.Holding.{Arrays, Holds, namesFrom, namesIn, usesIn}
-use Rattle.met.specs.Known.{stringKeys, numberKeys, labelsIn, routinesIn}
+use Rattle.met.specs.Known.{stringKeys, numberKeys, labelIn, labelsIn, routinesIn}
 use Rattle.met.specs.KnownLaws.{name-same, length-routines}
 use Rattle.met.specs.declared.Cursor.{Cursor}
-use Rattle.naming.specs.Arrays.{entriesFrom, arrays}
+use Rattle.naming.specs.Arrays.{entryIn, entriesFrom, arrays}
 use Rattle.naming.specs.Declaring.{declaredIn, undeclaredIn}
-use Rattle.naming.specs.JudgedLaws.{length-entries}
 use Rattle.naming.specs.Judged.{namesOf, namesNumber, NamesJudged}
 use Rattle.naming.specs.declared.Verdict.{Verdict}
-use Rattle.judging.specs.Cells.{cells, cells-part, length-cells, cut-whole}
+use Rattle.judging.specs.Cells.{cellIn, cells, cells-part, cut-whole}
 use Rattle.judging.specs.Counts.{stepsBehind, endedBehind, isOver}
 use Rattle.judging.specs.Judged.{Tallied}
-use Rattle.judging.specs.LabelLaws.{length-labels}
 use Rattle.judging.specs.Labels.{labelsBy}
 use Rattle.judging.specs.Learning.{wrongIn, Learnt}
 use Rattle.judging.specs.Routines.{routineNames, Opens, routinesBehind, scopeBehind}
@@ -239,15 +238,15 @@ module _ (a : Arrays) (taken : ℕ) (k : Known) (h : Holds a taken k) (kind : Ke
 
   string-count : length (take 33 (Known.strings behind)) ≡ getD known′ 0 0
   string-count =
-      ap length (sym strings-cut) ∙ length-map (cells known′ 2 (getD known′ 0 0)) nameOf ∙ length-cells known′ 2 (getD known′ 0 0)
+      ap length (sym strings-cut) ∙ length-map (cells known′ 2 (getD known′ 0 0)) nameOf ∙ length-from (cellIn known′) 2 (getD known′ 0 0)
 
   number-count : length (take 33 (Known.numbers behind)) ≡ getD known′ 1 0
   number-count =
-      ap length (sym numbers-cut) ∙ length-map (cells known′ 35 (getD known′ 1 0)) nameOf ∙ length-cells known′ 35 (getD known′ 1 0)
+      ap length (sym numbers-cut) ∙ length-map (cells known′ 35 (getD known′ 1 0)) nameOf ∙ length-from (cellIn known′) 35 (getD known′ 1 0)
 
   label-count : length (take 65 (behind .labels)) ≡ getD known′ 68 0
   unfolding labelsIn
-  label-count = ap length (sym labels-cut) ∙ length-labels known′ 0 (getD known′ 68 0)
+  label-count = ap length (sym labels-cut) ∙ length-from (labelIn known′) 0 (getD known′ 68 0)
 
   routine-count : getD known′ 69 0 ≡ length (behind .routines)
   unfolding routinesIn
@@ -305,7 +304,7 @@ module _ (a : Arrays) (taken : ℕ) (k : Known) (h : Holds a taken k) (kind : Ke
         useScopesSize = l .used .scopesSize;
         usePurposesSize = l .used .purposesSize;
         fewNames = omega (arith, l .names, names .few, h .fewNames);
-        fewUses = omega (arith, l .used .few, h .fewUses, length-entries keys tags 0 (c .names));
+        fewUses = omega (arith, l .used .few, h .fewUses, length-from (entryIn keys tags) 0 (c .names));
         fewStatements = statements;
         fewSteps = omega (arith, l .steps, l .statements, steps-few (getD (a .known) 72 0) (kindNumber kind), h .fewSteps);
         fewStrings = strings;

@@ -2,18 +2,19 @@
 use mathlib.Core.Bool.{Bool, true, false, cond, not, _||_, Bool·beq, or-true}
 use mathlib.Core.List.{List, map}
 use mathlib.Core.Path.{_≡_, refl, sym, _∙_, ap, subst}
-use Prim.Native.Nat.{ℕ, _-_}
+use Prim.Native.Nat.{ℕ, _+_, _-_, _≤_}
 use native.Mathlib.Omega.{arith}
 use lib.Dec.{eqb}
-use lib.ListN.{length, take, getD, length-map}
+use lib.ListN.{length, take, drop, getD, length-map}
 use lib.Seq.{take-all}
 use borrow.Author.Tests.{eq-eqb, ne-eqb}
 use Rattle.judgement.specs.Known as Known
 use Rattle.judgement.specs.Known.{Known, namesFor}
 use Rattle.judgement.specs.Refusals.{metNumber}
 use Rattle.language.specs.Keywords.{kindNumber}
-use Rattle.language.specs.Reading.{number, string}
+use Rattle.language.specs.Reading.{Purpose, number, string}
 use Rattle.met.specs.Entries.{Entry, nameOf, metIn}
+use Rattle.met.specs.From.{length-from}
 use Rattle.met.specs.Holding.{Arrays, Holds, namesFrom, namesIn}
 use Rattle.met.specs.Known.{stringKeys, numberKeys}
 use Rattle.met.specs.declared.Cursor.{Cursor}
@@ -23,7 +24,7 @@ use Rattle.naming.specs.Judged.{namesNumber, Named, NamesJudged}
 use Rattle.naming.specs.declared.Verdict.{Verdict}
 use Rattle.words.specs.Kinds.{kindOf}
 use Rattle.words.specs.declared.keywords.Kind.{Kind}
-use Rattle.judging.specs.Cells.{cells, cells-part, length-cells}
+use Rattle.judging.specs.Cells.{cellIn, cells, cells-part}
 use Rattle.judging.specs.Counts.{isOver}
 use Rattle.judging.specs.Judged.{Ready, Tallied, StatementJudged, Misplaced}
 use Rattle.judging.specs.JudgedLaws.{misplaced, number-some, number-nine, number-rest, over-is, learnt-holds}
@@ -98,28 +99,17 @@ module _ (a : Arrays) (keys tags : List ℕ) (c : Cursor) (ready : Ready a keys 
       names-kept (a .nameKeys) (a .namePurposes) nameKeys′ namePurposes′ 0 count (λ j h. names .keysKept j (omega arith))
       (λ j h. names .purposesKept j (omega arith))
 
-  strings-shown : map nameOf (cells known 2 (getD known 0 0)) ≡ take 33 (namesFor string (namesFrom nameKeys′ namePurposes′ 0 count))
-  unfolding knownIn stringKeys Known.strings
-  strings-shown =
-      let part = ap (map nameOf) (cells-part known 2 (getD known 0 0) (omega (arith, ready .held .counted .size, ready .held .counted .strings))) in
-      let is = sym part ∙ ready .held .strings in
-      let size = ap length (sym is) ∙ length-map (cells known 2 (getD known 0 0)) nameOf ∙ length-cells known 2 (getD known 0 0) in
-      is
-      ∙ sym (take-all 33 (namesFor string (namesIn a)) (omega (arith, ready .held .counted .strings)))
-      ∙ ap (λ ns. take 33 (namesFor string ns)) (sym names-same)
-
-  numbers-shown : map nameOf (cells known 35 (getD known 1 0)) ≡ take 33 (namesFor number (namesFrom nameKeys′ namePurposes′ 0 count))
-  unfolding knownIn numberKeys Known.numbers
-  numbers-shown =
-      let part = ap (map nameOf) (cells-part known 35 (getD known 1 0) (omega (arith, ready .held .counted .size, ready .held .counted .numbers))) in
-      let is = sym part ∙ ready .held .numbers in
-      let size = ap length (sym is) ∙ length-map (cells known 35 (getD known 1 0)) nameOf ∙ length-cells known 35 (getD known 1 0) in
-      is
-      ∙ sym (take-all 33 (namesFor number (namesIn a)) (omega (arith, ready .held .counted .numbers)))
-      ∙ ap (λ ns. take 33 (namesFor number ns)) (sym names-same)
+  -- n names of a purpose, by their keys
+  keys-shown : (q : Purpose) (i n : ℕ) → i + n ≤ length known → n ≤ 33 → map nameOf (take n (drop i known)) ≡ namesFor q (namesIn a)
+      → map nameOf (cells known i n) ≡ take 33 (namesFor q (namesFrom nameKeys′ namePurposes′ 0 count))
+  keys-shown q i n inside few held =
+      let is = sym (ap (map nameOf) (cells-part known i n inside)) ∙ held in
+      let size = ap length (sym is) ∙ length-map (cells known i n) nameOf ∙ length-from (cellIn known) i n in
+      is ∙ sym (take-all 33 (namesFor q (namesIn a)) (omega arith)) ∙ ap (λ ns. take 33 (namesFor q ns)) (sym names-same)
 
   -- and can learn the statement
   pub learnable : Learnable known nameKeys′ namePurposes′ (a .useKeys) (a .useScopes) (a .usePurposes) keys tags (c .names) (v .count)
+  unfolding knownIn stringKeys numberKeys Known.strings Known.numbers
   learnable =
       let h = ready .held in
       record {
@@ -130,8 +120,8 @@ module _ (a : Arrays) (keys tags : List ℕ) (c : Cursor) (ready : Ready a keys 
                     size = h .counted .size;
                     fewStrings = h .counted .strings;
                     fewNumbers = h .counted .numbers;
-                    strings = strings-shown;
-                    numbers = numbers-shown;
+                    strings = keys-shown string 2 (getD known 0 0) (omega (arith, h .counted .size, h .counted .strings)) (h .counted .strings) (h .strings);
+                    numbers = keys-shown number 35 (getD known 1 0) (omega (arith, h .counted .size, h .counted .numbers)) (h .counted .numbers) (h .numbers);
                   };
               keysSize = names .keysSize;
               purposesSize = names .purposesSize;

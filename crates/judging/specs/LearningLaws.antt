@@ -7,11 +7,12 @@ use lib.ListN.{length, take, getD}
 use lib.Seq.{sets, length-sets}
 use Rattle.judgement.specs.Known.{Label, Routine}
 use Rattle.met.specs.Entries.{Entry, nameOf}
-use Rattle.met.specs.Known.{labelsFrom, labelsIn, routinesDown, routinesIn}
+use Rattle.met.specs.From.{from-kept}
+use Rattle.met.specs.Known.{labelIn, labelsFrom, labelsIn, routinesDown, routinesIn}
 use Rattle.met.specs.declared.Cursor.{Cursor}
-use Rattle.judging.specs.Cells.{cells, cells-kept, sets-below, sets-above, sets-inside}
+use Rattle.judging.specs.Cells.{cellIn, cells, sets-below, sets-above, sets-inside}
 use Rattle.judging.specs.Counts.{stepsBehind, countsBehind, counted}
-use Rattle.judging.specs.LabelLaws.{labels-kept, label-kept}
+use Rattle.judging.specs.LabelLaws.{label-kept}
 use Rattle.judging.specs.Labels.{labelsBy, Labelled}
 use Rattle.judging.specs.Learning.{Learnt}
 use Rattle.judging.specs.Listing.{Shows, Listed}
@@ -21,16 +22,16 @@ use Rattle.judging.specs.Uses.{Used}
 use Rattle.judging.specs.declared.routines.Opened.{Opened}
 
 -- labels and routines are kept where their numbers are
-labels-same : (l m : List ℕ) → getD l 68 0 ≤ 65 → getD m 68 0 ≡ getD l 68 0
+pub labels-same : (l m : List ℕ) → getD l 68 0 ≤ 65 → getD m 68 0 ≡ getD l 68 0
     → ((j : ℕ) → 80 ≤ j → j < 275 → getD m j 0 ≡ getD l j 0) → labelsIn m ≡ labelsIn l
 unfolding labelsIn
 labels-same l m few count f =
     ap (labelsFrom m 0) count
-    ∙ labels-kept l m 0 (getD l 68 0)
-    (λ j h.
+    ∙ from-kept (labelIn l) (labelIn m) 0 (getD l 68 0)
+    (λ j _ h.
     label-kept l m j (f (80 + j) (omega arith) (omega arith)) (f (145 + j) (omega arith) (omega arith)) (f (210 + j) (omega arith) (omega arith)))
 
-routines-same : (l m : List ℕ) → getD m 69 0 ≡ getD l 69 0 → ((j : ℕ) → 275 ≤ j → getD m j 0 ≡ getD l j 0) → routinesIn m ≡ routinesIn l
+pub routines-same : (l m : List ℕ) → getD m 69 0 ≡ getD l 69 0 → ((j : ℕ) → 275 ≤ j → getD m j 0 ≡ getD l j 0) → routinesIn m ≡ routinesIn l
 unfolding routinesIn
 routines-same l m count f =
     ap (routinesDown m) count
@@ -47,9 +48,9 @@ shows-same l m keys purposes i size f s =
       fewStrings = omega (arith, s .fewStrings);
       fewNumbers = omega (arith, s .fewNumbers);
       strings =
-          ap (map nameOf) (ap (cells m 2) zeroth ∙ cells-kept l m 2 (getD l 0 0) (λ j h g. f j (omega (arith, s .fewStrings)))) ∙ s .strings;
+          ap (map nameOf) (ap (cells m 2) zeroth ∙ from-kept (cellIn l) (cellIn m) 2 (getD l 0 0) (λ j h g. f j (omega (arith, s .fewStrings)))) ∙ s .strings;
       numbers =
-          ap (map nameOf) (ap (cells m 35) first ∙ cells-kept l m 35 (getD l 1 0) (λ j h g. f j (omega (arith, s .fewNumbers)))) ∙ s .numbers;
+          ap (map nameOf) (ap (cells m 35) first ∙ from-kept (cellIn l) (cellIn m) 35 (getD l 1 0) (λ j h g. f j (omega (arith, s .fewNumbers)))) ∙ s .numbers;
     }
 
 -- names, labels, uses, routines and counts, one after the other

@@ -12,10 +12,10 @@ use Rattle.base.specs.Choice.{test-cases}
 use Rattle.judgement.specs.Known.{namesFor}
 use Rattle.language.specs.Reading.{Purpose, number, string}
 use Rattle.met.specs.Entries.{nameOf}
+use Rattle.met.specs.From.{length-from, from-more, from-last, from-kept}
 use Rattle.met.specs.Holding.{namingIn, namesFrom}
-use Rattle.naming.specs.ArrayLaws.{names-last}
 use Rattle.naming.specs.Names.{keyNaming}
-use Rattle.judging.specs.Cells.{cells, cells-kept, cells-more, length-cells, cut-more, cut-full}
+use Rattle.judging.specs.Cells.{cellIn, cells, cut-next}
 use Rattle.judging.specs.Listing.{pushed, listed, Shows, Listed}
 use Rattle.judging.specs.NamesFor.{names-append, number-one, string-one}
 
@@ -43,13 +43,13 @@ module _ (known : List ℕ) (countAt from key : ℕ) (size : length known ≡ 32
       getD-set-other k₁ countAt (from + n) (n + 1) 0 (λ e. omega arith) ∙ getD-set-same known (from + n) key 0 (omega arith)
       in
       let kept =
-      cells-kept known k₂ from n
+      from-kept (cellIn known) (cellIn k₂) from n
       (λ j g f. getD-set-other k₁ countAt j (n + 1) 0 (λ e. omega arith) ∙ getD-set-other known (from + n) j key 0 (λ e. omega arith))
       in
       record {
         size = length-set k₁ countAt (n + 1) ∙ s₁ ∙ size;
         few = omega arith;
-        keys = ap (cells k₂ from) next ∙ cells-more k₂ from n ∙ ap₂ {C = List ℕ} (λ (l : List ℕ) v. l ++ (v ∷ [])) kept here;
+        keys = ap (cells k₂ from) next ∙ from-more (cellIn k₂) from n ∙ ap₂ {C = List ℕ} (λ (l : List ℕ) v. l ++ (v ∷ [])) kept here;
         below = λ j g f.
             getD-set-other k₁ countAt j (n + 1) 0 f ∙ getD-set-other known (from + n) j key 0 (λ e. omega arith);
         above = λ j g.
@@ -68,14 +68,9 @@ module _ (known : List ℕ) (countAt from key : ℕ) (size : length known ≡ 32
 noted-more : (ks : List ℕ) (names : List (List ℕ)) (n key : ℕ) → length ks ≡ n → map nameOf ks ≡ take 33 names
     → map nameOf (cond (ltb n 33) (ks ++ (key ∷ [])) ks) ≡ take 33 (names ++ (nameOf key ∷ []))
 noted-more ks names n key size is =
-    let same = ap length (sym is) ∙ length-map ks nameOf ∙ size in
-    test-cases (λ t. ltb n 33 ≡ t → map nameOf (cond t (ks ++ (key ∷ [])) ks) ≡ take 33 (names ++ (nameOf key ∷ []))) (ltb n 33)
-    (λ _ e.
-    let less = ltb-true n 33 e in
-    map-append nameOf ks (key ∷ [])
-    ∙ ap (λ (l : List (List ℕ)). l ++ (nameOf key ∷ [])) is
-    ∙ sym (cut-more 33 names (nameOf key) (omega arith)))
-    (λ _ e. let full = ltb-false n 33 e in is ∙ sym (cut-full 33 names (nameOf key) (omega arith))) refl
+    test-cases (λ t. map nameOf (cond t (ks ++ (key ∷ [])) ks) ≡ cond t (map nameOf ks ++ (nameOf key ∷ [])) (map nameOf ks)) (ltb n 33)
+    (λ _. map-append nameOf ks (key ∷ [])) (λ _. refl)
+    ∙ cut-next 33 (map nameOf ks) names n (nameOf key) (length-map ks nameOf ∙ size) is
 
 module _ (keys purposes : List ℕ) (i : ℕ) where
   abbrev key : ℕ
@@ -87,9 +82,7 @@ module _ (keys purposes : List ℕ) (i : ℕ) where
   names-next : (q : Purpose) → namesFor q (namesFrom keys purposes 0 (i + 1)) ≡ namesFor q (namesFrom keys purposes 0 i) ++ namesFor q (keyNaming key p ∷ [])
   unfolding namingIn
   names-next q =
-      let next : i + 1 ≡ suc i = omega arith in
-      ap (λ n. namesFor q (namesFrom keys purposes 0 n)) next
-      ∙ ap (namesFor q) (names-last keys purposes i)
+      ap (namesFor q) (from-last (namingIn keys purposes) i)
       ∙ names-append q (namesFrom keys purposes 0 i) (keyNaming key p ∷ [])
 
   numbers-next : namesFor number (namesFrom keys purposes 0 (i + 1)) ≡ namesFor number (namesFrom keys purposes 0 i) ++ cond (eqb p 3) (nameOf key ∷ []) []
@@ -119,14 +112,14 @@ module _ (keys purposes : List ℕ) (i : ℕ) where
                 fewNumbers = r .few;
                 strings =
                     ap (map nameOf) (ap (cells k′ 2) zeroth
-                    ∙ cells-kept known k′ 2 (getD known 0 0) (λ j g f. r .below j (omega (arith, s .fewStrings)) (λ z. omega arith)))
+                    ∙ from-kept (cellIn known) (cellIn k′) 2 (getD known 0 0) (λ j g f. r .below j (omega (arith, s .fewStrings)) (λ z. omega arith)))
                     ∙ s .strings
                     ∙ ap (take 33)
                     (sym (strings-next ∙ ap (λ t. stringsBefore ++ cond t [] (nameOf key ∷ [])) less ∙ append-nil stringsBefore));
                 numbers =
                     ap (map nameOf) (r .keys)
                     ∙ noted-more (cells known 35 (getD known 1 0)) numbersBefore (getD known 1 0) key
-                    (length-cells known 35 (getD known 1 0)) (s .numbers)
+                    (length-from (cellIn known) 35 (getD known 1 0)) (s .numbers)
                     ∙ ap (take 33) (sym (numbers-next ∙ ap (λ t. numbersBefore ++ cond t (nameOf key ∷ []) []) (eq-eqb p 3 e)));
               };
           kept = λ j h. r .above j (omega arith);
@@ -170,11 +163,11 @@ module _ (keys purposes : List ℕ) (i : ℕ) where
                 strings =
                     ap (map nameOf) (r .keys)
                     ∙ noted-more (cells known 2 (getD known 0 0)) stringsBefore (getD known 0 0) key
-                    (length-cells known 2 (getD known 0 0)) (s .strings)
+                    (length-from (cellIn known) 2 (getD known 0 0)) (s .strings)
                     ∙ ap (take 33) (sym (strings-next ∙ ap (λ t. stringsBefore ++ cond t [] (nameOf key ∷ [])) more));
                 numbers =
                     ap (map nameOf) (ap (cells k′ 35) first
-                    ∙ cells-kept known k′ 35 (getD known 1 0) (λ j g f. r .above j (omega arith)))
+                    ∙ from-kept (cellIn known) (cellIn k′) 35 (getD known 1 0) (λ j g f. r .above j (omega arith)))
                     ∙ s .numbers
                     ∙ ap (take 33)
                     (sym (numbers-next ∙ ap (λ t. numbersBefore ++ cond t (nameOf key ∷ []) []) none ∙ append-nil numbersBefore));

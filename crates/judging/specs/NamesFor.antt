@@ -1,6 +1,6 @@
 -- Names of one purpose, by key and number or tag. Assumes nothing.
 use mathlib.Core.Bool.{Bool, true, false, cond}
-use mathlib.Core.List.{List, [], _∷_, _++_, map, map-append}
+use mathlib.Core.List.{List, [], _∷_, _++_, map, map-append, append-nil}
 use mathlib.Core.Path.{_≡_, refl, sym, _∙_, ap}
 use Prim.Native.Nat.{ℕ, zero, suc, _+_, _/_, _%_, _<_}
 use native.Mathlib.Omega.{arith}
@@ -10,8 +10,10 @@ use Rattle.base.specs.Choice.{test-cases}
 use Rattle.base.specs.Lists.{keep}
 use Rattle.judgement.specs.Known.{namesFor}
 use Rattle.language.specs.Reading.{Purpose, label, routine, number, string, purposeNumber, samePurpose, Naming}
-use Rattle.met.specs.Entries.{entry, nameOf, purposeOf, namingOf, isDeclared, declaredBy, usedBy}
-use Rattle.naming.specs.DeclaringLaws.{purpose-string}
+use Rattle.met.specs.Entries.{Entry, entry, nameOf, purposeOf, namingOf, isDeclared, gather, declaredBy, usedBy}
+use Rattle.met.specs.EntryLaws.{gather-append}
+use Rattle.naming.specs.DeclaringLaws.{purpose-string, purpose-is}
+use Rattle.naming.specs.NameLaws.{eqb-sym}
 use Rattle.naming.specs.Names.{keyNaming}
 
 keep-append : (f : Naming → Bool) (xs ys : List Naming) → keep f (xs ++ ys) ≡ keep f xs ++ keep f ys
@@ -39,35 +41,9 @@ names-one p x =
     (samePurpose p (x .purpose)) (λ _. refl) (λ _. refl)
 
 -- which purpose a number is
-label-is : (p : ℕ) → samePurpose label (purposeOf p) ≡ eqb p 1
-unfolding samePurpose purposeNumber purposeOf
-label-is zero = refl
-label-is (suc zero) = refl
-label-is (suc (suc zero)) = refl
-label-is (suc (suc (suc zero))) = refl
-label-is (suc (suc (suc (suc p)))) =
-    let q = suc (suc (suc (suc p))) in
-    ap (samePurpose label) (purpose-string q (omega arith)) ∙ sym (ne-eqb q 1 (λ e. omega arith))
-
-routine-is : (p : ℕ) → samePurpose routine (purposeOf p) ≡ eqb p 2
-unfolding samePurpose purposeNumber purposeOf
-routine-is zero = refl
-routine-is (suc zero) = refl
-routine-is (suc (suc zero)) = refl
-routine-is (suc (suc (suc zero))) = refl
-routine-is (suc (suc (suc (suc p)))) =
-    let q = suc (suc (suc (suc p))) in
-    ap (samePurpose routine) (purpose-string q (omega arith)) ∙ sym (ne-eqb q 2 (λ e. omega arith))
-
-number-is : (p : ℕ) → samePurpose number (purposeOf p) ≡ eqb p 3
-unfolding samePurpose purposeNumber purposeOf
-number-is zero = refl
-number-is (suc zero) = refl
-number-is (suc (suc zero)) = refl
-number-is (suc (suc (suc zero))) = refl
-number-is (suc (suc (suc (suc p)))) =
-    let q = suc (suc (suc (suc p))) in
-    ap (samePurpose number) (purpose-string q (omega arith)) ∙ sym (ne-eqb q 3 (λ e. omega arith))
+is-purpose : (x : Purpose) → purposeNumber x < 4 → (p : ℕ) → samePurpose x (purposeOf p) ≡ eqb p (purposeNumber x)
+unfolding samePurpose
+is-purpose x low p = eqb-sym (purposeNumber x) (purposeNumber (purposeOf p)) ∙ purpose-is p x low
 
 string-is : (p : ℕ) (a b : List (List ℕ)) → cond (samePurpose string (purposeOf p)) a b ≡ cond (ltb p 4) b a
 unfolding samePurpose purposeNumber purposeOf
@@ -81,13 +57,17 @@ string-is (suc (suc (suc (suc p)))) a b =
 
 -- a name behind others, by its number
 pub number-one : (key p : ℕ) → namesFor number (keyNaming key p ∷ []) ≡ cond (eqb p 3) (nameOf key ∷ []) []
-number-one key p = names-one number (keyNaming key p) ∙ ap (λ t. cond t (nameOf key ∷ []) []) (number-is p)
+unfolding purposeNumber
+number-one key p = names-one number (keyNaming key p) ∙ ap (λ t. cond t (nameOf key ∷ []) []) (is-purpose number (omega arith) p)
 
 pub string-one : (key p : ℕ) → namesFor string (keyNaming key p ∷ []) ≡ cond (ltb p 4) [] (nameOf key ∷ [])
 string-one key p = names-one string (keyNaming key p) ∙ string-is p (nameOf key ∷ []) []
 
 -- an entry, by its tag: q is the purpose's number, of a label or routine
-module _ (p : Purpose) (q : ℕ) (is : (n : ℕ) → samePurpose p (purposeOf n) ≡ eqb n q) (small : q < 8) (key tag : ℕ) where
+module _ (p : Purpose) (low : purposeNumber p < 4) (key tag : ℕ) where
+  abbrev q : ℕ
+  q = purposeNumber p
+
   abbrev one : List (List ℕ)
   one = nameOf key ∷ []
 
@@ -99,7 +79,7 @@ module _ (p : Purpose) (q : ℕ) (is : (n : ℕ) → samePurpose p (purposeOf n)
       (λ _ d.
       let odd = eqb-true (tag / 8 % 2) 1 d in
       names-one p (keyNaming key (tag % 8))
-      ∙ ap (λ t. cond t one []) (is (tag % 8)
+      ∙ ap (λ t. cond t one []) (is-purpose p low (tag % 8)
       ∙ test-cases (λ t. eqb (tag % 8) q ≡ t → t ≡ eqb (tag % 16) (8 + q)) (eqb (tag % 8) q)
       (λ _ e. let low = eqb-true (tag % 8) q e in sym (eq-eqb (tag % 16) (8 + q) (omega arith)))
       (λ _ e. let low = eqb-false (tag % 8) q e in sym (ne-eqb (tag % 16) (8 + q) (λ z. low (omega arith)))) refl))
@@ -117,19 +97,41 @@ module _ (p : Purpose) (q : ℕ) (is : (n : ℕ) → samePurpose p (purposeOf n)
       let even = eqb-false (tag / 8 % 2) 1 d in
       let zeroth : tag / 8 % 2 ≡ 0 = omega arith in
       names-one p (keyNaming key (tag % 8))
-      ∙ ap (λ t. cond t one []) (is (tag % 8)
+      ∙ ap (λ t. cond t one []) (is-purpose p low (tag % 8)
       ∙ test-cases (λ t. eqb (tag % 8) q ≡ t → t ≡ eqb (tag % 16) q) (eqb (tag % 8) q)
       (λ _ e. let low = eqb-true (tag % 8) q e in sym (eq-eqb (tag % 16) q (omega arith)))
       (λ _ e. let low = eqb-false (tag % 8) q e in sym (ne-eqb (tag % 16) q (λ z. low (omega arith)))) refl)) refl
 
 pub declared-label : (key tag : ℕ) → namesFor label (declaredBy (entry key tag)) ≡ cond (eqb (tag % 16) 9) (nameOf key ∷ []) []
-declared-label = declared-tag label 1 label-is (omega arith)
+unfolding purposeNumber
+declared-label = declared-tag label (omega arith)
 
 pub declared-routine : (key tag : ℕ) → namesFor routine (declaredBy (entry key tag)) ≡ cond (eqb (tag % 16) 10) (nameOf key ∷ []) []
-declared-routine = declared-tag routine 2 routine-is (omega arith)
+unfolding purposeNumber
+declared-routine = declared-tag routine (omega arith)
 
 pub used-label : (key tag : ℕ) → namesFor label (usedBy (entry key tag)) ≡ cond (eqb (tag % 16) 1) (nameOf key ∷ []) []
-used-label = used-tag label 1 label-is (omega arith)
+unfolding purposeNumber
+used-label = used-tag label (omega arith)
 
 pub used-routine : (key tag : ℕ) → namesFor routine (usedBy (entry key tag)) ≡ cond (eqb (tag % 16) 2) (nameOf key ∷ []) []
-used-routine = used-tag routine 2 routine-is (omega arith)
+unfolding purposeNumber
+used-routine = used-tag routine (omega arith)
+
+-- what is made of the names that entries declare or use, with one entry more
+module _ {B : Type 0} (make : List ℕ → B) (g : Entry → List Naming) (p : Purpose) (q : ℕ)
+    (is : (key tag : ℕ) → namesFor p (g (entry key tag)) ≡ cond (eqb (tag % 16) q) (nameOf key ∷ []) []) where
+  abbrev made : List Entry → List B
+  made es = map make (namesFor p (gather g es))
+
+  pub made-next : (es : List Entry) (key tag : ℕ)
+      → made (es ++ (entry key tag ∷ [])) ≡ made es ++ cond (eqb (tag % 16) q) (make (nameOf key) ∷ []) []
+  unfolding gather
+  made-next es key tag =
+      let x = entry key tag in
+      ap (λ ns. map make (namesFor p ns)) (gather-append g es (x ∷ []) ∙ ap (λ l. gather g es ++ l) (append-nil (g x)))
+      ∙ ap (map make) (names-append p (gather g es) (g x))
+      ∙ map-append make (namesFor p (gather g es)) (namesFor p (g x))
+      ∙ ap (λ l. made es ++ map make l) (is key tag)
+      ∙ ap (λ l. made es ++ l)
+      (test-cases (λ t. map make (cond t (nameOf key ∷ []) []) ≡ cond t (make (nameOf key) ∷ []) []) (eqb (tag % 16) q) (λ _. refl) (λ _. refl))

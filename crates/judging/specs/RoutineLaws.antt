@@ -13,9 +13,9 @@ use Rattle.base.specs.Lists.{keep}
 use Rattle.judgement.specs.Known.{Routine, namesFor, closed}
 use Rattle.language.specs.Reading.{routine}
 use Rattle.met.specs.Entries.{entry, nameOf, gather, declaredBy}
+use Rattle.met.specs.From.{from-turn, from-none}
 use Rattle.met.specs.Known.{routineIn, routinesDown, routinesIn}
-use Rattle.naming.specs.ArrayLaws.{entries-turn, entries-none}
-use Rattle.naming.specs.Arrays.{entriesFrom, entriesLeft}
+use Rattle.naming.specs.Arrays.{entryIn, entriesFrom, entriesLeft}
 use Rattle.judging.specs.Cells.{four}
 use Rattle.judging.specs.NamesFor.{names-append, declared-routine}
 use Rattle.judging.specs.Routines.{routineNames, Opens, opening, closing, routinesBehind, scopeBehind, Routed}
@@ -137,7 +137,7 @@ module _ (keys tags : List ℕ) (met : ℕ) where
   routine-turn i h =
       let x = entry (getD keys i 0) (getD tags i 0) in
       let behind = gather declaredBy (entriesLeft keys tags met (i + 1)) in
-      ap routineNames (entries-turn keys tags met i h)
+      ap routineNames (from-turn (entryIn keys tags) met i h)
       ∙ names-append routine (declaredBy x) behind
       ∙ ap (λ (l : List (List ℕ)). l ++ namesFor routine behind) (declared-routine (getD keys i 0) (getD tags i 0))
 
@@ -151,7 +151,7 @@ module _ (keys tags : List ℕ) (met : ℕ) where
 
   pub routine-none : (i : ℕ) → met ≤ i → routinesLeft i ≡ []
   unfolding routineNames gather namesFor keep
-  routine-none i h = ap routineNames (entries-none keys tags met i h)
+  routine-none i h = ap routineNames (from-none (entryIn keys tags) met i h)
 
   pub routine-whole : routinesLeft 0 ≡ routineNames (entriesFrom keys tags 0 met)
   routine-whole = let all : met - 0 ≡ met = omega arith in ap (λ m. routineNames (entriesFrom keys tags 0 m)) all

@@ -1,6 +1,6 @@
 -- Uses noted one by one. Assumes nothing.
 use mathlib.Core.Bool.{cond}
-use mathlib.Core.List.{List, [], _∷_, _++_, map, map-append, append-nil, append-assoc}
+use mathlib.Core.List.{List, [], _∷_, _++_, append-nil, append-assoc}
 use mathlib.Core.Path.{_≡_, refl, sym, _∙_, ap, ap₂, subst}
 use Prim.Native.Nat.{ℕ, zero, suc, _+_, _%_, _≤_, _<_}
 use native.Mathlib.Nat.{add-zero}
@@ -9,17 +9,15 @@ use lib.Dec.{eqb}
 use lib.ListN.{getD, set, length-set, length-append}
 use lib.Seq.{getD-set-same, getD-set-other}
 use borrow.Author.Tests.{ne-eqb}
-use Rattle.base.specs.Choice.{test-cases}
 use Rattle.base.specs.Lists.{keep}
 use Rattle.judgement.specs.Known.{Use, namesFor}
 use Rattle.language.specs.Reading.{Purpose, label, routine}
 use Rattle.met.specs.Contracts.{namesRoom}
 use Rattle.met.specs.Entries.{Entry, entry, nameOf, gather, usedBy}
-use Rattle.met.specs.EntryLaws.{gather-append}
+use Rattle.met.specs.From.{valuesFrom, from-last}
 use Rattle.met.specs.Holding.{usesFrom}
-use Rattle.naming.specs.ArrayLaws.{entries-last}
-use Rattle.naming.specs.Arrays.{entriesFrom}
-use Rattle.judging.specs.NamesFor.{names-append, used-label, used-routine}
+use Rattle.naming.specs.Arrays.{entryIn, entriesFrom}
+use Rattle.judging.specs.NamesFor.{used-label, used-routine, made-next}
 use Rattle.judging.specs.Uses.{Spacious, useOf, usesBy, UsedOne, Used}
 
 abbrev useAt : (q : ℕ) (keys scopes purposes : List ℕ) → ℕ → List Use
@@ -109,16 +107,8 @@ module _ (keys scopes purposes : List ℕ) (n key scope tag : ℕ) (s : Spacious
 uses-next : (p : Purpose) (q : ℕ) → ((key tag : ℕ) → namesFor p (usedBy (entry key tag)) ≡ cond (eqb (tag % 16) q) (nameOf key ∷ []) [])
     → (scope : List ℕ) (es : List Entry) (key tag : ℕ)
     → usesBy scope p (es ++ (entry key tag ∷ [])) ≡ usesBy scope p es ++ cond (eqb (tag % 16) q) (record { name = nameOf key; scope = scope } ∷ []) []
-unfolding usesBy gather
-uses-next p q is scope es key tag =
-    let make : List ℕ → Use = λ n. record { name = n; scope = scope } in
-    let x = entry key tag in
-    ap (λ ns. map make (namesFor p ns)) (gather-append usedBy es (x ∷ []) ∙ ap (λ l. gather usedBy es ++ l) (append-nil (usedBy x)))
-    ∙ ap (map make) (names-append p (gather usedBy es) (usedBy x))
-    ∙ map-append make (namesFor p (gather usedBy es)) (namesFor p (usedBy x))
-    ∙ ap (λ l. map make (namesFor p (gather usedBy es)) ++ map make l) (is key tag)
-    ∙ ap (λ l. map make (namesFor p (gather usedBy es)) ++ l)
-    (test-cases (λ t. map make (cond t (nameOf key ∷ []) []) ≡ cond t (make (nameOf key) ∷ []) []) (eqb (tag % 16) q) (λ _. refl) (λ _. refl))
+unfolding usesBy
+uses-next p q is scope = made-next (λ n. record { name = n; scope = scope }) usedBy p q is
 
 -- i entries are noted
 pub record Using (keys₀ scopes₀ purposes₀ : List ℕ) (n scope : ℕ) (keys tags : List ℕ) (met : ℕ) (keys′ scopes′ purposes′ : List ℕ) (r i : ℕ)
@@ -129,7 +119,7 @@ pub record Using (keys₀ scopes₀ purposes₀ : List ℕ) (n scope : ℕ) (key
 
 module _ (keys₀ scopes₀ purposes₀ : List ℕ) (n scope : ℕ) (keys tags : List ℕ) (met : ℕ) where
   pub using-none : Spacious keys₀ scopes₀ purposes₀ (n + met) → Using keys₀ scopes₀ purposes₀ n scope keys tags met keys₀ scopes₀ purposes₀ n 0
-  unfolding entriesFrom usesBy gather namesFor keep
+  unfolding valuesFrom usesBy gather namesFor keep
   using-none s =
       record {
         inside = omega arith;
@@ -163,13 +153,11 @@ module _ (keys₀ scopes₀ purposes₀ : List ℕ) (n scope : ℕ) (keys tags :
         let es = entriesFrom keys tags 0 i in
         let key = getD keys i 0 in
         let tag = getD tags i 0 in
-        let next : i + 1 ≡ suc i = omega arith in
-        let more = ap (entriesFrom keys tags 0) next ∙ entries-last keys tags i in
         record {
           inside = omega arith;
           few = omega (arith, u .few, o .few);
           so =
-              subst (λ l. Used keys₀ scopes₀ purposes₀ n scope l keys″ scopes″ purposes″ r′) (sym more)
+              subst (λ l. Used keys₀ scopes₀ purposes₀ n scope l keys″ scopes″ purposes″ r′) (sym (from-last (entryIn keys tags) i))
               (record {
                 keysSize = o .keysSize;
                 scopesSize = o .scopesSize;

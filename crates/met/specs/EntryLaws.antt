@@ -5,8 +5,8 @@ use mathlib.Core.Path.{_≡_, refl, sym, ap, ap₂, _∙_}
 use Prim.Native.Nat.{ℕ, zero, suc, _+_, _*_, _/_, _%_, _≤_}
 use native.Mathlib.Omega.{arith}
 use lib.Dec.{eqb, leb}
-use borrow.Author.Tests.{eqb-true, eqb-false, ne-eqb, leb-true}
-use Rattle.base.specs.Choice.{test-cases}
+use borrow.Author.Tests.{eqb-true, eqb-false, eq-eqb, ne-eqb, leb-true}
+use Rattle.base.specs.Choice.{test-cases, same-truth}
 use Rattle.base.specs.Lists.{all, same}
 use Rattle.base.specs.ListLaws.{same-true, same-refl}
 use Rattle.cards.specs.Bytes.{between}
@@ -111,13 +111,13 @@ unfolding nameOf
 name-key n a = name-from (keyOf n) n a (omega arith)
 
 -- a name is compared by its key
+pub same-by-key : (n : List ℕ) (k : ℕ) → nameOf (keyOf n) ≡ n → same n (nameOf k) ≡ eqb (keyOf n) k
+same-by-key n k is =
+    same-truth (same n (nameOf k)) (eqb (keyOf n) k) (λ e. eq-eqb (keyOf n) k (ap keyOf (same-true n (nameOf k) e) ∙ key-name k))
+    (λ e. ap (λ j. same n (nameOf j)) (sym (eqb-true (keyOf n) k e)) ∙ ap (same n) is ∙ same-refl n)
+
 pub same-key : (n : List ℕ) (k : ℕ) → all isKeyByte n ≡ true → same n (nameOf k) ≡ eqb (keyOf n) k
-same-key n k a =
-    test-cases (λ t. eqb (keyOf n) k ≡ t → same n (nameOf k) ≡ t) (eqb (keyOf n) k)
-    (λ _ e. ap (λ j. same n (nameOf j)) (sym (eqb-true (keyOf n) k e)) ∙ ap (same n) (name-key n a) ∙ same-refl n)
-    (λ _ e.
-    test-cases (λ t. same n (nameOf k) ≡ t → t ≡ false) (same n (nameOf k))
-    (λ _ f. absurd (eqb-false (keyOf n) k e (ap keyOf (same-true n (nameOf k) f) ∙ key-name k))) (λ _ _. refl) refl) refl
+same-key n k a = same-by-key n k (name-key n a)
 
 -- so is it found among others
 pub place-name : (n : List ℕ) (ks : List ℕ) → all isKeyByte n ≡ true → indexOf n (map nameOf ks) ≡ keyPlace (keyOf n) ks

@@ -14,6 +14,7 @@ use Rattle.judgement.specs.Refusals.{hasOther}
 use Rattle.language.specs.Reading.{Naming}
 use Rattle.met.specs.Contracts.{namesRoom}
 use Rattle.met.specs.Entries.{nameOf, purposeOf}
+use Rattle.met.specs.From.{valuesFrom}
 use Rattle.met.specs.Known.{Counted, stringKeys, numberKeys, labelsIn, routinesIn, statementsAt, stepsAt, endedAt, scopeAt}
 use Rattle.met.specs.Known.{elementsAt, itemsAt, literalsAt, namesAt, usesAt, labelCountAt, routineCountAt}
 
@@ -30,9 +31,8 @@ pub record Arrays : Type 0 where
 unfoldable pub namingIn : (keys purposes : List ℕ) → ℕ → Naming
 namingIn keys purposes i = record { purpose = purposeOf (getD purposes i 0); name = nameOf (getD keys i 0) }
 
-unfoldable pub namesFrom : (keys purposes : List ℕ) → (i n : ℕ) → List Naming
-namesFrom keys purposes i zero = []
-namesFrom keys purposes i (suc n) = namingIn keys purposes i ∷ namesFrom keys purposes (suc i) n
+abbrev pub namesFrom : (keys purposes : List ℕ) → (i n : ℕ) → List Naming
+namesFrom keys purposes = valuesFrom (namingIn keys purposes)
 
 unfoldable pub namesIn : Arrays → List Naming
 namesIn a = namesFrom (a .nameKeys) (a .namePurposes) 0 (getD (a .known) namesAt 0)

@@ -10,6 +10,7 @@ use Rattle.judgement.specs.Deck.{indexOf, stepOf, routineNamed}
 use Rattle.judgement.specs.Known.{Label, Routine}
 use Rattle.language.specs.Words.{Places}
 use Rattle.met.specs.Entries.{nameOf}
+use Rattle.met.specs.From.{valuesFrom}
 
 -- one more of each than 10 allows, so that it can be found
 abbrev pub most : ℕ
@@ -121,9 +122,8 @@ labelIn known i =
       scope = nameOf (getD known (labelScopesAt + i) 0);
     }
 
-unfoldable pub labelsFrom : List ℕ → (i n : ℕ) → List Label
-labelsFrom known i zero = []
-labelsFrom known i (suc n) = labelIn known i ∷ labelsFrom known (suc i) n
+abbrev pub labelsFrom : List ℕ → (i n : ℕ) → List Label
+labelsFrom known = valuesFrom (labelIn known)
 
 unfoldable pub labelsIn : List ℕ → List Label
 labelsIn known = labelsFrom known 0 (getD known labelCountAt 0)

@@ -4,39 +4,26 @@ use mathlib.Core.List.{List, [], _∷_, map, map-append}
 use mathlib.Core.Path.{_≡_, refl, sym, ap, ap₂, _∙_}
 use Prim.Native.Nat.{ℕ, zero, suc, _+_, _≤_, _<_}
 use native.Mathlib.Omega.{arith}
-use lib.Dec.{eqb, ltb}
+use lib.Dec.{eqb, ltb, leb·suc-suc}
 use lib.ListN.{length, take, drop, getD, length-drop}
 use lib.Seq.{length-take-le, take-suc, getD-drop}
-use borrow.Author.Tests.{eqb-true, eqb-false, ltb-true, ltb-false, lt-ltb, le-ltb}
+use borrow.Author.Tests.{lt-ltb}
 use Rattle.base.specs.Choice.{test-cases}
 use Rattle.base.specs.Lists.{same, any}
-use Rattle.base.specs.ListLaws.{same-true, same-refl}
 use Rattle.judgement.specs.Known.{Routine, isOneOf}
 use Rattle.judgement.specs.Names.{any-append}
-use Rattle.packer.specs.Keys.{keyOf}
 use Rattle.met.specs.Entries.{nameOf}
-use Rattle.met.specs.EntryLaws.{key-name}
+use Rattle.met.specs.EntryLaws.{key-name, same-by-key}
 use Rattle.met.specs.Known.{keyPlace, keysHave, routineIn, routinesDown}
 
 -- names are the same exactly where their keys are
 pub name-same : (j k : ℕ) → same (nameOf j) (nameOf k) ≡ eqb j k
-name-same j k =
-    test-cases (λ t. eqb j k ≡ t → same (nameOf j) (nameOf k) ≡ t) (eqb j k)
-    (λ _ e. ap (λ i. same (nameOf j) (nameOf i)) (sym (eqb-true j k e)) ∙ same-refl (nameOf j))
-    (λ _ e.
-    test-cases (λ t. same (nameOf j) (nameOf k) ≡ t → t ≡ false) (same (nameOf j) (nameOf k))
-    (λ _ f. absurd (eqb-false j k e (sym (key-name j) ∙ ap keyOf (same-true (nameOf j) (nameOf k) f) ∙ key-name k))) (λ _ _. refl) refl)
-    refl
+name-same j k = same-by-key (nameOf j) k (ap nameOf (key-name j)) ∙ ap (λ i. eqb i k) (key-name j)
 
 pub length-routines : (known : List ℕ) (n : ℕ) → length (routinesDown known n) ≡ n
 unfolding routinesDown
 length-routines known zero = refl
 length-routines known (suc n) = ap suc (length-routines known n)
-
-pub ltb-suc : (a b : ℕ) → ltb (suc a) (suc b) ≡ ltb a b
-ltb-suc a b =
-    test-cases (λ t. ltb a b ≡ t → ltb (suc a) (suc b) ≡ t) (ltb a b) (λ _ e. lt-ltb (suc a) (suc b) (omega (arith, ltb-true a b e)))
-    (λ _ e. le-ltb (suc a) (suc b) (omega (arith, ltb-false a b e))) refl
 
 -- a key is among others where its place is
 place-among : (key : ℕ) (ks : List ℕ) → ltb (keyPlace key ks) (length ks) ≡ isOneOf (map nameOf ks) (nameOf key)
@@ -46,7 +33,7 @@ place-among key (k ∷ ks) =
     test-cases
     (λ t. eqb key k ≡ t → ltb (elim t [ true ↦ 0 | false ↦ suc (keyPlace key ks) ]) (suc (length ks)) ≡ (t || isOneOf (map nameOf ks) (nameOf key)))
     (eqb key k) (λ _ _. lt-ltb 0 (suc (length ks)) (omega arith))
-    (λ _ _. ltb-suc (keyPlace key ks) (length ks) ∙ place-among key ks) refl
+    (λ _ _. leb·suc-suc (suc (keyPlace key ks)) (length ks) ∙ place-among key ks) refl
     ∙ ap (λ t. t || isOneOf (map nameOf ks) (nameOf key)) (sym (name-same key k))
 
 module _ (known : List ℕ) (key : ℕ) where

@@ -1,10 +1,11 @@
 -- What the arrays show: all that is known, and the names met by a statement. Assumes nothing.
-use mathlib.Core.List.{List, [], _∷_}
-use Prim.Native.Nat.{ℕ, zero, suc, _-_}
+use mathlib.Core.List.{List}
+use Prim.Native.Nat.{ℕ, _-_}
 use lib.Dec.{eqb}
 use lib.ListN.{getD}
 use Rattle.judgement.specs.Known.{Known}
 use Rattle.met.specs.Entries.{Entry, entry, nameOf}
+use Rattle.met.specs.From.{valuesFrom}
 use Rattle.met.specs.Holding.{Arrays, namesIn, usesIn}
 use Rattle.met.specs.Known.{labelsIn, routinesIn, statementsAt, stepsAt, endedAt, scopeAt, elementsAt, itemsAt, literalsAt}
 
@@ -38,10 +39,12 @@ knownIn a =
       literals = getD (a .known) literalsAt 0;
     }
 
--- n names met from place i on
-unfoldable pub entriesFrom : (keys tags : List ℕ) → (i n : ℕ) → List Entry
-entriesFrom keys tags i zero = []
-entriesFrom keys tags i (suc n) = entry (getD keys i 0) (getD tags i 0) ∷ entriesFrom keys tags (suc i) n
+-- name i met, and n names met from place i on
+abbrev pub entryIn : (keys tags : List ℕ) → ℕ → Entry
+entryIn keys tags i = entry (getD keys i 0) (getD tags i 0)
+
+abbrev pub entriesFrom : (keys tags : List ℕ) → (i n : ℕ) → List Entry
+entriesFrom keys tags = valuesFrom (entryIn keys tags)
 
 -- the names met from place i on, of so many
 abbrev pub entriesLeft : (keys tags : List ℕ) → (met i : ℕ) → List Entry

@@ -4,13 +4,13 @@ use mathlib.Core.List.{List, [], _∷_}
 use mathlib.Core.Path.{_≡_, refl, sym, _∙_, ap, ap₂}
 use Prim.Native.Nat.{ℕ, zero, suc, _+_, _/_, _%_, _≤_, _<_}
 use native.Mathlib.Omega.{arith}
-use lib.Dec.{eqb}
+use lib.Dec.{eqb, ltb}
 use lib.ListN.{getD}
-use borrow.Author.Tests.{eq-eqb, ne-eqb}
+use borrow.Author.Tests.{ltb-true, ltb-false, eq-eqb, ne-eqb}
 use Rattle.base.specs.Choice.{test-cases}
 use Rattle.base.specs.Lists.{same, any}
 use Rattle.judgement.specs.Known.{sameNaming}
-use Rattle.language.specs.Reading.{label, routine, number, string, purposeNumber, samePurpose, Naming}
+use Rattle.language.specs.Reading.{Purpose, label, routine, number, string, purposeNumber, samePurpose, Naming}
 use Rattle.met.specs.Entries.{entry, nameOf, purposeOf, namingOf, isDeclared, gather, declaredBy, usedBy}
 use Rattle.met.specs.Known.{Counted, labelsIn, routinesIn, numberKeys, keysHave}
 use Rattle.met.specs.KnownLaws.{name-same, routines-have, keys-have}
@@ -38,35 +38,15 @@ unfolding purposeNumber
 purpose-high p h = sym (ap purposeNumber (purpose-string p h))
 
 -- which purpose a number is
-purpose-label : (p : ℕ) → samePurpose (purposeOf p) label ≡ eqb p 1
-unfolding samePurpose purposeNumber purposeOf
-purpose-label zero = refl
-purpose-label (suc zero) = refl
-purpose-label (suc (suc zero)) = refl
-purpose-label (suc (suc (suc zero))) = refl
-purpose-label (suc (suc (suc (suc p)))) =
-    let q = suc (suc (suc (suc p))) in
-    ap (λ x. samePurpose x label) (purpose-string q (omega arith)) ∙ sym (ne-eqb q 1 (λ e. omega arith))
-
-purpose-routine : (p : ℕ) → samePurpose (purposeOf p) routine ≡ eqb p 2
-unfolding samePurpose purposeNumber purposeOf
-purpose-routine zero = refl
-purpose-routine (suc zero) = refl
-purpose-routine (suc (suc zero)) = refl
-purpose-routine (suc (suc (suc zero))) = refl
-purpose-routine (suc (suc (suc (suc p)))) =
-    let q = suc (suc (suc (suc p))) in
-    ap (λ x. samePurpose x routine) (purpose-string q (omega arith)) ∙ sym (ne-eqb q 2 (λ e. omega arith))
-
-purpose-number : (p : ℕ) → samePurpose (purposeOf p) number ≡ eqb p 3
-unfolding samePurpose purposeNumber purposeOf
-purpose-number zero = refl
-purpose-number (suc zero) = refl
-purpose-number (suc (suc zero)) = refl
-purpose-number (suc (suc (suc zero))) = refl
-purpose-number (suc (suc (suc (suc p)))) =
-    let q = suc (suc (suc (suc p))) in
-    ap (λ x. samePurpose x number) (purpose-string q (omega arith)) ∙ sym (ne-eqb q 3 (λ e. omega arith))
+pub purpose-is : (p : ℕ) (x : Purpose) → purposeNumber x < 4 → samePurpose (purposeOf p) x ≡ eqb p (purposeNumber x)
+unfolding samePurpose
+purpose-is p x low =
+    let q = purposeNumber x in
+    test-cases (λ t. ltb p 4 ≡ t → eqb (purposeNumber (purposeOf p)) q ≡ eqb p q) (ltb p 4)
+    (λ _ e. ap (λ n. eqb n q) (sym (purpose-low p (ltb-true p 4 e))))
+    (λ _ e.
+    let high = ltb-false p 4 e in
+    ap (λ n. eqb n q) (sym (purpose-high p high)) ∙ ne-eqb 4 q (λ f. omega arith) ∙ sym (ne-eqb p q (λ f. omega arith))) refl
 
 -- an entry declares a name
 module _ (key p k tag : ℕ) where
@@ -100,12 +80,12 @@ module _ (known : List ℕ) (counted : Counted known) (key p : ℕ) where
   declared-is : declaredIn known (keyNaming key p)
       ≡ ((eqb p 1 && keysHave known 80 (getD known 68 0) key)
       || ((eqb p 2 && keysHave known 275 (getD known 69 0) key) || (eqb p 3 && keysHave known 35 (getD known 1 0) key)))
-  unfolding declaredIn labelsIn routinesIn numberKeys
+  unfolding declaredIn labelsIn routinesIn numberKeys purposeNumber
   declared-is =
       ap₂ {C = Bool} _||_
-      (ap₂ {C = Bool} _&&_ (purpose-label p) (labels-have known key (getD known 68 0)))
-      (ap₂ {C = Bool} _||_ (ap₂ {C = Bool} _&&_ (purpose-routine p) (routines-have known key (getD known 69 0)))
-      (ap₂ {C = Bool} _&&_ (purpose-number p) (keys-have known key 35 (getD known 1 0) (omega (arith, counted .size, counted .numbers)))))
+      (ap₂ {C = Bool} _&&_ (purpose-is p label (omega arith)) (labels-have known key (getD known 68 0)))
+      (ap₂ {C = Bool} _||_ (ap₂ {C = Bool} _&&_ (purpose-is p routine (omega arith)) (routines-have known key (getD known 69 0)))
+      (ap₂ {C = Bool} _&&_ (purpose-is p number (omega arith)) (keys-have known key 35 (getD known 1 0) (omega (arith, counted .size, counted .numbers)))))
 
   pub declared-label : p ≡ 1 → keysHave known 80 (getD known 68 0) key ≡ declaredIn known (keyNaming key p)
   declared-label e =
@@ -125,14 +105,14 @@ module _ (known : List ℕ) (counted : Counted known) (key p : ℕ) where
 module _ (known : List ℕ) (counted : Counted known) (key tag : ℕ) where
   lacks-is : any (undeclaredIn known) (usedBy (entry key tag))
       ≡ (not (eqb (tag / 8 % 2) 1) && (eqb (tag % 8) 3 && not (keysHave known 35 (getD known 1 0) key)))
-  unfolding any undeclaredIn usedBy isDeclared namingOf entry numberKeys
+  unfolding any undeclaredIn usedBy isDeclared namingOf entry numberKeys purposeNumber
   lacks-is =
       test-cases
       (λ t. any (undeclaredIn known) (cond t [] (keyNaming key (tag % 8) ∷ [])) ≡ (not t && (eqb (tag % 8) 3 && not (keysHave known 35 (getD known 1 0) key))))
       (eqb (tag / 8 % 2) 1) (λ _. refl)
       (λ _.
       or-false (undeclaredIn known (keyNaming key (tag % 8)))
-      ∙ ap₂ {C = Bool} (λ a b. a && not b) (purpose-number (tag % 8))
+      ∙ ap₂ {C = Bool} (λ a b. a && not b) (purpose-is (tag % 8) number (omega arith))
       (keys-have known key 35 (getD known 1 0) (omega (arith, counted .size, counted .numbers))))
 
   pub lacks-declared : tag / 8 % 2 ≡ 1 → false ≡ any (undeclaredIn known) (usedBy (entry key tag))

@@ -11,8 +11,9 @@ use Rattle.judgement.specs.Known.{Known, nothingKnown, namesFor}
 use Rattle.judgement.specs.Refusals.{hasOther}
 use Rattle.met.specs.Contracts.{namesRoom}
 use Rattle.met.specs.Entries.{Entry, entry, nameOf, nameFrom}
-use Rattle.met.specs.Holding.{Arrays, Holds, namesIn, usesIn, namesFrom, usesFrom}
-use Rattle.met.specs.Known.{stringKeys, numberKeys, labelsIn, routinesIn, labelsFrom, routinesDown, knownSize}
+use Rattle.met.specs.From.{valuesFrom}
+use Rattle.met.specs.Holding.{Arrays, Holds, namesIn, usesIn, usesFrom}
+use Rattle.met.specs.Known.{stringKeys, numberKeys, labelsIn, routinesIn, routinesDown, knownSize}
 use Rattle.naming.specs.Arrays.{knownIn, entriesFrom, arrays}
 
 -- what is held is what is shown
@@ -78,7 +79,7 @@ shown-held a taken more k le h =
 pub nothing-held : (nameKeys namePurposes useKeys useScopes usePurposes : List ℕ) → length nameKeys ≡ namesRoom
     → length namePurposes ≡ namesRoom → length useKeys ≡ namesRoom → length useScopes ≡ namesRoom → length usePurposes ≡ namesRoom
     → Holds (arrays (replicate knownSize 0) nameKeys namePurposes useKeys useScopes usePurposes) 0 nothingKnown
-unfolding nothingKnown namesIn usesIn namesFrom usesFrom stringKeys numberKeys labelsIn routinesIn labelsFrom routinesDown nameOf nameFrom Known.strings Known.numbers namesFor keep any
+unfolding nothingKnown namesIn usesIn valuesFrom usesFrom stringKeys numberKeys labelsIn routinesIn routinesDown nameOf nameFrom Known.strings Known.numbers namesFor keep any
 nothing-held nk np uk us up s1 s2 s3 s4 s5 =
     record {
       counted = record { size = refl; strings = omega arith; numbers = omega arith; labels = omega arith; routines = omega arith };
@@ -117,7 +118,7 @@ nothing-held nk np uk us up s1 s2 s3 s4 s5 =
 
 -- behind a first number of each, places are one less
 entries-behind : (x y : ℕ) (keys tags : List ℕ) (i n : ℕ) → entriesFrom (x ∷ keys) (y ∷ tags) (suc i) n ≡ entriesFrom keys tags i n
-unfolding entriesFrom
+unfolding valuesFrom
 entries-behind x y keys tags i zero = refl
 entries-behind x y keys tags i (suc n) =
     ap (λ (es : List Entry). entry (getD keys i 0) (getD tags i 0) ∷ es) (entries-behind x y keys tags (suc i) n)
@@ -125,7 +126,7 @@ entries-behind x y keys tags i (suc n) =
 -- entries that stand at the beginning of the arrays are those there
 entries-first : (es : List Entry) (behind behind′ : List ℕ)
     → entriesFrom (map (λ x. x .key) es ++ behind) (map (λ x. x .tag) es ++ behind′) 0 (length es) ≡ es
-unfolding entriesFrom entry
+unfolding valuesFrom entry
 entries-first [] behind behind′ = refl
 entries-first (e ∷ es) behind behind′ =
     ap (λ (fs : List Entry). e ∷ fs)

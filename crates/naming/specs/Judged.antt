@@ -1,5 +1,5 @@
 -- What judging the names of a statement does. Assumes nothing.
-use mathlib.Core.Bool.{Bool, false, cond, _||_}
+use mathlib.Core.Bool.{Bool, cond, _||_}
 use mathlib.Core.List.{List, [], _++_}
 use mathlib.Core.Path.{_≡_}
 use Prim.Native.Nat.{ℕ, _+_, _≤_, _<_}
@@ -14,7 +14,7 @@ use Rattle.met.specs.Holding.{namesFrom}
 use Rattle.met.specs.Known.{Counted, namesAt}
 use Rattle.naming.specs.Arrays.{entriesFrom}
 use Rattle.naming.specs.Declaring.{declaredIn, undeclaredIn, again}
-use Rattle.naming.specs.Names.{Sized}
+use Rattle.naming.specs.Names.{Single, Sized}
 use Rattle.naming.specs.declared.Verdict.{Verdict}
 
 -- the names that entries declare, and then those they use
@@ -39,8 +39,7 @@ pub record Named (known nameKeys namePurposes keys tags : List ℕ) (met : ℕ) 
   pub counted : Counted known
   pub names : Sized nameKeys namePurposes (getD known namesAt 0 + met)
   pub entries : Sized keys tags met
-  pub single : any (hasOther (namesFrom nameKeys namePurposes 0 (getD known namesAt 0))) (namesFrom nameKeys namePurposes 0 (getD known namesAt 0))
-      ≡ false
+  pub single : Single (namesFrom nameKeys namePurposes 0 (getD known namesAt 0))
 
 -- the number, and the names known where it is 0
 pub record NamesJudged (known nameKeys namePurposes keys tags : List ℕ) (met : ℕ) (nameKeys′ namePurposes′ : List ℕ) (r : Verdict)
@@ -54,4 +53,4 @@ pub record NamesJudged (known nameKeys namePurposes keys tags : List ℕ) (met :
   pub purposesKept : (i : ℕ) → i < getD known namesAt 0 → getD namePurposes′ i 0 ≡ getD namePurposes i 0
   pub learnt : r .number ≡ 0 → namesFrom nameKeys′ namePurposes′ 0 (r .count)
       ≡ withNames (namesFrom nameKeys namePurposes 0 (getD known namesAt 0)) (namesOf (entriesFrom keys tags 0 met))
-  pub single : r .number ≡ 0 → any (hasOther (namesFrom nameKeys′ namePurposes′ 0 (r .count))) (namesFrom nameKeys′ namePurposes′ 0 (r .count)) ≡ false
+  pub single : r .number ≡ 0 → Single (namesFrom nameKeys′ namePurposes′ 0 (r .count))

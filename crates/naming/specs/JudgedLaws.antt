@@ -2,7 +2,7 @@
 use mathlib.Core.Bool.{Bool, true, false, cond, _||_}
 use mathlib.Core.List.{List, [], _∷_, _++_}
 use mathlib.Core.Path.{_≡_, refl, sym, _∙_, ap, ap₂, subst}
-use Prim.Native.Nat.{ℕ, zero, suc, _+_, _/_, _%_}
+use Prim.Native.Nat.{ℕ, suc, _+_, _/_, _%_}
 use native.Mathlib.Omega.{arith}
 use lib.Dec.{eqb}
 use lib.ListN.{length, getD, length-append}
@@ -13,9 +13,10 @@ use Rattle.judgement.specs.Known.{sameNaming}
 use Rattle.judgement.specs.Refusals.{hasOther, hasTwice, clashes}
 use Rattle.language.specs.Reading.{Naming}
 use Rattle.met.specs.Entries.{Entry, namingOf, isDeclared, gather, declaredBy, usedBy, rolesBy}
+use Rattle.met.specs.From.{length-from}
 use Rattle.met.specs.Holding.{namesFrom}
 use Rattle.met.specs.Known.{namesAt}
-use Rattle.naming.specs.Arrays.{entriesFrom}
+use Rattle.naming.specs.Arrays.{entryIn, entriesFrom}
 use Rattle.naming.specs.Declaring.{declaredIn, undeclaredIn, again}
 use Rattle.naming.specs.Judged.{namesOf, namesNumber, firstNumber, Named, NamesJudged}
 use Rattle.naming.specs.MeetLaws.{meets-then}
@@ -53,11 +54,6 @@ chosen-size (e ∷ es) =
     (λ t. length (cond t (namingOf e ∷ []) [] ++ d) + length (cond t [] (namingOf e ∷ []) ++ u) ≡ suc (length es)) (isDeclared e)
     (λ _. omega arith) (λ _. omega arith)
 
-pub length-entries : (keys tags : List ℕ) (i n : ℕ) → length (entriesFrom keys tags i n) ≡ n
-unfolding entriesFrom
-length-entries keys tags i zero = refl
-length-entries keys tags i (suc n) = ap suc (length-entries keys tags (suc i) n)
-
 -- there is room for those declared, and then for those used
 module _ (nameKeys namePurposes keys tags : List ℕ) (count met : ℕ) where
   abbrev entries : List Entry
@@ -67,7 +63,7 @@ module _ (nameKeys namePurposes keys tags : List ℕ) (count met : ℕ) where
   room-first s =
       let size = ap length (chosen-declared entries) in
       let all = chosen-size entries in
-      record { keysSize = s .keysSize; othersSize = s .othersSize; room = omega (arith, s .room, length-entries keys tags 0 met) }
+      record { keysSize = s .keysSize; othersSize = s .othersSize; room = omega (arith, s .room, length-from (entryIn keys tags) 0 met) }
 
   pub room-second : Sized nameKeys namePurposes (count + met) → (nameKeys′ namePurposes′ : List ℕ) (b r : Names) → b .count ≡ count
       → Meets nameKeys namePurposes b (gather (chosenBy 1) entries) nameKeys′ namePurposes′ r
@@ -79,7 +75,7 @@ module _ (nameKeys namePurposes keys tags : List ℕ) (count met : ℕ) where
       record {
         keysSize = m .keysSize;
         othersSize = m .purposesSize;
-        room = omega (arith, s .room, m .few, length-entries keys tags 0 met);
+        room = omega (arith, s .room, m .few, length-from (entryIn keys tags) 0 met);
       }
 
 -- names declared before or twice
@@ -157,7 +153,7 @@ names-judged known nameKeys namePurposes keys tags met nameKeys′ namePurposes�
           clash (again-is (declaredIn known) (gather declaredBy es));
       keysSize = all .keysSize;
       purposesSize = all .purposesSize;
-      few = omega (arith, all .few, size, chosen-size es, length-entries keys tags 0 met);
+      few = omega (arith, all .few, size, chosen-size es, length-from (entryIn keys tags) 0 met);
       more = all .more;
       keysKept = all .keysKept;
       purposesKept = all .purposesKept;

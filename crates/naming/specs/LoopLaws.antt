@@ -13,10 +13,10 @@ use Rattle.judgement.specs.Known.{sameNaming}
 use Rattle.judgement.specs.Names.{any-append}
 use Rattle.language.specs.Reading.{purposeNumber, samePurpose, Naming}
 use Rattle.met.specs.Entries.{Entry, entry, purposeOf, namingOf, isDeclared, gather, declaredBy}
+use Rattle.met.specs.From.{from-turn, from-none}
 use Rattle.met.specs.Holding.{namingIn, namesFrom}
 use Rattle.met.specs.KnownLaws.{name-same}
-use Rattle.naming.specs.ArrayLaws.{names-turn, names-none, entries-turn, entries-none}
-use Rattle.naming.specs.Arrays.{entriesFrom, entriesLeft}
+use Rattle.naming.specs.Arrays.{entryIn, entriesFrom, entriesLeft}
 use Rattle.naming.specs.Declaring.{again, againAt}
 use Rattle.naming.specs.Names.{keyNaming, standing}
 
@@ -32,7 +32,7 @@ module _ (keys purposes : List ℕ) (n key p i : ℕ) where
         (standsFrom keys purposes n key p (i + 1))
     unfolding standing namingIn samePurpose
     standing-turn =
-        ap (λ l. standing l (keyNaming key p)) (names-turn keys purposes n i h)
+        ap (λ l. standing l (keyNaming key p)) (from-turn (namingIn keys purposes) n i h)
         ∙ ap
         (λ b.
         cond b (cond (eqb (purposeNumber (purposeOf p)) (purposeNumber (purposeOf (getD purposes i 0)))) 1 2)
@@ -52,7 +52,7 @@ module _ (keys purposes : List ℕ) (n key p i : ℕ) where
 
   pub standing-end : n ≤ i → standsFrom keys purposes n key p i ≡ 0
   unfolding standing
-  standing-end h = ap (λ l. standing l (keyNaming key p)) (names-none keys purposes n i h)
+  standing-end h = ap (λ l. standing l (keyNaming key p)) (from-none (namingIn keys purposes) n i h)
 
 pub standing-whole : (keys purposes : List ℕ) (n key p : ℕ) → standsFrom keys purposes n key p 0 ≡ standing (namesFrom keys purposes 0 n) (keyNaming key p)
 standing-whole keys purposes n key p =
@@ -67,12 +67,12 @@ module _ {A : Type 0} (f : A → Bool) (g : Entry → List A) (keys tags : List 
   pub any-turn : (i : ℕ) → i < met → anyFrom i ≡ (any f (g (entry (getD keys i 0) (getD tags i 0))) || anyFrom (i + 1))
   unfolding gather
   any-turn i h =
-      ap (λ es. any f (gather g es)) (entries-turn keys tags met i h)
+      ap (λ es. any f (gather g es)) (from-turn (entryIn keys tags) met i h)
       ∙ any-append f (g (entry (getD keys i 0) (getD tags i 0))) (gather g (entriesLeft keys tags met (i + 1)))
 
   pub any-end : (i : ℕ) → met ≤ i → anyFrom i ≡ false
   unfolding gather any
-  any-end i h = ap (λ es. any f (gather g es)) (entries-none keys tags met i h)
+  any-end i h = ap (λ es. any f (gather g es)) (from-none (entryIn keys tags) met i h)
 
   pub any-whole : anyFrom 0 ≡ any f (gather g (entriesFrom keys tags 0 met))
   any-whole = let all : met - 0 ≡ met = omega arith in ap (λ m. any f (gather g (entriesFrom keys tags 0 m))) all
@@ -87,14 +87,14 @@ module _ (f : Naming → Bool) (keys tags : List ℕ) (met : ℕ) where
   again-turn i h =
       let x = entry (getD keys i 0) (getD tags i 0) in
       let behind = gather declaredBy (entriesLeft keys tags met (i + 1)) in
-      ap (λ es. again f (gather declaredBy es)) (entries-turn keys tags met i h)
+      ap (λ es. again f (gather declaredBy es)) (from-turn (entryIn keys tags) met i h)
       ∙ test-cases
       (λ t. again f (cond t (namingOf x ∷ []) [] ++ behind)
       ≡ (cond t (f (namingOf x) || any (sameNaming (namingOf x)) behind) false || again f behind)) (isDeclared x) (λ _. refl) (λ _. refl)
 
   pub again-end : (i : ℕ) → met ≤ i → againFrom i ≡ false
   unfolding gather again
-  again-end i h = ap (λ es. again f (gather declaredBy es)) (entries-none keys tags met i h)
+  again-end i h = ap (λ es. again f (gather declaredBy es)) (from-none (entryIn keys tags) met i h)
 
   pub again-whole : againFrom 0 ≡ again f (gather declaredBy (entriesFrom keys tags 0 met))
   again-whole = let all : met - 0 ≡ met = omega arith in ap (λ m. again f (gather declaredBy (entriesFrom keys tags 0 m))) all

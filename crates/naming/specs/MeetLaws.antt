@@ -1,34 +1,25 @@
 -- Names put behind those known in their arrays, one by one. Assumes nothing.
-use mathlib.Core.Bool.{Bool, true, _||_, or-assoc, or-false, or-true}
+use mathlib.Core.Bool.{Bool, true, false, _||_, or-assoc, or-false, or-true}
 use mathlib.Core.List.{List, [], _∷_, _++_, append-nil}
-use mathlib.Core.Logic.{_⊎_, inl, inr, ⊎-elim}
+use mathlib.Core.Logic.{⊎-elim}
 use mathlib.Core.Path.{_≡_, refl, sym, _∙_, ap, ap₂, subst}
 use Prim.Native.Nat.{ℕ, suc, _+_, _-_, _/_, _%_, _≤_, _<_}
 use native.Mathlib.Omega.{arith}
+use lib.Dec.{eqb}
 use lib.ListN.{length, getD, set, length-set, length-append}
 use lib.Seq.{getD-set-same, getD-set-other}
 use borrow.Author.Tests.{eq-eqb, ne-eqb}
-use Rattle.base.specs.Choice.{cond-cases}
-use Rattle.base.specs.Lists.{same}
-use Rattle.language.specs.Reading.{samePurpose, Naming}
+use Rattle.language.specs.Reading.{Naming}
 use Rattle.met.specs.Contracts.{namesRoom}
 use Rattle.met.specs.Entries.{Entry, entry, namingOf, gather}
 use Rattle.met.specs.EntryLaws.{gather-append}
+use Rattle.met.specs.From.{valuesFrom, from-turn, from-last}
 use Rattle.met.specs.Holding.{namingIn, namesFrom}
-use Rattle.naming.specs.ArrayLaws.{names-last, names-kept, entries-last, entries-turn}
-use Rattle.naming.specs.Arrays.{entriesFrom, entriesLeft}
-use Rattle.naming.specs.NameLaws.{meets-append, conflicts-append}
+use Rattle.naming.specs.ArrayLaws.{names-kept}
+use Rattle.naming.specs.Arrays.{entryIn, entriesFrom, entriesLeft}
+use Rattle.naming.specs.NameLaws.{standing-few, meets-append, conflicts-append}
 use Rattle.naming.specs.Names.{keyNaming, standing, meet, meets, conflicts, chosenBy, Sized, Meets}
 use Rattle.naming.specs.declared.names.Names.{Names}
-
--- there are three ways to stand
-standing-few : (ns : List Naming) (x : Naming) → (standing ns x ≡ 0) ⊎ ((standing ns x ≡ 1) ⊎ (standing ns x ≡ 2))
-unfolding standing
-standing-few [] x = inl refl
-standing-few (n ∷ ns) x =
-    let Few : ℕ → Type 0 = λ s. (s ≡ 0) ⊎ ((s ≡ 1) ⊎ (s ≡ 2)) in
-    cond-cases Few (same (x .name) (n .name))
-    (λ _. cond-cases Few (samePurpose (x .purpose) (n .purpose)) (λ _. inr (inl refl)) (λ _. inr (inr refl))) (λ _. standing-few ns x)
 
 -- no name, and names behind names
 pub meets-none : (keys purposes : List ℕ) (b : Names) → length keys ≡ namesRoom → length purposes ≡ namesRoom
@@ -71,34 +62,27 @@ module _ (keys purposes : List ℕ) (b : Names) (key p : ℕ) (sized : Sized key
   abbrev known : List Naming
   known = namesFrom keys purposes 0 (b .count)
 
-  pub meets-known : standing known (keyNaming key p) ≡ 1 → Meets keys purposes b (keyNaming key p ∷ []) keys purposes b
+  meets-found : {s : ℕ} (t : Bool) → standing known (keyNaming key p) ≡ suc s → t ≡ (b .clash || (eqb (suc s) 2 || false))
+      → Meets keys purposes b (keyNaming key p ∷ []) keys purposes (record { count = b .count; clash = t })
   unfolding meets meet conflicts
-  meets-known e =
+  meets-found {s} t e is =
       record {
         keysSize = sized .keysSize;
         purposesSize = sized .othersSize;
-        names = rw e;
-        clash = rw e (sym (or-false (b .clash)));
+        names = rw (e, ne-eqb (suc s) 0 (λ z. omega arith));
+        clash = rw e is;
         few = omega arith;
         more = omega arith;
         keysKept = λ i h. refl;
         purposesKept = λ i h. refl;
       }
 
+  pub meets-known : standing known (keyNaming key p) ≡ 1 → Meets keys purposes b (keyNaming key p ∷ []) keys purposes b
+  meets-known e = meets-found (b .clash) e (sym (or-false (b .clash)))
+
   pub meets-other : standing known (keyNaming key p) ≡ 2
       → Meets keys purposes b (keyNaming key p ∷ []) keys purposes (record { count = b .count; clash = true })
-  unfolding meets meet conflicts
-  meets-other e =
-      record {
-        keysSize = sized .keysSize;
-        purposesSize = sized .othersSize;
-        names = rw e;
-        clash = rw e (sym (or-true (b .clash)));
-        few = omega arith;
-        more = omega arith;
-        keysKept = λ i h. refl;
-        purposesKept = λ i h. refl;
-      }
+  meets-other e = meets-found true e (sym (or-true (b .clash)))
 
   last : namesFrom (set keys (b .count) key) (set purposes (b .count) p) 0 (b .count + 1) ≡ known ++ (keyNaming key p ∷ [])
   unfolding namingIn
@@ -106,15 +90,13 @@ module _ (keys purposes : List ℕ) (b : Names) (key p : ℕ) (sized : Sized key
       let n = b .count in
       let keys′ = set keys n key in
       let purposes′ = set purposes n p in
-      let next : n + 1 ≡ suc n = omega arith in
       let kept =
       names-kept keys purposes keys′ purposes′ 0 n (λ j h. getD-set-other keys n j key 0 (λ e. omega arith))
       (λ j h. getD-set-other purposes n j p 0 (λ e. omega arith))
       in
       let inside = getD-set-same keys n key 0 (omega (arith, sized .keysSize, sized .room)) in
       let inside′ = getD-set-same purposes n p 0 (omega (arith, sized .othersSize, sized .room)) in
-      ap (namesFrom keys′ purposes′ 0) next
-      ∙ names-last keys′ purposes′ n
+      from-last (namingIn keys′ purposes′) n
       ∙ ap (λ (l : List Naming). l ++ (keyNaming (getD keys′ n 0) (getD purposes′ n 0) ∷ [])) kept
       ∙ ap₂ {C = List Naming} (λ k q. known ++ (keyNaming k q ∷ [])) inside inside′
 
@@ -148,7 +130,7 @@ pub record Meeting (keys₀ purposes₀ keys tags : List ℕ) (met wanted : ℕ)
 module _ (keys₀ purposes₀ keys tags : List ℕ) (met wanted : ℕ) (before : Names) where
   pub meeting-none : Sized keys₀ purposes₀ (before .count + length (gather (chosenBy wanted) (entriesFrom keys tags 0 met)))
       → Meeting keys₀ purposes₀ keys tags met wanted before keys₀ purposes₀ before 0
-  unfolding entriesFrom gather
+  unfolding valuesFrom gather
   meeting-none s =
       let all : met - 0 ≡ met = omega arith in
       let sizes = ap (λ m. length (gather (chosenBy wanted) (entriesFrom keys tags 0 m))) all in
@@ -169,15 +151,13 @@ module _ (keys₀ purposes₀ keys tags : List ℕ) (met wanted : ℕ) (before :
     left : length (gather f (entriesLeft keys tags met i)) ≡ length (f here) + length (gather f (entriesLeft keys tags met (i + 1)))
     unfolding gather here
     left =
-        ap (λ es. length (gather f es)) (entries-turn keys tags met i h)
+        ap (λ es. length (gather f es)) (from-turn (entryIn keys tags) met i h)
         ∙ length-append (f here) (gather f (entriesLeft keys tags met (i + 1)))
 
     done : gather f (entriesFrom keys tags 0 (i + 1)) ≡ gather f (entriesFrom keys tags 0 i) ++ f here
     unfolding gather here
     done =
-        let next : i + 1 ≡ suc i = omega arith in
-        ap (λ n. gather f (entriesFrom keys tags 0 n)) next
-        ∙ ap (gather f) (entries-last keys tags i)
+        ap (gather f) (from-last (entryIn keys tags) i)
         ∙ gather-append f (entriesFrom keys tags 0 i) (here ∷ [])
         ∙ ap (λ (l : List Naming). gather f (entriesFrom keys tags 0 i) ++ l) (append-nil (f here))
 

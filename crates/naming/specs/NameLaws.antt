@@ -14,7 +14,7 @@ use Rattle.judgement.specs.Names.{any-append, same-naming}
 use Rattle.judgement.specs.Refusals.{hasOther}
 use Rattle.language.specs.Laws.{same-purpose-refl}
 use Rattle.language.specs.Reading.{purposeNumber, samePurpose, Naming}
-use Rattle.naming.specs.Names.{standing, meet, meets, conflicts}
+use Rattle.naming.specs.Names.{Single, standing, meet, meets, conflicts}
 
 pub eqb-sym : (a b : ℕ) → eqb a b ≡ eqb b a
 eqb-sym a b = same-truth (eqb a b) (eqb b a) (λ e. eq-eqb b a (sym (eqb-true a b e))) (λ e. eq-eqb a b (sym (eqb-true b a e)))
@@ -115,10 +115,6 @@ conflict-is ns (x ∷ xs) =
     ∙ sym (or-assoc (hasOther ns x) (hasOther xs x) behind)
     ∙ ap (λ b. b || behind) (sym here)
 
--- each name has one purpose
-abbrev pub Single : List Naming → Type 0
-Single ns = any (hasOther ns) ns ≡ false
-
 single-rest : (n : Naming) (ns : List Naming) → Single (n ∷ ns) → (hasOther (n ∷ ns) n ≡ false) × Single ns
 unfolding any
 single-rest n ns h =
@@ -126,11 +122,19 @@ single-rest n ns h =
     let split = neither-true (any (hasOther (n ∷ [])) ns) (any (hasOther ns) ns) (sym (other-append (n ∷ []) ns ns) ∙ parts .1) in
     (parts .0, split .1)
 
+-- there are three ways to stand
+pub standing-few : (ns : List Naming) (x : Naming) → (standing ns x ≡ 0) ⊎ ((standing ns x ≡ 1) ⊎ (standing ns x ≡ 2))
+unfolding standing
+standing-few [] x = inl refl
+standing-few (n ∷ ns) x =
+    let Few : ℕ → Type 0 = λ s. (s ≡ 0) ⊎ ((s ≡ 1) ⊎ (s ≡ 2)) in
+    cond-cases Few (same (x .name) (n .name))
+    (λ _. cond-cases Few (samePurpose (x .purpose) (n .purpose)) (λ _. inr (inl refl)) (λ _. inr (inr refl))) (λ _. standing-few ns x)
+
 -- how a name stands tells whether it has another purpose, and whether it is known
 pub record Stands (ns : List Naming) (x : Naming) : Type 0 where
   pub others : hasOther ns x ≡ eqb (standing ns x) 2
   pub knows : any (sameNaming x) ns ≡ eqb (standing ns x) 1
-  pub few : (standing ns x ≡ 0) ⊎ ((standing ns x ≡ 1) ⊎ (standing ns x ≡ 2))
 
 -- a name that has the name of the first
 stands-first : (n : Naming) (ns : List Naming) (x : Naming) → hasOther (n ∷ ns) n ≡ false → same (x .name) (n .name) ≡ true
@@ -145,7 +149,6 @@ stands-first n ns x alone name =
     record {
       others = ap (hasOther (n ∷ ns)) is ∙ alone ∙ ap (λ s. eqb s 2) (sym at);
       knows = ap (λ b. b || any (sameNaming x) ns) first ∙ ap (λ s. eqb s 1) (sym at);
-      few = inr (inl at);
     })
     (λ _ p.
     let at : standing (n ∷ ns) x ≡ 2 = rw (name, p) in
@@ -160,12 +163,11 @@ stands-first n ns x alone name =
     record {
       others = ap (λ b. b || any (other x) ns) clash ∙ ap (λ s. eqb s 2) (sym at);
       knows = ap (λ b. b || any (sameNaming x) ns) first ∙ unknown ∙ ap (λ s. eqb s 1) (sym at);
-      few = inr (inr at);
     }) refl
 
 pub stands : (ns : List Naming) (x : Naming) → Single ns → Stands ns x
 unfolding standing any hasOther sameNaming
-stands [] x h = record { others = refl; knows = refl; few = inl refl }
+stands [] x h = record { others = refl; knows = refl }
 stands (n ∷ ns) x h =
     let parts = single-rest n ns h in
     test-cases (λ t. same (x .name) (n .name) ≡ t → Stands (n ∷ ns) x) (same (x .name) (n .name))
@@ -178,7 +180,6 @@ stands (n ∷ ns) x h =
     record {
       others = ap (λ b. b || any (other x) ns) clash ∙ rest .others ∙ ap (λ s. eqb s 2) (sym at);
       knows = ap (λ b. b || any (sameNaming x) ns) first ∙ rest .knows ∙ ap (λ s. eqb s 1) (sym at);
-      few = rw at (rest .few);
     }) refl
 
 -- a name with no other purpose goes behind those known as one that is put there, and names keep one purpose
@@ -188,7 +189,7 @@ module _ (ns : List Naming) (x : Naming) (single : Single ns) (alone : hasOther 
   meet-added =
       let s = stands ns x single in
       rw (s .knows)
-      (⊎-elim (λ e. rw e) (⊎-elim (λ e. rw e) (λ e. absurd (true≢false (sym (ap (λ n. eqb n 2) e) ∙ sym (s .others) ∙ alone)))) (s .few))
+      (⊎-elim (λ e. rw e) (⊎-elim (λ e. rw e) (λ e. absurd (true≢false (sym (ap (λ n. eqb n 2) e) ∙ sym (s .others) ∙ alone)))) (standing-few ns x))
 
   added-single : Single (added ns x)
   unfolding any hasOther

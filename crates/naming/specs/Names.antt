@@ -5,7 +5,8 @@ use mathlib.Core.Path.{_≡_}
 use Prim.Native.Nat.{ℕ, _+_, _≤_, _<_, _/_, _%_}
 use lib.Dec.{eqb}
 use lib.ListN.{length, getD}
-use Rattle.base.specs.Lists.{same}
+use Rattle.base.specs.Lists.{same, any}
+use Rattle.judgement.specs.Refusals.{hasOther}
 use Rattle.language.specs.Reading.{samePurpose, Naming}
 use Rattle.met.specs.Contracts.{namesRoom}
 use Rattle.met.specs.Entries.{Entry, nameOf, purposeOf, namingOf}
@@ -15,6 +16,10 @@ use Rattle.naming.specs.declared.names.Names.{Names}
 -- a name by key and purpose's number
 abbrev pub keyNaming : (key purpose : ℕ) → Naming
 keyNaming key p = record { purpose = purposeOf p; name = nameOf key }
+
+-- each name has one purpose
+abbrev pub Single : List Naming → Type 0
+Single ns = any (hasOther ns) ns ≡ false
 
 -- how a name stands among others: 0 not at all, 1 with its purpose, 2 with another, by the first that has the name
 unfoldable pub standing : List Naming → Naming → ℕ

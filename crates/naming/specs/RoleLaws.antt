@@ -13,9 +13,9 @@ use Rattle.judgement.specs.Known.{isOneOf}
 use Rattle.judgement.specs.Refusals.{clashes}
 use Rattle.language.specs.Reading.{Role}
 use Rattle.met.specs.Entries.{entry, nameOf, nameFrom, roleOf, gather, rolesBy}
+use Rattle.met.specs.From.{from-turn, from-none}
 use Rattle.met.specs.KnownLaws.{name-same}
-use Rattle.naming.specs.ArrayLaws.{entries-turn, entries-none}
-use Rattle.naming.specs.Arrays.{entriesFrom, entriesLeft}
+use Rattle.naming.specs.Arrays.{entryIn, entriesFrom, entriesLeft}
 use Rattle.naming.specs.NameLaws.{eqb-sym}
 use Rattle.naming.specs.Roles.{roleBy, fillersBefore, fillersHave, Unclashed, clashAt, searchedBehind}
 
@@ -61,13 +61,13 @@ module _ (keys tags : List ℕ) (met : ℕ) where
       let fs = fillersBefore keys tags i in
       let rs = gather rolesBy (entriesLeft keys tags met (i + 1)) in
       let next : suc i ≡ i + 1 = omega arith in
-      ap (λ es. clashes (nameOf searched) fs (gather rolesBy es)) (entries-turn keys tags met i h)
+      ap (λ es. clashes (nameOf searched) fs (gather rolesBy es)) (from-turn (entryIn keys tags) met i h)
       ∙ clash-role r k searched fs (fillersHave keys tags i k) (fillers-have keys tags i k) rs
       ∙ ap (λ j. clashAt keys tags i searched || clashes (nameOf (cond (eqb r 1) k searched)) (fillersBefore keys tags j) rs) next
 
   pub clash-end : (searched i : ℕ) → met ≤ i → clashFrom searched i ≡ false
   unfolding gather clashes
-  clash-end searched i h = ap (λ es. clashes (nameOf searched) (fillersBefore keys tags i) (gather rolesBy es)) (entries-none keys tags met i h)
+  clash-end searched i h = ap (λ es. clashes (nameOf searched) (fillersBefore keys tags i) (gather rolesBy es)) (from-none (entryIn keys tags) met i h)
 
   pub clash-whole : clashFrom 0 0 ≡ clashes [] [] (gather rolesBy (entriesFrom keys tags 0 met))
   unfolding nameOf nameFrom fillersBefore

@@ -5,7 +5,7 @@ use mathlib.Core.Path.{_≡_, refl, sym, ap, ap₂, subst, _∙_}
 use Prim.Native.Nat.{ℕ, _+_, _≤_, _<_}
 use native.Mathlib.Omega.{arith}
 use lib.Dec.{eqb}
-use lib.ListN.{length, drop, getD, drop-of-length-le}
+use lib.ListN.{length, drop, getD}
 use Rattle.base.specs.Choice.{test-cases}
 use Rattle.base.specs.Edition.{edition1}
 use Rattle.cards.specs.Cards as Cards
@@ -19,6 +19,7 @@ use Rattle.judgement.specs.Rules as Rules
 use Rattle.judgement.specs.Rules.{judging}
 use Rattle.met.specs.Holding.{Arrays, Holds}
 use Rattle.met.specs.Known.{endedAt}
+use Rattle.packer.specs.LineLaws.{entries-behind}
 use Rattle.reader.specs.Judging.{Held, EntryJudged, Passed, endedIn, closedBy, StatementsJudged, DeckJudged}
 use Rattle.reader.specs.declared.judge.EntryVerdict.{EntryVerdict}
 use Rattle.reader.specs.declared.judge.Verdict.{Verdict}
@@ -66,10 +67,10 @@ module _ {deck : List ℕ} {a : Arrays} {from card : ℕ} (j : Judging deck a fr
   -- behind the last entry
   at-end : length deck ≤ from → judgeFrom edition1 nothingKnown (entries edition1 deck)
       ≡ cond (eqb (getD (a .known) endedAt 0) 1) (passed (j .known)) (Deck.Judged.refused 4 0)
-  unfolding judgeFrom entriesFrom Cards.lines
+  unfolding judgeFrom
   at-end h =
       j .same
-      ∙ ap (λ (bs : List ℕ). judgeFrom edition1 (j .known) (entriesFrom edition1 card (Cards.lines bs))) (drop-of-length-le deck h)
+      ∙ ap (judgeFrom edition1 (j .known)) (entries-behind deck from h card)
       ∙ ap (λ t. cond t (passed (j .known)) (Deck.Judged.refused 4 0)) (sym (j .holds .ended))
 
   pub judging-ends : {r : Verdict} → length deck ≤ 32_768 → length deck ≤ from → r ≡ endedIn (a .known) → StatementsJudged deck r a

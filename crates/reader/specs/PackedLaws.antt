@@ -16,7 +16,7 @@ use Rattle.met.specs.Elements.{withElements}
 use Rattle.met.specs.Items.{withItems}
 use Rattle.met.specs.declared.Cursor.{Cursor}
 use Rattle.packer.specs.declared.Gathered.{Gathered}
-use Rattle.reader.specs.Steps.{resumed, Written, passedBy}
+use Rattle.reader.specs.Steps.{resumed, Written, passedBy, steppedBy}
 use Rattle.reader.specs.Writing.{withRow, withStep}
 use Rattle.reader.specs.declared.steps.Progress.{Progress}
 
@@ -62,29 +62,11 @@ module _ {most : ℕ} {table keys tags table′ keys′ tags′ : List ℕ} {x :
   -- a step
   pub step-written : {row : Row} {t : List ℕ} → Stepped row most table keys tags (resumed p) x table′ keys′ tags′ d
       → t ≡ withRow table′ (p .steps) (p .card) (rowMeaning row)
-      → Written v e p table
-      (record {
-        from = e .next;
-        card = p .card + e .lines;
-        steps = p .steps + 1;
-        elements = d .elements;
-        items = d .items;
-        literals = d .literals;
-      }) t
-      × (length keys′ ≡ 32_800) × (length tags′ ≡ 32_800)
+      → Written v e p table (steppedBy p e d) t × (length keys′ ≡ 32_800) × (length tags′ ≡ 32_800)
   unfolding itemsIn elementsIn withStep
   step-written {row} {t} s q =
-      let f = s .formed in
-      let r : Progress =
-      record {
-        from = e .next;
-        card = p .card + e .lines;
-        steps = p .steps + 1;
-        elements = d .elements;
-        items = d .items;
-        literals = d .literals;
-      } in (
-        subst (λ (u : Option Statement). Written u e p table r t) (same-value (f .is) is)
+      let f = s .formed in (
+        subst (λ (u : Option Statement). Written u e p table (steppedBy p e d) t) (same-value (f .is) is)
             (record {
               table =
                   q

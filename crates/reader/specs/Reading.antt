@@ -4,10 +4,10 @@ use mathlib.Core.List.{List, _++_, map}
 use mathlib.Core.Path.{_≡_, refl, sym, ap, ap₂, subst, _∙_}
 use Prim.Native.Nat.{ℕ, _+_, _≤_, _<_}
 use native.Mathlib.Omega.{arith}
-use lib.ListN.{length, take, drop, getD, replicate, length-drop, length-map}
-use lib.Seq.{length-take-le}
+use lib.ListN.{length, take, drop, getD, replicate, length-map}
 use borrow.Author.Tests.{lt-ltb, le-ltb}
 use Rattle.base.specs.Edition.{edition1}
+use Rattle.base.specs.ListLaws.{length-stretch}
 use Rattle.calls.specs.Accepted.{accepted-isProgram}
 use Rattle.calls.specs.Calls.{readCall, readJudged, longestDeck}
 use Rattle.calls.specs.Splices.{splice}
@@ -49,20 +49,17 @@ pub record ReadWith (deck table : List ℕ) (number card : ℕ) (left : List ℕ
 
 -- the counts of strings and numbers
 module _ {a : Arrays} {taken : ℕ} {k : Known} (h : Holds a taken k) where
-  front-count : (n from : ℕ) → n ≤ 33 → from ≤ 35 → length (take n (drop from (a .known))) ≡ n
-  front-count n from p q = length-take-le n (drop from (a .known)) (omega (arith, length-drop from (a .known), h .counted .size))
-
   pub strings-counted : getD (a .known) 0 0 ≡ length (Known.strings k)
   unfolding stringKeys
   strings-counted =
-      sym (front-count (getD (a .known) 0 0) 2 (h .counted .strings) (omega arith))
+      sym (length-stretch (a .known) 2 (getD (a .known) 0 0) (omega (arith, h .counted .size, h .counted .strings)))
       ∙ sym (length-map (stringKeys (a .known)) nameOf)
       ∙ ap length (h .strings)
 
   pub numbers-counted : getD (a .known) 1 0 ≡ length (Known.numbers k)
   unfolding numberKeys
   numbers-counted =
-      sym (front-count (getD (a .known) 1 0) 35 (h .counted .numbers) (omega arith))
+      sym (length-stretch (a .known) 35 (getD (a .known) 1 0) (omega (arith, h .counted .size, h .counted .numbers)))
       ∙ sym (length-map (numberKeys (a .known)) nameOf)
       ∙ ap length (h .numbers)
 

@@ -75,6 +75,18 @@ passedBy p e =
       literals = p .literals;
     }
 
+-- behind an entry that makes a step, whose items, elements and literal bytes end at d
+abbrev pub steppedBy : Progress → Gathered → Cursor → Progress
+steppedBy p e d =
+    record {
+      from = e .next;
+      card = p .card + e .lines;
+      steps = p .steps + 1;
+      elements = d .elements;
+      items = d .items;
+      literals = d .literals;
+    }
+
 -- the step of an entry is written, if it makes one
 pub record GatheredWritten (text known keys tags : List ℕ) (e : Gathered) (p : Progress) (t : List ℕ) (r : Progress)
     (known′ keys′ tags′ t′ : List ℕ) : Type 0 where

@@ -3,11 +3,11 @@ use mathlib.Core.Bool.{Bool, true, false, cond}
 use mathlib.Core.List.{List, [], _∷_, _++_, map}
 use mathlib.Core.Option.{Option, none, some}
 use mathlib.Core.Path.{_≡_, refl, sym, ap, subst, _∙_}
-use Prim.Native.Nat.{ℕ, zero, suc, _+_, _-_, _≤_, _<_}
+use Prim.Native.Nat.{ℕ, suc, _+_, _-_, _≤_, _<_}
 use native.Mathlib.Nat.{add-zero, zero-add}
 use native.Mathlib.Omega.{arith}
 use lib.Dec.{eqb}
-use lib.ListN.{length, take, drop, getD, set, length-append, length-set, drop-of-length-le}
+use lib.ListN.{length, take, drop, getD, set, length-append, length-set}
 use lib.Seq.{getD-set-other, getD-set-same, take-set-le, drop-set-add}
 use Rattle.base.specs.Choice.{test-cases}
 use Rattle.base.specs.Edition.{edition1}
@@ -24,13 +24,15 @@ use Rattle.judgement.specs.Deck.{stepsFrom, stepRead, placesOf, programOf}
 use Rattle.judgement.specs.Known.{Known, nothingKnown, numbers, isOneOf, isStep, learn}
 use Rattle.judgement.specs.Placed.Again.{Again, past, reads, IsStep}
 use Rattle.judgement.specs.Refusals.{readStatement}
+use Rattle.judging.specs.LearningLaws.{labels-same, routines-same}
 use Rattle.language.specs.Keywords.{leading}
 use Rattle.language.specs.Program.{Statement, Step}
 use Rattle.language.specs.Reading.{Met, got}
 use Rattle.met.specs.Entries.{nameOf}
 use Rattle.met.specs.Holding.{Arrays, Holds, namesIn, namesFrom, usesIn, usesFrom}
-use Rattle.met.specs.Known.{Counted, placesIn, nextAt, stringKeys, numberKeys, labelIn, labelsFrom, labelsIn, routineIn, routinesDown, routinesIn}
+use Rattle.met.specs.Known.{Counted, placesIn, nextAt, stringKeys, numberKeys}
 use Rattle.packer.specs.Gathering.{Gathers, entryOf}
+use Rattle.packer.specs.LineLaws.{entries-behind}
 use Rattle.packer.specs.declared.Gathered.{Gathered}
 use Rattle.reader.specs.EntryLaws.{gathered-worded, wording}
 use Rattle.reader.specs.Steps.{Written, Continues, Resumes, EntryWritten, entriesAt, stepsAt, stepCount, PackedWritten, passedBy, GatheredWritten}
@@ -69,22 +71,20 @@ learnt-steps k raw m v i = counted (isStep (leading (packed raw) .kind)) v i
     counted false none i = omega arith
     counted false (some s) i = absurd i
 
+-- a comment or blank line
+onward-skip : {deck : List ℕ} {whole : Known} {p : Progress} {t : List ℕ} {r : Progress} {t′ : List ℕ} → t′ ≡ t → r .steps ≡ p .steps
+    → r .elements ≡ p .elements → r .items ≡ p .items → r .literals ≡ p .literals → stepsAt deck whole p ≡ stepsAt deck whole r
+    → Continues deck whole p t r t′
+onward-skip z a b c d q =
+    record { table = rw (q, z, a, b, c, d); steps = rw (q, a); elements = rw (q, b); items = rw (q, c); literals = rw (q, d) }
+
 module _ {deck : List ℕ} {whole : Known} {e : Gathered} {p : Progress} {t : List ℕ} {r : Progress} {t′ : List ℕ} where
   -- a statement that is no step
   onward-none : Written none e p t r t′ → stepsAt deck whole p ≡ stepsAt deck whole r → Continues deck whole p t r t′
   unfolding elementsIn itemsIn allLiterals
   onward-none w q =
-      let a : r .steps ≡ p .steps = omega (arith, w .steps) in
-      let b : r .elements ≡ p .elements = w .elements ∙ add-zero (p .elements) in
-      let c : r .items ≡ p .items = w .items ∙ add-zero (p .items) in
-      let d : r .literals ≡ p .literals = w .literals ∙ add-zero (p .literals) in
-      record {
-        table = rw (q, w .table, a, b, c, d);
-        steps = rw (q, a);
-        elements = rw (q, b);
-        items = rw (q, c);
-        literals = rw (q, d);
-      }
+      onward-skip (w .table) (w .steps ∙ add-zero (p .steps)) (w .elements ∙ add-zero (p .elements)) (w .items ∙ add-zero (p .items))
+      (w .literals ∙ add-zero (p .literals)) q
 
   -- a step
   onward-some : (s : Statement) → Written (some s) e p t r t′
@@ -107,13 +107,6 @@ module _ {deck : List ℕ} {whole : Known} {e : Gathered} {p : Progress} {t : Li
               length-append (allLiterals (elementsOf s)) (allLiterals (allElements (stepsAt deck whole r))),
             ));
       }
-
--- a comment or blank line
-onward-skip : {deck : List ℕ} {whole : Known} {p : Progress} {t : List ℕ} {r : Progress} {t′ : List ℕ} → t′ ≡ t → r .steps ≡ p .steps
-    → r .elements ≡ p .elements → r .items ≡ p .items → r .literals ≡ p .literals → stepsAt deck whole p ≡ stepsAt deck whole r
-    → Continues deck whole p t r t′
-onward-skip z a b c d q =
-    record { table = rw (q, z, a, b, c, d); steps = rw (q, a); elements = rw (q, b); items = rw (q, c); literals = rw (q, d) }
 
 -- the step that a statement makes, and those behind it
 steps-none : (whole : Known) (n card : ℕ) (sound : Bool) (label raw : List ℕ) (es : List Entry) {m : Met} {rest : List ℕ}
@@ -144,18 +137,7 @@ module _ {deck text : List ℕ} {e : Gathered} {p : Progress} (g : Gathers deck 
   abbrev rest : List Entry
   rest = entriesFrom edition1 (p .card + e .lines) (Cards.lines (drop (e .next) deck))
 
-  abbrev behind : Progress
-  behind =
-      record {
-        from = e .next;
-        card = p .card + e .lines;
-        steps = p .steps;
-        elements = p .elements;
-        items = p .items;
-        literals = p .literals;
-      }
-
-  pub skipped-written : (t : List ℕ) → e .skipped ≡ true → EntryWritten deck whole p t behind t
+  pub skipped-written : (t : List ℕ) → e .skipped ≡ true → EntryWritten deck whole p t (passedBy p e) t
   unfolding entryOf stepsFrom
   skipped-written t s =
       let here : entriesAt deck p ≡ skipped (p .card) (e .sound) ∷ rest =
@@ -278,34 +260,6 @@ module _ {a : Arrays} {taken : ℕ} {whole : Known} (h : Holds a taken whole) (v
       ap (λ (n : ℕ). take n (drop 35 changed)) (same-at 1 (λ z. omega arith))
       ∙ front-same (getD (a .known) 1 0) 35 (omega (arith, h .counted .numbers))
 
-  labels-from : (i n : ℕ) → labelsFrom changed i n ≡ labelsFrom (a .known) i n
-  unfolding labelsFrom labelIn
-  labels-from i zero = refl
-  labels-from i (suc n) =
-      let key = same-at (80 + i) (λ z. omega arith) in
-      let step = same-at (145 + i) (λ z. omega arith) in
-      let scope = same-at (210 + i) (λ z. omega arith) in
-      λ t.
-      record { name = nameOf (key t); step = step t; scope = nameOf (scope t) } ∷ labels-from (suc i) n t
-
-  routines-down : (n : ℕ) → routinesDown changed n ≡ routinesDown (a .known) n
-  unfolding routinesDown routineIn
-  routines-down zero = refl
-  routines-down (suc n) =
-      let key = same-at (275 + n) (λ z. omega arith) in
-      let entry = same-at (292 + n) (λ z. omega arith) in
-      let exit = same-at (309 + n) (λ z. omega arith) in
-      λ t.
-      record { name = nameOf (key t); entry = entry t; exit = exit t } ∷ routines-down n t
-
-  labels-same : labelsIn changed ≡ labelsIn (a .known)
-  unfolding labelsIn
-  labels-same = ap (labelsFrom changed 0) (same-at 68 (λ z. omega arith)) ∙ labels-from 0 (getD (a .known) 68 0)
-
-  routines-same : routinesIn changed ≡ routinesIn (a .known)
-  unfolding routinesIn
-  routines-same = ap (routinesDown changed) (same-at 69 (λ z. omega arith)) ∙ routines-down (getD (a .known) 69 0)
-
   names-same : namesIn (withKnown a changed) ≡ namesIn a
   unfolding namesIn
   names-same = ap (namesFrom (a .nameKeys) (a .namePurposes) 0) (same-at 78 (λ z. omega arith))
@@ -344,8 +298,10 @@ module _ {a : Arrays} {taken : ℕ} {whole : Known} (h : Holds a taken whole) (v
         strings = ap (map nameOf) strings-same ∙ h .strings;
         numbers = ap (map nameOf) numbers-same ∙ h .numbers;
         names = names-same ∙ h .names;
-        labels = labels-same ∙ h .labels;
-        routines = routines-same ∙ h .routines;
+        labels =
+            labels-same (a .known) changed (h .counted .labels) (same-at 68 (λ z. omega arith)) (λ j g l. same-at j (λ z. omega arith))
+            ∙ h .labels;
+        routines = routines-same (a .known) changed (same-at 69 (λ z. omega arith)) (λ j g. same-at j (λ z. omega arith)) ∙ h .routines;
         branches = uses-same 1 ∙ h .branches;
         executes = uses-same 2 ∙ h .executes;
         elements = same-at 75 (λ z. omega arith) ∙ h .elements;
@@ -461,8 +417,8 @@ module _ {deck known₀ t₀ : List ℕ} {whole : Known} {a : Arrays} {taken : �
 
   -- behind the last line there are no steps
   no-more : length deck ≤ p .from → stepsAt deck whole p ≡ []
-  unfolding entriesFrom Cards.lines stepsFrom
-  no-more h = ap (λ (bs : List ℕ). stepsFrom edition1 whole (p .steps) (entriesFrom edition1 (p .card) (Cards.lines bs))) (drop-of-length-le deck h)
+  unfolding stepsFrom
+  no-more h = ap (stepsFrom edition1 whole (p .steps)) (entries-behind deck (p .from) h (p .card))
 
   pub ongoing-ends : length deck ≤ p .from → StepsWritten (stepsFrom edition1 whole 0 (entries edition1 deck)) t₀ p t
   unfolding withSteps allElements allItems allLiterals
