@@ -1,7 +1,7 @@
 -- How a statement's number comes about from what its readers and judges say. Assumes nothing.
 use mathlib.Core.Bool.{Bool, true, false, cond}
 use mathlib.Core.List.{List}
-use mathlib.Core.Option.{Option, none}
+use mathlib.Core.Option.{Option, none, some}
 use mathlib.Core.Path.{_≡_, refl, sym, ap, ap₂, subst, _∙_}
 use Prim.Native.Nat.{ℕ, _+_, _≤_}
 use native.Mathlib.Omega.{arith}
@@ -92,6 +92,12 @@ module _ (label raw : List ℕ) (a : Arrays) (taken : ℕ) (k : Known) (h : Hold
         longestRow = f .longest;
       }
 
+-- a statement is read up to d, whether it makes a step or not
+pub record FormedTo (most : ℕ) (table keys tags : List ℕ) (c : Cursor) (x : Read (Option Statement)) (table′ keys′ tags′ : List ℕ) (d : Cursor)
+    : Type 0 where
+  pub value : Option Statement
+  pub formed : Formed value most table keys tags c x table′ keys′ tags′ d
+
 -- the form by its case
 module _ {most : ℕ} {table keys tags : List ℕ} {c : Cursor} {x : Read (Option Statement)} {r : Form} {table′ keys′ tags′ : List ℕ}
     (f : FormRead most table keys tags c x r table′ keys′ tags′) where
@@ -106,6 +112,14 @@ module _ {most : ℕ} {table keys tags : List ℕ} {c : Cursor} {x : Read (Optio
 
   pub step-case : {row : Row} {d : Cursor} → r ≡ FormCode.the-variants.Step row d → Stepped row most table keys tags c x table′ keys′ tags′ d
   step-case e = by-case e
+
+  pub no-step-to : {d e : Cursor} → r ≡ FormCode.the-variants.NoStep e → d ≡ e → FormedTo most table keys tags c x table′ keys′ tags′ d
+  no-step-to h s = record { value = none; formed = no-step-case (h ∙ ap FormCode.the-variants.NoStep (sym s)) }
+
+  pub step-to : {row : Row} {d e : Cursor} → r ≡ FormCode.the-variants.Step row e → d ≡ e → FormedTo most table keys tags c x table′ keys′ tags′ d
+  step-to {row} h s =
+      let a = step-case (h ∙ ap (FormCode.the-variants.Step row) (sym s)) in
+      record { value = some (a .statement); formed = a .formed }
 
 -- a statement can be read
 pub starts : {a : Arrays} {taken : ℕ} {k : Known} {text keys tags : List ℕ} {c : Cursor} → Holds a taken k → length text ≤ 32_768

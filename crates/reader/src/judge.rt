@@ -82,33 +82,23 @@ fn judge_packed(
         return 4;
     }
     let c = start(known);
-    match read_statement(text, e.label, e.whole, known, table, keys, tags, c) {
-        Form::Broken => 5,
-        Form::NoStep(d) => judge_statement(
-            known,
-            name_keys,
-            name_purposes,
-            use_keys,
-            use_scopes,
-            use_purposes,
-            keys,
-            tags,
-            d,
-            kind,
-        ),
-        Form::Step(_, d) => judge_statement(
-            known,
-            name_keys,
-            name_purposes,
-            use_keys,
-            use_scopes,
-            use_purposes,
-            keys,
-            tags,
-            d,
-            kind,
-        ),
-    }
+    let d = match read_statement(text, e.label, e.whole, known, table, keys, tags, c) {
+        Form::Broken => return 5,
+        Form::NoStep(d) => d,
+        Form::Step(_, d) => d,
+    };
+    judge_statement(
+        known,
+        name_keys,
+        name_purposes,
+        use_keys,
+        use_scopes,
+        use_purposes,
+        keys,
+        tags,
+        d,
+        kind,
+    )
 }
 
 // the number of an entry, 0 if it passes; its packed text stands at the beginning of text

@@ -1,8 +1,9 @@
 -- `reader::judge::judge_packed`: 4, then 5 or the number of the form.
 -- Assumes nothing.
+use mathlib.Core.Logic.{⊎-elim}
 use mathlib.Core.Path.{refl, sym, ap, _∙_}
 use native.Mathlib.Omega.{arith}
-use Rattle.reader.specs.JudgeLaws.{broken-case, no-step-case, step-case, starts, formed-ready}
+use Rattle.reader.specs.JudgeLaws.{broken-case, no-step-to, step-to, starts, formed-ready}
 use Rattle.reader.specs.JudgeLaws.{misplaced-numbered, broken-numbered, formed-numbered, stays-not}
 use Rattle.naming.specs.Arrays.{arrays}
 use borrow.Author.Needs.{needs}
@@ -46,26 +47,6 @@ read-statement-requires c κs =
 enum-told : tie.Need-enum-told
 enum-told c = search needs
 
-enum-known-d : tie.Need-enum-known-d
-enum-known-d c = search needs
-
-judge-statement-requires : tie.Need-judge-statement-requires
-judge-statement-requires c κs =
-    let p = c .before .before .before .before .before .before .before .before .before .before .before .before .before .before .before .before .before .before .before .before .before .before .before .before .before .before in
-    let q = p .pre .0 in
-    formed-ready q (ap (λ d. d .names) (c .before .before .before .before .before .before .before .before .before .before .before .before .before .before .before .before .before .before .start .ensures))
-    (no-step-case (c .before .before .before .before .before .before .before .before .before .before .before .before .before .read-statement .ensures (q .label) (q .raw) (q .wording)) (c .before .before .before .before .before .before .before .before .before .d .given .1))
-
-enum-known-d-2 : tie.Need-enum-known-d-2
-enum-known-d-2 c = search needs
-
-judge-statement-requires-2 : tie.Need-judge-statement-requires-2
-judge-statement-requires-2 c κs =
-    let p = c .before .before .before .before .before .before .before .before .before .before .before .before .before .before .before .before .before .before .before .before .before .before .before .before .before .before in
-    let q = p .pre .0 in
-    formed-ready q (ap (λ d. d .names) (c .before .before .before .before .before .before .before .before .before .before .before .before .before .before .before .before .before .before .start .ensures))
-    (step-case (c .before .before .before .before .before .before .before .before .before .before .before .before .before .read-statement .ensures (q .label) (q .raw) (q .wording)) (c .before .before .before .before .before .before .before .before .before .d2 .given .1) .formed)
-
 same-length : tie.Need-same-length
 same-length c = search needs
 
@@ -81,42 +62,42 @@ returns-2 c =
       stays-not (λ z. omega arith),
     )
 
+enum-known-d : tie.Need-enum-known-d
+enum-known-d c = search needs
+
+enum-known-d-2 : tie.Need-enum-known-d-2
+enum-known-d-2 c = search needs
+
+judge-statement-requires : tie.Need-judge-statement-requires
+judge-statement-requires c κs =
+    let q = c .before .before .before .before .before .before .before .before .before .before .before .before .before .before .before .before .before .before .before .before .before .before .before .before .pre .0 in
+    let read = c .before .before .before .before .before .before .before .before .before .before .before .read-statement in
+    let f =
+    ⊎-elim (λ w. no-step-to (read .ensures (q .label) (q .raw) (q .wording)) (w .1 .given .1) (w .3))
+    (λ w. step-to (read .ensures (q .label) (q .raw) (q .wording)) (w .1 .given .1) (w .3)) (c .before .before .before .before .before .before .before .before .match .came) in
+    formed-ready q (ap (λ d. d .names) (c .before .before .before .before .before .before .before .before .before .before .before .before .before .before .before .before .start .ensures)) (f .formed)
+
 same-length-2 : tie.Need-same-length-2
 same-length-2 c = search needs
 
 returns-3 : tie.Need-returns-3
 returns-3 c =
-    let p = c .before .before .before .before .before .before .before .before .before .before .before .before .before .before .before .before .before .before .before .before .before .before .before .before .before .before .before in
+    let p = c .before .before .before .before .before .before .before .before .before .before .before .before .before .before .before .before .before .before .before .before .before .before .before .before .before in
     let arrs = arrays (p .args .known .now) (p .args .name-keys .now) (p .args .name-purposes .now) (p .args .use-keys .now) (p .args .use-scopes .now) (p .args .use-purposes .now) in
     let q = p .pre .0 in
-    let f = no-step-case (c .before .before .before .before .before .before .before .before .before .before .before .before .before .before .read-statement .ensures (q .label) (q .raw) (q .wording)) (c .before .before .before .before .before .before .before .before .before .before .d .given .1) in (
-      (λ label raw w.
-          formed-numbered arrs (c .before .before .before .before .before .before .before .before .before .before .before .before .before .before .before .before .before .before .before .before .before .before .before .before .leading .result .kind) label raw (p .args .text .now)
-          (ap (λ l. l .kind) (c .before .before .before .before .before .before .before .before .before .before .before .before .before .before .before .before .before .before .before .before .before .before .before .before .leading .ensures)) (w .bytes)
-          (λ taken k h. sym (c .before .before .before .before .before .before .before .before .before .before .before .before .before .before .before .before .before .before .before .before .before .before .is-misplaced .ensures .misplaced arrs refl taken k h) ∙ c .before .before .before .before .before .before .before .before .before .before .before .before .before .before .before .before .before .before .before .before .before .if1 .left)
-          (c .before .before .before .before .before .before .before .before .before .before .before .before .before .before .before .before .before .before .before .start .ensures)
-          (no-step-case (c .before .before .before .before .before .before .before .before .before .before .before .before .before .before .read-statement .ensures label raw w) (c .before .before .before .before .before .before .before .before .before .before .d .given .1))
+    let read = c .before .before .before .before .before .before .before .before .before .before .before .before .read-statement in
+    let f =
+    ⊎-elim (λ w. no-step-to (read .ensures (q .label) (q .raw) (q .wording)) (w .1 .given .1) (w .3))
+    (λ w. step-to (read .ensures (q .label) (q .raw) (q .wording)) (w .1 .given .1) (w .3)) (c .before .before .before .before .before .before .before .before .before .match .came) in (
+      (λ label raw t.
+          formed-numbered arrs (c .before .before .before .before .before .before .before .before .before .before .before .before .before .before .before .before .before .before .before .before .before .before .leading .result .kind) label raw (p .args .text .now)
+          (ap (λ l. l .kind) (c .before .before .before .before .before .before .before .before .before .before .before .before .before .before .before .before .before .before .before .before .before .before .leading .ensures)) (t .bytes)
+          (λ taken k h. sym (c .before .before .before .before .before .before .before .before .before .before .before .before .before .before .before .before .before .before .before .before .is-misplaced .ensures .misplaced arrs refl taken k h) ∙ c .before .before .before .before .before .before .before .before .before .before .before .before .before .before .before .before .before .before .before .if1 .left)
+          (c .before .before .before .before .before .before .before .before .before .before .before .before .before .before .before .before .before .start .ensures)
+          (⊎-elim (λ w. no-step-to (read .ensures label raw t) (w .1 .given .1) (w .3)) (λ w. step-to (read .ensures label raw t) (w .1 .given .1) (w .3))
+          (c .before .before .before .before .before .before .before .before .before .match .came) .formed)
           (c .judge-statement .ensures)),
-      record { keysSize = λ _. f .keysSize; tagsSize = λ _. f .tagsSize },
-    )
-
-same-length-3 : tie.Need-same-length-3
-same-length-3 c = search needs
-
-returns-4 : tie.Need-returns-4
-returns-4 c =
-    let p = c .before .before .before .before .before .before .before .before .before .before .before .before .before .before .before .before .before .before .before .before .before .before .before .before .before .before .before in
-    let arrs = arrays (p .args .known .now) (p .args .name-keys .now) (p .args .name-purposes .now) (p .args .use-keys .now) (p .args .use-scopes .now) (p .args .use-purposes .now) in
-    let q = p .pre .0 in
-    let f = step-case (c .before .before .before .before .before .before .before .before .before .before .before .before .before .before .read-statement .ensures (q .label) (q .raw) (q .wording)) (c .before .before .before .before .before .before .before .before .before .before .d2 .given .1) .formed in (
-      (λ label raw w.
-          formed-numbered arrs (c .before .before .before .before .before .before .before .before .before .before .before .before .before .before .before .before .before .before .before .before .before .before .before .before .leading .result .kind) label raw (p .args .text .now)
-          (ap (λ l. l .kind) (c .before .before .before .before .before .before .before .before .before .before .before .before .before .before .before .before .before .before .before .before .before .before .before .before .leading .ensures)) (w .bytes)
-          (λ taken k h. sym (c .before .before .before .before .before .before .before .before .before .before .before .before .before .before .before .before .before .before .before .before .before .before .is-misplaced .ensures .misplaced arrs refl taken k h) ∙ c .before .before .before .before .before .before .before .before .before .before .before .before .before .before .before .before .before .before .before .before .before .if1 .left)
-          (c .before .before .before .before .before .before .before .before .before .before .before .before .before .before .before .before .before .before .before .start .ensures)
-          (step-case (c .before .before .before .before .before .before .before .before .before .before .before .before .before .before .read-statement .ensures label raw w) (c .before .before .before .before .before .before .before .before .before .before .d2 .given .1) .formed)
-          (c .judge-statement2 .ensures)),
-      record { keysSize = λ _. f .keysSize; tagsSize = λ _. f .tagsSize },
+      record { keysSize = λ _. f .formed .keysSize; tagsSize = λ _. f .formed .tagsSize },
     )
 
 pub judge-packed-spec : {M : Type 1} → statement M
@@ -129,13 +110,10 @@ judge-packed-spec =
     start-requires
     read-statement-requires
     enum-told
-    enum-known-d
-    judge-statement-requires
-    enum-known-d-2
-    judge-statement-requires-2
     same-length
     returns-2
+    enum-known-d
+    enum-known-d-2
+    judge-statement-requires
     same-length-2
-    returns-3
-    same-length-3
-    returns-4)
+    returns-3)
