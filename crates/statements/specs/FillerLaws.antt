@@ -4,16 +4,14 @@ use mathlib.Core.List.{List, [], _∷_, _++_}
 use mathlib.Core.Option.{none, some}
 use mathlib.Core.Path.{_≡_, refl, sym, ap, ap₂, subst, _∙_}
 use Prim.Native.Nat.{ℕ, _+_, _*_, _-_, _≤_, _<_}
-use native.Mathlib.Nat.{min-le-right}
-use native.Mathlib.Numerals.{add-one}
 use native.Mathlib.Omega.{arith}
 use lib.Dec.{eqb, ltb}
 use lib.IntN.{ℤ}
-use lib.ListN.{length, take, drop, getD, set, length-drop, length-take, drop-of-length-le}
-use lib.Seq.{ext-getD, getD-set-other, getD-set-same, drop-cons, drop-drop, set-out}
+use lib.ListN.{length, take, drop, getD, set, drop-of-length-le}
+use lib.Seq.{ext-getD, getD-set-other, getD-set-same, drop-drop, set-out}
 use borrow.Author.Tests.{eqb-false, eqb-true, ltb-false, ltb-true, ne-eqb}
 use Rattle.base.specs.Choice.{test-cases}
-use Rattle.base.specs.ListLaws.{getD-stretch, length-stretch}
+use Rattle.base.specs.ListLaws.{drop-next, getD-stretch, length-stretch, stretch-within, stretch-cut}
 use Rattle.base.specs.Lists.{total}
 use Rattle.calls.specs.BufferLaws.{Good, good-image, good-short, storeWith, count-strings, with-strings}
 use Rattle.calls.specs.Buffers.{storeImage, storeSize, stringsIn}
@@ -118,7 +116,7 @@ pub next-length : (answer : List ℕ) (count i : ℕ) → length answer ≡ 24 �
 next-length answer count i size few h =
     let ls = lengthsIn answer count in
     let long : length ls ≡ count = length-stretch answer 4 count (omega arith) in
-    drop-cons ls i 0 (omega arith) ∙ ap₂ (λ (l j : ℕ). l ∷ drop j ls) (getD-stretch answer 4 count i h) (sym (add-one i))
+    drop-next ls i 0 (omega arith) ∙ ap (λ (l : ℕ). l ∷ drop (i + 1) ls) (getD-stretch answer 4 count i h)
 
 -- the pieces from i on are to be named, the first of them at a place of the reference
 pub record Namings (store reference names answer : List ℕ) (count at i : ℕ) (now : List ℕ) : Type 0 where
@@ -156,11 +154,8 @@ module _ {store reference names answer : List ℕ} {count at i : ℕ} {now : Lis
   namings-more h {l} e {after} is =
       let ls = lengthsIn answer count in
       let piece = take l (drop at reference) in
-      let cut : at + l - at ≡ l = omega arith in
-      let short : length piece ≤ 1024 =
-      omega (arith, length-take l (drop at reference), min-le-right l (length (drop at reference)), length-drop at reference, q .short) in
-      let one : after ≡ renamed now (getD names i 0) piece =
-      is ∙ ap (λ (n : ℕ). renamed now (getD names i 0) (take n (drop at reference))) cut in
+      let short : length piece ≤ 1024 = omega (arith, stretch-within reference at l, q .short) in
+      let one : after ≡ renamed now (getD names i 0) piece = is ∙ ap (renamed now (getD names i 0)) (stretch-cut reference at l) in
       let behind : drop l (drop at reference) ≡ drop (at + l) reference = drop-drop l at reference in
       let lengths : drop i ls ≡ l ∷ drop (i + 1) ls =
       next-length answer count i (q .size) (q .few) h ∙ ap (λ (x : ℕ). x ∷ drop (i + 1) ls) (sym e) in
@@ -173,8 +168,7 @@ module _ {store reference names answer : List ℕ} {count at i : ℕ} {now : Lis
         work =
             λ vs numbers size ns.
             let v = getD vs i nobody in
-            let elements : drop i vs ≡ v ∷ drop (i + 1) vs =
-            drop-cons vs i nobody (omega arith) ∙ ap (λ (j : ℕ). v ∷ drop j vs) (sym (add-one i)) in
+            let elements : drop i vs ≡ v ∷ drop (i + 1) vs = drop-next vs i nobody (omega arith) in
             p .work vs numbers size ns
             ∙ ap₂ (λ (us : List Valued) (ks : List ℕ). naming us (drop at reference) ks (memoryOf now numbers)) elements lengths
             ∙ ap₂ (λ (r : List ℕ) m. naming (drop (i + 1) vs) r (drop (i + 1) ls) m) behind

@@ -11,6 +11,7 @@ use lib.ListN.{length, take, drop, set, length-append, length-drop, length-take,
 use lib.Seq.{drop-drop, length-take-le, take-all, take-take}
 use borrow.Author.Tests.{eq-eqb, ne-eqb, le-leb, lt-leb, le-ltb, lt-ltb, leb-true, leb-false}
 use Rattle.base.specs.Choice.{test-cases, true-behind}
+use Rattle.base.specs.ListLaws.{nil-length, not-nil}
 use Rattle.base.specs.Lists.{isNil}
 use Rattle.calls.specs.BufferLaws.{Good, good-image, good-short, storeWith, with-good, with-splice, with-strings, length-image}
 use Rattle.calls.specs.Buffers.{cellImage, storeImage, storeSize, stringsIn}
@@ -97,14 +98,7 @@ drop-least l n =
     ap (λ (j : ℕ). drop j l) (min-eq-right h) ∙ drop-of-length-le l {i = length l} (omega arith) ∙ sym (drop-of-length-le l {i = n} h))
 
 is-nil : (l : List ℕ) → length l ≡ 0 → isNil l ≡ true
-unfolding isNil
-is-nil [] h = refl
-is-nil (x ∷ l) h = absurd (omega arith)
-
-not-nil : (l : List ℕ) → 0 < length l → isNil l ≡ false
-unfolding isNil
-not-nil [] h = absurd (omega arith)
-not-nil (x ∷ l) h = refl
+is-nil l h = nil-length l ∙ eq-eqb (length l) 0 h
 
 -- no record is read
 took-none : (store input : List ℕ) (place most from : ℕ) → Taking store place input from

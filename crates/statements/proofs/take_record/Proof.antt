@@ -5,10 +5,11 @@ use mathlib.Core.Path.{_≡_, sym, ap, subst, _∙_}
 use Prim.Native.Nat.{ℕ, _+_, _*_, _-_, _^_, _≤_, _<_, min}
 use native.Mathlib.Nat.{min-le-left, min-le-right}
 use native.Mathlib.Omega.{arith}
-use lib.ListN.{length, take, drop, length-drop, length-take}
+use lib.ListN.{length, take, drop, length-drop}
 use mir.Syntax.{w64}
 use mir.Val.{Fits}
 use borrow.Author.Needs.{needs}
+use Rattle.base.specs.ListLaws.{stretch-few, stretch-cut}
 use Rattle.calls.specs.BufferLaws.{storeWith}
 use Rattle.cells.specs.SpanLaws.{record-within}
 use Rattle.machine.specs.Step.{recordLength}
@@ -38,12 +39,8 @@ beyond : (from size : ℕ) → (size - from ≡ 0 → ⊥) → from < size
 beyond from size h = omega arith
 
 -- a stretch of so many bytes
-stretch : (l : List ℕ) (from n : ℕ) → take (from + n - from) (drop from l) ≡ take n (drop from l)
-stretch l from n = let e : from + n - from ≡ n = omega arith in ap (λ (j : ℕ). take j (drop from l)) e
-
 stretch-short : (l : List ℕ) (from n most : ℕ) → n ≤ most → length (take (from + n - from) (drop from l)) ≤ most
-stretch-short l from n most h =
-    omega (arith, ap length (stretch l from n) ∙ length-take n (drop from l), min-le-left n (length (drop from l)))
+stretch-short l from n most h = omega (arith, stretch-few l from (from + n - from))
 
 -- so does what is kept of it, which is short
 record Kept (c : tie.After-least2) : Type 0 where
@@ -146,7 +143,7 @@ returns-3 c =
     (beyond from size (found .before .if2 .left)) n (found .next-record .ensures) (c .before .before .before .put .last .0)
     (c .before .before .before .put .ensures
     ∙ ap (storeWith (a .store .now) (a .place))
-    (stretch (a .input .now) from (chosen .least2 .result) ∙ ap (λ (j : ℕ). take j (drop from (a .input .now))) wanted)))
+    (stretch-cut (a .input .now) from (chosen .least2 .result) ∙ ap (λ (j : ℕ). take j (drop from (a .input .now))) wanted)))
 
 pub take-record-spec : {M : Type 1} → statement M
 take-record-spec =

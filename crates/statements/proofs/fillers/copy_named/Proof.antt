@@ -4,9 +4,9 @@ use mathlib.Core.Bool.{cond}
 use mathlib.Core.List.{List}
 use mathlib.Core.Path.{_≡_, sym, ap, ap₂, _∙_}
 use Prim.Native.Nat.{ℕ, _+_, _*_, _-_, _<_}
-use native.Mathlib.Omega.{arith}
 use lib.ListN.{length, take, drop}
 use borrow.Author.Tests.{le-ltb, lt-ltb}
+use Rattle.base.specs.ListLaws.{stretch-cut}
 use Rattle.calls.specs.BufferLaws.{Good, storeWith, string-part}
 use Rattle.cells.specs.Contracts.{stringOf}
 use Rattle.statements.specs.Fillers.{renamed}
@@ -18,8 +18,7 @@ use Rattle.statements.proofs.fillers.copy_named.Tie as tie
 whole : (store : List ℕ) → Good store → (place : ℕ) → place < 32 → (start n : ℕ) → start ≡ 1026 * place + 2
     → n ≡ length (stringOf store place) → take (start + n - start) (drop start store) ≡ stringOf store place
 whole store g place h start n e size =
-    let cut : start + n - start ≡ n = omega arith in
-    ap (λ (j : ℕ). take j (drop start store)) cut
+    stretch-cut store start n
     ∙ ap₂ (λ (j k : ℕ). take j (drop k store)) size e
     ∙ sym (string-part store g place h)
 

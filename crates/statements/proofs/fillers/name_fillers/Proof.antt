@@ -1,12 +1,11 @@
 -- `fillers::name_fillers` meets its contract. The invariant: naming the pieces that are left leaves the memory asked for.
 -- Assumes nothing.
-use mathlib.Core.List.{List}
 use mathlib.Core.Path.{_≡_, ap, _∙_}
 use Prim.Native.Nat.{ℕ, _+_, _-_, _≤_}
-use native.Mathlib.Nat.{min-le-right}
 use native.Mathlib.Omega.{arith}
-use lib.ListN.{length, take, drop, getD, length-drop, length-take}
+use lib.ListN.{length, take, drop, getD}
 use borrow.Author.Needs.{needs}
+use Rattle.base.specs.ListLaws.{stretch-within}
 use Rattle.statements.specs.FillerLaws.{Namings, namings-none, next-inside, namings-more, namings-all}
 use Rattle.statements.specs.Fillers.{renamed}
 use Rattle.statements.proofs.fillers.name_fillers.Statement.{statement}
@@ -26,11 +25,6 @@ number-requires c κs = search needs
 
 loop-holds : tie.Need-loop-holds Inv-loop μ-loop
 loop-holds c = namings-none (c .before .before .before .before .before .before .pre) (c .number .ensures)
-
--- a piece of a short reference
-piece-short : (r : List ℕ) (n at : ℕ) → length r ≤ 1024 → length (take n (drop at r)) ≤ 1024
-piece-short r n at h =
-    omega (arith, length-take n (drop at r), min-le-right n (length (drop at r)), length-drop at r)
 
 -- the next piece lies in the reference
 inside : (c : tie.After-number2 Inv-loop μ-loop)
@@ -83,7 +77,7 @@ set-named-requires : tie.Need-set-named-requires Inv-loop μ-loop
 set-named-requires c κs =
     let l = c .before .before .before .before .before .before .before .loop in
     let s = c .before .before .before .before .before .before .before .before .before .before .before .before .before .before in
-    (l .inv .stays .good, piece-short (s .args .reference .now) (l .at + c .before .before .before .before .number2 .result - l .at) (l .at) (s .pre .short))
+    (l .inv .stays .good, omega (arith, stretch-within (s .args .reference .now) (l .at) (l .at + c .before .before .before .before .number2 .result - l .at), s .pre .short))
 
 add-i : tie.Need-add-i Inv-loop μ-loop
 add-i c = search needs

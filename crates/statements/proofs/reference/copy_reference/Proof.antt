@@ -2,9 +2,9 @@
 use mathlib.Core.List.{List}
 use mathlib.Core.Path.{_≡_, sym, ap₂, _∙_}
 use Prim.Native.Nat.{ℕ, _+_, _-_, _≤_}
-use native.Mathlib.Nat.{min-le-left}
 use native.Mathlib.Omega.{arith}
-use lib.ListN.{length, take, drop, length-take}
+use lib.ListN.{length, take, drop}
+use Rattle.base.specs.ListLaws.{stretch-few}
 use Rattle.calls.specs.BufferLaws.{good-short}
 use Rattle.calls.specs.Splices.{splice}
 use Rattle.machine.specs.Scanning.{turned}
@@ -24,7 +24,7 @@ short : (l : List ℕ) (start from to : ℕ) → from ≤ to → to ≤ 1024 →
 short l start from to h k =
     let n = start + to - (start + from) in
     let few : n ≤ 1024 = omega arith in
-    omega (arith, length-take n (drop (start + from) l), min-le-left n (length (drop (start + from) l)))
+    omega (arith, stretch-few l (start + from) n)
 
 -- where the bytes lie
 record Inside (c : tie.After-string-start) : Type 0 where
