@@ -5,12 +5,12 @@ use mathlib.Core.List.{List, [], _∷_}
 use mathlib.Core.Path.{_≡_, ap, sym, _∙_}
 use Prim.Native.Nat.{ℕ, suc, _+_, _*_, _-_, _^_, _≤_, _<_}
 use native.Mathlib.Nat.{lt-of-lt-of-le, min-le-left, one-le-pow, pow-le-pow-right, pow-succ'}
-use native.Mathlib.Numerals.{add-one}
 use native.Mathlib.Omega.{arith}
 use lib.ListN.{length, take, drop, getD, length-take}
-use lib.Seq.{drop-cons, drop-length}
+use lib.Seq.{drop-length}
 use borrow.Author.Tests.{eq-eqb, ne-eqb}
 use Rattle.base.specs.Choice.{test-cases}
+use Rattle.base.specs.ListLaws.{drop-next}
 use Rattle.base.specs.Lists.{keep}
 use Rattle.cards.specs.Bytes.{isBlank}
 use Rattle.cards.specs.Cards.{withoutBlanks}
@@ -27,10 +27,10 @@ key-without b bs same = ap (λ t. keyOf (elim (not t) [ true ↦ b ∷ withoutBl
 
 module _ (xs : List ℕ) (i : ℕ) (h : i < length xs) where
   pub key-kept : (getD xs i 0 ≡ 32 → ⊥) → keyOf (withoutBlanks (drop i xs)) ≡ 256 * keyOf (withoutBlanks (drop (i + 1) xs)) + getD xs i 0
-  key-kept differs = rw (add-one i, drop-cons xs i 0 h) (key-with _ _ differs)
+  key-kept differs = rw (drop-next xs i 0 h) (key-with _ _ differs)
 
   pub key-dropped : getD xs i 0 ≡ 32 → keyOf (withoutBlanks (drop i xs)) ≡ keyOf (withoutBlanks (drop (i + 1) xs))
-  key-dropped same = rw (add-one i, drop-cons xs i 0 h) (key-without _ _ same)
+  key-dropped same = rw (drop-next xs i 0 h) (key-without _ _ same)
 
 -- no byte is added where blanks are dropped
 pub blanks-less : (xs : List ℕ) → length (withoutBlanks xs) ≤ length xs

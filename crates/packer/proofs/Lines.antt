@@ -3,14 +3,14 @@
 use mathlib.Core.Bool.{Bool, true, false, _&&_}
 use mathlib.Core.List.{List, [], _∷_}
 use mathlib.Core.Path.{_≡_, refl, ap, sym, _∙_}
-use Prim.Native.Nat.{ℕ, zero, suc, _+_, _-_, _≤_, _<_}
+use Prim.Native.Nat.{ℕ, zero, suc, _+_, _-_, _<_}
 use native.Mathlib.Nat.{not-suc-le-zero}
-use native.Mathlib.Numerals.{add-one}
 use native.Mathlib.Omega.{arith}
 use lib.Dec.{eqb}
-use lib.ListN.{length, take, drop, getD, drop-of-length-le}
+use lib.ListN.{length, take, drop, getD}
 use lib.Seq.{drop-cons, drop-drop}
 use Rattle.base.specs.Choice.{test-cases}
+use Rattle.base.specs.ListLaws.{all-next}
 use Rattle.base.specs.Lists.{all}
 use Rattle.cards.specs.Bytes.{newline}
 use Rattle.cards.specs.Cards.{onFirst, lines}
@@ -46,19 +46,11 @@ line-ends deck from end h n =
     record { low = n .low; high = n .high; first = rw (size, next, ← drop-drop) first }
 
 -- one byte further, of what holds of all bytes
-pub all-cons : (f : ℕ → Bool) (xs : List ℕ) (i : ℕ) → i < length xs → all f (drop i xs) ≡ (f (getD xs i 0) && all f (drop (i + 1) xs))
-unfolding all
-all-cons f xs i h = rw (add-one i, drop-cons xs i 0 h)
-
 pub all-more : (f : ℕ → Bool) (xs : List ℕ) (i : ℕ) → i < length xs → f (getD xs i 0) ≡ true → all f (drop (i + 1) xs) ≡ all f (drop i xs)
-all-more f xs i h t = sym (all-cons f xs i h ∙ ap (λ u. u && all f (drop (i + 1) xs)) t)
+all-more f xs i h t = sym (all-next f xs i h ∙ ap (λ u. u && all f (drop (i + 1) xs)) t)
 
 pub all-false : (f : ℕ → Bool) (xs : List ℕ) (i : ℕ) → i < length xs → f (getD xs i 0) ≡ false → all f (drop i xs) ≡ false
-all-false f xs i h t = all-cons f xs i h ∙ ap (λ u. u && all f (drop (i + 1) xs)) t
-
-pub all-none : (f : ℕ → Bool) (xs : List ℕ) (i : ℕ) → length xs ≤ i → all f (drop i xs) ≡ true
-unfolding all
-all-none f xs i h = rw (drop-of-length-le xs h)
+all-false f xs i h t = all-next f xs i h ∙ ap (λ u. u && all f (drop (i + 1) xs)) t
 
 -- the byte at a place, whatever is said to stand behind the end
 pub getD-within : (xs : List ℕ) (i d e : ℕ) → i < length xs → getD xs i d ≡ getD xs i e

@@ -3,16 +3,17 @@
 use mathlib.Core.Bool.{Bool, true, false, not, _&&_, false≢true, and-eq-true-iff, and-assoc, and-true}
 use mathlib.Core.List.{List, [], _∷_, _++_, append-nil}
 use mathlib.Core.Path.{_≡_, refl, ap, sym, _∙_}
-use Prim.Native.Nat.{ℕ, suc, _+_, _≤_, _<_}
+use Prim.Native.Nat.{ℕ, _+_, _≤_, _<_}
 use native.Mathlib.Nat.{add-zero}
 use native.Mathlib.Numerals.{add-one}
 use native.Mathlib.Omega.{arith}
 use mir.Val.{boolByte}
 use lib.Dec.{eqb}
 use lib.ListN.{length, take, drop, getD, set, length-set, drop-of-length-le}
-use lib.Seq.{append-snoc, drop-cons, take-suc-set, take-set-le}
+use lib.Seq.{append-snoc, take-suc-set, take-set-le}
 use borrow.Author.Tests.{eqb-true, eqb-false, eq-eqb, ne-eqb, not-false, not-true}
 use Rattle.base.specs.Choice.{test-cases}
+use Rattle.base.specs.ListLaws.{drop-next}
 use Rattle.cards.specs.Bytes.{isBlank, quote}
 use Rattle.cards.specs.Packing.{Place, outside, opened, doubled, inside, placeAfter, isDropped, packFrom, literalsFrom}
 use Rattle.packer.specs.declared.packed.Packing.{Packing}
@@ -117,18 +118,18 @@ pub packed-more : (part text : List ℕ) (place : Place) (at i : ℕ) → at < l
     ≡ take at text ++ packFrom place (drop i part)
 unfolding keptAt packFrom
 packed-more part text place at i ht hp =
-    rw (add-one i, drop-cons part i 0 hp)
-    (stored (isDropped place (getD part i 0)) text (packFrom (placeAfter place (getD part i 0)) (drop (suc i) part)) at (getD part i 0) ht)
+    rw (drop-next part i 0 hp)
+    (stored (isDropped place (getD part i 0)) text (packFrom (placeAfter place (getD part i 0)) (drop (i + 1) part)) at (getD part i 0) ht)
 
 pub place-more : (part : List ℕ) (i : ℕ) (place : Place) → i < length part →
     placeBehind (placeAfter place (getD part i 0)) (drop (i + 1) part) ≡ placeBehind place (drop i part)
 unfolding placeBehind
-place-more part i place h = rw (add-one i, drop-cons part i 0 h)
+place-more part i place h = rw (drop-next part i 0 h)
 
 pub unbroken-more : (part : List ℕ) (i : ℕ) (place : Place) → i < length part →
     (staysWhole place (getD part i 0) && unbroken (placeAfter place (getD part i 0)) (drop (i + 1) part)) ≡ unbroken place (drop i part)
 unfolding unbroken
-unbroken-more part i place h = rw (add-one i, drop-cons part i 0 h)
+unbroken-more part i place h = rw (drop-next part i 0 h)
 
 -- the packing s₀ of text has gone on to s over i bytes of part: what is left leads to the same
 pub record Going (part text : List ℕ) (s₀ : Packing) (text′ : List ℕ) (s : Packing) (i : ℕ) : Type 0 where

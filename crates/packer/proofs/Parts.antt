@@ -4,13 +4,14 @@ use mathlib.Core.Bool.{Bool, true, false, cond, not, _&&_, false≢true}
 use mathlib.Core.List.{List, [], _∷_, _++_}
 use mathlib.Core.Path.{_≡_, refl, ap, sym, subst, _∙_}
 use Prim.Native.Nat.{ℕ, _+_, _-_, _≤_, _<_}
-use native.Mathlib.Nat.{le-trans, min-le-left, min-le-right}
+use native.Mathlib.Nat.{le-trans, min-le-right}
 use native.Mathlib.Omega.{arith}
 use lib.Dec.{eqb}
 use lib.ListN.{length, take, drop, length-take, length-drop}
 use lib.Seq.{take-take}
 use Rattle.base.specs.Choice.{test-cases}
 use Rattle.base.specs.Edition.{edition1}
+use Rattle.base.specs.ListLaws.{stretch-few}
 use Rattle.base.specs.Lists.{all}
 use Rattle.cards.specs.Bytes.{slash}
 use Rattle.cards.specs.Cards.{Entry, lines, soundLine, column9, labelOf, textOf, entriesFrom, statement, withoutBlanks}
@@ -156,9 +157,7 @@ module _ (deck text : List ℕ) (s : Joining) (room : Room deck text s) where
     line = take (end - s .next) (drop (s .next) deck)
 
     line-length : length line ≤ end - s .next
-    line-length =
-        let n = end - s .next in
-        omega (arith, length-take n (drop (s .next) deck), min-le-left n (length (drop (s .next) deck)))
+    line-length = stretch-few deck (s .next) (end - s .next)
 
     pub adding : Adding line (end + 1) text s
     adding =

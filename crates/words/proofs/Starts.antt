@@ -1,16 +1,16 @@
 -- What stands at a place of a text, near its end and behind it. Assumes nothing.
-use mathlib.Core.Bool.{true, false, _&&_, false≢true, and-true}
+use mathlib.Core.Bool.{true, false, _&&_, and-true}
 use mathlib.Core.List.{List, [], _∷_}
-use mathlib.Core.Path.{_≡_, refl, sym, ap, _∙_}
+use mathlib.Core.Path.{_≡_, refl, sym, _∙_}
 use Prim.Native.Nat.{ℕ, _-_, _≤_, _<_}
 use native.Mathlib.Omega.{arith}
-use lib.Dec.{eqb, ltb}
+use lib.Dec.{eqb}
 use lib.ListN.{length, drop, getD, length-drop, drop-of-length-le}
-use lib.Seq.{drop-cons, take-all}
-use borrow.Author.Tests.{ltb-true, ltb-false, ne-eqb}
+use lib.Seq.{drop-cons}
+use borrow.Author.Tests.{ne-eqb}
 use Rattle.base.specs.Choice.{test-cases}
+use Rattle.base.specs.ListLaws.{begins-room}
 use Rattle.base.specs.Lists.{begins, same}
-use Rattle.base.specs.ListLaws.{begins-iff}
 
 -- a byte in front of a word and of a text
 begins-cons : (w b : ℕ) (ws bs : List ℕ) → begins (w ∷ ws) (b ∷ bs) ≡ (eqb b w && begins ws bs)
@@ -35,12 +35,6 @@ module _ (text : List ℕ) where
   pub one-behind : (at w : ℕ) → length text ≤ at → false ≡ begins (w ∷ []) (drop at text)
   one-behind at w h = rw (drop-of-length-le text h, begins-none)
 
-  -- a byte that stands there is in the text
-  pub one-within : (at w : ℕ) → begins (w ∷ []) (drop at text) ≡ true → at < length text
-  one-within at w e =
-      test-cases (λ t. ltb at (length text) ≡ t → at < length text) (ltb at (length text)) (λ _ h. ltb-true at (length text) h)
-      (λ _ h. absurd (false≢true (one-behind at w (ltb-false at (length text) h) ∙ e))) refl
-
   -- behind the end only the empty word stands
   pub begins-behind : (word : List ℕ) (at : ℕ) → length text ≤ at → eqb (length word) 0 ≡ begins word (drop at text)
   begins-behind [] at h = sym (begins-empty (drop at text))
@@ -49,9 +43,5 @@ module _ (text : List ℕ) where
   -- a word doesn't stand where fewer bytes are left
   pub begins-short : (word : List ℕ) (at : ℕ) → length text - at < length word → false ≡ begins word (drop at text)
   begins-short word at h =
-      let few : length (drop at text) < length word = omega (arith, length-drop at text) in
       test-cases (λ t. false ≡ t) (begins word (drop at text))
-      (λ e.
-      let whole : drop at text ≡ word = sym (take-all (length word) (drop at text) (omega arith)) ∙ begins-iff word (drop at text) .0 e in
-      absurd (omega (arith, ap length whole)))
-      (λ _. refl)
+      (λ e. absurd (omega (arith, begins-room word (drop at text) e, length-drop at text))) (λ _. refl)

@@ -3,10 +3,10 @@ use mathlib.Core.Bool.{Bool, true, false}
 use mathlib.Core.List.{List, [], _∷_}
 use mathlib.Core.Path.{_≡_, refl, ap, _∙_}
 use Prim.Native.Nat.{ℕ, suc, _+_, _-_, _≤_, _<_}
-use native.Mathlib.Numerals.{add-one}
 use native.Mathlib.Omega.{arith}
 use lib.ListN.{length, drop, getD, length-drop, drop-of-length-le}
 use lib.Seq.{drop-cons}
+use Rattle.base.specs.ListLaws.{drop-next}
 use Rattle.language.specs.Fuel.{run-within}
 use Rattle.language.specs.Words.{run}
 use Rattle.words.specs.Places.{Counts}
@@ -37,7 +37,7 @@ module _ (f : ℕ → Bool) where
 
     pub count-more : (i : ℕ) → Counting i → i < length text → f (getD text i 0) ≡ true → Counting (i + 1)
     count-more i h l e =
-        let next : run f (drop i text) ≡ suc (run f (drop (i + 1) text)) = rw (add-one, drop-cons text i 0) (run-front _ _ e) in
+        let next : run f (drop i text) ≡ suc (run f (drop (i + 1) text)) = rw (drop-next text i 0 l) (run-front _ _ e) in
         (omega arith, omega arith)
 
     pub count-stop : (i : ℕ) → Counting i → i < length text → f (getD text i 0) ≡ false → Counts text at (run f (drop at text)) (i - at)

@@ -2,10 +2,11 @@
 -- Assumes nothing.
 use Prim.Native.Nat.{_-_, _≤_}
 use Rattle.base.specs.Edition.{edition1}
+use Rattle.base.specs.ListLaws.{all-end}
 use Rattle.base.specs.Lists.{all}
 use Rattle.cards.specs.Bytes.{isBlank}
 use Rattle.cards.specs.Cards.{isBlankLine}
-use Rattle.packer.proofs.Lines.{all-more, all-false, all-none}
+use Rattle.packer.proofs.Lines.{all-more, all-false}
 use borrow.Author.Needs.{needs}
 use borrow.Author.Tests.{eq-eqb, ne-eqb}
 use lib.ListN.{length, drop}
@@ -56,7 +57,7 @@ unfolding isBlankLine edition1
 returns-2 c =
     let bytes = c .before .before .front .result .now in
     let s = c .before .loop in
-    sym (all-none isBlank bytes (s .i) (omega arith)) ∙ s .inv .1 ∙ ap (all isBlank) (c .before .before .front .ensures)
+    sym (all-end isBlank bytes (s .i) (omega arith)) ∙ s .inv .1 ∙ ap (all isBlank) (c .before .before .front .ensures)
 
 pub is-blank-line-spec : {M : Type 1} → statement M
 is-blank-line-spec =

@@ -1,11 +1,11 @@
 -- `packer::line::sound_line` answers whether the line is sound. The invariant: the flag and the bytes from i on tell.
 -- Assumes nothing.
 use Prim.Native.Nat.{_+_, _-_, _≤_}
+use Rattle.base.specs.ListLaws.{all-next, all-end}
 use Rattle.base.specs.Lists.{all}
 use Rattle.cards.specs.Bytes.{classOf, isRefused}
 use Rattle.cards.specs.Cards.{soundLine}
 use Rattle.packer.proofs.Bools.{flag-more}
-use Rattle.packer.proofs.Lines.{all-cons, all-none}
 use borrow.Author.Needs.{needs}
 use borrow.Author.Tests.{le-leb, lt-leb}
 use lib.ListN.{length, drop}
@@ -52,7 +52,7 @@ loop-again c =
       omega arith,
       flag-more (s .bad) (c .is-refused .result) rest
           ∙ ap (λ t. not (s .bad) && (not t && rest)) (c .is-refused .ensures)
-          ∙ ap (λ t. not (s .bad) && t) (sym (all-cons (λ b. not (isRefused (classOf b))) line (s .i) (omega arith)))
+          ∙ ap (λ t. not (s .bad) && t) (sym (all-next (λ b. not (isRefused (classOf b))) line (s .i) (omega arith)))
           ∙ s .inv .1,
     )
 
@@ -62,7 +62,7 @@ returns-2 c =
     let line = c .before .before .before .before .args .line .now in
     let s = c .before .loop in
     sym (and-true (not (s .bad)))
-    ∙ ap (λ t. not (s .bad) && t) (sym (all-none (λ b. not (isRefused (classOf b))) line (s .i) (omega arith)))
+    ∙ ap (λ t. not (s .bad) && t) (sym (all-end (λ b. not (isRefused (classOf b))) line (s .i) (omega arith)))
     ∙ s .inv .1
     ∙ ap (λ t. t && all (λ b. not (isRefused (classOf b))) line) (sym (le-leb (length line) 80 (omega arith)))
 

@@ -1,14 +1,15 @@
 -- `words::constants::signed` meets its contract.
 -- Assumes nothing.
 use borrow.Author.Needs.{needs}
+use mathlib.Core.List.{[]}
 use mathlib.Core.Path.{sym, subst, _∙_}
 use Prim.Native.Nat.{_+_}
 use native.Mathlib.Omega.{arith}
 use lib.IntN.{pos, negℤ}
+use Rattle.base.specs.ListLaws.{begins-inside}
 use Rattle.words.specs.Constants.{ReadsSigned}
 use Rattle.values.specs.Laws.{abs-negative}
 use Rattle.words.proofs.Signs.{plus-size, reads-signed, signed-minus, signed-plus, signed-none}
-use Rattle.words.proofs.Starts.{one-within}
 use Rattle.words.proofs.constants.signed.Statement.{statement}
 use Rattle.words.proofs.constants.signed.Tie as tie
 
@@ -18,7 +19,7 @@ stands-at-requires c κs = search needs
 add-unsigned : tie.Need-add-unsigned
 add-unsigned c =
     let a = c .before .before .before .args in
-    omega (arith, one-within (a .text .now) (a .at) 45 (sym (c .before .stands-at .ensures) ∙ c .if1 .taken))
+    omega (arith, begins-inside 45 [] (a .text .now) (a .at) (sym (c .before .stands-at .ensures) ∙ c .if1 .taken))
 
 unsigned-requires : tie.Need-unsigned-requires
 unsigned-requires c κs = search needs
@@ -40,7 +41,7 @@ stands-at-requires-2 c κs = search needs
 add-unsigned-2 : tie.Need-add-unsigned-2
 add-unsigned-2 c =
     let a = c .before .before .before .before .before .args in
-    omega (arith, one-within (a .text .now) (a .at) 43 (sym (c .before .stands-at2 .ensures) ∙ c .if2 .taken))
+    omega (arith, begins-inside 43 [] (a .text .now) (a .at) (sym (c .before .stands-at2 .ensures) ∙ c .if2 .taken))
 
 unsigned-requires-2 : tie.Need-unsigned-requires-2
 unsigned-requires-2 c κs = search needs
