@@ -9,6 +9,7 @@ use lib.ListN.{length, take, drop, getD, set, length-append, length-drop, take-a
 use lib.Seq.{drop-append-le, getD-append-seam, getD-set-other, getD-set-same, length-take-le, take-add, take-all, take-append-le, take-at, take-take}
 use borrow.Author.Tests.{eqb-false, eqb-true, le-ltb, lt-ltb}
 use Rattle.base.specs.Choice.{test-cases}
+use Rattle.base.specs.ListLaws.{stretch-cut}
 use Rattle.calls.specs.Splices.{splice, length-splice, take-splice, drop-splice}
 use Rattle.cells.specs.CellLaws.{drop-take}
 use Rattle.machine.specs.Scanning.{Valued}
@@ -75,10 +76,10 @@ module _ (values rows rowsLeft : List ℕ) (i : ℕ) where
         let more : 1024 * (i + 1) - at ≡ 1024 = omega arith in
         let cut : drop at (valuesOf left (i + 1)) ≡ take 1024 (drop at left) =
         drop-take left at (1024 * (i + 1)) (omega arith) (omega (arith, s .few)) ∙ ap (λ (k : ℕ). take k (drop at left)) more in
-        let back : at + n - at ≡ n = omega arith in
         let behind : drop at left ≡ u ++ drop (at + length u) values = ap (drop at) e ∙ drop-splice values at u (omega arith) in
         let bytes : take (at + n - at) (drop at (valuesOf left (i + 1))) ≡ w =
-        ap₂ (λ (k : ℕ) (l : List ℕ). take k l) back cut
+        stretch-cut (valuesOf left (i + 1)) at n
+        ∙ ap (take n) cut
         ∙ take-take n 1024 (drop at left) h
         ∙ ap (take n) behind
         ∙ take-at u (drop (at + length u) values) n size

@@ -3,14 +3,15 @@ use mathlib.Core.Bool.{Bool, true, false}
 use mathlib.Core.List.{List, [], _∷_, _++_, map, map-map}
 use mathlib.Core.Option.{Option, none, some}
 use mathlib.Core.Path.{_≡_, refl, sym, ap, ap₂, subst, _∙_}
-use Prim.Native.Nat.{ℕ, zero, suc, _+_, _-_, _≤_, _<_}
+use Prim.Native.Nat.{ℕ, _+_, _-_, _≤_, _<_}
 use native.Mathlib.Omega.{arith}
 use lib.ListN.{length, drop, getD, set, replicate, length-append, length-drop, length-replicate, drop-of-length-le}
 use lib.Seq.{length-take-le, take-at}
+use Rattle.calls.specs.ReadingLaws.{rows-length}
 use Rattle.base.specs.Lists.{total}
 use Rattle.machine.specs.Scanning.{Valued, naming}
 use Rattle.rows.specs.declared.Stretch.{Stretch}
-use Rattle.scan.specs.Rows.{elementsAt, patternOf}
+use Rattle.scan.specs.Rows.{elementsAt, patternOf, elementOf, rowElement}
 use Rattle.scanning.specs.Call.{answerNumbers, mostElements, splitNumbers}
 use Rattle.scanning.specs.FirstFit.{scan-first-fit}
 use Rattle.scanning.specs.Laws.{fits-count}
@@ -88,8 +89,8 @@ pieces-within (e ∷ p) rest (l ∷ ls) h = omega (arith, h .0, pieces-within p 
 
 count-elements : (values rows : List ℕ) (n i : ℕ) → length (elementsAt values rows n i) ≡ n
 unfolding elementsAt
-count-elements values rows zero i = refl
-count-elements values rows (suc n) i = ap suc (count-elements values rows n (i + 1))
+count-elements values rows n i =
+    rows-length (λ j. elementOf values (rowElement rows j)) (λ j m. elementsAt values rows m j) (λ _. refl) (λ _ _. refl) i n
 
 -- the pieces of a split that a scan answers
 split-fits : (p : List Element) (r : List ℕ) (s : Split) → scan p r .split ≡ some s → Fits p r s
