@@ -5,20 +5,21 @@ use mathlib.Core.Path.{_≡_, refl, sym, _∙_, ap, subst}
 use Prim.Native.Nat.{ℕ, suc, _+_, _-_, _≤_, _<_}
 use native.Mathlib.Numerals.{add-one}
 use native.Mathlib.Omega.{arith}
-use lib.ListN.{length, take, drop, getD, set, take-append-drop, length-reverse, length-drop}
+use lib.ListN.{length, take, drop, getD, set, take-append-drop, length-drop}
 use lib.Seq.{length-take-le, getD-set-same}
 use Rattle.base.specs.Edition.{edition1}
 use Rattle.calls.specs.BufferLaws.{Good, keeps-good}
-use Rattle.calls.specs.Buffers.{stringsIn, numbersIn, returnsIn, returnsAt, statusOf, stateIn, storeImage, storeLeft, outputLeft, storeSize, stateSize}
+use Rattle.calls.specs.Buffers.{stringsIn, numbersIn, statusOf, stateIn, storeImage, storeLeft, outputLeft, storeSize, stateSize}
 use Rattle.calls.specs.Calls.{Buffers, leftOf}
-use Rattle.calls.specs.GivenLaws.{StateInRange, state-in-range, given-holds}
+use Rattle.calls.specs.GivenLaws.{StateInRange, state-in-range, given-holds, returns-count}
+use Rattle.calls.specs.StopLaws.{output-whole}
 use Rattle.expressions.specs.Memory.{memoryIn}
 use Rattle.language.specs.Program as Program
 use Rattle.language.specs.Program.{Program, Branch, Part}
 use Rattle.machine.specs.Expressions.{numericIn, stringIn, testIn}
 use Rattle.machine.specs.State as Machine
 use Rattle.machine.specs.State.{State, Memory, finished, isRunning, withNumber, goingTo, withReturns, withInput, withOutput, withStatus}
-use Rattle.machine.specs.Step.{Done, noScan, moving, chosen, setStringIn, shortened, putting, returning, carrying}
+use Rattle.machine.specs.Step.{Done, mostReturns, noScan, moving, chosen, setStringIn, shortened, putting, returning, carrying}
 use Rattle.statements.specs.Laws.{left-is, stays-same}
 use Rattle.statements.specs.Leaving.{Stays, memoryOf}
 use Rattle.statements.specs.Reading.{Has, Moves, Halts, onward}
@@ -26,7 +27,7 @@ use Rattle.statements.specs.Valued.{Assigns, PutBy, Stored}
 use Rattle.statements.specs.declared.Did.{Did}
 use Rattle.statements.specs.declared.Did.the-variants as did
 use Rattle.states.specs.Contracts.{Popped}
-use Rattle.states.specs.Laws.{Leaves, leaves-all, holding-leaves, leaves-going, leaves-finished, leaves-stopped, leaves-input, leaves-output, leaves-number, leaves-push, leaves-return, leaves-front, numbers-stay}
+use Rattle.states.specs.Laws.{Leaves, leaves-all, holding-leaves, leaves-going, leaves-finished, leaves-stopped, leaves-input, leaves-output, leaves-number, leaves-push, leaves-return, numbers-stay}
 use Rattle.values.specs.Work.{Work, done, stop, quietly, _>>=_}
 use Rattle.values.specs.WorkLaws.{bound, stopped, bound-twice}
 use Rattle.carry.specs.Carrying.{lent, Standing, machineIn, Moved, Unmoved, Carries, movedOn, MovesOn}
@@ -57,10 +58,8 @@ module _ (p : Program) (input : List ℕ) (b : Buffers) (s : Standing p input b)
 
   -- the output as it was
   pub output-same : (m : State) → m .output ≡ c .output → outputLeft (b .output) m ≡ b .output
-  unfolding outputLeft stateIn
-  output-same m e =
-      ap (λ (o : List ℕ). o ++ drop (length o) (b .output)) e
-      ∙ rw (length-take-le (getD (b .state) 4 0) (b .output) (facts .written)) (take-append-drop (getD (b .state) 4 0) (b .output))
+  unfolding stateIn
+  output-same m e = output-whole (b .output) (getD (b .state) 4 0) m (facts .written) e
 
   -- what is left of a machine, by its store, its numbers and its output
   pub left-parts : (m : State) (store state output : List ℕ) → Stays (b .store) store → m .memory .strings ≡ stringsIn store
@@ -236,11 +235,8 @@ module _ (p : Program) (input : List ℕ) (b : Buffers) (s : Standing p input b)
 
   -- the returns held
   returns-held : length (c .returns) ≡ getD (b .state) 2 0
-  unfolding stateIn returnsIn returnsAt
-  returns-held =
-      let n = getD (b .state) 2 0 in
-      length-reverse (take n (drop 5 (b .state)))
-      ∙ length-take-le n (drop 5 (b .state)) (simp length-drop (omega (arith, s .size, given-leaves .few, leaves-front given-leaves 2 (omega arith))))
+  unfolding stateIn mostReturns
+  returns-held = returns-count (b .state) (omega (arith, s .size, facts .count))
 
   -- EXECUTE
   pub executes : (next k : ℕ) → next ≡ getD (b .state) 1 0 + 1 → getD (b .state) 2 0 < 16
