@@ -7,6 +7,7 @@ use native.Mathlib.Omega.{arith}
 use lib.ListN.{length, drop, getD, length-drop}
 use lib.Seq.{drop-drop}
 use Rattle.base.specs.Edition.{edition1}
+use Rattle.base.specs.ListLaws.{begins-room}
 use Rattle.base.specs.Lists.{begins}
 use Rattle.base.specs.Text.{bytes}
 use Rattle.calls.specs.Table as Table
@@ -20,7 +21,7 @@ use Rattle.language.specs.Words.{Places, isSign, noRole, stringName, partName}
 use Rattle.met.specs.Entries.{roleOf}
 use Rattle.met.specs.ReadingLaws.{give-then, got-broken}
 use Rattle.met.specs.declared.Cursor.{Cursor}
-use Rattle.numeric.specs.OperandLaws.{gets-give, gets-then, gets-skip, skipped, drop-moved, begins-room, then-broken, chosen}
+use Rattle.numeric.specs.OperandLaws.{gets-give, gets-then, gets-skip, skipped, drop-moved, then-broken, chosen}
 use Rattle.numeric.specs.OperandLaws.{cell-same, cell-made, place-cell, cell-skip, gets-closed, gets-open}
 use Rattle.numeric.specs.Operands.{Ready, Gets, moved, meaning, CellRead, PlaceRead, placedIn}
 use Rattle.numeric.specs.declared.operands.Cell.{Cell}

@@ -13,6 +13,7 @@ use borrow.Author.Tests.{ltb-true, ltb-false}
 use Rattle.base.specs.Choice.{cond-cases}
 use Rattle.base.specs.Edition.{edition1}
 use Rattle.base.specs.Limits as Limits
+use Rattle.base.specs.ListLaws.{begins-room}
 use Rattle.base.specs.Lists.{all, any, begins, total}
 use Rattle.base.specs.Text.{bytes}
 use Rattle.branches.specs.Places.{numberIn}
@@ -35,7 +36,7 @@ use Rattle.met.specs.Items.{withItems}
 use Rattle.met.specs.Known.{placesIn}
 use Rattle.met.specs.ReadingLaws.{give-then, skip-then, skip-broken, got-broken, bind-assoc, bind-same}
 use Rattle.met.specs.declared.Cursor.{Cursor}
-use Rattle.numeric.specs.OperandLaws.{noting-more, met-nothing, then-broken, chosen, begins-room, ready-moved, skipped, drop-moved, named-by, name-met, name-as-broken}
+use Rattle.numeric.specs.OperandLaws.{noting-more, met-nothing, then-broken, chosen, ready-moved, skipped, drop-moved, named-by, name-met, name-as-broken}
 use Rattle.numeric.specs.Operands.{Ready, Gets, Names, Noting, Skips, moved, meaning}
 use Rattle.numeric.specs.Reads.{GetsItems}
 use Rattle.numeric.specs.declared.operands.Cell.{Cell}

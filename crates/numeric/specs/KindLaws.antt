@@ -7,11 +7,12 @@ use Prim.Native.Nat.{ℕ, suc, _+_, _≤_, _<_}
 use native.Mathlib.Nat.{add-zero}
 use native.Mathlib.Omega.{arith}
 use lib.Dec.{eqb, ltb}
-use lib.ListN.{length, drop, length-drop}
+use lib.ListN.{length, drop}
 use lib.Seq.{drop-drop}
 use borrow.Author.Tests.{eqb-true, eqb-false}
 use Rattle.base.specs.Choice.{test-cases, cond-cases, true-behind}
 use Rattle.base.specs.Edition.{edition1}
+use Rattle.base.specs.ListLaws.{begins-inside}
 use Rattle.base.specs.Lists.{begins}
 use Rattle.base.specs.Text.{bytes}
 use Rattle.calls.specs.Table as Table
@@ -25,7 +26,7 @@ use Rattle.met.specs.Entries.{gather, metIn}
 use Rattle.met.specs.Items.{withItem, withItems}
 use Rattle.met.specs.declared.Cursor.{Cursor}
 use Rattle.numeric.specs.Kinds.{markKind, SignAt, OperatorAt, SumAt, ProductAt, PutsCell, Puts, Within, closes}
-use Rattle.numeric.specs.OperandLaws.{onward-none, chosen, begins-room, then-broken}
+use Rattle.numeric.specs.OperandLaws.{onward-none, chosen, then-broken}
 use Rattle.numeric.specs.Operands.{moved}
 use Rattle.numeric.specs.ReadLaws.{inside-then, inside-open, inside-broken}
 use Rattle.numeric.specs.Reads.{GetsItems, ItemsAnswer, ItemsRead, waiting}
@@ -111,15 +112,12 @@ told P w k v l text at one two none′ e =
 
 -- the signs by the mark that stands
 module _ (text : List ℕ) (at : ℕ) where
-  behind : (w : ℕ) → begins (w ∷ []) (drop at text) ≡ true → at < length text
-  behind w e = omega (arith, begins-room (w ∷ []) (drop at text) e, length-drop at text)
-
   sign-plus : begins (43 ∷ []) (drop at text) ≡ true → SignAt text at 14
   unfolding leadingSign bytes waiting anItem metIn gather
   sign-plus e =
       record {
         is = chosen _ _ e ∙ ap (got (sign positive ∷ []) anItem) (drop-drop 1 at text);
-        inside = λ _. omega (arith, behind 43 e);
+        inside = λ _. omega (arith, begins-inside 43 [] text at e);
       }
 
   module _ (no : begins (43 ∷ []) (drop at text) ≡ false) where
@@ -128,7 +126,7 @@ module _ (text : List ℕ) (at : ℕ) where
     sign-minus e =
         record {
           is = chosen _ _ no ∙ chosen _ _ e ∙ ap (got (sign negative ∷ []) anItem) (drop-drop 1 at text);
-          inside = λ _. omega (arith, behind 45 e);
+          inside = λ _. omega (arith, begins-inside 45 [] text at e);
         }
 
     sign-none : begins (45 ∷ []) (drop at text) ≡ false → SignAt text at 0
@@ -167,12 +165,12 @@ module _ (text : List ℕ) (at w v : ℕ) where
     first-mark : waiting kind ≡ operator a ∷ [] → (kind ≡ 0 → ⊥) → begins (w ∷ []) (drop at text) ≡ true
         → OperatorAt marked (markedBy a b) text at kind
     first-mark waits some e =
-        operator-at a waits some (behind text at w e) (ap (λ t. t || begins (v ∷ []) (drop at text)) e) (chosen _ _ e)
+        operator-at a waits some (omega (arith, begins-inside w [] text at e)) (ap (λ t. t || begins (v ∷ []) (drop at text)) e) (chosen _ _ e)
 
     second-mark : waiting kind ≡ operator b ∷ [] → (kind ≡ 0 → ⊥) → begins (w ∷ []) (drop at text) ≡ false
         → begins (v ∷ []) (drop at text) ≡ true → OperatorAt marked (markedBy a b) text at kind
     second-mark waits some other e =
-        operator-at b waits some (behind text at v e) (true-behind (begins (w ∷ []) (drop at text)) _ e) (chosen _ _ other ∙ chosen _ _ e)
+        operator-at b waits some (omega (arith, begins-inside v [] text at e)) (true-behind (begins (w ∷ []) (drop at text)) _ e) (chosen _ _ other ∙ chosen _ _ e)
 
   no-mark : {x : Read Operator} → begins (w ∷ []) (drop at text) ≡ false → begins (v ∷ []) (drop at text) ≡ false
       → OperatorAt marked x text at 0

@@ -7,11 +7,11 @@ use Prim.Native.Nat.{ℕ, _+_, _-_, _/_, _≤_, _<_}
 use native.Mathlib.Nat.{add-zero}
 use native.Mathlib.Omega.{arith}
 use lib.IntN.{pos}
-use lib.ListN.{length, take, drop, getD, length-append, length-map, length-take, length-drop}
+use lib.ListN.{length, take, drop, getD, length-append, length-map, length-drop}
 use lib.Seq.{drop-drop}
 use Rattle.base.specs.Edition.{edition1}
 use Rattle.base.specs.Lists.{all, begins}
-use Rattle.base.specs.ListLaws.{begins-iff}
+use Rattle.base.specs.ListLaws.{begins-room}
 use Rattle.base.specs.Text.{bytes}
 use Rattle.calls.specs.Table as Table
 use Rattle.calls.specs.Table.{lengthCell, partCell, operandCell}
@@ -196,12 +196,6 @@ module _ {text keys tags : List ℕ} {c d : Cursor} where
         keysSize = ready .keysSize;
         tagsSize = ready .tagsSize;
       }
-
--- a word that stands at a place is inside the text
-pub begins-room : (w bs : List ℕ) → begins w bs ≡ true → length w ≤ length bs
-begins-room w bs e =
-    let same : length (take (length w) bs) ≡ length w = ap length (begins-iff w bs .0 e) in
-    omega (arith, simp length-take at same)
 
 pub ready-moved : {text keys tags : List ℕ} {c d : Cursor} (w : List ℕ) → Ready text keys tags c → d ≡ moved c (length w)
     → begins w (drop (c .at) text) ≡ true → Ready text keys tags d

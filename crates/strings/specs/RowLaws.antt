@@ -13,7 +13,7 @@ use Rattle.base.specs.Choice.{test-cases}
 use Rattle.base.specs.Edition.{edition1}
 use Rattle.base.specs.Limits as Limits
 use Rattle.base.specs.Lists.{any, begins}
-use Rattle.base.specs.ListLaws.{begins-iff}
+use Rattle.base.specs.ListLaws.{begins-iff, begins-inside}
 use Rattle.base.specs.Text.{bytes}
 use Rattle.calls.specs.Table as Table
 use Rattle.calls.specs.Table.{partCell, range, elementCell, patternCell, literalIn, allLiterals}
@@ -28,7 +28,7 @@ use Rattle.met.specs.Entries.{Entry, roleOf, gather, metIn}
 use Rattle.met.specs.EntryLaws.{met-more}
 use Rattle.met.specs.Known.{placesIn}
 use Rattle.met.specs.declared.Cursor.{Cursor}
-use Rattle.numeric.specs.OperandLaws.{noting-none, skipped, drop-moved, ready-here, begins-room, then-broken, cell-made, cell-skip, chosen, role-none}
+use Rattle.numeric.specs.OperandLaws.{noting-none, skipped, drop-moved, ready-here, then-broken, cell-made, cell-skip, chosen, role-none}
 use Rattle.numeric.specs.Operands.{moved, Ready, CellRead}
 use Rattle.numeric.specs.declared.operands.Operand as OperandCode
 use Rattle.numeric.specs.declared.operands.Operand.{Operand}
@@ -264,7 +264,7 @@ turn zero = 0
 turn (suc n) = n
 
 turns : (text : List ℕ) (d : Cursor) (n : ℕ) → begins (44 ∷ []) (drop (d .at) text) ≡ true → length text ≤ n + d .at → n ≡ suc (turn n)
-turns text d zero comma h = absurd (omega (arith, begins-room (44 ∷ []) (drop (d .at) text) comma, length-drop (d .at) text))
+turns text d zero comma h = absurd (omega (arith, begins-inside 44 [] text (d .at) comma))
 turns text d (suc n) comma h = refl
 
 module _ {A : Type 0} (one : List ℕ → Read A) where

@@ -5,10 +5,11 @@ use mathlib.Core.Path.{sym, _∙_}
 use Prim.Native.Nat.{_/_}
 use native.Mathlib.Omega.{arith}
 use lib.ListN.{drop, length-drop}
+use Rattle.base.specs.ListLaws.{begins-room}
 use Rattle.base.specs.Text.{bytes}
 use Rattle.met.specs.Entries.{roleOf}
 use Rattle.met.specs.Known.{placesIn}
-use Rattle.numeric.specs.OperandLaws.{begins-room, ready-moved}
+use Rattle.numeric.specs.OperandLaws.{ready-moved}
 use Rattle.strings.specs.RowLaws.{cell-roomy, one-written, element-literal, element-text, element-part}
 use borrow.Author.Needs.{needs}
 use Rattle.strings.proofs.element.Statement.{statement}

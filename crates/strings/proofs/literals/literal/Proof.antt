@@ -5,7 +5,7 @@ use mathlib.Core.Path.{sym, _∙_}
 use Prim.Native.Nat.{_+_}
 use lib.ListN.{drop, length-drop}
 use native.Mathlib.Omega.{arith}
-use Rattle.numeric.specs.OperandLaws.{begins-room}
+use Rattle.base.specs.ListLaws.{begins-room}
 use Rattle.strings.specs.RowLaws.{literal-spelt, literal-quote, literal-run, literal-ends, literal-open}
 use borrow.Author.Needs.{needs}
 use Rattle.strings.proofs.literals.literal.Statement.{statement}
