@@ -1,6 +1,6 @@
 -- The arrays that hold all that is known behind some statements: the numbers of Known, the names each once with its purpose, and the
 -- labels and routines used, each with the routine it is used in. Assumes nothing.
-use mathlib.Core.Bool.{Bool, true, false, cond}
+use mathlib.Core.Bool.{false, cond}
 use mathlib.Core.List.{List, [], _∷_, _++_, map}
 use mathlib.Core.Path.{_≡_}
 use Prim.Native.Nat.{ℕ, zero, suc, _+_, _≤_}
