@@ -2,30 +2,31 @@
 use mathlib.Core.Bool.{Bool, true, false, cond, not}
 use mathlib.Core.List.{List, [], _∷_, append-nil, reverse}
 use mathlib.Core.Path.{_≡_, refl, sym, _∙_, ap, ap₂, subst}
-use Prim.Native.Nat.{ℕ, zero, suc, _+_, _*_, _≤_, _<_}
+use Prim.Native.Nat.{ℕ, _+_, _*_, _≤_, _<_}
 use native.Mathlib.Omega.{arith}
 use lib.Dec.{leb, ltb, eqb}
-use lib.ListN.{length, take, drop, getD, set, replicate, length-drop, length-replicate, length-reverse}
-use lib.Seq.{length-take-le}
-use borrow.Author.Tests.{leb-false, ltb-false, eqb-false, lt-leb, ne-eqb, not-false}
-use Rattle.base.specs.Choice.{cond-cases}
+use lib.ListN.{length, getD, set, replicate, length-replicate}
+use borrow.Author.Tests.{leb-false, ltb-false, ne-eqb, not-false}
+use Rattle.rules.specs.Kinds.{From, from}
 use Rattle.base.specs.Edition.{edition1}
 use Rattle.base.specs.Lists.{isNil}
 use Rattle.calls.specs.BufferLaws.{Good, image-good, fresh-image}
-use Rattle.calls.specs.Buffers.{returnsIn, returnsAt, storeImage, stateIn, stateKeeps, stateSize, statusOf, storeKeeps}
+use Rattle.calls.specs.Buffers.{returnsIn, storeImage, stateIn, stateKeeps, stateSize, statusOf, storeKeeps}
 use Rattle.calls.specs.Calls.{Buffers, carried, givenIn, outOfRange, stepCall, stepRefusal}
-use Rattle.calls.specs.GivenLaws.{StateInRange, state-in-range, given-holds}
+use Rattle.calls.specs.GivenLaws.{StateInRange, state-in-range, given-holds, returns-count, refusal-none}
 use Rattle.calls.specs.Holding.{Holding}
 use Rattle.calls.specs.Numerals.{numberAt}
+use Rattle.calls.specs.RowLaws.{return-row}
 use Rattle.calls.specs.Rules.{keepsRules}
 use Rattle.calls.specs.StepLaws.{Tabled, call-held}
-use Rattle.calls.specs.Table.{Row, stepsAt}
+use Rattle.calls.specs.Table.{Row, row, stepsAt}
 use Rattle.calls.specs.TableReading.{programIn, rowAt, statementOfRow}
 use Rattle.carry.specs.Carrying.{Carries, Standing, Unmoved, lent, machineIn}
 use Rattle.carry.specs.Laws.{stops, scans}
 use Rattle.expressions.specs.Memory.{Ready, keeps-ready, memoryIn}
 use Rattle.language.specs.Program as Program
 use Rattle.language.specs.Program.{Program}
+use Rattle.machine.specs.Bounds.{replicate-everywhere}
 use Rattle.machine.specs.State.{State, isRunning}
 use Rattle.machine.specs.Step.{Done, carrying, concluded, lacksReturn, mostReturns, noScan, scannedTo, statementAt, step, turnedDownBy}
 use Rattle.rows.specs.Holds.{StatementHolds}
@@ -111,11 +112,7 @@ module _ {table input : List ℕ} {b : Buffers} (g : Given table input b) where
 
   -- the returns that the machine holds
   pub returns-counted : length (reverse (returnsIn (b .state))) ≡ getD (b .state) 2 0
-  unfolding returnsIn returnsAt
-  returns-counted =
-      let n = getD (b .state) 2 0 in
-      length-reverse (take n (drop 5 (b .state)))
-      ∙ length-take-le n (drop 5 (b .state)) (simp length-drop (omega (arith, g .size, few-returns)))
+  returns-counted = returns-count (b .state) (omega (arith, g .size, few-returns))
 
   -- the row of the next step, and whether it lacks a return
   abbrev pub nextRow : Row
@@ -225,44 +222,20 @@ module _ {table input : List ℕ} {b : Buffers} {next : ℕ} {x : Statement} (g 
 -- what the kind of a row tells of the returns that its statement takes
 module _ (t rs : List ℕ) (r : Row) where
   pub plain-lacks : r .kind < 11 → lacksReturn (statementOfRow t r) rs ≡ false
-  unfolding lacksReturn statementOfRow
+  unfolding lacksReturn statementOfRow row
   plain-lacks low =
-      let kind = r .kind in
-      let Lacks : Program.Statement → Type 0 = λ s. lacksReturn s rs ≡ false in
-      cond-cases Lacks (eqb kind 1) (λ _. refl) (λ _.
-      cond-cases Lacks (eqb kind 2) (λ _. refl) (λ _.
-      cond-cases Lacks (eqb kind 3) (λ _. refl) (λ _.
-      cond-cases Lacks (eqb kind 4) (λ _. refl) (λ _.
-      cond-cases Lacks (leb kind 7) (λ _. refl) (λ seven.
-      cond-cases Lacks (eqb kind 8) (λ _. refl) (λ eight.
-      cond-cases Lacks (eqb kind 9) (λ _. refl) (λ nine.
-      cond-cases Lacks (eqb kind 10) (λ _. refl) (λ ten.
-      let high : 7 < kind = leb-false kind 7 seven in
-      let not8 : kind ≡ 8 → ⊥ = eqb-false kind 8 eight in
-      let not9 : kind ≡ 9 → ⊥ = eqb-false kind 9 nine in
-      let not10 : kind ≡ 10 → ⊥ = eqb-false kind 10 ten in
-      absurd (omega (arith, not8, not9, not10))))))))))
+      let P : ℕ → Type 0 =
+      λ k. lacksReturn (statementOfRow t (row k (r .flag) (r .success) (r .failure) (r .left) (r .right))) rs ≡ false in
+      let each : From P 0 11 = (refl, (refl, (refl, (refl, (refl, (refl, (refl, (refl, (refl, (refl, (refl, tt))))))))))) in
+      from P 0 11 each (r .kind) (omega arith) low
 
   pub execute-lacks : r .kind ≡ 11 → lacksReturn (statementOfRow t r) rs ≡ leb 16 (length rs)
   unfolding lacksReturn statementOfRow mostReturns
   execute-lacks h = rw h
 
   pub return-lacks : 11 < r .kind → lacksReturn (statementOfRow t r) rs ≡ isNil rs
-  unfolding lacksReturn statementOfRow
-  return-lacks high =
-      let kind = r .kind in
-      let other : (k : ℕ) → k ≤ 11 → eqb kind k ≡ false = λ k low. ne-eqb kind k (λ q. omega arith) in
-      rw (
-        other 1 (omega arith),
-        other 2 (omega arith),
-        other 3 (omega arith),
-        other 4 (omega arith),
-        lt-leb kind 7 (omega arith),
-        other 8 (omega arith),
-        other 9 (omega arith),
-        other 10 (omega arith),
-        other 11 (omega arith),
-      )
+  unfolding lacksReturn
+  return-lacks high = ap (λ s. lacksReturn s rs) (return-row t r high)
 
 -- returns are enough where none is lacking
 pub enough-returns : (t : List ℕ) (x : Statement) (rs : List ℕ) (held : ℕ) → length rs ≡ held → lacksReturn (statementMeaning t x) rs ≡ false
@@ -307,14 +280,10 @@ scan-stops input b table s store k same w =
     record { work = stopped _ _ k w; same = ap (λ (l : List ℕ). lent l (b .state) (b .output)) same }
 
 -- zeros are a good store
-null-string : (n i : ℕ) → (let none-there : List ℕ = [] in length (getD (replicate n none-there) i none-there) ≤ 1024)
-null-string zero i = omega arith
-null-string (suc n) zero = omega arith
-null-string (suc n) (suc i) = null-string n i
-
 zeros-good : Good (replicate 32832 0)
 zeros-good =
-    subst Good (append-nil (storeImage (replicate 32 [])) ∙ fresh-image 32) (image-good (replicate 32 []) [] refl (null-string 32))
+    subst Good (append-nil (storeImage (replicate 32 [])) ∙ fresh-image 32) (image-good (replicate 32 []) [] refl
+    (replicate-everywhere (λ (v : List ℕ). length v ≤ 1024) 32 [] (omega arith)))
 
 -- and zeros are buffers that a scan can work in
 pub zeros-lent : Lent (replicate 32832 0) (replicate 20480 0) (replicate 240 0) (replicate 20 0) (replicate 1024 0) (replicate 1024 0) (replicate 1024 0)
@@ -353,14 +322,6 @@ refused-as false false true state n m e h = sym e
 refused-as false false false true n m e h = sym e
 refused-as false false false false n m e h = absurd (omega arith)
 
-none-refused : (small rules store state : Bool) → _≡_ {A = ℕ} (cond small 2 (cond rules 13 (cond store 14 (cond state 15 0)))) 0
-    → (small ≡ false) × (rules ≡ false) × (store ≡ false) × (state ≡ false)
-none-refused true rules store state e = absurd (omega arith)
-none-refused false true store state e = absurd (omega arith)
-none-refused false false true state e = absurd (omega arith)
-none-refused false false false true e = absurd (omega arith)
-none-refused false false false false e = (refl, refl, refl, refl)
-
 module _ (table input : List ℕ) (b : Buffers) where
   -- buffers that are unfit turn the step down, and are left as they were
   pub unfit-answers : (n : ℕ) → n ≡ unfitNumber table (b .store) (b .state) (length input) (length (b .output)) → 0 < n
@@ -380,12 +341,12 @@ module _ (table input : List ℕ) (b : Buffers) where
   -- and those that aren't are given to the machine
   pub fit-given : 0 ≡ unfitNumber table (b .store) (b .state) (length input) (length (b .output)) → length (b .state) ≡ 64 → Given table input b
   fit-given e size =
-      let all-four = none-refused (ltb (length table) 28672) (not (keepsRules edition1 table)) (not (storeKeeps (b .store)))
-      (not (stateKeeps edition1 (length (programIn table .steps)) (length input) (length (b .output)) (b .state))) (sym e) in
+      let tests = refusal-none (ltb (length table) 28672) (keepsRules edition1 table) (storeKeeps (b .store))
+      (not (stateKeeps edition1 (length (programIn table .steps)) (length input) (length (b .output)) (b .state))) 0 (sym e) in
       record {
-        bytes = ltb-false _ _ (all-four .0);
-        keeps = not-false _ (all-four .1);
-        store-good = not-false _ (all-four .2);
+        bytes = ltb-false _ _ (tests .0);
+        keeps = tests .1;
+        store-good = tests .2;
         size = size;
-        range = not-false _ (all-four .3);
+        range = not-false _ (tests .3);
       }

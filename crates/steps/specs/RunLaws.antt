@@ -1,5 +1,5 @@
 -- The laws of a run: the buffers that a step leaves may be given to the next, and each step brings the run's result nearer. Assumes nothing.
-use mathlib.Core.Bool.{Bool, true, false, cond, not}
+use mathlib.Core.Bool.{true, false, not}
 use mathlib.Core.List.{List, [], _∷_}
 use mathlib.Core.Path.{_≡_, refl, sym, _∙_, ap, ap₂, subst}
 use Prim.Native.Nat.{ℕ, suc, _+_, _*_, _-_, _≤_, _<_}
@@ -15,6 +15,7 @@ use Rattle.calls.specs.GivenLaws.{given-sound}
 use Rattle.calls.specs.ProgramLaws.{program-runs}
 use Rattle.calls.specs.Rules.{keepsRules}
 use Rattle.calls.specs.StepLaws.{step-holds}
+use Rattle.calls.specs.StopLaws.{refusal-small}
 use Rattle.calls.specs.TableLaws.{keeps-image}
 use Rattle.calls.specs.TableReading.{programIn}
 use Rattle.carry.specs.Carrying.{machineIn}
@@ -239,21 +240,14 @@ repeats-spent {table} {input} {first} {count} {steps} {notes} {b} r h =
     rw (r .run, none-left) (run-spent table input b steps notes)
 
 -- the first step is refused before it is made
-unfit-small : (small rules store state : Bool) → cond small 2 (cond rules 13 (cond store 14 (cond state 15 0))) ≤ 16
-unfit-small true rules store state = omega arith
-unfit-small false true store state = omega arith
-unfit-small false false true state = omega arith
-unfit-small false false false true = omega arith
-unfit-small false false false false = omega arith
-
 pub unfit-run : (table input : List ℕ) (b : Buffers) (n : ℕ)
     → n ≡ unfitNumber table (b .store) (b .state) (length input) (length (b .output)) → 0 < n
     → Answers (stepCall edition1 table input b) n (replicate 24 0) b → (count : ℕ) → 0 < count
     → RunPromise (runCall edition1 table input count b) n (3 ∷ (n ∷ (0 ∷ (0 ∷ [])))) b
 unfit-run table input b n e h a count some =
     let one-less : count ≡ suc (count - 1) = omega arith in
-    let small : n ≤ 16 = rw e (unfit-small (ltb (length table) 28672) (not (keepsRules edition1 table)) (not (storeKeeps (b .store)))
-    (not (stateKeeps edition1 (length (programIn table .steps)) (length input) (length (b .output)) (b .state)))) in
+    let small : n ≤ 16 = rw e (refusal-small (ltb (length table) 28672) (keepsRules edition1 table) (storeKeeps (b .store))
+    (not (stateKeeps edition1 (length (programIn table .steps)) (length input) (length (b .output)) (b .state))) 0 (omega arith)) in
     rw (one-less, added-none (runCall edition1 table input (suc (count - 1)) b)) (run-refused table input b a 0 0 (count - 1) small h)
 
 -- no step is asked for
