@@ -1,5 +1,6 @@
--- A memory within its bounds, and that all work of the machine but numeric expressions leaves it so. Assumes nothing.
-use mathlib.Core.List.{List, [], _∷_, _++_, map}
+-- A memory within its bounds, and that all work of the machine but numeric expressions leaves it so; what turning round changes.
+-- Assumes nothing.
+use mathlib.Core.List.{List, [], _∷_, _++_, map, reverse-reverse}
 use mathlib.Core.Option.{Option, none, some}
 use mathlib.Core.Path.{_≡_, refl, _∙_}
 use Prim.Native.Nat.{ℕ, zero, suc, _+_, _≤_}
@@ -52,6 +53,12 @@ pub turned-length : (d : Direction) (r : List ℕ) → length (turned d r) ≡ l
 unfolding turned
 turned-length forward r = refl
 turned-length backward r = length-reverse r
+
+-- and turned round twice it is as it was
+pub turned-twice : (d : Direction) (r : List ℕ) → turned d (turned d r) ≡ r
+unfolding turned
+turned-twice forward r = refl
+turned-twice backward r = reverse-reverse r
 
 module _ (e : Edition) where
   -- the memory before the first step
