@@ -27,7 +27,7 @@ use Rattle.numeric.specs.OperandLaws.{ready-moved, skipped, chosen, then-broken
 use Rattle.numeric.specs.Operands.{Ready, Gets, moved, meaning}
 use Rattle.numeric.specs.declared.operands.Cell.{Cell}
 use Rattle.strings.specs.ElementLaws.{names-elements, elements-none, elements-give, elements-skip, rows-total}
-use Rattle.strings.specs.Elements.{GetsElements, GetsRow, rowsOf}
+use Rattle.strings.specs.Elements.{GetsElements, GetsRow, rowsOf, Valued, shownRow}
 use Rattle.forms.specs.Contracts.{FormRead}
 use Rattle.forms.specs.declared.Form.{Form}
 use Rattle.forms.specs.Rows.{withSteps, withBranch, withLeft, withRange, withReplacement, stepsIn, leftIn, rightIn, rangeIn}
@@ -152,6 +152,11 @@ module _ (known : List ℕ) where
             (sym (chosen _ _ e)) (elements-none next ready);
         made = made;
       }
+
+-- as many elements as a row has values
+pub shown-size : (b : Bool) (xs : List (Valued b)) → length (shownRow b xs) ≡ length xs
+shown-size true xs = refl
+shown-size false xs = length-map xs value
 
 -- a row of elements, and the range it has
 pub drawn-row : {A : Type 0} {f : List A → List PatternElement} (sized : (xs : List A) → length (f xs) ≡ length xs) {y : Read (List A)}

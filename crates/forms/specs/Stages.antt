@@ -1,5 +1,5 @@
 -- What the parts of forms do: each goes on from the row so far. Assumes nothing.
-use mathlib.Core.Bool.{true, false}
+use mathlib.Core.Bool.{Bool, true, false}
 use mathlib.Core.List.{List, [], _∷_, map}
 use mathlib.Core.Path.{_≡_}
 use Prim.Native.Nat.{ℕ, _/_, _≤_}
@@ -19,13 +19,12 @@ use Rattle.language.specs.Forms.{branch, branchIfAny, replacementIfAny}
 use Rattle.language.specs.Numeric.{test}
 use Rattle.language.specs.Program.{PatternElement, value}
 use Rattle.language.specs.Reading.{Read, broken}
-use Rattle.language.specs.Strings.{stringExpression, pattern}
 use Rattle.language.specs.Words.{partName}
 use Rattle.met.specs.Entries.{roleOf}
 use Rattle.met.specs.Known.{placesIn}
 use Rattle.met.specs.declared.Cursor.{Cursor}
 use Rattle.numeric.specs.Operands.{Ready, moved}
-use Rattle.strings.specs.Elements.{GetsElements}
+use Rattle.strings.specs.Elements.{GetsElements, shownRow, readRow}
 use Rattle.forms.specs.Rows.{withSteps, withBranch, withLeft, withRange, withReplacement}
 
 -- a draft's cursor is inside the text; it may go on; and it stands behind an element's place
@@ -96,11 +95,8 @@ BranchStage text known = NamesStage (branch edition1 (numberIn known) (placesIn 
 abbrev pub BranchIfAnyStage : (text known keys tags : List ℕ) (r q : Draft) (keys′ tags′ : List ℕ) → Type 0
 BranchIfAnyStage text known = NamesStage (branchIfAny edition1 (numberIn known) (placesIn known)) withBranch text
 
-abbrev pub StringsStage : (text known table keys tags : List ℕ) (r q : Draft) (table′ keys′ tags′ : List ℕ) → Type 0
-StringsStage text known = StageRead (stringExpression edition1 (placesIn known)) (λ n xs. withRange n xs) (map value) text
-
-abbrev pub PatternStage : (text known table keys tags : List ℕ) (r q : Draft) (table′ keys′ tags′ : List ℕ) → Type 0
-PatternStage text known = StageRead (pattern edition1 (placesIn known)) (λ n xs. withRange n xs) (λ xs. xs) text
+abbrev pub RowStage : (text known : List ℕ) (b : Bool) (table keys tags : List ℕ) (r q : Draft) (table′ keys′ tags′ : List ℕ) → Type 0
+RowStage text known b = StageRead (readRow b (placesIn known)) (λ n xs. withRange n xs) (shownRow b) text
 
 abbrev pub ReplacedStage : (text known table keys tags : List ℕ) (from direction : ℕ) (r q : Draft) (table′ keys′ tags′ : List ℕ) → Type 0
 ReplacedStage text known table keys tags from direction =

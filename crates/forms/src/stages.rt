@@ -18,8 +18,6 @@ use numeric::operands::Cell;
 use numeric::operands::Operand;
 use numeric::operands::read_part;
 use numeric::operands::skip;
-use strings::pattern;
-use strings::string_expression;
 use words::stands_at;
 ghost use mathlib.Core.Path.{_≡_};
 ghost use Prim.Native.Nat.{_≤_, _<_};
@@ -27,7 +25,7 @@ ghost use lib.ListN.{length};
 ghost use Rattle.branches.specs.Branches.{TargetTag};
 ghost use Rattle.forms.specs.Rows.{begunAs, stepsIn, leftIn, rightIn, rangeIn};
 ghost use Rattle.forms.specs.Stages.{Inward, markedBy, Standing, TargetStage, PartStage};
-ghost use Rattle.forms.specs.Stages.{TestStage, BranchStage, BranchIfAnyStage, StringsStage, PatternStage, Following, ReplacedStage};
+ghost use Rattle.forms.specs.Stages.{TestStage, BranchStage, BranchIfAnyStage, RowStage, Following, ReplacedStage};
 ghost use Rattle.met.specs.Known.{Counted};
 ghost use Rattle.numeric.specs.Operands.{StringTag};
 
@@ -239,49 +237,24 @@ pub fn branched_if_any(
     }
 }
 
-// a string expression
-pub fn right_strings(
+// a pattern or a string expression
+pub fn right_row(
     text: &[u8],
     known: &[u64; KNOWN],
     table: &mut [u8],
     keys: &mut [u64; NAMES],
     tags: &mut [u8; NAMES],
     r: Draft,
+    patterned: bool,
 ) -> Draft
     requires { ⌜ Standing (now text) (now keys) (now tags) r ⌝ }
     requires { ⌜ Counted (now known) ⌝ }
     requires { ⌜ 28672 ≤ length (now table) ⌝ }
-    ensures { λ q. ⌜ StringsStage (now (text .entry)) (now (known .entry)) (now (table .entry)) (now (keys .entry)) (now (tags .entry)) r q (now (table .exit)) (now (keys .exit)) (now (tags .exit)) ⌝ }
+    ensures { λ q. ⌜ RowStage (now (text .entry)) (now (known .entry)) patterned (now (table .entry)) (now (keys .entry)) (now (tags .entry)) r q (now (table .exit)) (now (keys .exit)) (now (tags .exit)) ⌝ }
 {
     match r {
         Draft::Broken => Draft::Broken,
-        Draft::Got(row, c) => match string_expression(text, known, table, keys, tags, c) {
-            Outcome::Broken => Draft::Broken,
-            Outcome::Got(d) => {
-                let right = range_cell(c.elements, d.elements - c.elements, 0);
-                Draft::Got(with_right(row, row.flag, right), d)
-            }
-        },
-    }
-}
-
-// a pattern
-pub fn right_pattern(
-    text: &[u8],
-    known: &[u64; KNOWN],
-    table: &mut [u8],
-    keys: &mut [u64; NAMES],
-    tags: &mut [u8; NAMES],
-    r: Draft,
-) -> Draft
-    requires { ⌜ Standing (now text) (now keys) (now tags) r ⌝ }
-    requires { ⌜ Counted (now known) ⌝ }
-    requires { ⌜ 28672 ≤ length (now table) ⌝ }
-    ensures { λ q. ⌜ PatternStage (now (text .entry)) (now (known .entry)) (now (table .entry)) (now (keys .entry)) (now (tags .entry)) r q (now (table .exit)) (now (keys .exit)) (now (tags .exit)) ⌝ }
-{
-    match r {
-        Draft::Broken => Draft::Broken,
-        Draft::Got(row, c) => match pattern(text, known, table, keys, tags, c) {
+        Draft::Got(row, c) => match strings::row(text, known, table, keys, tags, c, patterned) {
             Outcome::Broken => Draft::Broken,
             Outcome::Got(d) => {
                 let right = range_cell(c.elements, d.elements - c.elements, 0);
@@ -314,7 +287,7 @@ pub fn replaced(
             if !stands_at(text, c.at, b'=') {
                 return r;
             }
-            match string_expression(text, known, table, keys, tags, skip(c, 1)) {
+            match strings::row(text, known, table, keys, tags, skip(c, 1), false) {
                 Outcome::Broken => Draft::Broken,
                 Outcome::Got(d) => {
                     let right = range_cell(from, c.elements - from, d.elements - c.elements);

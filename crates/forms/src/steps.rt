@@ -8,8 +8,7 @@ use crate::stages::left_part;
 use crate::stages::marked;
 use crate::stages::range_cell;
 use crate::stages::replaced;
-use crate::stages::right_pattern;
-use crate::stages::right_strings;
+use crate::stages::right_row;
 use crate::stages::tested;
 use crate::stages::to_target;
 use branches::Draft;
@@ -170,13 +169,14 @@ pub fn output_form(
     let d = behind_unit(text, c, b"(61)");
     ended(
         text,
-        right_strings(
+        right_row(
             text,
             known,
             table,
             keys,
             tags,
             begun(step_kinds::WRITE, 0, d),
+            false,
         ),
     )
 }
@@ -204,7 +204,7 @@ fn string_form(
         STRING,
     );
     let sets = marked(text, part, b'=');
-    ended(text, right_strings(text, known, table, keys, tags, sets))
+    ended(text, right_row(text, known, table, keys, tags, sets, false))
 }
 
 // SCAN with direction 1, BACKSCAN with direction 2
@@ -232,7 +232,7 @@ pub fn scan_form(
         REFERENCE,
     );
     let open = marked(text, part, b'[');
-    let sought = right_pattern(text, known, table, keys, tags, open);
+    let sought = right_row(text, known, table, keys, tags, open, true);
     let close = marked(text, sought, b']');
     let from = c.elements;
     let behind = replaced(text, known, table, keys, tags, close, from, direction);

@@ -212,15 +212,15 @@ ended from (OutcomeCode.the-variants.Got d) = elim (ltb (d .longest) (d .element
 ]
 ended from OutcomeCode.the-variants.Broken = OutcomeCode.the-variants.Broken
 
+-- a row of them: a pattern, or a string expression
+abbrev pub shownRow : (b : Bool) → List (Valued b) → List PatternElement
+shownRow true = λ xs. xs
+shownRow false = map value
+
+abbrev pub readRow : (b : Bool) → Places → List ℕ → Read (List (Valued b))
+readRow true p = Strings.pattern edition1 p
+readRow false p = Strings.stringExpression edition1 p
+
 abbrev pub RowsRead : (text known table keys tags : List ℕ) (c : Cursor) (b : Bool) → Outcome → (table′ keys′ tags′ : List ℕ) → Type 0
 RowsRead text known table keys tags c b =
-    RowRead (map (shown b)) text table keys tags c (Strings.rowOf (readOne b (placesIn known)) (drop (c .at) text))
-
--- a string expression and a pattern at the cursor
-abbrev pub StringExpressionRead : (text known table keys tags : List ℕ) (c : Cursor) → Outcome → (table′ keys′ tags′ : List ℕ) → Type 0
-StringExpressionRead text known table keys tags c =
-    RowRead (map value) text table keys tags c (Strings.stringExpression edition1 (placesIn known) (drop (c .at) text))
-
-abbrev pub PatternRead : (text known table keys tags : List ℕ) (c : Cursor) → Outcome → (table′ keys′ tags′ : List ℕ) → Type 0
-PatternRead text known table keys tags c =
-    RowRead (λ xs. xs) text table keys tags c (Strings.pattern edition1 (placesIn known) (drop (c .at) text))
+    RowRead (shownRow b) text table keys tags c (readRow b (placesIn known) (drop (c .at) text))

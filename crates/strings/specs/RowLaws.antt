@@ -38,7 +38,7 @@ use Rattle.strings.specs.CellLaws.{Bare, Always, always-got, text-bare, 
 use Rattle.strings.specs.Cells.{bareCell}
 use Rattle.strings.specs.ElementLaws.{elements-none, elements-give, elements-then, elements-broken, elements-skip}
 use Rattle.strings.specs.Elements.{GetsElements, rowsOf, GetsRow, RowRead, Roomy, written, celled, Spelt, LiteralRead}
-use Rattle.strings.specs.Elements.{GetsOne, OneAnswer, ReadsOne, ElementRead, PatternElementRead, OneRead, ReadsMany, Follows, PastElements, longer, ended}
+use Rattle.strings.specs.Elements.{GetsOne, OneAnswer, ReadsOne, ElementRead, PatternElementRead, OneRead, ReadsMany, Follows, PastElements, longer, ended, shown, readOne, RowsRead}
 
 -- the outcome by its case
 module _ {A : Type 0} {f : A → PatternElement} {text table keys tags : List ℕ} {c : Cursor} {x : Read A} {r : Outcome} {t k g : List ℕ}
@@ -512,11 +512,14 @@ pub ended-by : (from : ℕ) (b : Bool) {r : Outcome} {d : Cursor} → r ≡ Outc
     → elim b [ true ↦ OutcomeCode.the-variants.Got (longer d (d .elements - from)) | false ↦ OutcomeCode.the-variants.Got d ] ≡ ended from r
 ended-by from b e h = sym (chosen _ _ h) ∙ ap (ended from) (sym e)
 
--- the elements of a pattern are its values
-pub pattern-row : {text table keys tags : List ℕ} {c : Cursor} {x : Read (List PatternElement)} (r : Outcome) {t k g : List ℕ}
-    → RowRead (map (λ x. x)) text table keys tags c x r t k g → RowRead (λ xs. xs) text table keys tags c x r t k g
-pattern-row {text} {table} {keys} {tags} {c} {x} (OutcomeCode.the-variants.Got d) {t} {k} {g} a =
+-- a row of elements is a pattern, whose elements are its values, or a string expression
+pub row-whole : (b : Bool) (known : List ℕ) {text table keys tags : List ℕ} {c : Cursor} (r : Outcome) {t k g : List ℕ}
+    → RowRead (map (shown b)) text table keys tags c (rowOf (readOne b (placesIn known)) (drop (c .at) text)) r t k g
+    → RowsRead text known table keys tags c b r t k g
+unfolding Strings.pattern Strings.stringExpression
+row-whole true known {text} {table} {keys} {tags} {c} (OutcomeCode.the-variants.Got d) {t} {k} {g} a =
     let q = a .answer in
+    let x = rowOf (readOne true (placesIn known)) (drop (c .at) text) in
     record {
       answer =
           record {
@@ -527,4 +530,5 @@ pattern-row {text} {table} {keys} {tags} {c} {x} (OutcomeCode.the-variants.Got d
             size = q .size;
           };
     }
-pattern-row OutcomeCode.the-variants.Broken a = record { answer = a .answer }
+row-whole true known OutcomeCode.the-variants.Broken a = record { answer = a .answer }
+row-whole false known r a = a

@@ -28,7 +28,6 @@ ghost use Rattle.met.specs.Elements.{withElement};
 ghost use Rattle.met.specs.Known.{Counted};
 ghost use Rattle.numeric.specs.Operands.{Ready, StringTag, meaning};
 ghost use Rattle.strings.specs.Elements.{oneMore, Roomy, written, celled, ElementRead, PatternElementRead, OneRead, MoreRead, PastElements, ended, RowsRead};
-ghost use Rattle.strings.specs.Elements.{StringExpressionRead, PatternRead};
 
 // writes a cell as the next element
 fn put(table: &mut [u8], c: Cursor, v: Cell) -> Cursor
@@ -182,8 +181,8 @@ fn row_end(from: usize, r: Outcome) -> Outcome
     }
 }
 
-// nothing, or elements parted by commas
-fn row(
+// a pattern or a string expression: nothing, or elements parted by commas
+pub fn row(
     text: &[u8],
     known: &[u64; KNOWN],
     table: &mut [u8],
@@ -207,38 +206,4 @@ fn row(
             more(text, known, table, keys, tags, d, patterned),
         ),
     }
-}
-
-// a string expression at the cursor
-pub fn string_expression(
-    text: &[u8],
-    known: &[u64; KNOWN],
-    table: &mut [u8],
-    keys: &mut [u64; NAMES],
-    tags: &mut [u8; NAMES],
-    c: Cursor,
-) -> Outcome
-    requires { ⌜ Ready (now text) (now keys) (now tags) c ⌝ }
-    requires { ⌜ Counted (now known) ⌝ }
-    requires { ⌜ 28672 ≤ length (now table) ⌝ }
-    ensures { λ r. ⌜ StringExpressionRead (now (text .entry)) (now (known .entry)) (now (table .entry)) (now (keys .entry)) (now (tags .entry)) c r (now (table .exit)) (now (keys .exit)) (now (tags .exit)) ⌝ }
-{
-    row(text, known, table, keys, tags, c, false)
-}
-
-// the pattern of a SCAN at the cursor
-pub fn pattern(
-    text: &[u8],
-    known: &[u64; KNOWN],
-    table: &mut [u8],
-    keys: &mut [u64; NAMES],
-    tags: &mut [u8; NAMES],
-    c: Cursor,
-) -> Outcome
-    requires { ⌜ Ready (now text) (now keys) (now tags) c ⌝ }
-    requires { ⌜ Counted (now known) ⌝ }
-    requires { ⌜ 28672 ≤ length (now table) ⌝ }
-    ensures { λ r. ⌜ PatternRead (now (text .entry)) (now (known .entry)) (now (table .entry)) (now (keys .entry)) (now (tags .entry)) c r (now (table .exit)) (now (keys .exit)) (now (tags .exit)) ⌝ }
-{
-    row(text, known, table, keys, tags, c, true)
 }

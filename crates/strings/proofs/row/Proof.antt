@@ -5,7 +5,7 @@ use native.Mathlib.Omega.{arith}
 use lib.ListN.{drop}
 use Rattle.met.specs.Known.{placesIn}
 use Rattle.strings.specs.Elements.{RowsRead, shown, readOne}
-use Rattle.strings.specs.RowLaws.{one-case, one-none, row-nothing, row-broken, row-got, row-behind}
+use Rattle.strings.specs.RowLaws.{one-case, one-none, row-nothing, row-broken, row-got, row-behind, row-whole}
 use borrow.Author.Needs.{needs}
 use Rattle.strings.proofs.row.Statement.{statement}
 use Rattle.strings.proofs.row.Tie as tie
@@ -16,8 +16,9 @@ nothing-here-requires c κs = search needs
 returns : tie.Need-returns
 returns c =
     let p = c .before .before .before .before in
-    row-nothing (shown (p .args .patterned)) (readOne (p .args .patterned) (placesIn (p .args .known .now))) (p .pre .0)
-    (sym (c .before .nothing-here .ensures) ∙ c .if1 .taken)
+    row-whole (p .args .patterned) (p .args .known .now) _
+    (row-nothing (shown (p .args .patterned)) (readOne (p .args .patterned) (placesIn (p .args .known .now))) (p .pre .0)
+    (sym (c .before .nothing-here .ensures) ∙ c .if1 .taken))
 
 one-requires : tie.Need-one-requires
 one-requires c κs = search needs
@@ -48,11 +49,12 @@ same-length c = search needs
 returns-2 : tie.Need-returns-2
 returns-2 c =
     let a = c .before .before .before .before .before .before .before .before .before .before .before .before .args in
-    record {
+    row-whole (a .patterned) (a .known .now) _
+    (record {
       answer =
           row-broken (readOne (a .patterned) (placesIn (a .known .now))) (drop (a .c .at) (a .text .now))
           (sym (c .before .before .before .before .before .before .before .before .before .nothing-here .ensures) ∙ c .before .before .before .before .before .before .before .before .if1 .left) (one-none (c .before .before .before .before .one .ensures) (c .enum-told .given .1));
-    }
+    })
 
 same-length-2 : tie.Need-same-length-2
 same-length-2 c = search needs
@@ -67,9 +69,10 @@ returns-3 c =
     RowsRead (a .text .now) (a .known .now) (a .table .now) (a .keys .now) (a .tags .now) (a .c) (a .patterned) r (m .last .1 .1 .0)
     (m .last .1 .1 .1 .0) (m .last .1 .1 .1 .1 .0))
     (sym (c .row-end .ensures))
+    (row-whole (a .patterned) (a .known .now) _
     (row-got (shown (a .patterned)) (readOne (a .patterned) (placesIn (a .known .now)))
     (sym (c .before .before .before .before .before .before .before .before .before .before .before .before .before .before .before .before .before .nothing-here .ensures) ∙ c .before .before .before .before .before .before .before .before .before .before .before .before .before .before .before .before .if1 .left) (p .pre .0) (one-case (c .before .before .before .before .before .before .before .before .before .before .before .before .one .ensures) (c .before .before .before .before .before .before .before .before .d .given .1))
-    (m .result) (m .ensures))
+    (m .result) (m .ensures)))
 
 pub row-spec : {M : Type 1} → statement M
 row-spec =

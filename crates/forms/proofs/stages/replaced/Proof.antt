@@ -43,7 +43,7 @@ module _ (c : tie.After-stands-at) where
       (c .before .before .before .before .before .before .pre .0)
 
 -- the elements behind the mark
-module _ (c : tie.After-string-expression) where
+module _ (c : tie.After-row) where
   abbrev mark : tie.After-stands-at
   mark = c .before .before .before .before .before .before
 
@@ -56,11 +56,11 @@ module _ (c : tie.After-string-expression) where
       (mark .before .before .before .before .before .before .args .tags .now) (moved (here mark) 1)
       (stringExpression edition1 (placesIn (mark .before .before .before .before .before .before .args .known .now))
       (drop (here mark .at + 1) (mark .before .before .before .before .before .before .args .text .now)))
-      (c .string-expression .result) (c .string-expression .last .1 .1 .0) (c .string-expression .last .1 .1 .1 .0)
-      (c .string-expression .last .1 .1 .1 .1 .0)
+      (c .row .result) (c .row .last .1 .1 .0) (c .row .last .1 .1 .1 .0)
+      (c .row .last .1 .1 .1 .1 .0)
   read =
       let a = mark .before .before .before .before .before .before .args in
-      let s = c .string-expression in
+      let s = c .row in
       subst
       (λ z.
       RowRead (map value) (a .text .now) (a .table .now) (a .keys .now) (a .tags .now) z
@@ -77,8 +77,8 @@ returns c =
 skip-requires : tie.Need-skip-requires
 skip-requires c κs = omega (arith, before (c .before .before .before .before) .0)
 
-string-expression-requires : tie.Need-string-expression-requires
-string-expression-requires c κs =
+row-requires : tie.Need-row-requires
+row-requires c κs =
     let a = c .before .before .before .before .before .before .before .before .before .before .before .args in
     let mark = sym (c .before .before .before .before .before .stands-at .ensures) ∙ not-false _ (c .before .before .before .before .if1 .left) in (
       ready-moved (61 ∷ []) (before (c .before .before .before .before .before) .0) (c .skip .ensures) mark,
@@ -142,7 +142,7 @@ replaced-spec =
     stands-at-requires
     returns
     skip-requires
-    string-expression-requires
+    row-requires
     enum-told-2
     enum-known-d
     sub-range-cell

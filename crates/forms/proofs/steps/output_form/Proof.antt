@@ -19,9 +19,9 @@ behind-unit-requires c κs = search needs
 begun-requires : tie.Need-begun-requires
 begun-requires c κs = search needs
 
-right-strings-requires : tie.Need-right-strings-requires
+right-row-requires : tie.Need-right-row-requires
 unfolding bytes
-right-strings-requires c κs = (
+right-row-requires c κs = (
   subst (Standing (c .before .before .before .before .before .before .before .before .args .text .now) (c .before .before .before .before .before .before .before .before .args .keys .now) (c .before .before .before .before .before .before .before .before .args .tags .now)) (sym (c .begun .ensures))
       (ready-at (c .before .before .before .before .behind-unit .ensures .skips) (c .before .before .before .before .before .before .before .before .pre .0) (c .before .before .before .before .behind-unit .ensures .inside)),
   c .before .before .before .before .before .before .before .before .pre .1,
@@ -38,8 +38,8 @@ unfolding bytes
 returns c =
     let u = c .before .before .before .before .before .before .before .before .behind-unit .ensures in
     form-ends (c .ended .ensures)
-    (output-read (c .before .before .before .before .before .before .before .before .before .before .before .before .args .known .now) (u .size) (u .skips) (c .before .before .before .before .before .before .before .before .before .before .before .before .pre .0) (ready-at (u .skips) (c .before .before .before .before .before .before .before .before .before .before .before .before .pre .0) (u .inside)) (u .is) (c .before .before .before .right-strings .result)
-    (from-draft (c .before .before .before .before .begun .ensures) (c .before .before .before .right-strings .ensures)))
+    (output-read (c .before .before .before .before .before .before .before .before .before .before .before .before .args .known .now) (u .size) (u .skips) (c .before .before .before .before .before .before .before .before .before .before .before .before .pre .0) (ready-at (u .skips) (c .before .before .before .before .before .before .before .before .before .before .before .before .pre .0) (u .inside)) (u .is) (c .before .before .before .right-row .result)
+    (from-draft (c .before .before .before .before .begun .ensures) (c .before .before .before .right-row .ensures)))
 
 pub output-form-spec : {M : Type 1} → statement M
 output-form-spec =
@@ -48,7 +48,7 @@ output-form-spec =
     slice-aggregate-behind-unit
     behind-unit-requires
     begun-requires
-    right-strings-requires
+    right-row-requires
     ended-requires
     same-length
     returns)

@@ -20,21 +20,21 @@ left-part-requires c κs = (subst (Standing (c .before .before .before .before .
 marked-requires : tie.Need-marked-requires
 marked-requires c κs = standing-inward (c .before .before .before .before .before .before .args .text .now) (c .left-part .last .1 .1 .0) (c .left-part .last .1 .1 .1 .0) (c .left-part .result) (c .left-part .ensures [] .stands)
 
-right-pattern-requires : tie.Need-right-pattern-requires
-right-pattern-requires c κs = (
+right-row-requires : tie.Need-right-row-requires
+right-row-requires c κs = (
   subst (Standing (c .before .before .before .before .before .before .before .before .before .before .args .text .now) (c .before .before .before .before .left-part .last .1 .1 .0) (c .before .before .before .before .left-part .last .1 .1 .1 .0)) (sym (c .before .before .before .marked .ensures))
       (marked-standing (c .before .before .before .before .before .before .before .before .before .before .args .text .now) 91 (c .before .before .before .before .left-part .last .1 .1 .0) (c .before .before .before .before .left-part .last .1 .1 .1 .0) (c .before .before .before .before .left-part .result) (c .before .before .before .before .left-part .ensures [] .stands)),
   (c .before .before .before .before .before .before .before .before .before .before .pre .1 .0, c .before .before .before .before .before .before .before .before .before .before .pre .1 .1 .0),
 )
 
 marked-requires-2 : tie.Need-marked-requires-2
-marked-requires-2 c κs = standing-inward (c .before .before .before .before .before .before .before .before .before .before .before .before .before .args .text .now) (c .before .before .right-pattern .last .1 .1 .1 .0) (c .before .before .right-pattern .last .1 .1 .1 .1 .0) (c .before .before .right-pattern .result) (c .before .before .right-pattern .ensures .stands)
+marked-requires-2 c κs = standing-inward (c .before .before .before .before .before .before .before .before .before .before .before .before .before .args .text .now) (c .before .before .right-row .last .1 .1 .1 .0) (c .before .before .right-row .last .1 .1 .1 .1 .0) (c .before .before .right-row .result) (c .before .before .right-row .ensures .stands)
 
 replaced-requires : tie.Need-replaced-requires
 replaced-requires c κs =
     let a = c .before .before .before .before .before .before .before .before .before .before .before .before .before .before .before .before .before .args in
     let l = c .before .before .before .before .before .before .before .before .before .before .before .left-part in
-    let r = c .before .before .before .before .before .before .right-pattern in
+    let r = c .before .before .before .before .before .before .right-row in
     let from = a .c .elements in
     let part = following from (begunAs 8 (a .direction) (a .c)) (l .result) (c .before .before .before .before .before .before .before .before .before .before .before .before .before .before .before .before .before .pre .0, omega arith) (from-draft (c .before .before .before .before .before .before .before .before .before .before .before .before .begun .ensures) (l .ensures [])) in
     let opened = subst (Following (a .text .now) (l .last .1 .1 .0) (l .last .1 .1 .1 .0) from) (sym (c .before .before .before .before .before .before .before .before .before .before .marked .ensures))
@@ -56,7 +56,7 @@ same-length c = search needs
 returns : tie.Need-returns
 returns c =
     let a = c .before .before .before .before .before .before .before .before .before .before .before .before .before .before .before .before .before .before .before .before .before .before .before .before .args in
-    let r = c .before .before .before .before .before .before .before .before .before .before .before .before .before .right-pattern in
+    let r = c .before .before .before .before .before .before .before .before .before .before .before .before .before .right-row in
     let p = c .before .before .before .before .before .before .replaced in
     λ way e.
     form-ends (c .ended .ensures)
@@ -77,7 +77,7 @@ scan-form-spec =
     begun-requires
     left-part-requires
     marked-requires
-    right-pattern-requires
+    right-row-requires
     marked-requires-2
     replaced-requires
     branched-if-any-requires

@@ -18,8 +18,8 @@ left-part-requires c κs = (subst (Standing (c .before .before .before .before .
 marked-requires : tie.Need-marked-requires
 marked-requires c κs = standing-inward (c .before .before .before .before .before .before .args .text .now) (c .left-part .last .1 .1 .0) (c .left-part .last .1 .1 .1 .0) (c .left-part .result) (c .left-part .ensures [] .stands)
 
-right-strings-requires : tie.Need-right-strings-requires
-right-strings-requires c κs = (
+right-row-requires : tie.Need-right-row-requires
+right-row-requires c κs = (
   subst (Standing (c .before .before .before .before .before .before .before .before .before .before .args .text .now) (c .before .before .before .before .left-part .last .1 .1 .0) (c .before .before .before .before .left-part .last .1 .1 .1 .0)) (sym (c .before .before .before .marked .ensures))
       (marked-standing (c .before .before .before .before .before .before .before .before .before .before .args .text .now) 61 (c .before .before .before .before .left-part .last .1 .1 .0) (c .before .before .before .before .left-part .last .1 .1 .1 .0) (c .before .before .before .before .left-part .result) (c .before .before .before .before .left-part .ensures [] .stands)),
   c .before .before .before .before .before .before .before .before .before .before .pre .1,
@@ -34,8 +34,8 @@ same-length c = search needs
 returns : tie.Need-returns
 returns c =
     form-ends (c .ended .ensures)
-    (string-read (c .before .before .before .before .before .before .before .before .before .before .before .before .before .before .args .known .now) (c .before .before .before .before .before .before .before .before .before .before .before .before .before .before .pre .0) (c .before .before .before .before .before .before .before .before .left-part .result) (c .before .before .before .before .before .before .before .marked .result) (c .before .before .before .right-strings .result)
-    (λ t. from-draft (c .before .before .before .before .before .before .before .before .before .begun .ensures) (c .before .before .before .before .before .before .before .before .left-part .ensures t)) (c .before .before .before .before .before .before .before .marked .ensures) (c .before .before .before .right-strings .ensures))
+    (string-read (c .before .before .before .before .before .before .before .before .before .before .before .before .before .before .args .known .now) (c .before .before .before .before .before .before .before .before .before .before .before .before .before .before .pre .0) (c .before .before .before .before .before .before .before .before .left-part .result) (c .before .before .before .before .before .before .before .marked .result) (c .before .before .before .right-row .result)
+    (λ t. from-draft (c .before .before .before .before .before .before .before .before .before .begun .ensures) (c .before .before .before .before .before .before .before .before .left-part .ensures t)) (c .before .before .before .before .before .before .before .marked .ensures) (c .before .before .before .right-row .ensures))
 
 pub string-form-spec : {M : Type 1} → statement M
 string-form-spec =
@@ -44,7 +44,7 @@ string-form-spec =
     begun-requires
     left-part-requires
     marked-requires
-    right-strings-requires
+    right-row-requires
     ended-requires
     same-length
     returns)
