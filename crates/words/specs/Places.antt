@@ -1,9 +1,16 @@
 -- Counts of bytes at a place of a text. Assumes nothing.
+use mathlib.Core.Bool.{Bool, true, false}
 use mathlib.Core.List.{List}
 use mathlib.Core.Path.{_≡_}
 use Prim.Native.Nat.{ℕ, _+_, _-_, _≤_}
 use lib.ListN.{length, drop}
+use Rattle.cards.specs.Bytes.{isDigit, isNameByte}
 use Rattle.language.specs.Words.{nameLength}
+
+-- a byte may stand in a name or, without letters, is a digit
+abbrev pub isCounted : (letters : Bool) → ℕ → Bool
+isCounted true = isNameByte
+isCounted false = isDigit
 
 -- n is this count of bytes, and so many stand there
 pub record Counts (text : List ℕ) (at count n : ℕ) : Type 0 where

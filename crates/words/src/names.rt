@@ -5,19 +5,30 @@ use packer::classes;
 use packer::keys;
 ghost use mathlib.Core.Path.{_≡_};
 ghost use lib.ListN.{take, drop};
-ghost use Rattle.cards.specs.Bytes.{isDigit, isNameByte};
+ghost use Rattle.cards.specs.Bytes.{isDigit};
 ghost use Rattle.language.specs.Keywords.{boundLength};
 ghost use Rattle.language.specs.Words.{run};
 ghost use Rattle.packer.specs.Keys.{keyOf};
-ghost use Rattle.words.specs.Places.{Counts, NameAt, Named};
+ghost use Rattle.words.specs.Places.{Counts, NameAt, Named, isCounted};
 
-// how many letters and digits stand at a place
-fn name_bytes(text: &[u8], at: usize) -> usize
-    ensures { λ r. ⌜ Counts (now (text .entry)) at (run isNameByte (drop at (now (text .entry)))) r ⌝ }
+// whether a byte may stand in a name or, without letters, is a digit
+fn is_counted(b: u8, letters: bool) -> bool
+    ensures { λ r. ⌜ r ≡ isCounted letters b ⌝ }
+{
+    if letters {
+        classes::is_letter_or_digit(b)
+    } else {
+        classes::is_digit(b)
+    }
+}
+
+// how many letters and digits stand at a place or, without letters, how many digits
+fn run_length(text: &[u8], at: usize, letters: bool) -> usize
+    ensures { λ r. ⌜ Counts (now (text .entry)) at (run (isCounted letters) (drop at (now (text .entry)))) r ⌝ }
 {
     let mut i = at;
     while i < text.len() {
-        if !classes::is_letter_or_digit(text[i]) {
+        if !is_counted(text[i], letters) {
             return i - at;
         }
         i += 1;
@@ -29,14 +40,7 @@ fn name_bytes(text: &[u8], at: usize) -> usize
 pub fn digit_count(text: &[u8], at: usize) -> usize
     ensures { λ r. ⌜ Counts (now (text .entry)) at (run isDigit (drop at (now (text .entry)))) r ⌝ }
 {
-    let mut i = at;
-    while i < text.len() {
-        if !classes::is_digit(text[i]) {
-            return i - at;
-        }
-        i += 1;
-    }
-    i - at
+    run_length(text, at, false)
 }
 
 // how many bytes of a name stand at a place, 0 for none
@@ -46,7 +50,7 @@ pub fn name_length(text: &[u8], at: usize) -> usize
     if !classes::is_letter(byte_at(text, at)) {
         return 0;
     }
-    let n = name_bytes(text, at);
+    let n = run_length(text, at, true);
     if n <= 8 { n } else { 0 }
 }
 

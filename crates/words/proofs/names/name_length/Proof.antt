@@ -30,14 +30,14 @@ returns c =
       inside = omega arith;
     }
 
-name-bytes-requires : tie.Need-name-bytes-requires
-name-bytes-requires c κs = search needs
+run-length-requires : tie.Need-run-length-requires
+run-length-requires c κs = search needs
 
 returns-2 : tie.Need-returns-2
 returns-2 c =
     let d = c .before .before .before in
     let a = d .before .before .before .args in
-    let n = c .before .name-bytes in
+    let n = c .before .run-length in
     record {
       is =
           name-is (drop (a .at) (a .text .now)) (n .result) (n .ensures .is)
@@ -50,7 +50,7 @@ returns-3 : tie.Need-returns-3
 returns-3 c =
     let d = c .before .before .before in
     let a = d .before .before .before .args in
-    let n = c .before .name-bytes in
+    let n = c .before .run-length in
     record {
       is =
           name-long (drop (a .at) (a .text .now)) (n .result) (n .ensures .is)
@@ -61,4 +61,4 @@ returns-3 c =
 
 pub name-length-spec : {M : Type 1} → statement M
 name-length-spec =
-    tie.close (tie.spec byte-at-requires is-letter-requires returns name-bytes-requires returns-2 returns-3)
+    tie.close (tie.spec byte-at-requires is-letter-requires returns run-length-requires returns-2 returns-3)

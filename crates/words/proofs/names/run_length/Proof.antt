@@ -1,4 +1,4 @@
--- `words::names::name_bytes` meets its contract. The invariant: the bytes passed are of the run.
+-- `words::names::run_length` meets its contract. The invariant: the bytes passed are of the run.
 -- Assumes nothing.
 use borrow.Author.Needs.{needs}
 use borrow.Author.Tests.{not-true, not-false}
@@ -6,25 +6,25 @@ use mathlib.Core.Path.{sym, _∙_}
 use Prim.Native.Nat.{_-_}
 use native.Mathlib.Omega.{arith}
 use lib.ListN.{length}
-use Rattle.cards.specs.Bytes.{isNameByte}
+use Rattle.words.specs.Places.{isCounted}
 use Rattle.words.specs.Runs.{Counting, count-more, count-stop, count-end}
-use Rattle.words.proofs.names.name_bytes.Statement.{statement}
-use Rattle.words.proofs.names.name_bytes.Tie as tie
+use Rattle.words.proofs.names.run_length.Statement.{statement}
+use Rattle.words.proofs.names.run_length.Tie as tie
 
 abbrev Inv-loop : tie.InvT-loop
-Inv-loop text at i₀ i = Counting isNameByte text at i
+Inv-loop text at letters i₀ i = Counting (isCounted letters) text at i
 
 abbrev μ-loop : tie.MeasureT-loop
-μ-loop text at i₀ i = length text - i
+μ-loop text at letters i₀ i = length text - i
 
 loop-holds : tie.Need-loop-holds Inv-loop μ-loop
 loop-holds c = (omega arith, omega arith)
 
-shared-slice-read-is-letter-or-digit : tie.Need-shared-slice-read-is-letter-or-digit Inv-loop μ-loop
-shared-slice-read-is-letter-or-digit c = search needs
+shared-slice-read-is-counted : tie.Need-shared-slice-read-is-counted Inv-loop μ-loop
+shared-slice-read-is-counted c = search needs
 
-is-letter-or-digit-requires : tie.Need-is-letter-or-digit-requires Inv-loop μ-loop
-is-letter-or-digit-requires c κs = search needs
+is-counted-requires : tie.Need-is-counted-requires Inv-loop μ-loop
+is-counted-requires c κs = search needs
 
 sub-result : tie.Need-sub-result Inv-loop μ-loop
 sub-result c = search needs
@@ -33,8 +33,8 @@ returns : tie.Need-returns Inv-loop μ-loop
 returns c =
     let a = c .before .before .before .before .before .before .args in
     let l = c .before .before .before .before .loop in
-    count-stop isNameByte (a .text .now) (a .at) (l .i) (l .inv) (c .before .before .before .loop-test .taken)
-    (sym (c .before .is-letter-or-digit .ensures) ∙ not-true (c .before .is-letter-or-digit .result) (c .if1 .taken))
+    count-stop (isCounted (a .letters)) (a .text .now) (a .at) (l .i) (l .inv) (c .before .before .before .loop-test .taken)
+    (sym (c .before .is-counted .ensures) ∙ not-true (c .before .is-counted .result) (c .if1 .taken))
 
 add-i : tie.Need-add-i Inv-loop μ-loop
 add-i c = search needs
@@ -46,8 +46,8 @@ loop-again : tie.Need-loop-again Inv-loop μ-loop
 loop-again c =
     let a = c .before .before .before .before .before .before .args in
     let l = c .before .before .before .before .loop in
-    count-more isNameByte (a .text .now) (a .at) (l .i) (l .inv) (c .before .before .before .loop-test .taken)
-    (sym (c .before .is-letter-or-digit .ensures) ∙ not-false (c .before .is-letter-or-digit .result) (c .if1 .left))
+    count-more (isCounted (a .letters)) (a .text .now) (a .at) (l .i) (l .inv) (c .before .before .before .loop-test .taken)
+    (sym (c .before .is-counted .ensures) ∙ not-false (c .before .is-counted .result) (c .if1 .left))
 
 sub-result-2 : tie.Need-sub-result-2 Inv-loop μ-loop
 sub-result-2 c = search needs
@@ -56,17 +56,17 @@ returns-2 : tie.Need-returns-2 Inv-loop μ-loop
 returns-2 c =
     let a = c .before .before .before .args in
     let l = c .before .loop in
-    count-end isNameByte (a .text .now) (a .at) (l .i) (l .inv) (c .loop-test .left)
+    count-end (isCounted (a .letters)) (a .text .now) (a .at) (l .i) (l .inv) (c .loop-test .left)
 
-pub name-bytes-spec : {M : Type 1} → statement M
-name-bytes-spec =
+pub run-length-spec : {M : Type 1} → statement M
+run-length-spec =
     tie.close
     (tie.spec
     Inv-loop
     μ-loop
     loop-holds
-    shared-slice-read-is-letter-or-digit
-    is-letter-or-digit-requires
+    shared-slice-read-is-counted
+    is-counted-requires
     sub-result
     returns
     add-i
