@@ -15,6 +15,7 @@ use Rattle.judgement.specs.Known.{Routine, isOneOf}
 use Rattle.met.specs.Entries.{nameOf}
 use Rattle.met.specs.From.{valuesFrom}
 use Rattle.met.specs.Known.{numberKeys, keyPlace, labelIn, labelsFrom, labelsIn, routineIn, routinesDown, routinesIn, placesIn}
+use Rattle.met.specs.Known.{labelCountAt, routineCountAt, labelKeysAt, labelStepsAt, routineKeysAt, knownSize}
 use Rattle.met.specs.KnownLaws.{name-same}
 
 -- whether a name is one of the numbers known
@@ -36,102 +37,102 @@ columnIn known from zero = 0
 columnIn known from (suc i) = getD known (from + i) 0
 
 pub record RoutineFound (known : List ℕ) (key r : ℕ) : Type 0 where
-  pub inside : r ≤ getD known 69 0
+  pub inside : r ≤ getD known routineCountAt 0
   pub is : routineNamed (routinesIn known) (nameOf key) ≡ routineAt known (nameOf key) r
 
 -- the step of a label stands where its key does
 module _ (known : List ℕ) (key : ℕ) where
   -- what stands at a place of n from i on, if it is one of them
   abbrev stepFound : (i n place : ℕ) → ℕ
-  stepFound i n place = cond (ltb place n) (getD known (145 + i + place) 0) 0
+  stepFound i n place = cond (ltb place n) (getD known (labelStepsAt + i + place) 0) 0
 
-  pub label-place : (i n : ℕ) → 80 + i + n ≤ length known
-      → stepOf (labelsFrom known i n) (nameOf key) ≡ stepFound i n (keyPlace key (take n (drop (80 + i) known)))
+  pub label-place : (i n : ℕ) → labelKeysAt + i + n ≤ length known
+      → stepOf (labelsFrom known i n) (nameOf key) ≡ stepFound i n (keyPlace key (take n (drop (labelKeysAt + i) known)))
   unfolding stepOf valuesFrom labelIn keyPlace
   label-place i zero h = refl
   label-place i (suc n) h =
-      let k = getD known (80 + i) 0 in
-      let p = keyPlace key (take n (drop (80 + suc i) known)) in
+      let k = getD known (labelKeysAt + i) 0 in
+      let p = keyPlace key (take n (drop (labelKeysAt + suc i) known)) in
       let behind = stepOf (labelsFrom known (suc i) n) (nameOf key) in
-      let next : suc (80 + i) ≡ 80 + suc i = omega arith in
-      let further : 145 + suc i + p ≡ 145 + i + suc p = omega arith in
-      let place : keyPlace key (take (suc n) (drop (80 + i) known)) ≡ elim (eqb key k) [ true ↦ 0 | false ↦ suc p ] =
-      ap (λ (l : List ℕ). keyPlace key (take (suc n) l)) (drop-cons known (80 + i) 0 (omega arith))
+      let next : suc (labelKeysAt + i) ≡ labelKeysAt + suc i = omega arith in
+      let further : labelStepsAt + suc i + p ≡ labelStepsAt + i + suc p = omega arith in
+      let place : keyPlace key (take (suc n) (drop (labelKeysAt + i) known)) ≡ elim (eqb key k) [ true ↦ 0 | false ↦ suc p ] =
+      ap (λ (l : List ℕ). keyPlace key (take (suc n) l)) (drop-cons known (labelKeysAt + i) 0 (omega arith))
       ∙ ap (λ m. elim (eqb key k) [ true ↦ 0 | false ↦ suc (keyPlace key (take n (drop m known))) ]) next in
-      ap {B = ℕ} (λ t. elim t [ true ↦ getD known (145 + i) 0 | false ↦ behind ]) (name-same key k)
+      ap {B = ℕ} (λ t. elim t [ true ↦ getD known (labelStepsAt + i) 0 | false ↦ behind ]) (name-same key k)
       ∙ test-cases
-      (λ t. _≡_ {A = ℕ} (elim t [ true ↦ getD known (145 + i) 0 | false ↦ behind ]) (stepFound i (suc n) (elim t [ true ↦ 0 | false ↦ suc p ])))
+      (λ t. _≡_ {A = ℕ} (elim t [ true ↦ getD known (labelStepsAt + i) 0 | false ↦ behind ]) (stepFound i (suc n) (elim t [ true ↦ 0 | false ↦ suc p ])))
       (eqb key k)
-      (λ _. ap₂ (λ (b : Bool) (m : ℕ). cond b (getD known m 0) 0) (sym (lt-ltb 0 (suc n) (omega arith))) (sym (add-zero (145 + i))))
+      (λ _. ap₂ (λ (b : Bool) (m : ℕ). cond b (getD known m 0) 0) (sym (lt-ltb 0 (suc n) (omega arith))) (sym (add-zero (labelStepsAt + i))))
       (λ _.
       label-place (suc i) n (omega arith)
       ∙ ap₂ (λ (b : Bool) (m : ℕ). cond b (getD known m 0) 0) (sym (leb·suc-suc (suc p) n)) further)
       ∙ sym (ap (stepFound i (suc n)) place)
 
   -- of all labels: found, or not
-  module _ (size : length known ≡ 326) (few : getD known 68 0 ≤ 65) where
+  module _ (size : length known ≡ knownSize) (few : getD known labelCountAt 0 ≤ 65) where
     abbrev labelled : ℕ
-    labelled = keyPlace key (take (getD known 68 0) (drop 80 known))
+    labelled = keyPlace key (take (getD known labelCountAt 0) (drop labelKeysAt known))
 
-    label-is : placesIn known .label (nameOf key) ≡ stepFound 0 (getD known 68 0) labelled
+    label-is : placesIn known .label (nameOf key) ≡ stepFound 0 (getD known labelCountAt 0) labelled
     unfolding placesIn labelsIn
-    label-is = label-place 0 (getD known 68 0) (omega arith)
+    label-is = label-place 0 (getD known labelCountAt 0) (omega arith)
 
-    pub label-found : {i : ℕ} → i ≡ labelled → i < getD known 68 0 → getD known (145 + i) 0 ≡ placesIn known .label (nameOf key)
+    pub label-found : {i : ℕ} → i ≡ labelled → i < getD known labelCountAt 0 → getD known (labelStepsAt + i) 0 ≡ placesIn known .label (nameOf key)
     label-found {i} e h =
         sym
         (label-is
-        ∙ ap (stepFound 0 (getD known 68 0)) (sym e)
-        ∙ ap (λ b. cond b (getD known (145 + i) 0) 0) (lt-ltb i (getD known 68 0) h))
+        ∙ ap (stepFound 0 (getD known labelCountAt 0)) (sym e)
+        ∙ ap (λ b. cond b (getD known (labelStepsAt + i) 0) 0) (lt-ltb i (getD known labelCountAt 0) h))
 
-    pub label-none : {i : ℕ} → i ≡ labelled → getD known 68 0 ≤ i → 0 ≡ placesIn known .label (nameOf key)
+    pub label-none : {i : ℕ} → i ≡ labelled → getD known labelCountAt 0 ≤ i → 0 ≡ placesIn known .label (nameOf key)
     label-none {i} e h =
         sym
         (label-is
-        ∙ ap (stepFound 0 (getD known 68 0)) (sym e)
-        ∙ ap (λ b. cond b (getD known (145 + i) 0) 0) (le-ltb i (getD known 68 0) h))
+        ∙ ap (stepFound 0 (getD known labelCountAt 0)) (sym e)
+        ∙ ap (λ b. cond b (getD known (labelStepsAt + i) 0) 0) (le-ltb i (getD known labelCountAt 0) h))
 
 -- routines one by one, the latest first
 module _ (known : List ℕ) (key : ℕ) where
   -- the routines from i on are others
   pub record RoutinesPassed (i : ℕ) : Type 0 where
-    pub inside : i ≤ getD known 69 0
+    pub inside : i ≤ getD known routineCountAt 0
     pub is : routineNamed (routinesIn known) (nameOf key) ≡ routineNamed (routinesDown known i) (nameOf key)
 
-  pub routines-start : RoutinesPassed (getD known 69 0)
+  pub routines-start : RoutinesPassed (getD known routineCountAt 0)
   unfolding routinesIn
   routines-start = record { inside = omega arith; is = refl }
 
-  turned : (i : ℕ) (b : Bool) → eqb key (getD known (275 + i) 0) ≡ b
+  turned : (i : ℕ) (b : Bool) → eqb key (getD known (routineKeysAt + i) 0) ≡ b
       → routineNamed (routinesDown known (suc i)) (nameOf key)
       ≡ elim b [ true ↦ routineIn known i | false ↦ routineNamed (routinesDown known i) (nameOf key) ]
   unfolding routineNamed routinesDown routineIn
   turned i b e =
       ap {B = Routine} (λ (t : Bool). elim t [ true ↦ routineIn known i | false ↦ routineNamed (routinesDown known i) (nameOf key) ])
-      (name-same key (getD known (275 + i) 0) ∙ e)
+      (name-same key (getD known (routineKeysAt + i) 0) ∙ e)
 
-  routines-here′ : (i : ℕ) → RoutinesPassed (suc i) → getD known (275 + i) 0 ≡ key → RoutineFound known key (suc i)
+  routines-here′ : (i : ℕ) → RoutinesPassed (suc i) → getD known (routineKeysAt + i) 0 ≡ key → RoutineFound known key (suc i)
   routines-here′ i p e =
-      record { inside = p .inside; is = p .is ∙ turned i true (eq-eqb key (getD known (275 + i) 0) (sym e)) }
+      record { inside = p .inside; is = p .is ∙ turned i true (eq-eqb key (getD known (routineKeysAt + i) 0) (sym e)) }
 
-  routines-more′ : (i : ℕ) → RoutinesPassed (suc i) → (getD known (275 + i) 0 ≡ key → ⊥) → RoutinesPassed i
+  routines-more′ : (i : ℕ) → RoutinesPassed (suc i) → (getD known (routineKeysAt + i) 0 ≡ key → ⊥) → RoutinesPassed i
   routines-more′ i p f =
       record {
         inside = omega (arith, p .inside);
-        is = p .is ∙ turned i false (ne-eqb key (getD known (275 + i) 0) (λ e. f (sym e)));
+        is = p .is ∙ turned i false (ne-eqb key (getD known (routineKeysAt + i) 0) (λ e. f (sym e)));
       }
 
-  pub routines-here : (i : ℕ) → 0 < i → RoutinesPassed i → getD known (275 + (i - 1)) 0 ≡ key → RoutineFound known key i
+  pub routines-here : (i : ℕ) → 0 < i → RoutinesPassed i → getD known (routineKeysAt + (i - 1)) 0 ≡ key → RoutineFound known key i
   routines-here zero h p e = absurd (omega arith)
   routines-here (suc i) h p e =
       let same′ : suc i - 1 ≡ i = omega arith in
-      routines-here′ i p (ap (λ j. getD known (275 + j) 0) (sym same′) ∙ e)
+      routines-here′ i p (ap (λ j. getD known (routineKeysAt + j) 0) (sym same′) ∙ e)
 
-  pub routines-more : (i : ℕ) → 0 < i → RoutinesPassed i → (getD known (275 + (i - 1)) 0 ≡ key → ⊥) → RoutinesPassed (i - 1)
+  pub routines-more : (i : ℕ) → 0 < i → RoutinesPassed i → (getD known (routineKeysAt + (i - 1)) 0 ≡ key → ⊥) → RoutinesPassed (i - 1)
   routines-more zero h p f = absurd (omega arith)
   routines-more (suc i) h p f =
       let same′ : suc i - 1 ≡ i = omega arith in
-      rw same′ (routines-more′ i p (λ e. f (ap (λ j. getD known (275 + j) 0) same′ ∙ e)))
+      rw same′ (routines-more′ i p (λ e. f (ap (λ j. getD known (routineKeysAt + j) 0) same′ ∙ e)))
 
   pub routines-all : (i : ℕ) → i ≤ 0 → RoutinesPassed i → RoutineFound known key 0
   unfolding routineNamed routinesDown

@@ -20,7 +20,7 @@ ghost use Prim.Native.Nat.{_+_, _≤_};
 ghost use lib.ListN.{length};
 ghost use Rattle.branches.specs.Places.{numberIn, stepTo, RoutineFound, columnIn};
 ghost use Rattle.met.specs.Entries.{nameOf};
-ghost use Rattle.met.specs.Known.{Counted, placesIn};
+ghost use Rattle.met.specs.Known.{Counted, placesIn, knownSize};
 
 // the step of a label, 0 for none
 fn label_step(known: &[u64; KNOWN], key: u64) -> usize
@@ -52,7 +52,7 @@ fn routine_found(known: &[u64; KNOWN], key: u64) -> usize
 
 // what stands in a column of the routines for one of them, counted from 1; 0 for none
 fn column_of(known: &[u64; KNOWN], from: usize, i: usize) -> usize
-    requires { ⌜ (length (now known) ≡ 326) × (from + i ≤ 326) ⌝ }
+    requires { ⌜ (length (now known) ≡ knownSize) × (from + i ≤ knownSize) ⌝ }
     ensures { λ r. ⌜ r ≡ columnIn (now (known .entry)) from i ⌝ }
 {
     if i == 0 {

@@ -15,7 +15,8 @@ use Rattle.judgement.specs.Known.{Label, Routine, Use}
 use Rattle.met.specs.Entries.{nameOf}
 use Rattle.met.specs.From.{valuesFrom}
 use Rattle.met.specs.Holding.{usesFrom}
-use Rattle.met.specs.Known.{labelIn, labelsFrom, labelsIn, routineIn, routinesDown, routinesIn, labelCountAt, routineCountAt, routineKeysAt, usesAt}
+use Rattle.met.specs.Known.{labelIn, labelsFrom, labelsIn, routineIn, routinesDown, routinesIn, labelCountAt, routineCountAt, routineKeysAt, useCountAt}
+use Rattle.met.specs.Known.{labelKeysAt, labelScopesAt}
 use Rattle.met.specs.KnownLaws.{name-same, routines-have}
 use Rattle.closing.specs.Below.{below, below-same, below-from, below-start, below-either}
 use Rattle.closing.specs.Held.{heldIn}
@@ -70,7 +71,7 @@ module _ (known : List ℕ) where
   label-declared key scope =
       any-labels (λ (l : Label). same (nameOf key) (l .name) && same (nameOf scope) (l .scope)) known (getD known labelCountAt 0)
       ∙ below-same _ (labelAt known key scope) (getD known labelCountAt 0)
-      (λ i _. ap₂ {C = Bool} _&&_ (name-same key (getD known (80 + i) 0)) (name-same scope (getD known (210 + i) 0)))
+      (λ i _. ap₂ {C = Bool} _&&_ (name-same key (getD known (labelKeysAt + i) 0)) (name-same scope (getD known (labelScopesAt + i) 0)))
 
   routine-declared : (key : ℕ) → any (λ (r : Routine). same (nameOf key) (r .name)) (routinesIn known) ≡ hasRoutine known key
   unfolding routinesIn
@@ -104,10 +105,10 @@ abbrev pub lostAt : (known keys scopes purposes : List ℕ) → ℕ → Bool
 lostAt known keys scopes purposes i = isLost known (getD keys i 0) (getD scopes i 0) (getD purposes i 0)
 
 pub lost-11 : (known keys scopes purposes : List ℕ) →
-    below (lostAt known keys scopes purposes) (getD known usesAt 0) ≡ is11 (heldIn known keys scopes purposes)
+    below (lostAt known keys scopes purposes) (getD known useCountAt 0) ≡ is11 (heldIn known keys scopes purposes)
 unfolding is11 heldIn isLost
 lost-11 known keys scopes purposes =
-    let n = getD known usesAt 0 in
+    let n = getD known useCountAt 0 in
     let astray : Use → Bool =
     λ u. not (any (λ (l : Label). same (u .name) (l .name) && same (u .scope) (l .scope)) (labelsIn known)) in
     let undeclared : Use → Bool = λ u. not (any (λ (r : Routine). same (u .name) (r .name)) (routinesIn known)) in

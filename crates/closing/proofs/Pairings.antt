@@ -10,7 +10,7 @@ use lib.ListN.{length, getD, set, length-set, replicate, length-replicate, getD-
 use lib.Seq.{getD-set-same, getD-set-other}
 use borrow.Author.Tests.{eq-eqb, ne-eqb, eqb-true, eqb-false}
 use Rattle.base.specs.Choice.{test-cases}
-use Rattle.met.specs.Known.{routineKeysAt, usesAt}
+use Rattle.met.specs.Known.{routineKeysAt, useCountAt}
 use Rattle.closing.specs.Below.{below, below-none, below-more, below-at}
 use Rattle.closing.specs.Pairs.{pairIn, Paired, NotedAll, inRow, byUse, usePairs}
 
@@ -174,7 +174,7 @@ module _ (count : ℕ) (few : count ≤ 17) where
         (ap (λ t. t && byUse known (getD scopes u 0) (getD keys u 0) a b) (sym (ne-eqb (getD purposes u 0) 2 e))))
 
     pub uses-whole : (pairs : List Bool) (n : ℕ) → Paired count noPairs pairs (usesTo known keys scopes purposes n) →
-        n ≡ getD known usesAt 0 → NotedAll known count keys scopes purposes pairs
+        n ≡ getD known useCountAt 0 → NotedAll known count keys scopes purposes pairs
     uses-whole pairs n p e =
         record {
           size = p .size;

@@ -15,7 +15,7 @@ use Rattle.judgement.specs.Known.{Label, Routine, Use, isOneOf}
 use Rattle.judgement.specs.Names.{any-append}
 use Rattle.met.specs.Entries.{nameOf}
 use Rattle.met.specs.Holding.{usesFrom}
-use Rattle.met.specs.Known.{labelsIn, routinesDown, routinesIn, routineCountAt, routineKeysAt, usesAt}
+use Rattle.met.specs.Known.{labelsIn, routinesDown, routinesIn, routineCountAt, routineKeysAt, useCountAt}
 use Rattle.met.specs.KnownLaws.{name-same, length-routines}
 use Rattle.closing.proofs.Losses.{any-routines, any-uses}
 use Rattle.closing.proofs.Turns.{gone-same}
@@ -179,13 +179,13 @@ module _ (known keys scopes purposes : List ℕ) where
   name i = nameOf (getD known (routineKeysAt + i) 0)
 
   abbrev used : List Use
-  used = usesFrom 2 keys scopes purposes 0 (getD known usesAt 0)
+  used = usesFrom 2 keys scopes purposes 0 (getD known useCountAt 0)
 
-  executes-pairs : (i j : ℕ) → executes used (name i) (name j) ≡ below (usePairs known keys scopes purposes i j) (getD known usesAt 0)
+  executes-pairs : (i j : ℕ) → executes used (name i) (name j) ≡ below (usePairs known keys scopes purposes i j) (getD known useCountAt 0)
   unfolding executes usePairs byUse
   executes-pairs i j =
-      any-uses (λ u. same (name i) (u .scope) && same (name j) (u .name)) 2 keys scopes purposes (getD known usesAt 0)
-      ∙ below-same _ _ (getD known usesAt 0)
+      any-uses (λ u. same (name i) (u .scope) && same (name j) (u .name)) 2 keys scopes purposes (getD known useCountAt 0)
+      ∙ below-same _ _ (getD known useCountAt 0)
       (λ u _.
       ap₂ {C = Bool} (λ x y. eqb (getD purposes u 0) 2 && (x && y))
       (name-same (getD known (routineKeysAt + i) 0) (getD scopes u 0))
@@ -196,7 +196,7 @@ module _ (known keys scopes purposes : List ℕ) where
   all-placed e =
       let crossing : Bool =
       any (λ (u : Use). not (any (λ (l : Label). same (u .name) (l .name) && same (u .scope) (l .scope)) (labelsIn known)))
-      (usesFrom 1 keys scopes purposes 0 (getD known usesAt 0)) in
+      (usesFrom 1 keys scopes purposes 0 (getD known useCountAt 0)) in
       let undeclared : Bool = any (λ (u : Use). not (any (λ (r : Routine). same (u .name) (r .name)) (routinesIn known))) used in
       let parts = neither-true crossing undeclared e in
       ap (λ (f : List ℕ → Bool). any (λ (u : Use). not (f (u .name))) used)

@@ -7,12 +7,12 @@ use lib.ListN.{length, getD}
 use Rattle.judgement.specs.Known.{Known}
 use Rattle.met.specs.Contracts.{namesRoom}
 use Rattle.met.specs.Holding.{usesFrom}
-use Rattle.met.specs.Known.{Counted, labelsIn, routinesIn, usesAt}
+use Rattle.met.specs.Known.{Counted, labelsIn, routinesIn, useCountAt}
 
 -- the arrays have their sizes, and the counts lie within
 pub record Closable (known keys scopes purposes : List ℕ) : Type 0 where
   pub counted : Counted known
-  pub uses : getD known usesAt 0 ≤ namesRoom
+  pub uses : getD known useCountAt 0 ≤ namesRoom
   pub keysSize : length keys ≡ namesRoom
   pub scopesSize : length scopes ≡ namesRoom
   pub purposesSize : length purposes ≡ namesRoom
@@ -28,8 +28,8 @@ heldIn known keys scopes purposes =
       names = [];
       labels = labelsIn known;
       routines = routinesIn known;
-      branches = usesFrom 1 keys scopes purposes 0 (getD known usesAt 0);
-      executes = usesFrom 2 keys scopes purposes 0 (getD known usesAt 0);
+      branches = usesFrom 1 keys scopes purposes 0 (getD known useCountAt 0);
+      executes = usesFrom 2 keys scopes purposes 0 (getD known useCountAt 0);
       elements = 0;
       items = 0;
       literals = 0;

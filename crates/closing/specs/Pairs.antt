@@ -5,7 +5,7 @@ use mathlib.Core.Path.{_≡_}
 use Prim.Native.Nat.{ℕ, _+_, _*_, _≤_, _<_}
 use lib.Dec.{eqb}
 use lib.ListN.{length, getD}
-use Rattle.met.specs.Known.{Counted, routineKeysAt, usesAt}
+use Rattle.met.specs.Known.{Counted, routineKeysAt, useCountAt}
 use Rattle.closing.specs.Below.{below}
 
 abbrev pub pairIn : List Bool → ℕ → ℕ → Bool
@@ -43,4 +43,4 @@ usePairs known keys scopes purposes a b u = eqb (getD purposes u 0) 2 && byUse k
 pub record NotedAll (known : List ℕ) (count : ℕ) (keys scopes purposes : List ℕ) (pairs : List Bool) : Type 0 where
   pub size : length pairs ≡ 289
   pub pair : (i j : ℕ) → i < count → j < count →
-      pairIn pairs i j ≡ below (usePairs known keys scopes purposes i j) (getD known usesAt 0)
+      pairIn pairs i j ≡ below (usePairs known keys scopes purposes i j) (getD known useCountAt 0)

@@ -18,6 +18,7 @@ use Rattle.judgement.specs.Refusals.{readStatement}
 use Rattle.language.specs.Forms.{statementForm}
 use Rattle.language.specs.Program.{Item, PatternElement, Statement}
 use Rattle.language.specs.Reading.{Read, got, broken}
+use Rattle.met.specs.Contracts.{namesRoom}
 use Rattle.met.specs.Elements.{withElements}
 use Rattle.met.specs.Entries.{Entry, metIn}
 use Rattle.met.specs.Items.{withItems}
@@ -36,8 +37,8 @@ pub record Starts (text keys tags : List ℕ) (c : Cursor) : Type 0 where
   pub items : c .items ≤ 4_294_967_296
   pub elements : c .elements ≤ 4_294_967_296
   pub literals : c .literals ≤ 4_294_967_296
-  pub keysSize : length keys ≡ 32_800
-  pub tagsSize : length tags ≡ 32_800
+  pub keysSize : length keys ≡ namesRoom
+  pub tagsSize : length tags ≡ namesRoom
 
 -- the items and elements of a statement; of PROGRAM and NUMBER there are none
 unfoldable pub itemsIn : Option Statement → List Item
@@ -63,8 +64,8 @@ pub record Formed (v : Option Statement) (most : ℕ) (table keys tags : List �
   pub elements : d .elements ≡ c .elements + length (elementsIn v)
   pub literals : d .literals ≡ c .literals + length (allLiterals (elementsIn v))
   pub few : length entries ≤ most
-  pub keysSize : length keys′ ≡ 32_800
-  pub tagsSize : length tags′ ≡ 32_800
+  pub keysSize : length keys′ ≡ namesRoom
+  pub tagsSize : length tags′ ≡ namesRoom
 
 -- a step has its row
 pub record Stepped (row : Row) (most : ℕ) (table keys tags : List ℕ) (c : Cursor) (x : Read (Option Statement))

@@ -9,12 +9,12 @@ use Rattle.met.specs.Contracts.{namesRoom}
 use Rattle.met.specs.Holding.{Arrays, Holds}
 use Rattle.met.specs.declared.Cursor.{Cursor}
 use Rattle.naming.specs.HoldLaws.{shown-held}
-use Rattle.judging.specs.Judged.{Ready}
+use Rattle.judging.specs.Judged.{Judgeable}
 
 -- arrays that hold what is known are ready for a statement whose names have room
-pub ready : (a : Arrays) (keys tags : List ℕ) (c : Cursor) (taken : ℕ) (k : Known) → length keys ≡ namesRoom → length tags ≡ namesRoom
-    → taken + c .names ≤ namesRoom → Holds a taken k → Ready a keys tags c
-ready a keys tags c taken k p q room h =
+pub judgeable : (a : Arrays) (keys tags : List ℕ) (c : Cursor) (taken : ℕ) (k : Known) → length keys ≡ namesRoom → length tags ≡ namesRoom
+    → taken + c .names ≤ namesRoom → Holds a taken k → Judgeable a keys tags c
+judgeable a keys tags c taken k p q room h =
     record {
       keysSize = p;
       tagsSize = q;

@@ -6,6 +6,7 @@ use lib.Dec.{eqb, ltb}
 use lib.ListN.{getD}
 use lib.Seq.{sets}
 use Rattle.base.specs.Limits as Limits
+use Rattle.met.specs.Known.{labelCountAt, routineCountAt, statementCountAt, stepCountAt, elementCountAt, itemCountAt, literalCountAt}
 use Rattle.met.specs.declared.Cursor.{Cursor}
 
 unfoldable pub stepsBehind : (steps kind : ℕ) → ℕ
@@ -17,8 +18,8 @@ endedBehind kind = cond (eqb kind 3) 1 0
 -- statements, steps, END, scope, elements, items, literals, names and uses
 abbrev pub countsBehind : List ℕ → Cursor → (kind scope names uses : ℕ) → List ℕ
 countsBehind known c kind scope names uses =
-    (getD known 71 0 + 1)
-    ∷ stepsBehind (getD known 72 0) kind
+    (getD known statementCountAt 0 + 1)
+    ∷ stepsBehind (getD known stepCountAt 0) kind
     ∷ endedBehind kind
     ∷ scope
     ∷ c .elements
@@ -29,16 +30,16 @@ countsBehind known c kind scope names uses =
     ∷ []
 
 unfoldable pub counted : List ℕ → Cursor → (kind scope names uses : ℕ) → List ℕ
-counted known c kind scope names uses = sets known 71 (countsBehind known c kind scope names uses)
+counted known c kind scope names uses = sets known statementCountAt (countsBehind known c kind scope names uses)
 
 unfoldable pub isOver : List ℕ → (longest : ℕ) → Bool
 isOver known longest =
-    ltb Limits.statements (getD known 71 0)
+    ltb Limits.statements (getD known statementCountAt 0)
     || (ltb Limits.strings (getD known 0 0)
     || (ltb Limits.numbers (getD known 1 0)
-    || (ltb Limits.labels (getD known 68 0)
-    || (ltb Limits.routines (getD known 69 0)
+    || (ltb Limits.labels (getD known labelCountAt 0)
+    || (ltb Limits.routines (getD known routineCountAt 0)
     || (ltb Limits.row longest
-    || (ltb Limits.elements (getD known 75 0)
-    || (ltb Limits.items (getD known 76 0)
-    || ltb Limits.literals (getD known 77 0))))))))
+    || (ltb Limits.elements (getD known elementCountAt 0)
+    || (ltb Limits.items (getD known itemCountAt 0)
+    || ltb Limits.literals (getD known literalCountAt 0))))))))

@@ -14,12 +14,12 @@ use Rattle.met.specs.Contracts.{namesRoom}
 use Rattle.met.specs.Entries.{metIn}
 use Rattle.met.specs.Holding.{Arrays, Holds}
 use Rattle.met.specs.declared.Cursor.{Cursor}
-use Rattle.naming.specs.Arrays.{knownIn, entriesFrom}
+use Rattle.naming.specs.Arrays.{knownIn, metFrom}
 use Rattle.words.specs.Kinds.{kindOf}
 use Rattle.words.specs.declared.keywords.Kind.{Kind}
 
--- the arrays hold what they show, with room for the names met; law `ready` makes it of Holds
-pub record Ready (a : Arrays) (keys tags : List ℕ) (c : Cursor) : Type 0 where
+-- the arrays hold what they show, with room for the names met; law `judgeable` makes it of Holds
+pub record Judgeable (a : Arrays) (keys tags : List ℕ) (c : Cursor) : Type 0 where
   pub keysSize : length keys ≡ namesRoom
   pub tagsSize : length tags ≡ namesRoom
   pub room : c .names ≤ namesRoom
@@ -35,10 +35,10 @@ pub record Tallied (k : Known) (c : Cursor) (items : ℕ) (rows : List ℕ) (lit
 -- the number, and what the arrays hold where it is 0
 pub record StatementJudged (a : Arrays) (keys tags : List ℕ) (c : Cursor) (kind : Kind) (a′ : Arrays) (r : ℕ) : Type 0 where
   pub number : (taken : ℕ) (k : Known) → Holds a taken k → (items : ℕ) (rows : List ℕ) (literals : ℕ) → Tallied k c items rows literals
-      → r ≡ metNumber k (kindOf kind) (metIn (entriesFrom keys tags 0 (c .names)) items rows literals)
+      → r ≡ metNumber k (kindOf kind) (metIn (metFrom keys tags 0 (c .names)) items rows literals)
   pub learnt : r ≡ 0 → (taken : ℕ) (k : Known) → Holds a taken k → (items : ℕ) (rows : List ℕ) (literals : ℕ)
       → Tallied k c items rows literals → (taken′ : ℕ) → taken + c .names ≤ taken′
-      → Holds a′ taken′ (learn k (kindOf kind) (metIn (entriesFrom keys tags 0 (c .names)) items rows literals))
+      → Holds a′ taken′ (learn k (kindOf kind) (metIn (metFrom keys tags 0 (c .names)) items rows literals))
 
 -- 4, of what any arrays with this known hold
 pub record Misplaced (known : List ℕ) (kind : Kind) (r : Bool) : Type 0 where

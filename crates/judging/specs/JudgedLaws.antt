@@ -20,10 +20,11 @@ use Rattle.language.specs.Reading.{label, routine, number, string, samePurpose,
 use Rattle.met.specs.Entries.{Entry, nameOf, nameFrom, gather, declaredBy, usedBy, rolesBy, metIn}
 use Rattle.met.specs.From.{length-from}
 use Rattle.met.specs.Holding.{Arrays, Holds, namesFrom, namesIn, usesIn}
-use Rattle.met.specs.Known.{stringKeys, numberKeys, labelIn, labelsIn, routinesIn}
+use Rattle.met.specs.Known.{stringKeys, numberKeys, labelIn, labelsIn, routinesIn, labelCountAt, routineCountAt, statementCountAt, stepCountAt}
+use Rattle.met.specs.Known.{endedAt, scopeAt, elementCountAt, itemCountAt, literalCountAt}
 use Rattle.met.specs.KnownLaws.{name-same, length-routines}
 use Rattle.met.specs.declared.Cursor.{Cursor}
-use Rattle.naming.specs.Arrays.{entryIn, entriesFrom, arrays}
+use Rattle.naming.specs.Arrays.{entryIn, metFrom, arrays}
 use Rattle.naming.specs.Declaring.{declaredIn, undeclaredIn}
 use Rattle.naming.specs.Judged.{namesOf, namesNumber, NamesJudged}
 use Rattle.naming.specs.declared.Verdict.{Verdict}
@@ -117,17 +118,17 @@ module _ (a : Arrays) (taken : ℕ) (k : Known) (h : Holds a taken k) (kind : Ke
   known = a .known
 
   -- 4 and 9
-  pub misplaced : isMisplaced k kind ≡ (not (Bool·beq (eqb (getD known 71 0) 0) (eqb (kindNumber kind) 2)) || eqb (getD known 73 0) 1)
+  pub misplaced : isMisplaced k kind ≡ (not (Bool·beq (eqb (getD known statementCountAt 0) 0) (eqb (kindNumber kind) 2)) || eqb (getD known endedAt 0) 1)
   unfolding isMisplaced sameKind kindNumber
   misplaced =
       sym (ap₂ {C = Bool} (λ n e. not (Bool·beq (eqb n 0) (eqb (kindNumber kind) 2)) || e) (h .statements) (h .ended))
 
-  pub wrong : is9 k kind ≡ wrongIn (kindNumber kind) (getD known 74 0)
+  pub wrong : is9 k kind ≡ wrongIn (kindNumber kind) (getD known scopeAt 0)
   unfolding is9 wrongIn sameKind kindNumber nameOf nameFrom
   wrong =
       let n = kindNumber kind in
-      let outside : same (k .scope) [] ≡ eqb (getD known 74 0) 0 =
-      ap (λ (s : List ℕ). same s []) (sym (h .scope)) ∙ name-same (getD known 74 0) 0
+      let outside : same (k .scope) [] ≡ eqb (getD known scopeAt 0) 0 =
+      ap (λ (s : List ℕ). same s []) (sym (h .scope)) ∙ name-same (getD known scopeAt 0) 0
       in
       ap (λ b. ((eqb n 12 || eqb n 3) && not b) || ((eqb n 15 || eqb n 14) && b)) outside
 
@@ -157,10 +158,10 @@ module _ (a : Arrays) (taken : ℕ) (k : Known) (h : Holds a taken k) (kind : Ke
     unfolding metNumber
     number-none n e f = pick-none (is6 k m) (is7 k m) (is8 m) (cond (is9 k kind) 9 (cond (is10 (learn k kind m) m) 10 0)) n (e ∙ names-number) f
 
-    pub number-nine : (n : ℕ) → n ≡ namesNumber known (namesIn a) es → n ≡ 0 → wrongIn (kindNumber kind) (getD known 74 0) ≡ true → 9 ≡ metNumber k kind m
+    pub number-nine : (n : ℕ) → n ≡ namesNumber known (namesIn a) es → n ≡ 0 → wrongIn (kindNumber kind) (getD known scopeAt 0) ≡ true → 9 ≡ metNumber k kind m
     number-nine n e f w = ap (λ t. cond t 9 (cond (is10 (learn k kind m) m) 10 0)) (sym (wrong ∙ w)) ∙ number-none n e f
 
-    pub number-rest : (n : ℕ) → n ≡ namesNumber known (namesIn a) es → n ≡ 0 → wrongIn (kindNumber kind) (getD known 74 0) ≡ false
+    pub number-rest : (n : ℕ) → n ≡ namesNumber known (namesIn a) es → n ≡ 0 → wrongIn (kindNumber kind) (getD known scopeAt 0) ≡ false
         → cond (is10 (learn k kind m) m) 10 0 ≡ metNumber k kind m
     number-rest n e f w = ap (λ t. cond t 9 (cond (is10 (learn k kind m) m) 10 0)) (sym (wrong ∙ w)) ∙ number-none n e f
 
@@ -169,10 +170,10 @@ module _ (a : Arrays) (taken : ℕ) (k : Known) (h : Holds a taken k) (kind : Ke
     (items : ℕ) (rows : List ℕ) (literals : ℕ) (counts : Tallied k c items rows literals) (nameKeys′ namePurposes′ : List ℕ) (v : Verdict)
     (names : NamesJudged (a .known) (a .nameKeys) (a .namePurposes) keys tags (c .names) nameKeys′ namePurposes′ v) (zero-is : v .number ≡ 0)
     (known′ useKeys′ useScopes′ usePurposes′ : List ℕ)
-    (l : Learnt (a .known) nameKeys′ namePurposes′ (a .useKeys) (a .useScopes) (a .usePurposes) (entriesFrom keys tags 0 (c .names)) c
+    (l : Learnt (a .known) nameKeys′ namePurposes′ (a .useKeys) (a .useScopes) (a .usePurposes) (metFrom keys tags 0 (c .names)) c
     (kindNumber kind) (v .count) known′ useKeys′ useScopes′ usePurposes′) where
   abbrev es : List Entry
-  es = entriesFrom keys tags 0 (c .names)
+  es = metFrom keys tags 0 (c .names)
 
   abbrev met : Met
   met = metIn es items rows literals
@@ -184,7 +185,7 @@ module _ (a : Arrays) (taken : ℕ) (k : Known) (h : Holds a taken k) (kind : Ke
   unfolding learn metIn namesIn
   names-are = names .learnt zero-is ∙ ap (λ l. withNames l (namesOf es)) (h .names)
 
-  labels-are : labelsIn (a .known) ++ labelsBy (getD (a .known) 72 0) (nameOf (getD (a .known) 74 0)) es ≡ behind .labels
+  labels-are : labelsIn (a .known) ++ labelsBy (getD (a .known) stepCountAt 0) (nameOf (getD (a .known) scopeAt 0)) es ≡ behind .labels
   unfolding learn metIn labelsAt labelsBy
   labels-are =
       λ t.
@@ -209,19 +210,19 @@ module _ (a : Arrays) (taken : ℕ) (k : Known) (h : Holds a taken k) (kind : Ke
         ∙ (λ t. h .executes t ++ map (λ (n : List ℕ). record { name = n; scope = h .scope t }) (namesFor routine (gather usedBy es))),
   )
 
-  statements-are : getD known′ 71 0 ≡ behind .statements
+  statements-are : getD known′ statementCountAt 0 ≡ behind .statements
   unfolding learn
   statements-are = omega (arith, l .statements, h .statements)
 
-  elements-are : getD known′ 75 0 ≡ behind .elements
+  elements-are : getD known′ elementCountAt 0 ≡ behind .elements
   unfolding learn metIn
   elements-are = l .elements ∙ counts .elementCount
 
-  items-are : getD known′ 76 0 ≡ behind .items
+  items-are : getD known′ itemCountAt 0 ≡ behind .items
   unfolding learn metIn
   items-are = l .items ∙ counts .itemCount
 
-  literals-are : getD known′ 77 0 ≡ behind .literals
+  literals-are : getD known′ literalCountAt 0 ≡ behind .literals
   unfolding learn metIn
   literals-are = l .literals ∙ counts .literalCount
 
@@ -244,13 +245,13 @@ module _ (a : Arrays) (taken : ℕ) (k : Known) (h : Holds a taken k) (kind : Ke
   number-count =
       ap length (sym numbers-cut) ∙ length-map (cells known′ 35 (getD known′ 1 0)) nameOf ∙ length-from (cellIn known′) 35 (getD known′ 1 0)
 
-  label-count : length (take 65 (behind .labels)) ≡ getD known′ 68 0
+  label-count : length (take 65 (behind .labels)) ≡ getD known′ labelCountAt 0
   unfolding labelsIn
-  label-count = ap length (sym labels-cut) ∙ length-from (labelIn known′) 0 (getD known′ 68 0)
+  label-count = ap length (sym labels-cut) ∙ length-from (labelIn known′) 0 (getD known′ labelCountAt 0)
 
-  routine-count : getD known′ 69 0 ≡ length (behind .routines)
+  routine-count : getD known′ routineCountAt 0 ≡ length (behind .routines)
   unfolding routinesIn
-  routine-count = sym (length-routines known′ (getD known′ 69 0)) ∙ ap length routines-are
+  routine-count = sym (length-routines known′ (getD known′ routineCountAt 0)) ∙ ap length routines-are
 
   -- 10
   pub over-is : isOver known′ (c .longest) ≡ is10 behind met
@@ -258,7 +259,7 @@ module _ (a : Arrays) (taken : ℕ) (k : Known) (h : Holds a taken k) (kind : Ke
   over-is =
       let s = cut-over 32 (Known.strings behind) (getD known′ 0 0) string-count in
       let n = cut-over 32 (Known.numbers behind) (getD known′ 1 0) number-count in
-      let ls = cut-over 64 (behind .labels) (getD known′ 68 0) label-count in
+      let ls = cut-over 64 (behind .labels) (getD known′ labelCountAt 0) label-count in
       λ t.
       ltb 256 (statements-are t)
       || (s t
@@ -267,7 +268,7 @@ module _ (a : Arrays) (taken : ℕ) (k : Known) (h : Holds a taken k) (kind : Ke
       || (ltb 16 (routine-count t)
       || (counts .longestRow t || (ltb 1024 (elements-are t) || (ltb 1024 (items-are t) || ltb 4096 (literals-are t))))))))
 
-  scope-names : scopeAfter kind (routineNames es) (nameOf (getD (a .known) 74 0)) ≡ behind .scope
+  scope-names : scopeAfter kind (routineNames es) (nameOf (getD (a .known) scopeAt 0)) ≡ behind .scope
   unfolding learn metIn routineNames
   scope-names = ap (scopeAfter kind (namesFor routine (gather declaredBy es))) (h .scope)
 
@@ -276,19 +277,19 @@ module _ (a : Arrays) (taken : ℕ) (k : Known) (h : Holds a taken k) (kind : Ke
       → Holds (arrays known′ nameKeys′ namePurposes′ useKeys′ useScopes′ usePurposes′) taken′ behind
   unfolding isOver namesIn stringKeys numberKeys learn metIn
   learnt-holds none taken′ room =
-      let p₁ = neither-true (ltb 256 (getD known′ 71 0)) _ none in
+      let p₁ = neither-true (ltb 256 (getD known′ statementCountAt 0)) _ none in
       let p₂ = neither-true (ltb 32 (getD known′ 0 0)) _ (p₁ .1) in
       let p₃ = neither-true (ltb 32 (getD known′ 1 0)) _ (p₂ .1) in
-      let p₄ = neither-true (ltb 64 (getD known′ 68 0)) _ (p₃ .1) in
-      let p₅ = neither-true (ltb 16 (getD known′ 69 0)) _ (p₄ .1) in
+      let p₄ = neither-true (ltb 64 (getD known′ labelCountAt 0)) _ (p₃ .1) in
+      let p₅ = neither-true (ltb 16 (getD known′ routineCountAt 0)) _ (p₄ .1) in
       let p₆ = neither-true (ltb 20 (c .longest)) _ (p₅ .1) in
-      let p₇ = neither-true (ltb 1024 (getD known′ 75 0)) _ (p₆ .1) in
-      let p₈ = neither-true (ltb 1024 (getD known′ 76 0)) _ (p₇ .1) in
-      let statements = ltb-false 256 (getD known′ 71 0) (p₁ .0) in
+      let p₇ = neither-true (ltb 1024 (getD known′ elementCountAt 0)) _ (p₆ .1) in
+      let p₈ = neither-true (ltb 1024 (getD known′ itemCountAt 0)) _ (p₇ .1) in
+      let statements = ltb-false 256 (getD known′ statementCountAt 0) (p₁ .0) in
       let strings = ltb-false 32 (getD known′ 0 0) (p₂ .0) in
       let numbers = ltb-false 32 (getD known′ 1 0) (p₃ .0) in
-      let labels = ltb-false 64 (getD known′ 68 0) (p₄ .0) in
-      let routines = ltb-false 16 (getD known′ 69 0) (p₅ .0) in
+      let labels = ltb-false 64 (getD known′ labelCountAt 0) (p₄ .0) in
+      let routines = ltb-false 16 (getD known′ routineCountAt 0) (p₅ .0) in
       record {
         counted =
             record {
@@ -306,20 +307,20 @@ module _ (a : Arrays) (taken : ℕ) (k : Known) (h : Holds a taken k) (kind : Ke
         fewNames = omega (arith, l .names, names .few, h .fewNames);
         fewUses = omega (arith, l .used .few, h .fewUses, length-from (entryIn keys tags) 0 (c .names));
         fewStatements = statements;
-        fewSteps = omega (arith, l .steps, l .statements, steps-few (getD (a .known) 72 0) (kindNumber kind), h .fewSteps);
+        fewSteps = omega (arith, l .steps, l .statements, steps-few (getD (a .known) stepCountAt 0) (kindNumber kind), h .fewSteps);
         fewStrings = strings;
         fewNumbers = numbers;
         fewLabels = labels;
         fewRoutines = routines;
-        fewElements = ltb-false 1024 (getD known′ 75 0) (p₇ .0);
-        fewItems = ltb-false 1024 (getD known′ 76 0) (p₈ .0);
-        fewLiterals = ltb-false 4096 (getD known′ 77 0) (p₈ .1);
+        fewElements = ltb-false 1024 (getD known′ elementCountAt 0) (p₇ .0);
+        fewItems = ltb-false 1024 (getD known′ itemCountAt 0) (p₈ .0);
+        fewLiterals = ltb-false 4096 (getD known′ literalCountAt 0) (p₈ .1);
         statements = statements-are;
-        steps = l .steps ∙ steps-is (getD (a .known) 72 0) kind ∙ ap (λ n. cond (isStep kind) (suc n) n) (h .steps);
+        steps = l .steps ∙ steps-is (getD (a .known) stepCountAt 0) kind ∙ ap (λ n. cond (isStep kind) (suc n) n) (h .steps);
         ended = ap (λ n. eqb n 1) (l .ended) ∙ ended-is kind;
         scope =
             ap nameOf (l .scope)
-            ∙ scope-is (getD (a .known) 74 0) (routineNames es) (l .opened) kind (l .opens)
+            ∙ scope-is (getD (a .known) scopeAt 0) (routineNames es) (l .opened) kind (l .opens)
             ∙ scope-names;
         strings =
             ap (map nameOf) (cells-part known′ 2 (getD known′ 0 0) (omega (arith, l .shows .size)))

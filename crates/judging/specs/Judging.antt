@@ -16,17 +16,17 @@ use Rattle.language.specs.Reading.{Purpose, number, string}
 use Rattle.met.specs.Entries.{Entry, nameOf, metIn}
 use Rattle.met.specs.From.{length-from}
 use Rattle.met.specs.Holding.{Arrays, Holds, namesFrom, namesIn}
-use Rattle.met.specs.Known.{stringKeys, numberKeys}
+use Rattle.met.specs.Known.{stringKeys, numberKeys, statementCountAt, endedAt, scopeAt, nameCountAt}
 use Rattle.met.specs.declared.Cursor.{Cursor}
 use Rattle.naming.specs.ArrayLaws.{names-kept}
-use Rattle.naming.specs.Arrays.{knownIn, entriesFrom, arrays}
+use Rattle.naming.specs.Arrays.{knownIn, metFrom, arrays}
 use Rattle.naming.specs.Judged.{namesNumber, Named, NamesJudged}
 use Rattle.naming.specs.declared.Verdict.{Verdict}
 use Rattle.words.specs.Kinds.{kindOf}
 use Rattle.words.specs.declared.keywords.Kind.{Kind}
 use Rattle.judging.specs.Cells.{cellIn, cells, cells-part}
 use Rattle.judging.specs.Counts.{isOver}
-use Rattle.judging.specs.Judged.{Ready, Tallied, StatementJudged, Misplaced}
+use Rattle.judging.specs.Judged.{Judgeable, Tallied, StatementJudged, Misplaced}
 use Rattle.judging.specs.JudgedLaws.{misplaced, number-some, number-nine, number-rest, over-is, learnt-holds}
 use Rattle.judging.specs.Learning.{wrongIn, Learnable, Learnt}
 
@@ -40,36 +40,36 @@ later-is true = refl
 later-is false = refl
 
 module _ (known : List ℕ) (kind : Kind) where
-  misplaced-by : (r : Bool) → r ≡ (not (Bool·beq (eqb (getD known 71 0) 0) (eqb (kindNumber (kindOf kind)) 2)) || eqb (getD known 73 0) 1)
+  misplaced-by : (r : Bool) → r ≡ (not (Bool·beq (eqb (getD known statementCountAt 0) 0) (eqb (kindNumber (kindOf kind)) 2)) || eqb (getD known endedAt 0) 1)
       → Misplaced known kind r
   misplaced-by r e =
       record {
         misplaced = λ a is taken k h.
             e
-            ∙ ap (λ l. not (Bool·beq (eqb (getD l 71 0) 0) (eqb (kindNumber (kindOf kind)) 2)) || eqb (getD l 73 0) 1) (sym is)
+            ∙ ap (λ l. not (Bool·beq (eqb (getD l statementCountAt 0) 0) (eqb (kindNumber (kindOf kind)) 2)) || eqb (getD l endedAt 0) 1) (sym is)
             ∙ sym (misplaced a taken k h (kindOf kind));
       }
 
-  pub misplaced-ended : getD known 73 0 ≡ 1 → Misplaced known kind true
+  pub misplaced-ended : getD known endedAt 0 ≡ 1 → Misplaced known kind true
   misplaced-ended e =
       misplaced-by true
-      (rw (eq-eqb (getD known 73 0) 1 e) (sym (or-true (not (Bool·beq (eqb (getD known 71 0) 0) (eqb (kindNumber (kindOf kind)) 2))))))
+      (rw (eq-eqb (getD known endedAt 0) 1 e) (sym (or-true (not (Bool·beq (eqb (getD known statementCountAt 0) 0) (eqb (kindNumber (kindOf kind)) 2))))))
 
-  module _ (n : ℕ) (is : n ≡ kindNumber (kindOf kind)) (going : getD known 73 0 ≡ 1 → ⊥) where
-    pub misplaced-first : getD known 71 0 ≡ 0 → Misplaced known kind (not (eqb n 2))
+  module _ (n : ℕ) (is : n ≡ kindNumber (kindOf kind)) (going : getD known endedAt 0 ≡ 1 → ⊥) where
+    pub misplaced-first : getD known statementCountAt 0 ≡ 0 → Misplaced known kind (not (eqb n 2))
     misplaced-first e =
         misplaced-by (not (eqb n 2))
         (ap (λ x. not (eqb x 2)) is
-        ∙ rw (eq-eqb (getD known 71 0) 0 e, ne-eqb (getD known 73 0) 1 going) (first-is (eqb (kindNumber (kindOf kind)) 2)))
+        ∙ rw (eq-eqb (getD known statementCountAt 0) 0 e, ne-eqb (getD known endedAt 0) 1 going) (first-is (eqb (kindNumber (kindOf kind)) 2)))
 
-    pub misplaced-later : (getD known 71 0 ≡ 0 → ⊥) → Misplaced known kind (eqb n 2)
+    pub misplaced-later : (getD known statementCountAt 0 ≡ 0 → ⊥) → Misplaced known kind (eqb n 2)
     misplaced-later e =
         misplaced-by (eqb n 2)
         (ap (λ x. eqb x 2) is
-        ∙ rw (ne-eqb (getD known 71 0) 0 e, ne-eqb (getD known 73 0) 1 going) (later-is (eqb (kindNumber (kindOf kind)) 2)))
+        ∙ rw (ne-eqb (getD known statementCountAt 0) 0 e, ne-eqb (getD known endedAt 0) 1 going) (later-is (eqb (kindNumber (kindOf kind)) 2)))
 
 -- arrays that are ready have names to judge
-pub named : (a : Arrays) (keys tags : List ℕ) (c : Cursor) → Ready a keys tags c
+pub named : (a : Arrays) (keys tags : List ℕ) (c : Cursor) → Judgeable a keys tags c
     → Named (a .known) (a .nameKeys) (a .namePurposes) keys tags (c .names)
 unfolding knownIn namesIn
 named a keys tags c r =
@@ -85,13 +85,13 @@ named a keys tags c r =
       single = r .held .single;
     }
 
-module _ (a : Arrays) (keys tags : List ℕ) (c : Cursor) (ready : Ready a keys tags c) (nameKeys′ namePurposes′ : List ℕ) (v : Verdict)
+module _ (a : Arrays) (keys tags : List ℕ) (c : Cursor) (ready : Judgeable a keys tags c) (nameKeys′ namePurposes′ : List ℕ) (v : Verdict)
     (names : NamesJudged (a .known) (a .nameKeys) (a .namePurposes) keys tags (c .names) nameKeys′ namePurposes′ v) where
   abbrev known : List ℕ
   known = a .known
 
   abbrev count : ℕ
-  count = getD (a .known) 78 0
+  count = getD (a .known) nameCountAt 0
 
   names-same : namesFrom nameKeys′ namePurposes′ 0 count ≡ namesIn a
   unfolding namesIn
@@ -144,7 +144,7 @@ module _ (a : Arrays) (keys tags : List ℕ) (c : Cursor) (ready : Ready a keys 
 
   module _ (kind : Kind) where
     abbrev es : List Entry
-    es = entriesFrom keys tags 0 (c .names)
+    es = metFrom keys tags 0 (c .names)
 
     number-is : v .number ≡ namesNumber known (namesIn a) es
     unfolding namesIn
@@ -158,20 +158,20 @@ module _ (a : Arrays) (keys tags : List ℕ) (c : Cursor) (ready : Ready a keys 
         }
 
     module _ (z : v .number ≡ 0) (n : ℕ) (is : n ≡ kindNumber (kindOf kind)) where
-      pub judged-nine : (a′ : Arrays) → wrongIn n (getD known 74 0) ≡ true → StatementJudged a keys tags c kind a′ 9
+      pub judged-nine : (a′ : Arrays) → wrongIn n (getD known scopeAt 0) ≡ true → StatementJudged a keys tags c kind a′ 9
       judged-nine a′ w =
           record {
             number = λ taken k h items rows literals b.
                 number-nine a taken k h (kindOf kind) es items rows literals (v .number) number-is z
-                (ap (λ x. wrongIn x (getD known 74 0)) (sym is) ∙ w);
+                (ap (λ x. wrongIn x (getD known scopeAt 0)) (sym is) ∙ w);
             learnt = λ e taken k h items rows literals b taken′ room. absurd (omega arith);
           }
 
-      module _ (w : wrongIn n (getD known 74 0) ≡ false) (known′ useKeys′ useScopes′ usePurposes′ : List ℕ)
+      module _ (w : wrongIn n (getD known scopeAt 0) ≡ false) (known′ useKeys′ useScopes′ usePurposes′ : List ℕ)
           (l : Learnt known nameKeys′ namePurposes′ (a .useKeys) (a .useScopes) (a .usePurposes) es c n (v .count) known′ useKeys′ useScopes′
           usePurposes′) where
-        right : wrongIn (kindNumber (kindOf kind)) (getD known 74 0) ≡ false
-        right = ap (λ x. wrongIn x (getD known 74 0)) (sym is) ∙ w
+        right : wrongIn (kindNumber (kindOf kind)) (getD known scopeAt 0) ≡ false
+        right = ap (λ x. wrongIn x (getD known scopeAt 0)) (sym is) ∙ w
 
         learnt′ : Learnt known nameKeys′ namePurposes′ (a .useKeys) (a .useScopes) (a .usePurposes) es c (kindNumber (kindOf kind)) (v .count) known′
             useKeys′ useScopes′ usePurposes′

@@ -14,14 +14,14 @@ use Rattle.judgement.specs.Known.{Label, namesFor}
 use Rattle.language.specs.Reading.{label}
 use Rattle.met.specs.Entries.{Entry, entry, nameOf, gather, declaredBy}
 use Rattle.met.specs.From.{valuesFrom, length-from, from-last, from-kept}
-use Rattle.met.specs.Known.{labelIn, labelsFrom, labelsIn}
-use Rattle.naming.specs.Arrays.{entryIn, entriesFrom}
+use Rattle.met.specs.Known.{labelIn, labelsFrom, labelsIn, labelCountAt, stepCountAt, scopeAt, labelKeysAt, labelStepsAt, labelScopesAt, knownSize}
+use Rattle.naming.specs.Arrays.{entryIn, metFrom}
 use Rattle.judging.specs.Cells.{cut-next, four}
 use Rattle.judging.specs.Labels.{labelled, labelledBy, labelsBy, Labelled}
 use Rattle.judging.specs.NamesFor.{declared-label, made-next}
 
-pub label-kept : (l m : List ℕ) (i : ℕ) → getD m (80 + i) 0 ≡ getD l (80 + i) 0 → getD m (145 + i) 0 ≡ getD l (145 + i) 0
-    → getD m (210 + i) 0 ≡ getD l (210 + i) 0 → labelIn m i ≡ labelIn l i
+pub label-kept : (l m : List ℕ) (i : ℕ) → getD m (labelKeysAt + i) 0 ≡ getD l (labelKeysAt + i) 0 → getD m (labelStepsAt + i) 0 ≡ getD l (labelStepsAt + i) 0
+    → getD m (labelScopesAt + i) 0 ≡ getD l (labelScopesAt + i) 0 → labelIn m i ≡ labelIn l i
 unfolding labelIn
 label-kept l m i d e f = λ t. record { name = nameOf (d t); step = e t; scope = nameOf (f t) }
 
@@ -30,21 +30,22 @@ theLabel key step scope = record { name = nameOf key; step = step; scope = nameO
 
 -- a label noted, or not where there are as many as can be
 pub record LabelPut (known known′ : List ℕ) (key : ℕ) (t : Bool) : Type 0 where
-  pub size : length known′ ≡ 326
-  pub few : getD known′ 68 0 ≤ 65
-  pub labels : labelsIn known′ ≡ cond t (labelsIn known ++ (theLabel key (getD known 72 0) (getD known 74 0) ∷ [])) (labelsIn known)
+  pub size : length known′ ≡ knownSize
+  pub few : getD known′ labelCountAt 0 ≤ 65
+  pub labels : labelsIn known′ ≡ cond t (labelsIn known ++ (theLabel key (getD known stepCountAt 0) (getD known scopeAt 0) ∷ [])) (labelsIn known)
   pub low : (j : ℕ) → j < 68 → getD known′ j 0 ≡ getD known j 0
   pub middle : (j : ℕ) → 69 ≤ j → j < 80 → getD known′ j 0 ≡ getD known j 0
   pub high : (j : ℕ) → 275 ≤ j → getD known′ j 0 ≡ getD known j 0
 
 abbrev labelBehind : List ℕ → ℕ → List ℕ
 labelBehind known key =
-    let n = getD known 68 0 in
-    set (set (set (set known (80 + n) key) (145 + n) (getD known 72 0)) (210 + n) (getD known 74 0)) 68 (n + 1)
+    let n = getD known labelCountAt 0 in
+    set (set (set (set known (labelKeysAt + n) key) (labelStepsAt + n) (getD known stepCountAt 0)) (labelScopesAt + n) (getD known scopeAt 0))
+    labelCountAt (n + 1)
 
-module _ (known : List ℕ) (key : ℕ) (size : length known ≡ 326) (few : getD known 68 0 ≤ 65) where
+module _ (known : List ℕ) (key : ℕ) (size : length known ≡ knownSize) (few : getD known labelCountAt 0 ≤ 65) where
   abbrev n : ℕ
-  n = getD known 68 0
+  n = getD known labelCountAt 0
 
   abbrev behind : List ℕ
   behind = labelBehind known key
@@ -53,17 +54,18 @@ module _ (known : List ℕ) (key : ℕ) (size : length known ≡ 326) (few : get
   unfolding labelsIn labelIn
   label-put h =
       let f =
-      four known (80 + n) (145 + n) (210 + n) 68 key (getD known 72 0) (getD known 74 0) (n + 1) (omega arith) (omega arith) (omega arith)
+      four known (labelKeysAt + n) (labelStepsAt + n) (labelScopesAt + n) labelCountAt key (getD known stepCountAt 0) (getD known scopeAt 0) (n + 1)
+      (omega arith) (omega arith) (omega arith)
       (omega arith) (λ e. omega arith) (λ e. omega arith) (λ e. omega arith) (λ e. omega arith) (λ e. omega arith) (λ e. omega arith)
       in
       let old =
       from-kept (labelIn known) (labelIn behind) 0 n
       (λ j _ g.
-      label-kept known behind j (f .kept (80 + j) (λ e. omega arith) (λ e. omega arith) (λ e. omega arith) (λ e. omega arith))
-      (f .kept (145 + j) (λ e. omega arith) (λ e. omega arith) (λ e. omega arith) (λ e. omega arith))
-      (f .kept (210 + j) (λ e. omega arith) (λ e. omega arith) (λ e. omega arith) (λ e. omega arith)))
+      label-kept known behind j (f .kept (labelKeysAt + j) (λ e. omega arith) (λ e. omega arith) (λ e. omega arith) (λ e. omega arith))
+      (f .kept (labelStepsAt + j) (λ e. omega arith) (λ e. omega arith) (λ e. omega arith) (λ e. omega arith))
+      (f .kept (labelScopesAt + j) (λ e. omega arith) (λ e. omega arith) (λ e. omega arith) (λ e. omega arith)))
       in
-      let new : labelIn behind n ≡ theLabel key (getD known 72 0) (getD known 74 0) =
+      let new : labelIn behind n ≡ theLabel key (getD known stepCountAt 0) (getD known scopeAt 0) =
       λ t. record { name = nameOf (f .first t); step = f .second t; scope = nameOf (f .third t) }
       in
       record {
@@ -94,10 +96,10 @@ labels-next step scope = made-next (λ n. record { name = n; step = step; scope 
 -- entries, and then one more
 module _ (known₀ known : List ℕ) (es : List Entry) (key tag : ℕ) (l : Labelled known₀ es known) where
   abbrev step : ℕ
-  step = getD known₀ 72 0
+  step = getD known₀ stepCountAt 0
 
   abbrev scope : ℕ
-  scope = getD known₀ 74 0
+  scope = getD known₀ scopeAt 0
 
   more-label : tag % 16 ≡ 9 → Labelled known₀ (es ++ (entry key tag ∷ [])) (labelled known key)
   unfolding labelsIn
@@ -112,8 +114,9 @@ module _ (known₀ known : List ℕ) (es : List Entry) (key tag : ℕ) (l : Labe
         few = r .few;
         labels =
             r .labels
-            ∙ ap (λ (x : Label). cond (ltb (getD known 68 0) 65) (labelsIn known ++ (x ∷ [])) (labelsIn known)) here
-            ∙ cut-next 65 (labelsIn known) whole (getD known 68 0) (theLabel key step scope) (length-from (labelIn known) 0 (getD known 68 0)) (l .labels)
+            ∙ ap (λ (x : Label). cond (ltb (getD known labelCountAt 0) 65) (labelsIn known ++ (x ∷ [])) (labelsIn known)) here
+            ∙ cut-next 65 (labelsIn known) whole (getD known labelCountAt 0) (theLabel key step scope)
+            (length-from (labelIn known) 0 (getD known labelCountAt 0)) (l .labels)
             ∙ ap (take 65)
             (append-assoc (labelsIn known₀) (labelsBy step (nameOf scope) es) (theLabel key step scope ∷ [])
             ∙ ap (λ (r : List Label). labelsIn known₀ ++ r)
@@ -148,34 +151,34 @@ module _ (known₀ known : List ℕ) (es : List Entry) (key tag : ℕ) (l : Labe
       (λ _ e. more-label (eqb-true (tag % 16) 9 e)) (λ _ e. more-other (eqb-false (tag % 16) 9 e)) refl)
 
 -- the entries of the arrays one by one
-pub labels-start : (known keys tags : List ℕ) → length known ≡ 326 → getD known 68 0 ≤ 65 → Labelled known (entriesFrom keys tags 0 0) known
+pub labels-start : (known keys tags : List ℕ) → length known ≡ knownSize → getD known labelCountAt 0 ≤ 65 → Labelled known (metFrom keys tags 0 0) known
 unfolding labelsBy gather namesFor keep labelsIn valuesFrom
 labels-start known keys tags size few =
-    let ls = labelsFrom known 0 (getD known 68 0) in
+    let ls = labelsFrom known 0 (getD known labelCountAt 0) in
     record {
       size = size;
       few = few;
-      labels = sym (ap (take 65) (append-nil ls) ∙ take-all 65 ls (omega (arith, length-from (labelIn known) 0 (getD known 68 0))));
+      labels = sym (ap (take 65) (append-nil ls) ∙ take-all 65 ls (omega (arith, length-from (labelIn known) 0 (getD known labelCountAt 0))));
       low = λ j h. refl;
       middle = λ j h g. refl;
       high = λ j h. refl;
     }
 
-pub labels-more : (known₀ known known′ keys tags : List ℕ) (i : ℕ) → Labelled known₀ (entriesFrom keys tags 0 i) known
-    → known′ ≡ labelledBy known (getD keys i 0) (getD tags i 0) → Labelled known₀ (entriesFrom keys tags 0 (i + 1)) known′
+pub labels-more : (known₀ known known′ keys tags : List ℕ) (i : ℕ) → Labelled known₀ (metFrom keys tags 0 i) known
+    → known′ ≡ labelledBy known (getD keys i 0) (getD tags i 0) → Labelled known₀ (metFrom keys tags 0 (i + 1)) known′
 labels-more known₀ known known′ keys tags i l is =
     subst (λ es. Labelled known₀ es known′) (sym (from-last (entryIn keys tags) i))
-    (labels-by known₀ known (entriesFrom keys tags 0 i) (getD keys i 0) (getD tags i 0) l known′ is)
+    (labels-by known₀ known (metFrom keys tags 0 i) (getD keys i 0) (getD tags i 0) l known′ is)
 
 -- what the code does
 module _ (known : List ℕ) (key : ℕ) where
-  pub labelled-one : getD known 68 0 < 65 → labelBehind known key ≡ labelled known key
+  pub labelled-one : getD known labelCountAt 0 < 65 → labelBehind known key ≡ labelled known key
   unfolding labelled
-  labelled-one h = rw (lt-ltb (getD known 68 0) 65 h)
+  labelled-one h = rw (lt-ltb (getD known labelCountAt 0) 65 h)
 
-  pub labelled-full : 65 ≤ getD known 68 0 → known ≡ labelled known key
+  pub labelled-full : 65 ≤ getD known labelCountAt 0 → known ≡ labelled known key
   unfolding labelled
-  labelled-full h = rw (le-ltb (getD known 68 0) 65 h)
+  labelled-full h = rw (le-ltb (getD known labelCountAt 0) 65 h)
 
 module _ (known : List ℕ) (key tag : ℕ) where
   pub label-by : tag % 16 ≡ 9 → labelled known key ≡ labelledBy known key tag

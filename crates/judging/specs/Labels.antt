@@ -8,14 +8,15 @@ use lib.ListN.{length, take, getD, set}
 use Rattle.judgement.specs.Known.{Label, namesFor}
 use Rattle.language.specs.Reading.{label}
 use Rattle.met.specs.Entries.{Entry, nameOf, gather, declaredBy}
-use Rattle.met.specs.Known.{labelsIn}
+use Rattle.met.specs.Known.{labelsIn, labelCountAt, stepCountAt, scopeAt, labelKeysAt, labelStepsAt, labelScopesAt, knownSize}
 
 -- a label behind the others, of which 65 at most are noted
 unfoldable pub labelled : List ℕ → (key : ℕ) → List ℕ
 labelled known key =
-    let n = getD known 68 0 in
+    let n = getD known labelCountAt 0 in
     cond (ltb n 65)
-    (set (set (set (set known (80 + n) key) (145 + n) (getD known 72 0)) (210 + n) (getD known 74 0)) 68 (n + 1)) known
+    (set (set (set (set known (labelKeysAt + n) key) (labelStepsAt + n) (getD known stepCountAt 0)) (labelScopesAt + n) (getD known scopeAt 0))
+    labelCountAt (n + 1)) known
 
 -- a name met, if it is a label declared
 unfoldable pub labelledBy : List ℕ → (key tag : ℕ) → List ℕ
@@ -27,9 +28,9 @@ labelsBy step scope es = map (λ n. record { name = n; step = step; scope = scop
 
 -- the labels that entries declare are noted
 pub record Labelled (known : List ℕ) (es : List Entry) (known′ : List ℕ) : Type 0 where
-  pub size : length known′ ≡ 326
-  pub few : getD known′ 68 0 ≤ 65
-  pub labels : labelsIn known′ ≡ take 65 (labelsIn known ++ labelsBy (getD known 72 0) (nameOf (getD known 74 0)) es)
+  pub size : length known′ ≡ knownSize
+  pub few : getD known′ labelCountAt 0 ≤ 65
+  pub labels : labelsIn known′ ≡ take 65 (labelsIn known ++ labelsBy (getD known stepCountAt 0) (nameOf (getD known scopeAt 0)) es)
   pub low : (j : ℕ) → j < 68 → getD known′ j 0 ≡ getD known j 0
   pub middle : (j : ℕ) → 69 ≤ j → j < 80 → getD known′ j 0 ≡ getD known j 0
   pub high : (j : ℕ) → 275 ≤ j → getD known′ j 0 ≡ getD known j 0

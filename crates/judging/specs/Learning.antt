@@ -6,7 +6,8 @@ use Prim.Native.Nat.{ℕ, _+_, _≤_}
 use lib.Dec.{eqb}
 use lib.ListN.{take, getD}
 use Rattle.met.specs.Entries.{Entry, nameOf}
-use Rattle.met.specs.Known.{labelsIn, routinesIn}
+use Rattle.met.specs.Known.{labelsIn, routinesIn, labelCountAt, routineCountAt, statementCountAt, stepCountAt, endedAt, scopeAt}
+use Rattle.met.specs.Known.{elementCountAt, itemCountAt, literalCountAt, nameCountAt, useCountAt}
 use Rattle.met.specs.declared.Cursor.{Cursor}
 use Rattle.naming.specs.Names.{Sized}
 use Rattle.judging.specs.Counts.{stepsBehind, endedBehind}
@@ -23,13 +24,13 @@ wrongIn kind scope =
 
 -- the arrays are ready to learn a statement: the names are there already
 pub record Learnable (known nameKeys namePurposes useKeys useScopes usePurposes keys tags : List ℕ) (met count : ℕ) : Type 0 where
-  pub listing : Listing known nameKeys namePurposes (getD known 78 0) count
+  pub listing : Listing known nameKeys namePurposes (getD known nameCountAt 0) count
   pub entries : Sized keys tags met
-  pub spacious : Spacious useKeys useScopes usePurposes (getD known 79 0 + met)
-  pub statements : getD known 71 0 ≤ 256
-  pub steps : getD known 72 0 ≤ 256
-  pub labels : getD known 68 0 ≤ 65
-  pub routines : getD known 69 0 ≤ 16
+  pub spacious : Spacious useKeys useScopes usePurposes (getD known useCountAt 0 + met)
+  pub statements : getD known statementCountAt 0 ≤ 256
+  pub steps : getD known stepCountAt 0 ≤ 256
+  pub labels : getD known labelCountAt 0 ≤ 65
+  pub routines : getD known routineCountAt 0 ≤ 16
 
 -- all of a statement is learnt
 pub record Learnt (known nameKeys namePurposes useKeys useScopes usePurposes : List ℕ) (es : List Entry) (c : Cursor) (kind count : ℕ)
@@ -37,16 +38,17 @@ pub record Learnt (known nameKeys namePurposes useKeys useScopes usePurposes : L
   pub opened : Opened
   pub opens : Opens (routineNames es) opened
   pub shows : Shows known′ nameKeys namePurposes count
-  pub fewLabels : getD known′ 68 0 ≤ 65
-  pub labels : labelsIn known′ ≡ take 65 (labelsIn known ++ labelsBy (getD known 72 0) (nameOf (getD known 74 0)) es)
-  pub fewRoutines : getD known′ 69 0 ≤ 17
-  pub routines : routinesIn known′ ≡ routinesBehind (getD known 72 0) (routinesIn known) opened kind
-  pub statements : getD known′ 71 0 ≡ getD known 71 0 + 1
-  pub steps : getD known′ 72 0 ≡ stepsBehind (getD known 72 0) kind
-  pub ended : getD known′ 73 0 ≡ endedBehind kind
-  pub scope : getD known′ 74 0 ≡ scopeBehind (getD known 74 0) opened kind
-  pub elements : getD known′ 75 0 ≡ c .elements
-  pub items : getD known′ 76 0 ≡ c .items
-  pub literals : getD known′ 77 0 ≡ c .literals
-  pub names : getD known′ 78 0 ≡ count
-  pub used : Used useKeys useScopes usePurposes (getD known 79 0) (getD known 74 0) es useKeys′ useScopes′ usePurposes′ (getD known′ 79 0)
+  pub fewLabels : getD known′ labelCountAt 0 ≤ 65
+  pub labels : labelsIn known′ ≡ take 65 (labelsIn known ++ labelsBy (getD known stepCountAt 0) (nameOf (getD known scopeAt 0)) es)
+  pub fewRoutines : getD known′ routineCountAt 0 ≤ 17
+  pub routines : routinesIn known′ ≡ routinesBehind (getD known stepCountAt 0) (routinesIn known) opened kind
+  pub statements : getD known′ statementCountAt 0 ≡ getD known statementCountAt 0 + 1
+  pub steps : getD known′ stepCountAt 0 ≡ stepsBehind (getD known stepCountAt 0) kind
+  pub ended : getD known′ endedAt 0 ≡ endedBehind kind
+  pub scope : getD known′ scopeAt 0 ≡ scopeBehind (getD known scopeAt 0) opened kind
+  pub elements : getD known′ elementCountAt 0 ≡ c .elements
+  pub items : getD known′ itemCountAt 0 ≡ c .items
+  pub literals : getD known′ literalCountAt 0 ≡ c .literals
+  pub names : getD known′ nameCountAt 0 ≡ count
+  pub used : Used useKeys useScopes usePurposes (getD known useCountAt 0) (getD known scopeAt 0) es useKeys′ useScopes′ usePurposes′
+      (getD known′ useCountAt 0)

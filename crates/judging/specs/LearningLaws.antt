@@ -8,7 +8,9 @@ use lib.Seq.{sets, length-sets}
 use Rattle.judgement.specs.Known.{Label, Routine}
 use Rattle.met.specs.Entries.{Entry, nameOf}
 use Rattle.met.specs.From.{from-kept}
-use Rattle.met.specs.Known.{labelIn, labelsFrom, labelsIn, routinesDown, routinesIn}
+use Rattle.met.specs.Known.{labelIn, labelsFrom, labelsIn, routinesDown, routinesIn, labelCountAt, routineCountAt, statementCountAt, stepCountAt}
+use Rattle.met.specs.Known.{scopeAt, useCountAt, labelKeysAt, labelStepsAt, labelScopesAt, routineKeysAt, routineEntriesAt, routineExitsAt}
+use Rattle.met.specs.Known.{knownSize}
 use Rattle.met.specs.declared.Cursor.{Cursor}
 use Rattle.judging.specs.Cells.{cellIn, cells, sets-below, sets-above, sets-inside}
 use Rattle.judging.specs.Counts.{stepsBehind, countsBehind, counted}
@@ -22,23 +24,25 @@ use Rattle.judging.specs.Uses.{Used}
 use Rattle.judging.specs.declared.routines.Opened.{Opened}
 
 -- labels and routines are kept where their numbers are
-pub labels-same : (l m : List ℕ) → getD l 68 0 ≤ 65 → getD m 68 0 ≡ getD l 68 0
+pub labels-same : (l m : List ℕ) → getD l labelCountAt 0 ≤ 65 → getD m labelCountAt 0 ≡ getD l labelCountAt 0
     → ((j : ℕ) → 80 ≤ j → j < 275 → getD m j 0 ≡ getD l j 0) → labelsIn m ≡ labelsIn l
 unfolding labelsIn
 labels-same l m few count f =
     ap (labelsFrom m 0) count
-    ∙ from-kept (labelIn l) (labelIn m) 0 (getD l 68 0)
+    ∙ from-kept (labelIn l) (labelIn m) 0 (getD l labelCountAt 0)
     (λ j _ h.
-    label-kept l m j (f (80 + j) (omega arith) (omega arith)) (f (145 + j) (omega arith) (omega arith)) (f (210 + j) (omega arith) (omega arith)))
+    label-kept l m j (f (labelKeysAt + j) (omega arith) (omega arith)) (f (labelStepsAt + j) (omega arith) (omega arith))
+    (f (labelScopesAt + j) (omega arith) (omega arith)))
 
-pub routines-same : (l m : List ℕ) → getD m 69 0 ≡ getD l 69 0 → ((j : ℕ) → 275 ≤ j → getD m j 0 ≡ getD l j 0) → routinesIn m ≡ routinesIn l
+pub routines-same : (l m : List ℕ) → getD m routineCountAt 0 ≡ getD l routineCountAt 0
+    → ((j : ℕ) → routineKeysAt ≤ j → getD m j 0 ≡ getD l j 0) → routinesIn m ≡ routinesIn l
 unfolding routinesIn
 routines-same l m count f =
     ap (routinesDown m) count
-    ∙ routines-kept l m (getD l 69 0)
-    (λ j h. routine-kept l m j (f (275 + j) (omega arith)) (f (292 + j) (omega arith)) (f (309 + j) (omega arith)))
+    ∙ routines-kept l m (getD l routineCountAt 0)
+    (λ j h. routine-kept l m j (f (routineKeysAt + j) (omega arith)) (f (routineEntriesAt + j) (omega arith)) (f (routineExitsAt + j) (omega arith)))
 
-shows-same : (l m keys purposes : List ℕ) (i : ℕ) → length m ≡ 326 → ((j : ℕ) → j < 68 → getD m j 0 ≡ getD l j 0) → Shows l keys purposes i
+shows-same : (l m keys purposes : List ℕ) (i : ℕ) → length m ≡ knownSize → ((j : ℕ) → j < 68 → getD m j 0 ≡ getD l j 0) → Shows l keys purposes i
     → Shows m keys purposes i
 shows-same l m keys purposes i size f s =
     let zeroth = f 0 (omega arith) in
@@ -55,15 +59,15 @@ shows-same l m keys purposes i size f s =
 
 -- names, labels, uses, routines and counts, one after the other
 module _ (known known₁ known₂ known₃ known₄ nameKeys namePurposes useKeys useScopes usePurposes useKeys′ useScopes′ usePurposes′ : List ℕ)
-    (es : List Entry) (c : Cursor) (kind count behind uses : ℕ) (opened : Opened) (few : getD known 68 0 ≤ 65)
+    (es : List Entry) (c : Cursor) (kind count behind uses : ℕ) (opened : Opened) (few : getD known labelCountAt 0 ≤ 65)
     (m₁ : Listed known known₁ nameKeys namePurposes count) (m₂ : Labelled known₁ es known₂)
-    (u : Used useKeys useScopes usePurposes (getD known 79 0) (getD known 74 0) es useKeys′ useScopes′ usePurposes′ uses)
-    (o : Opens (routineNames es) opened) (m₃ : Routed known₂ opened kind known₃) (b : behind ≡ scopeBehind (getD known 74 0) opened kind)
+    (u : Used useKeys useScopes usePurposes (getD known useCountAt 0) (getD known scopeAt 0) es useKeys′ useScopes′ usePurposes′ uses)
+    (o : Opens (routineNames es) opened) (m₃ : Routed known₂ opened kind known₃) (b : behind ≡ scopeBehind (getD known scopeAt 0) opened kind)
     (m₄ : known₄ ≡ counted known₃ c kind behind count uses) where
   abbrev counts : List ℕ
   counts = countsBehind known₃ c kind behind count uses
 
-  whole : known₄ ≡ sets known₃ 71 counts
+  whole : known₄ ≡ sets known₃ statementCountAt counts
   unfolding counted
   whole = m₄
 
@@ -76,8 +80,8 @@ module _ (known known₁ known₂ known₃ known₄ nameKeys namePurposes useKey
   inside : (k : ℕ) → k < 9 → getD known₄ (71 + k) 0 ≡ getD counts k 0
   inside k h = ap (λ l. getD l (71 + k) 0) whole ∙ sets-inside known₃ 71 k counts (omega (arith, m₃ .size)) h
 
-  size₄ : length known₄ ≡ 326
-  size₄ = ap length whole ∙ length-sets known₃ 71 counts ∙ m₃ .size
+  size₄ : length known₄ ≡ knownSize
+  size₄ = ap length whole ∙ length-sets known₃ statementCountAt counts ∙ m₃ .size
 
   -- the counts before, as they still stand
   middle : (j : ℕ) → 70 ≤ j → j < 80 → getD known₃ j 0 ≡ getD known j 0
@@ -88,18 +92,18 @@ module _ (known known₁ known₂ known₃ known₄ nameKeys namePurposes useKey
       shows-same known₁ known₄ nameKeys namePurposes count size₄
       (λ j h. below j (omega arith) ∙ m₃ .low j (omega arith) ∙ m₂ .low j h) (m₁ .shows)
 
-  label-count : getD known₄ 68 0 ≡ getD known₂ 68 0
+  label-count : getD known₄ labelCountAt 0 ≡ getD known₂ labelCountAt 0
   label-count = below 68 (omega arith) ∙ m₃ .low 68 (omega arith)
 
-  labels-are : labelsIn known₄ ≡ take 65 (labelsIn known ++ labelsBy (getD known 72 0) (nameOf (getD known 74 0)) es)
+  labels-are : labelsIn known₄ ≡ take 65 (labelsIn known ++ labelsBy (getD known stepCountAt 0) (nameOf (getD known scopeAt 0)) es)
   labels-are =
       labels-same known₂ known₄ (m₂ .few) label-count (λ j h g. above j h ∙ m₃ .middle j (omega arith) g)
       ∙ m₂ .labels
-      ∙ ap₂ {C = List Label} (λ (ls : List Label) n. take 65 (ls ++ labelsBy n (nameOf (getD known₁ 74 0)) es))
+      ∙ ap₂ {C = List Label} (λ (ls : List Label) n. take 65 (ls ++ labelsBy n (nameOf (getD known₁ scopeAt 0)) es))
       (labels-same known known₁ few (m₁ .kept 68 (omega arith)) (λ j h g. m₁ .kept j (omega arith))) (m₁ .kept 72 (omega arith))
-      ∙ ap (λ n. take 65 (labelsIn known ++ labelsBy (getD known 72 0) (nameOf n) es)) (m₁ .kept 74 (omega arith))
+      ∙ ap (λ n. take 65 (labelsIn known ++ labelsBy (getD known stepCountAt 0) (nameOf n) es)) (m₁ .kept 74 (omega arith))
 
-  routines-are : routinesIn known₄ ≡ routinesBehind (getD known 72 0) (routinesIn known) opened kind
+  routines-are : routinesIn known₄ ≡ routinesBehind (getD known stepCountAt 0) (routinesIn known) opened kind
   routines-are =
       routines-same known₃ known₄ (below 69 (omega arith)) (λ j h. above j (omega arith))
       ∙ m₃ .routines
@@ -127,7 +131,7 @@ module _ (known known₁ known₂ known₃ known₄ nameKeys namePurposes useKey
         literals = inside 6 (omega arith);
         names = inside 7 (omega arith);
         used =
-            subst (Used useKeys useScopes usePurposes (getD known 79 0) (getD known 74 0) es useKeys′ useScopes′ usePurposes′)
+            subst (Used useKeys useScopes usePurposes (getD known useCountAt 0) (getD known scopeAt 0) es useKeys′ useScopes′ usePurposes′)
             (sym (inside 8 (omega arith))) u;
       }
 

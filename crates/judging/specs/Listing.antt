@@ -11,6 +11,7 @@ use Rattle.met.specs.Contracts.{namesRoom}
 use Rattle.met.specs.Entries.{nameOf}
 use Rattle.met.specs.Holding.{namesFrom}
 use Rattle.judging.specs.Cells.{cells}
+use Rattle.met.specs.Known.{knownSize}
 
 -- a key behind so many from a place on, of which 33 at most are noted
 unfoldable pub pushed : List ℕ → (countAt from key : ℕ) → List ℕ
@@ -24,7 +25,7 @@ listed known key p = cond (eqb p 3) (pushed known 1 35 key) (cond (ltb p 4) know
 
 -- the strings and numbers among i names are noted, up to 33 of each
 pub record Shows (known keys purposes : List ℕ) (i : ℕ) : Type 0 where
-  pub size : length known ≡ 326
+  pub size : length known ≡ knownSize
   pub fewStrings : getD known 0 0 ≤ 33
   pub fewNumbers : getD known 1 0 ≤ 33
   pub strings : map nameOf (cells known 2 (getD known 0 0)) ≡ take 33 (namesFor string (namesFrom keys purposes 0 i))

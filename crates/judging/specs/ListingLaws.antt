@@ -14,6 +14,7 @@ use Rattle.language.specs.Reading.{Purpose, number, string}
 use Rattle.met.specs.Entries.{nameOf}
 use Rattle.met.specs.From.{length-from, from-more, from-last, from-kept}
 use Rattle.met.specs.Holding.{namingIn, namesFrom}
+use Rattle.met.specs.Known.{knownSize}
 use Rattle.naming.specs.Names.{keyNaming}
 use Rattle.judging.specs.Cells.{cellIn, cells, cut-next}
 use Rattle.judging.specs.Listing.{pushed, listed, Shows, Listed}
@@ -21,15 +22,15 @@ use Rattle.judging.specs.NamesFor.{names-append, number-one, string-one}
 
 -- a key noted, or not where there are as many as can be
 pub record Push (known known′ : List ℕ) (countAt from key : ℕ) (t : Bool) : Type 0 where
-  pub size : length known′ ≡ 326
+  pub size : length known′ ≡ knownSize
   pub few : getD known′ countAt 0 ≤ 33
   pub keys : cells known′ from (getD known′ countAt 0)
       ≡ cond t (cells known from (getD known countAt 0) ++ (key ∷ [])) (cells known from (getD known countAt 0))
   pub below : (j : ℕ) → j < from → (j ≡ countAt → ⊥) → getD known′ j 0 ≡ getD known j 0
   pub above : (j : ℕ) → from + 33 ≤ j → getD known′ j 0 ≡ getD known j 0
 
-module _ (known : List ℕ) (countAt from key : ℕ) (size : length known ≡ 326) (few : getD known countAt 0 ≤ 33) (apart : countAt < from)
-    (room : from + 33 ≤ 326) where
+module _ (known : List ℕ) (countAt from key : ℕ) (size : length known ≡ knownSize) (few : getD known countAt 0 ≤ 33) (apart : countAt < from)
+    (room : from + 33 ≤ knownSize) where
   push-one : getD known countAt 0 < 33
       → Push known (set (set known (from + getD known countAt 0) key) countAt (getD known countAt 0 + 1)) countAt from key true
   push-one h =

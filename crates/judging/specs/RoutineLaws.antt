@@ -14,8 +14,9 @@ use Rattle.judgement.specs.Known.{Routine, namesFor, closed}
 use Rattle.language.specs.Reading.{routine}
 use Rattle.met.specs.Entries.{entry, nameOf, gather, declaredBy}
 use Rattle.met.specs.From.{from-turn, from-none}
-use Rattle.met.specs.Known.{routineIn, routinesDown, routinesIn}
-use Rattle.naming.specs.Arrays.{entryIn, entriesFrom, entriesLeft}
+use Rattle.met.specs.Known.{routineIn, routinesDown, routinesIn, routineCountAt, stepCountAt, routineKeysAt, routineEntriesAt, routineExitsAt}
+use Rattle.met.specs.Known.{knownSize}
+use Rattle.naming.specs.Arrays.{entryIn, metFrom, metLeft}
 use Rattle.judging.specs.Cells.{four}
 use Rattle.judging.specs.NamesFor.{names-append, declared-routine}
 use Rattle.judging.specs.Routines.{routineNames, Opens, opening, closing, routinesBehind, scopeBehind, Routed}
@@ -26,34 +27,36 @@ unfolding routinesDown
 routines-kept l m zero f = refl
 routines-kept l m (suc n) f = ap₂ {C = List Routine} _∷_ (f n (omega arith)) (routines-kept l m n (λ j h. f j (omega arith)))
 
-pub routine-kept : (l m : List ℕ) (i : ℕ) → getD m (275 + i) 0 ≡ getD l (275 + i) 0 → getD m (292 + i) 0 ≡ getD l (292 + i) 0
-    → getD m (309 + i) 0 ≡ getD l (309 + i) 0 → routineIn m i ≡ routineIn l i
+pub routine-kept : (l m : List ℕ) (i : ℕ) → getD m (routineKeysAt + i) 0 ≡ getD l (routineKeysAt + i) 0
+    → getD m (routineEntriesAt + i) 0 ≡ getD l (routineEntriesAt + i) 0
+    → getD m (routineExitsAt + i) 0 ≡ getD l (routineExitsAt + i) 0 → routineIn m i ≡ routineIn l i
 unfolding routineIn
 routine-kept l m i d e f = λ t. record { name = nameOf (d t); entry = e t; exit = f t }
 
 -- what is behind opening, closing or neither
-module _ (known : List ℕ) (size : length known ≡ 326) (few : getD known 69 0 ≤ 16) (o : Opened) (kind : ℕ) where
+module _ (known : List ℕ) (size : length known ≡ knownSize) (few : getD known routineCountAt 0 ≤ 16) (o : Opened) (kind : ℕ) where
   abbrev n : ℕ
-  n = getD known 69 0
+  n = getD known routineCountAt 0
 
   pub routed-open : (kind ≡ 14 → ⊥) → o .found ≡ true → (known′ : List ℕ) → known′ ≡ opening known (o .key) → Routed known o kind known′
   unfolding routinesIn routineIn routinesDown routinesBehind opening
   routed-open e f known′ is =
       let m = opening known (o .key) in
       let s =
-      four known (275 + n) (292 + n) (309 + n) 69 (o .key) (getD known 72 0 + 1) 0 (n + 1) (omega arith) (omega arith) (omega arith) (omega arith)
+      four known (routineKeysAt + n) (routineEntriesAt + n) (routineExitsAt + n) routineCountAt (o .key) (getD known stepCountAt 0 + 1) 0 (n + 1)
+      (omega arith) (omega arith) (omega arith) (omega arith)
       (λ e. omega arith) (λ e. omega arith) (λ e. omega arith) (λ e. omega arith) (λ e. omega arith) (λ e. omega arith)
       in
-      let next : getD m 69 0 ≡ suc n = omega (arith, s .fourth) in
-      let step : getD m (292 + n) 0 ≡ suc (getD known 72 0) = omega (arith, s .second) in
+      let next : getD m routineCountAt 0 ≡ suc n = omega (arith, s .fourth) in
+      let step : getD m (routineEntriesAt + n) 0 ≡ suc (getD known stepCountAt 0) = omega (arith, s .second) in
       let old =
       routines-kept known m n
       (λ j g.
-      routine-kept known m j (s .kept (275 + j) (λ e. omega arith) (λ e. omega arith) (λ e. omega arith) (λ e. omega arith))
-      (s .kept (292 + j) (λ e. omega arith) (λ e. omega arith) (λ e. omega arith) (λ e. omega arith))
-      (s .kept (309 + j) (λ e. omega arith) (λ e. omega arith) (λ e. omega arith) (λ e. omega arith)))
+      routine-kept known m j (s .kept (routineKeysAt + j) (λ e. omega arith) (λ e. omega arith) (λ e. omega arith) (λ e. omega arith))
+      (s .kept (routineEntriesAt + j) (λ e. omega arith) (λ e. omega arith) (λ e. omega arith) (λ e. omega arith))
+      (s .kept (routineExitsAt + j) (λ e. omega arith) (λ e. omega arith) (λ e. omega arith) (λ e. omega arith)))
       in
-      let new : routineIn m n ≡ record { name = nameOf (o .key); entry = suc (getD known 72 0); exit = 0 } =
+      let new : routineIn m n ≡ record { name = nameOf (o .key); entry = suc (getD known stepCountAt 0); exit = 0 } =
       λ t. record { name = nameOf (s .first t); entry = step t; exit = s .third t }
       in
       subst (Routed known o kind) (sym is)
@@ -80,23 +83,25 @@ module _ (known : List ℕ) (size : length known ≡ 326) (few : getD known 69 0
       }
 
   -- the latest closed
-  shut : (k : ℕ) → n ≡ suc k → kind ≡ 14 → Routed known o kind (set known (309 + k) (getD known 72 0 + 1))
+  shut : (k : ℕ) → n ≡ suc k → kind ≡ 14 → Routed known o kind (set known (routineExitsAt + k) (getD known stepCountAt 0 + 1))
   unfolding routinesIn routineIn routinesDown routinesBehind closed
   shut k is e =
-      let step = getD known 72 0 in
-      let m = set known (309 + k) (step + 1) in
-      let other : (j : ℕ) → (j ≡ 309 + k → ⊥) → getD m j 0 ≡ getD known j 0 = λ j f. getD-set-other known (309 + k) j (step + 1) 0 f in
-      let next : getD m 69 0 ≡ suc k = other 69 (λ z. omega arith) ∙ is in
-      let exit : getD m (309 + k) 0 ≡ suc step = omega (arith, getD-set-same known (309 + k) (step + 1) 0 (omega arith)) in
+      let step = getD known stepCountAt 0 in
+      let m = set known (routineExitsAt + k) (step + 1) in
+      let other : (j : ℕ) → (j ≡ routineExitsAt + k → ⊥) → getD m j 0 ≡ getD known j 0 = λ j f. getD-set-other known (routineExitsAt + k) j (step + 1) 0 f in
+      let next : getD m routineCountAt 0 ≡ suc k = other 69 (λ z. omega arith) ∙ is in
+      let exit : getD m (routineExitsAt + k) 0 ≡ suc step = omega (arith, getD-set-same known (routineExitsAt + k) (step + 1) 0 (omega arith)) in
       let old =
       routines-kept known m k
-      (λ j g. routine-kept known m j (other (275 + j) (λ z. omega arith)) (other (292 + j) (λ z. omega arith)) (other (309 + j) (λ z. omega arith)))
+      (λ j g.
+      routine-kept known m j (other (routineKeysAt + j) (λ z. omega arith)) (other (routineEntriesAt + j) (λ z. omega arith))
+      (other (routineExitsAt + j) (λ z. omega arith)))
       in
-      let new : routineIn m k ≡ record { name = nameOf (getD known (275 + k) 0); entry = getD known (292 + k) 0; exit = suc step } =
-      λ t. record { name = nameOf (other (275 + k) (λ z. omega arith) t); entry = other (292 + k) (λ z. omega arith) t; exit = exit t }
+      let new : routineIn m k ≡ record { name = nameOf (getD known (routineKeysAt + k) 0); entry = getD known (routineEntriesAt + k) 0; exit = suc step } =
+      λ t. record { name = nameOf (other (routineKeysAt + k) (λ z. omega arith) t); entry = other (routineEntriesAt + k) (λ z. omega arith) t; exit = exit t }
       in
       record {
-        size = length-set known (309 + k) (step + 1) ∙ size;
+        size = length-set known (routineExitsAt + k) (step + 1) ∙ size;
         few = omega (arith, next);
         routines =
             ap (routinesDown m) next
@@ -111,7 +116,7 @@ module _ (known : List ℕ) (size : length known ≡ 326) (few : getD known 69 0
   unfolding closing routinesIn routinesDown routinesBehind closed
   routed-close e known′ is =
       subst (Routed known o kind) (sym is)
-      (test-cases (λ t. ltb 0 n ≡ t → Routed known o kind (cond t (set known (309 + (n - 1)) (getD known 72 0 + 1)) known)) (ltb 0 n)
+      (test-cases (λ t. ltb 0 n ≡ t → Routed known o kind (cond t (set known (routineExitsAt + (n - 1)) (getD known stepCountAt 0 + 1)) known)) (ltb 0 n)
       (λ _ h. let some = ltb-true 0 n h in shut (n - 1) (omega arith) e)
       (λ _ h.
       let none : n ≡ 0 = omega (arith, ltb-false 0 n h) in
@@ -120,7 +125,7 @@ module _ (known : List ℕ) (size : length known ≡ 326) (few : getD known 69 0
         few = omega arith;
         routines =
             ap (routinesDown known) none
-            ∙ sym (ap (λ c. closed (suc (getD known 72 0)) (routinesDown known c)) none)
+            ∙ sym (ap (λ c. closed (suc (getD known stepCountAt 0)) (routinesDown known c)) none)
             ∙ sym (rw (eq-eqb kind 14 e));
         low = λ j g. refl;
         middle = λ j g d. refl;
@@ -129,14 +134,14 @@ module _ (known : List ℕ) (size : length known ≡ 326) (few : getD known 69 0
 -- the first routine of the entries left
 module _ (keys tags : List ℕ) (met : ℕ) where
   abbrev pub routinesLeft : ℕ → List (List ℕ)
-  routinesLeft i = routineNames (entriesLeft keys tags met i)
+  routinesLeft i = routineNames (metLeft keys tags met i)
 
   routine-turn : (i : ℕ) → i < met
       → routinesLeft i ≡ cond (eqb (getD tags i 0 % 16) 10) (nameOf (getD keys i 0) ∷ []) [] ++ routinesLeft (i + 1)
   unfolding routineNames gather
   routine-turn i h =
       let x = entry (getD keys i 0) (getD tags i 0) in
-      let behind = gather declaredBy (entriesLeft keys tags met (i + 1)) in
+      let behind = gather declaredBy (metLeft keys tags met (i + 1)) in
       ap routineNames (from-turn (entryIn keys tags) met i h)
       ∙ names-append routine (declaredBy x) behind
       ∙ ap (λ (l : List (List ℕ)). l ++ namesFor routine behind) (declared-routine (getD keys i 0) (getD tags i 0))
@@ -153,8 +158,8 @@ module _ (keys tags : List ℕ) (met : ℕ) where
   unfolding routineNames gather namesFor keep
   routine-none i h = ap routineNames (from-none (entryIn keys tags) met i h)
 
-  pub routine-whole : routinesLeft 0 ≡ routineNames (entriesFrom keys tags 0 met)
-  routine-whole = let all : met - 0 ≡ met = omega arith in ap (λ m. routineNames (entriesFrom keys tags 0 m)) all
+  pub routine-whole : routinesLeft 0 ≡ routineNames (metFrom keys tags 0 met)
+  routine-whole = let all : met - 0 ≡ met = omega arith in ap (λ m. routineNames (metFrom keys tags 0 m)) all
 
 pub opens-one : (names others : List (List ℕ)) (key : ℕ) → names ≡ nameOf key ∷ others → Opens names (record { found = true; key = key })
 opens-one names others key e = record { others = others; is = e }
@@ -164,13 +169,14 @@ opens-none names e = record { others = []; is = e }
 
 -- what the code does
 module _ (known : List ℕ) where
-  pub closed-one : 0 < getD known 69 0 → set known (309 + (getD known 69 0 - 1)) (getD known 72 0 + 1) ≡ closing known
+  pub closed-one : 0 < getD known routineCountAt 0 → set known (routineExitsAt + (getD known routineCountAt 0 - 1)) (getD known stepCountAt 0 + 1)
+      ≡ closing known
   unfolding closing
-  closed-one h = rw (lt-ltb 0 (getD known 69 0) h)
+  closed-one h = rw (lt-ltb 0 (getD known routineCountAt 0) h)
 
-  pub closed-none : getD known 69 0 ≤ 0 → known ≡ closing known
+  pub closed-none : getD known routineCountAt 0 ≤ 0 → known ≡ closing known
   unfolding closing
-  closed-none h = rw (le-ltb 0 (getD known 69 0) h)
+  closed-none h = rw (le-ltb 0 (getD known routineCountAt 0) h)
 
 module _ (scope : ℕ) (o : Opened) (kind : ℕ) where
   pub scope-opened : o .found ≡ true → o .key ≡ scopeBehind scope o kind

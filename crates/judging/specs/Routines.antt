@@ -8,7 +8,7 @@ use lib.ListN.{length, getD, set}
 use Rattle.judgement.specs.Known.{Routine, namesFor, closed}
 use Rattle.language.specs.Reading.{routine}
 use Rattle.met.specs.Entries.{Entry, nameOf, gather, declaredBy}
-use Rattle.met.specs.Known.{routinesIn}
+use Rattle.met.specs.Known.{routinesIn, routineCountAt, stepCountAt, routineKeysAt, routineEntriesAt, routineExitsAt, knownSize}
 use Rattle.judging.specs.declared.routines.Opened.{Opened}
 
 -- the routines that entries declare
@@ -23,14 +23,14 @@ pub record Opens (names : List (List ℕ)) (r : Opened) : Type 0 where
 -- a routine opened behind the others
 unfoldable pub opening : List ℕ → (key : ℕ) → List ℕ
 opening known key =
-    let n = getD known 69 0 in
-    set (set (set (set known (275 + n) key) (292 + n) (getD known 72 0 + 1)) (309 + n) 0) 69 (n + 1)
+    let n = getD known routineCountAt 0 in
+    set (set (set (set known (routineKeysAt + n) key) (routineEntriesAt + n) (getD known stepCountAt 0 + 1)) (routineExitsAt + n) 0) routineCountAt (n + 1)
 
 -- the latest routine closed
 unfoldable pub closing : List ℕ → List ℕ
 closing known =
-    let n = getD known 69 0 in
-    cond (ltb 0 n) (set known (309 + (n - 1)) (getD known 72 0 + 1)) known
+    let n = getD known routineCountAt 0 in
+    cond (ltb 0 n) (set known (routineExitsAt + (n - 1)) (getD known stepCountAt 0 + 1)) known
 
 -- the routines behind a statement of a kind that opens this one
 unfoldable pub routinesBehind : (steps : ℕ) → List Routine → Opened → (kind : ℕ) → List Routine
@@ -43,8 +43,8 @@ unfoldable pub scopeBehind : (scope : ℕ) → Opened → (kind : ℕ) → ℕ
 scopeBehind scope o kind = cond (o .found) (o .key) (cond (eqb kind 14) 0 scope)
 
 pub record Routed (known : List ℕ) (o : Opened) (kind : ℕ) (known′ : List ℕ) : Type 0 where
-  pub size : length known′ ≡ 326
-  pub few : getD known′ 69 0 ≤ 17
-  pub routines : routinesIn known′ ≡ routinesBehind (getD known 72 0) (routinesIn known) o kind
+  pub size : length known′ ≡ knownSize
+  pub few : getD known′ routineCountAt 0 ≤ 17
+  pub routines : routinesIn known′ ≡ routinesBehind (getD known stepCountAt 0) (routinesIn known) o kind
   pub low : (j : ℕ) → j < 69 → getD known′ j 0 ≡ getD known j 0
   pub middle : (j : ℕ) → 70 ≤ j → j < 275 → getD known′ j 0 ≡ getD known j 0

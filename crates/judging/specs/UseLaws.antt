@@ -16,7 +16,7 @@ use Rattle.met.specs.Contracts.{namesRoom}
 use Rattle.met.specs.Entries.{Entry, entry, nameOf, gather, usedBy}
 use Rattle.met.specs.From.{valuesFrom, from-last}
 use Rattle.met.specs.Holding.{usesFrom}
-use Rattle.naming.specs.Arrays.{entryIn, entriesFrom}
+use Rattle.naming.specs.Arrays.{entryIn, metFrom}
 use Rattle.judging.specs.NamesFor.{used-label, used-routine, made-next}
 use Rattle.judging.specs.Uses.{Spacious, useOf, usesBy, UsedOne, Used}
 
@@ -115,7 +115,7 @@ pub record Using (keys₀ scopes₀ purposes₀ : List ℕ) (n scope : ℕ) (key
     : Type 0 where
   pub inside : i ≤ met
   pub few : r ≤ n + i
-  pub so : Used keys₀ scopes₀ purposes₀ n scope (entriesFrom keys tags 0 i) keys′ scopes′ purposes′ r
+  pub so : Used keys₀ scopes₀ purposes₀ n scope (metFrom keys tags 0 i) keys′ scopes′ purposes′ r
 
 module _ (keys₀ scopes₀ purposes₀ : List ℕ) (n scope : ℕ) (keys tags : List ℕ) (met : ℕ) where
   pub using-none : Spacious keys₀ scopes₀ purposes₀ (n + met) → Using keys₀ scopes₀ purposes₀ n scope keys tags met keys₀ scopes₀ purposes₀ n 0
@@ -150,7 +150,7 @@ module _ (keys₀ scopes₀ purposes₀ : List ℕ) (n scope : ℕ) (keys tags :
         → UsedOne keys′ scopes′ purposes′ r (getD keys i 0) scope (getD tags i 0) keys″ scopes″ purposes″ r′
         → Using keys₀ scopes₀ purposes₀ n scope keys tags met keys″ scopes″ purposes″ r′ (i + 1)
     using-more keys″ scopes″ purposes″ r′ o =
-        let es = entriesFrom keys tags 0 i in
+        let es = metFrom keys tags 0 i in
         let key = getD keys i 0 in
         let tag = getD tags i 0 in
         record {
@@ -178,7 +178,7 @@ module _ (keys₀ scopes₀ purposes₀ : List ℕ) (n scope : ℕ) (keys tags :
         }
 
   pub using-all : (keys′ scopes′ purposes′ : List ℕ) (r i : ℕ) → Using keys₀ scopes₀ purposes₀ n scope keys tags met keys′ scopes′ purposes′ r i
-      → met ≤ i → Used keys₀ scopes₀ purposes₀ n scope (entriesFrom keys tags 0 met) keys′ scopes′ purposes′ r
+      → met ≤ i → Used keys₀ scopes₀ purposes₀ n scope (metFrom keys tags 0 met) keys′ scopes′ purposes′ r
   using-all keys′ scopes′ purposes′ r i u h =
       let all : i ≡ met = omega (arith, u .inside) in
-      subst (λ m. Used keys₀ scopes₀ purposes₀ n scope (entriesFrom keys tags 0 m) keys′ scopes′ purposes′ r) all (u .so)
+      subst (λ m. Used keys₀ scopes₀ purposes₀ n scope (metFrom keys tags 0 m) keys′ scopes′ purposes′ r) all (u .so)

@@ -22,6 +22,7 @@ ghost use mathlib.Core.Path.{_≡_};
 ghost use Prim.Native.Nat.{_≤_};
 ghost use lib.ListN.{length, getD};
 ghost use Rattle.judging.specs.Counts.{stepsBehind, endedBehind, counted, isOver};
+ghost use Rattle.met.specs.Known.{statementCountAt, stepCountAt, knownSize};
 
 // the steps behind a statement of a kind
 fn steps_behind(steps: u64, kind: u8) -> u64
@@ -53,7 +54,7 @@ pub fn put_counts(
     names: usize,
     uses: usize,
 )
-    requires { ⌜ (length (now known) ≡ 326) × ((getD (now known) 71 0 ≤ 256) × (getD (now known) 72 0 ≤ 256)) ⌝ }
+    requires { ⌜ (length (now known) ≡ knownSize) × ((getD (now known) statementCountAt 0 ≤ 256) × (getD (now known) stepCountAt 0 ≤ 256)) ⌝ }
     ensures { λ _. ⌜ now (known .exit) ≡ counted (now (known .entry)) c kind scope names uses ⌝ }
 {
     let statements = known[STATEMENTS];
@@ -72,7 +73,7 @@ pub fn put_counts(
 
 // 10: whether a count passes what is allowed, or the longest row of the statement does
 pub fn is_over(known: &[u64; KNOWN], longest: usize) -> bool
-    requires { ⌜ length (now known) ≡ 326 ⌝ }
+    requires { ⌜ length (now known) ≡ knownSize ⌝ }
     ensures { λ r. ⌜ r ≡ isOver (now (known .entry)) longest ⌝ }
 {
     (known[STATEMENTS] > 256)

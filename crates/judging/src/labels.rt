@@ -13,7 +13,8 @@ ghost use mathlib.Core.Path.{_≡_};
 ghost use Prim.Native.Nat.{_≤_};
 ghost use lib.ListN.{length, getD};
 ghost use Rattle.judging.specs.Labels.{labelled, labelledBy, Labelled};
-ghost use Rattle.naming.specs.Arrays.{entriesFrom};
+ghost use Rattle.met.specs.Known.{labelCountAt, knownSize};
+ghost use Rattle.naming.specs.Arrays.{metFrom};
 ghost use Rattle.naming.specs.Names.{Sized};
 
 // how many are noted
@@ -21,7 +22,7 @@ const MOST: usize = base::LABELS + 1;
 
 // notes a label, unless there are as many as can be noted
 fn put_label(known: &mut [u64; KNOWN], key: u64)
-    requires { ⌜ length (now known) ≡ 326 ⌝ }
+    requires { ⌜ length (now known) ≡ knownSize ⌝ }
     ensures { λ _. ⌜ now (known .exit) ≡ labelled (now (known .entry)) key ⌝ }
 {
     let n = known[LABEL_COUNT] as usize;
@@ -37,7 +38,7 @@ fn put_label(known: &mut [u64; KNOWN], key: u64)
 
 // notes a name met if it is a label declared
 fn list_label(known: &mut [u64; KNOWN], key: u64, tag: u8)
-    requires { ⌜ length (now known) ≡ 326 ⌝ }
+    requires { ⌜ length (now known) ≡ knownSize ⌝ }
     ensures { λ _. ⌜ now (known .exit) ≡ labelledBy (now (known .entry)) key tag ⌝ }
 {
     if tag % 16 == LABEL_DECLARED {
@@ -47,8 +48,8 @@ fn list_label(known: &mut [u64; KNOWN], key: u64, tag: u8)
 
 // notes the labels that a statement declares
 pub fn list_labels(known: &mut [u64; KNOWN], keys: &[u64; NAMES], tags: &[u8; NAMES], met: usize)
-    requires { ⌜ (length (now known) ≡ 326) × ((getD (now known) 68 0 ≤ 65) × Sized (now keys) (now tags) met) ⌝ }
-    ensures { λ _. ⌜ Labelled (now (known .entry)) (entriesFrom (now (keys .entry)) (now (tags .entry)) 0 met) (now (known .exit)) ⌝ }
+    requires { ⌜ (length (now known) ≡ knownSize) × ((getD (now known) labelCountAt 0 ≤ 65) × Sized (now keys) (now tags) met) ⌝ }
+    ensures { λ _. ⌜ Labelled (now (known .entry)) (metFrom (now (keys .entry)) (now (tags .entry)) 0 met) (now (known .exit)) ⌝ }
 {
     let mut i: usize = 0;
     while i < met {

@@ -29,13 +29,14 @@ use uses::note_uses;
 use words::keywords::Kind;
 ghost use mathlib.Core.Path.{_≡_};
 ghost use lib.ListN.{length};
-ghost use Rattle.judging.specs.Judged.{Ready, StatementJudged, Misplaced};
+ghost use Rattle.judging.specs.Judged.{Judgeable, StatementJudged, Misplaced};
 ghost use Rattle.judging.specs.Learning.{Learnable, Learnt};
-ghost use Rattle.naming.specs.Arrays.{arrays, entriesFrom};
+ghost use Rattle.met.specs.Known.{knownSize};
+ghost use Rattle.naming.specs.Arrays.{arrays, metFrom};
 
 // 4: PROGRAM isn't first or comes twice, or a statement follows END
 pub fn is_misplaced(known: &[u64; KNOWN], kind: Kind) -> bool
-    requires { ⌜ length (now known) ≡ 326 ⌝ }
+    requires { ⌜ length (now known) ≡ knownSize ⌝ }
     ensures { λ r. ⌜ Misplaced (now (known .entry)) kind r ⌝ }
 {
     if known[ENDED] == 1 {
@@ -63,7 +64,7 @@ fn learn(
     count: usize,
 )
     requires { ⌜ Learnable (now known) (now «name_keys») (now «name_purposes») (now «use_keys») (now «use_scopes») (now «use_purposes») (now keys) (now tags) (c .names) count ⌝ }
-    ensures { λ _. ⌜ Learnt (now (known .entry)) (now («name_keys» .entry)) (now («name_purposes» .entry)) (now («use_keys» .entry)) (now («use_scopes» .entry)) (now («use_purposes» .entry)) (entriesFrom (now (keys .entry)) (now (tags .entry)) 0 (c .names)) c kind count (now (known .exit)) (now («use_keys» .exit)) (now («use_scopes» .exit)) (now («use_purposes» .exit)) ⌝ }
+    ensures { λ _. ⌜ Learnt (now (known .entry)) (now («name_keys» .entry)) (now («name_purposes» .entry)) (now («use_keys» .entry)) (now («use_scopes» .entry)) (now («use_purposes» .entry)) (metFrom (now (keys .entry)) (now (tags .entry)) 0 (c .names)) c kind count (now (known .exit)) (now («use_keys» .exit)) (now («use_scopes» .exit)) (now («use_purposes» .exit)) ⌝ }
 {
     let met = c.names;
     let scope = known[SCOPE];
@@ -99,7 +100,7 @@ pub fn judge_statement(
     c: Cursor,
     kind: Kind,
 ) -> u32
-    requires { ⌜ Ready (arrays (now known) (now «name_keys») (now «name_purposes») (now «use_keys») (now «use_scopes») (now «use_purposes»)) (now keys) (now tags) c ⌝ }
+    requires { ⌜ Judgeable (arrays (now known) (now «name_keys») (now «name_purposes») (now «use_keys») (now «use_scopes») (now «use_purposes»)) (now keys) (now tags) c ⌝ }
     ensures { λ r. ⌜ StatementJudged (arrays (now (known .entry)) (now («name_keys» .entry)) (now («name_purposes» .entry)) (now («use_keys» .entry)) (now («use_scopes» .entry)) (now («use_purposes» .entry))) (now (keys .entry)) (now (tags .entry)) c kind (arrays (now (known .exit)) (now («name_keys» .exit)) (now («name_purposes» .exit)) (now («use_keys» .exit)) (now («use_scopes» .exit)) (now («use_purposes» .exit))) r ⌝ }
 {
     let names = judge_names(known, name_keys, name_purposes, keys, tags, c.names);

@@ -13,13 +13,14 @@ ghost use mathlib.Core.Path.{_≡_};
 ghost use Prim.Native.Nat.{_+_, _≤_, _<_};
 ghost use lib.ListN.{length, getD};
 ghost use Rattle.judging.specs.Listing.{pushed, listed, Listing, Listed};
+ghost use Rattle.met.specs.Known.{nameCountAt, knownSize};
 
 // how many of each are noted; there may be as many numbers as strings
 const MOST: u64 = base::STRINGS as u64 + 1;
 
 // notes a key behind so many from a place on, unless there are as many as can be noted
 fn push(known: &mut [u64; KNOWN], count_at: usize, from: usize, key: u64)
-    requires { ⌜ (length (now known) ≡ 326) × ((«count_at» < 326) × (from + 33 ≤ 326)) ⌝ }
+    requires { ⌜ (length (now known) ≡ knownSize) × ((«count_at» < knownSize) × (from + 33 ≤ knownSize)) ⌝ }
     ensures { λ _. ⌜ now (known .exit) ≡ pushed (now (known .entry)) «count_at» from key ⌝ }
 {
     let n = known[count_at];
@@ -32,7 +33,7 @@ fn push(known: &mut [u64; KNOWN], count_at: usize, from: usize, key: u64)
 
 // notes a name if it is a number's or a string's
 fn list_name(known: &mut [u64; KNOWN], key: u64, p: u8)
-    requires { ⌜ length (now known) ≡ 326 ⌝ }
+    requires { ⌜ length (now known) ≡ knownSize ⌝ }
     ensures { λ _. ⌜ now (known .exit) ≡ listed (now (known .entry)) key p ⌝ }
 {
     if p == NUMBER {
@@ -52,7 +53,7 @@ pub fn list_names(
     name_purposes: &[u8; NAMES],
     count: usize,
 )
-    requires { ⌜ Listing (now known) (now «name_keys») (now «name_purposes») (getD (now known) 78 0) count ⌝ }
+    requires { ⌜ Listing (now known) (now «name_keys») (now «name_purposes») (getD (now known) nameCountAt 0) count ⌝ }
     ensures { λ _. ⌜ Listed (now (known .entry)) (now (known .exit)) (now («name_keys» .entry)) (now («name_purposes» .entry)) count ⌝ }
 {
     let mut i = known[NAME_COUNT] as usize;

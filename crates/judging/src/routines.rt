@@ -13,7 +13,8 @@ ghost use mathlib.Core.Path.{_≡_};
 ghost use Prim.Native.Nat.{_≤_};
 ghost use lib.ListN.{length, getD};
 ghost use Rattle.judging.specs.Routines.{routineNames, opening, closing, scopeBehind, Opens, Routed};
-ghost use Rattle.naming.specs.Arrays.{entriesFrom};
+ghost use Rattle.met.specs.Known.{routineCountAt, stepCountAt, knownSize};
+ghost use Rattle.naming.specs.Arrays.{metFrom};
 ghost use Rattle.naming.specs.Names.{Sized};
 
 // the routine that a statement declares, if any
@@ -25,7 +26,7 @@ pub struct Opened {
 // the first routine that a statement declares
 pub fn first_routine(keys: &[u64; NAMES], tags: &[u8; NAMES], met: usize) -> Opened
     requires { ⌜ Sized (now keys) (now tags) met ⌝ }
-    ensures { λ r. ⌜ Opens (routineNames (entriesFrom (now (keys .entry)) (now (tags .entry)) 0 met)) r ⌝ }
+    ensures { λ r. ⌜ Opens (routineNames (metFrom (now (keys .entry)) (now (tags .entry)) 0 met)) r ⌝ }
 {
     let mut i: usize = 0;
     while i < met {
@@ -45,7 +46,7 @@ pub fn first_routine(keys: &[u64; NAMES], tags: &[u8; NAMES], met: usize) -> Ope
 
 // opens a routine behind the others
 fn open(known: &mut [u64; KNOWN], key: u64)
-    requires { ⌜ (length (now known) ≡ 326) × ((getD (now known) 69 0 ≤ 16) × (getD (now known) 72 0 ≤ 256)) ⌝ }
+    requires { ⌜ (length (now known) ≡ knownSize) × ((getD (now known) routineCountAt 0 ≤ 16) × (getD (now known) stepCountAt 0 ≤ 256)) ⌝ }
     ensures { λ _. ⌜ now (known .exit) ≡ opening (now (known .entry)) key ⌝ }
 {
     let n = known[ROUTINE_COUNT] as usize;
@@ -58,7 +59,7 @@ fn open(known: &mut [u64; KNOWN], key: u64)
 
 // closes the latest routine, if there is one
 fn close(known: &mut [u64; KNOWN])
-    requires { ⌜ (length (now known) ≡ 326) × ((getD (now known) 69 0 ≤ 16) × (getD (now known) 72 0 ≤ 256)) ⌝ }
+    requires { ⌜ (length (now known) ≡ knownSize) × ((getD (now known) routineCountAt 0 ≤ 16) × (getD (now known) stepCountAt 0 ≤ 256)) ⌝ }
     ensures { λ _. ⌜ now (known .exit) ≡ closing (now (known .entry)) ⌝ }
 {
     let n = known[ROUTINE_COUNT] as usize;
@@ -70,7 +71,7 @@ fn close(known: &mut [u64; KNOWN])
 
 // what a statement of a kind makes of the routines
 pub fn learn_routine(known: &mut [u64; KNOWN], opened: Opened, kind: u8)
-    requires { ⌜ (length (now known) ≡ 326) × ((getD (now known) 69 0 ≤ 16) × (getD (now known) 72 0 ≤ 256)) ⌝ }
+    requires { ⌜ (length (now known) ≡ knownSize) × ((getD (now known) routineCountAt 0 ≤ 16) × (getD (now known) stepCountAt 0 ≤ 256)) ⌝ }
     ensures { λ _. ⌜ Routed (now (known .entry)) opened kind (now (known .exit)) ⌝ }
 {
     if kind == ENDROUTINE {

@@ -4,7 +4,7 @@ use met::NAMES;
 use met::tags::ROUTINE;
 ghost use Prim.Native.Nat.{_+_};
 ghost use Rattle.judging.specs.Uses.{Spacious, UsedOne, Used};
-ghost use Rattle.naming.specs.Arrays.{entriesFrom};
+ghost use Rattle.naming.specs.Arrays.{metFrom};
 ghost use Rattle.naming.specs.Names.{Sized};
 
 // notes a name met if it is a label or a routine used
@@ -45,7 +45,7 @@ pub fn note_uses(
     met: usize,
 ) -> usize
     requires { ⌜ Spacious (now «use_keys») (now «use_scopes») (now «use_purposes») (n + met) × Sized (now keys) (now tags) met ⌝ }
-    ensures { λ r. ⌜ Used (now («use_keys» .entry)) (now («use_scopes» .entry)) (now («use_purposes» .entry)) n scope (entriesFrom (now (keys .entry)) (now (tags .entry)) 0 met) (now («use_keys» .exit)) (now («use_scopes» .exit)) (now («use_purposes» .exit)) r ⌝ }
+    ensures { λ r. ⌜ Used (now («use_keys» .entry)) (now («use_scopes» .entry)) (now («use_purposes» .entry)) n scope (metFrom (now (keys .entry)) (now (tags .entry)) 0 met) (now («use_keys» .exit)) (now («use_scopes» .exit)) (now («use_purposes» .exit)) r ⌝ }
 {
     let mut count = n;
     let mut i: usize = 0;

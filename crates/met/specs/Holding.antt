@@ -15,8 +15,8 @@ use Rattle.language.specs.Reading.{Naming}
 use Rattle.met.specs.Contracts.{namesRoom}
 use Rattle.met.specs.Entries.{nameOf, purposeOf}
 use Rattle.met.specs.From.{valuesFrom}
-use Rattle.met.specs.Known.{Counted, stringKeys, numberKeys, labelsIn, routinesIn, statementsAt, stepsAt, endedAt, scopeAt}
-use Rattle.met.specs.Known.{elementsAt, itemsAt, literalsAt, namesAt, usesAt, labelCountAt, routineCountAt}
+use Rattle.met.specs.Known.{Counted, stringKeys, numberKeys, labelsIn, routinesIn, statementCountAt, stepCountAt, endedAt, scopeAt}
+use Rattle.met.specs.Known.{elementCountAt, itemCountAt, literalCountAt, nameCountAt, useCountAt, labelCountAt, routineCountAt}
 
 -- The arrays: known, names by key and purpose's number, uses by key, key of the scope (0 outside all routines) and purpose's number.
 pub record Arrays : Type 0 where
@@ -35,7 +35,7 @@ abbrev pub namesFrom : (keys purposes : List ℕ) → (i n : ℕ) → List Namin
 namesFrom keys purposes = valuesFrom (namingIn keys purposes)
 
 unfoldable pub namesIn : Arrays → List Naming
-namesIn a = namesFrom (a .nameKeys) (a .namePurposes) 0 (getD (a .known) namesAt 0)
+namesIn a = namesFrom (a .nameKeys) (a .namePurposes) 0 (getD (a .known) nameCountAt 0)
 
 -- the uses of one purpose (1 a label, 2 a routine), n of them from i on
 unfoldable pub usesFrom : (purpose : ℕ) → (keys scopes purposes : List ℕ) → (i n : ℕ) → List Use
@@ -45,7 +45,7 @@ usesFrom p keys scopes purposes i (suc n) =
     ++ usesFrom p keys scopes purposes (suc i) n
 
 unfoldable pub usesIn : ℕ → Arrays → List Use
-usesIn p a = usesFrom p (a .useKeys) (a .useScopes) (a .usePurposes) 0 (getD (a .known) usesAt 0)
+usesIn p a = usesFrom p (a .useKeys) (a .useScopes) (a .usePurposes) 0 (getD (a .known) useCountAt 0)
 
 -- The arrays hold k, of which no count passes what 10 allows. There are no more names and uses than bytes of the deck taken.
 pub record Holds (a : Arrays) (taken : ℕ) (k : Known) : Type 0 where
@@ -55,19 +55,19 @@ pub record Holds (a : Arrays) (taken : ℕ) (k : Known) : Type 0 where
   pub useKeysSize : length (a .useKeys) ≡ namesRoom
   pub useScopesSize : length (a .useScopes) ≡ namesRoom
   pub usePurposesSize : length (a .usePurposes) ≡ namesRoom
-  pub fewNames : getD (a .known) namesAt 0 ≤ taken
-  pub fewUses : getD (a .known) usesAt 0 ≤ taken
-  pub fewStatements : getD (a .known) statementsAt 0 ≤ Limits.statements
-  pub fewSteps : getD (a .known) stepsAt 0 ≤ getD (a .known) statementsAt 0
+  pub fewNames : getD (a .known) nameCountAt 0 ≤ taken
+  pub fewUses : getD (a .known) useCountAt 0 ≤ taken
+  pub fewStatements : getD (a .known) statementCountAt 0 ≤ Limits.statements
+  pub fewSteps : getD (a .known) stepCountAt 0 ≤ getD (a .known) statementCountAt 0
   pub fewStrings : getD (a .known) 0 0 ≤ Limits.strings
   pub fewNumbers : getD (a .known) 1 0 ≤ Limits.numbers
   pub fewLabels : getD (a .known) labelCountAt 0 ≤ Limits.labels
   pub fewRoutines : getD (a .known) routineCountAt 0 ≤ Limits.routines
-  pub fewElements : getD (a .known) elementsAt 0 ≤ Limits.elements
-  pub fewItems : getD (a .known) itemsAt 0 ≤ Limits.items
-  pub fewLiterals : getD (a .known) literalsAt 0 ≤ Limits.literals
-  pub statements : getD (a .known) statementsAt 0 ≡ k .statements
-  pub steps : getD (a .known) stepsAt 0 ≡ k .steps
+  pub fewElements : getD (a .known) elementCountAt 0 ≤ Limits.elements
+  pub fewItems : getD (a .known) itemCountAt 0 ≤ Limits.items
+  pub fewLiterals : getD (a .known) literalCountAt 0 ≤ Limits.literals
+  pub statements : getD (a .known) statementCountAt 0 ≡ k .statements
+  pub steps : getD (a .known) stepCountAt 0 ≡ k .steps
   pub ended : eqb (getD (a .known) endedAt 0) 1 ≡ k .ended
   pub scope : nameOf (getD (a .known) scopeAt 0) ≡ k .scope
   pub strings : map nameOf (stringKeys (a .known)) ≡ Known.strings k
@@ -77,8 +77,8 @@ pub record Holds (a : Arrays) (taken : ℕ) (k : Known) : Type 0 where
   pub routines : routinesIn (a .known) ≡ k .routines
   pub branches : usesIn 1 a ≡ k .branches
   pub executes : usesIn 2 a ≡ k .executes
-  pub elements : getD (a .known) elementsAt 0 ≡ k .elements
-  pub items : getD (a .known) itemsAt 0 ≡ k .items
-  pub literals : getD (a .known) literalsAt 0 ≡ k .literals
+  pub elements : getD (a .known) elementCountAt 0 ≡ k .elements
+  pub items : getD (a .known) itemCountAt 0 ≡ k .items
+  pub literals : getD (a .known) literalCountAt 0 ≡ k .literals
   -- each name has one purpose
   pub single : any (hasOther (k .names)) (k .names) ≡ false

@@ -34,11 +34,11 @@ nextAt = 70
 
 -- statements and steps so far, whether END was the last, the key of the open routine (0 outside all), the counts of 10, and how many
 -- names and uses stand in their own arrays
-abbrev pub statementsAt : ℕ
-statementsAt = 71
+abbrev pub statementCountAt : ℕ
+statementCountAt = 71
 
-abbrev pub stepsAt : ℕ
-stepsAt = 72
+abbrev pub stepCountAt : ℕ
+stepCountAt = 72
 
 abbrev pub endedAt : ℕ
 endedAt = 73
@@ -46,27 +46,27 @@ endedAt = 73
 abbrev pub scopeAt : ℕ
 scopeAt = 74
 
-abbrev pub elementsAt : ℕ
-elementsAt = 75
+abbrev pub elementCountAt : ℕ
+elementCountAt = 75
 
-abbrev pub itemsAt : ℕ
-itemsAt = 76
+abbrev pub itemCountAt : ℕ
+itemCountAt = 76
 
-abbrev pub literalsAt : ℕ
-literalsAt = 77
+abbrev pub literalCountAt : ℕ
+literalCountAt = 77
 
-abbrev pub namesAt : ℕ
-namesAt = 78
+abbrev pub nameCountAt : ℕ
+nameCountAt = 78
 
-abbrev pub usesAt : ℕ
-usesAt = 79
+abbrev pub useCountAt : ℕ
+useCountAt = 79
 
 -- where the keys stand, and what goes with them
-abbrev pub stringsAt : ℕ
-stringsAt = 2
+abbrev pub stringKeysAt : ℕ
+stringKeysAt = 2
 
-abbrev pub numbersAt : ℕ
-numbersAt = 35
+abbrev pub numberKeysAt : ℕ
+numberKeysAt = 35
 
 abbrev pub labelKeysAt : ℕ
 labelKeysAt = 80
@@ -80,11 +80,11 @@ labelScopesAt = 210
 abbrev pub routineKeysAt : ℕ
 routineKeysAt = 275
 
-abbrev pub entriesAt : ℕ
-entriesAt = 292
+abbrev pub routineEntriesAt : ℕ
+routineEntriesAt = 292
 
-abbrev pub exitsAt : ℕ
-exitsAt = 309
+abbrev pub routineExitsAt : ℕ
+routineExitsAt = 309
 
 abbrev pub knownSize : ℕ
 knownSize = 326
@@ -98,10 +98,10 @@ pub record Counted (known : List ℕ) : Type 0 where
   pub routines : getD known routineCountAt 0 ≤ mostRoutines
 
 unfoldable pub stringKeys : List ℕ → List ℕ
-stringKeys known = take (getD known 0 0) (drop stringsAt known)
+stringKeys known = take (getD known 0 0) (drop stringKeysAt known)
 
 unfoldable pub numberKeys : List ℕ → List ℕ
-numberKeys known = take (getD known 1 0) (drop numbersAt known)
+numberKeys known = take (getD known 1 0) (drop numberKeysAt known)
 
 -- the place of a key, how many there are if it is none of them
 unfoldable pub keyPlace : ℕ → List ℕ → ℕ
@@ -133,8 +133,8 @@ unfoldable pub routineIn : List ℕ → ℕ → Routine
 routineIn known i =
     record {
       name = nameOf (getD known (routineKeysAt + i) 0);
-      entry = getD known (entriesAt + i) 0;
-      exit = getD known (exitsAt + i) 0;
+      entry = getD known (routineEntriesAt + i) 0;
+      exit = getD known (routineExitsAt + i) 0;
     }
 
 unfoldable pub routinesDown : List ℕ → ℕ → List Routine

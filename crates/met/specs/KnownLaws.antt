@@ -14,7 +14,7 @@ use Rattle.judgement.specs.Known.{Routine, isOneOf}
 use Rattle.judgement.specs.Names.{any-append}
 use Rattle.met.specs.Entries.{nameOf}
 use Rattle.met.specs.EntryLaws.{key-name, same-by-key}
-use Rattle.met.specs.Known.{keyPlace, keysHave, routineIn, routinesDown}
+use Rattle.met.specs.Known.{keyPlace, keysHave, routineIn, routinesDown, routineKeysAt}
 
 -- names are the same exactly where their keys are
 pub name-same : (j k : ℕ) → same (nameOf j) (nameOf k) ≡ eqb j k
@@ -41,7 +41,7 @@ module _ (known : List ℕ) (key : ℕ) where
   pub routines-have : (n : ℕ) → any (λ (r : Routine). same (nameOf key) (r .name)) (routinesDown known n) ≡ keysHave known 275 n key
   unfolding any keysHave routinesDown routineIn
   routines-have zero = refl
-  routines-have (suc n) = ap₂ {C = Bool} _||_ (name-same key (getD known (275 + n) 0)) (routines-have n)
+  routines-have (suc n) = ap₂ {C = Bool} _||_ (name-same key (getD known (routineKeysAt + n) 0)) (routines-have n)
 
   pub keys-have : (from n : ℕ) → from + n ≤ length known → isOneOf (map nameOf (take n (drop from known))) (nameOf key) ≡ keysHave known from n key
   unfolding any keysHave isOneOf

@@ -13,7 +13,7 @@ use Rattle.language.specs.Reading.{Naming}
 use Rattle.met.specs.Entries.{nameOf}
 use Rattle.met.specs.From.{valuesFrom, from-last, from-kept}
 use Rattle.met.specs.Holding.{namingIn, namesFrom}
-use Rattle.met.specs.Known.{keysHave, labelIn, labelsFrom}
+use Rattle.met.specs.Known.{keysHave, labelIn, labelsFrom, labelKeysAt}
 use Rattle.met.specs.KnownLaws.{name-same}
 use Rattle.naming.specs.Names.{keyNaming}
 
@@ -25,7 +25,7 @@ names-kept keys purposes keys′ purposes′ i n f g =
     from-kept (namingIn keys purposes) (namingIn keys′ purposes′) i n (λ j _ h. ap₂ {C = Naming} keyNaming (f j h) (g j h))
 
 -- a name is among the labels known by its key
-pub labels-have : (known : List ℕ) (key n : ℕ) → any (λ (l : Label). same (nameOf key) (l .name)) (labelsFrom known 0 n) ≡ keysHave known 80 n key
+pub labels-have : (known : List ℕ) (key n : ℕ) → any (λ (l : Label). same (nameOf key) (l .name)) (labelsFrom known 0 n) ≡ keysHave known labelKeysAt n key
 unfolding any keysHave valuesFrom labelIn
 labels-have known key zero = refl
 labels-have known key (suc n) =
@@ -34,5 +34,5 @@ labels-have known key (suc n) =
     ap (λ m. any test (labelsFrom known 0 m)) next
     ∙ ap (any test) (from-last (labelIn known) n)
     ∙ any-append test (labelsFrom known 0 n) (labelIn known n ∷ [])
-    ∙ ap₂ {C = Bool} _||_ (labels-have known key n) (or-false (same (nameOf key) (nameOf (getD known (80 + n) 0))) ∙ name-same key (getD known (80 + n) 0))
-    ∙ or-comm (keysHave known 80 n key) (eqb key (getD known (80 + n) 0))
+    ∙ ap₂ {C = Bool} _||_ (labels-have known key n) (or-false (same (nameOf key) (nameOf (getD known (labelKeysAt + n) 0))) ∙ name-same key (getD known (labelKeysAt + n) 0))
+    ∙ or-comm (keysHave known labelKeysAt n key) (eqb key (getD known (labelKeysAt + n) 0))

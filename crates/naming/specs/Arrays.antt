@@ -7,7 +7,7 @@ use Rattle.judgement.specs.Known.{Known}
 use Rattle.met.specs.Entries.{Entry, entry, nameOf}
 use Rattle.met.specs.From.{valuesFrom}
 use Rattle.met.specs.Holding.{Arrays, namesIn, usesIn}
-use Rattle.met.specs.Known.{labelsIn, routinesIn, statementsAt, stepsAt, endedAt, scopeAt, elementsAt, itemsAt, literalsAt}
+use Rattle.met.specs.Known.{labelsIn, routinesIn, statementCountAt, stepCountAt, endedAt, scopeAt, elementCountAt, itemCountAt, literalCountAt}
 
 -- the arrays by name
 abbrev pub arrays : (known nameKeys namePurposes useKeys useScopes usePurposes : List ℕ) → Arrays
@@ -25,8 +25,8 @@ arrays known nameKeys namePurposes useKeys useScopes usePurposes =
 unfoldable pub knownIn : Arrays → Known
 knownIn a =
     record {
-      statements = getD (a .known) statementsAt 0;
-      steps = getD (a .known) stepsAt 0;
+      statements = getD (a .known) statementCountAt 0;
+      steps = getD (a .known) stepCountAt 0;
       ended = eqb (getD (a .known) endedAt 0) 1;
       scope = nameOf (getD (a .known) scopeAt 0);
       names = namesIn a;
@@ -34,18 +34,18 @@ knownIn a =
       routines = routinesIn (a .known);
       branches = usesIn 1 a;
       executes = usesIn 2 a;
-      elements = getD (a .known) elementsAt 0;
-      items = getD (a .known) itemsAt 0;
-      literals = getD (a .known) literalsAt 0;
+      elements = getD (a .known) elementCountAt 0;
+      items = getD (a .known) itemCountAt 0;
+      literals = getD (a .known) literalCountAt 0;
     }
 
 -- name i met, and n names met from place i on
 abbrev pub entryIn : (keys tags : List ℕ) → ℕ → Entry
 entryIn keys tags i = entry (getD keys i 0) (getD tags i 0)
 
-abbrev pub entriesFrom : (keys tags : List ℕ) → (i n : ℕ) → List Entry
-entriesFrom keys tags = valuesFrom (entryIn keys tags)
+abbrev pub metFrom : (keys tags : List ℕ) → (i n : ℕ) → List Entry
+metFrom keys tags = valuesFrom (entryIn keys tags)
 
 -- the names met from place i on, of so many
-abbrev pub entriesLeft : (keys tags : List ℕ) → (met i : ℕ) → List Entry
-entriesLeft keys tags met i = entriesFrom keys tags i (met - i)
+abbrev pub metLeft : (keys tags : List ℕ) → (met i : ℕ) → List Entry
+metLeft keys tags met i = metFrom keys tags i (met - i)

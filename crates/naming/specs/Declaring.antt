@@ -8,7 +8,7 @@ use Rattle.judgement.specs.Known.{Label, Routine, isOneOf, sameNaming}
 use Rattle.language.specs.Reading.{label, routine, number, samePurpose, Naming}
 use Rattle.met.specs.Entries.{entry, nameOf, namingOf, isDeclared, gather, declaredBy}
 use Rattle.met.specs.Known.{labelsIn, routinesIn, numberKeys}
-use Rattle.naming.specs.Arrays.{entriesLeft}
+use Rattle.naming.specs.Arrays.{metLeft}
 
 -- a label, routine or number known is declared, as Refusals' isDeclared has it
 unfoldable pub declaredIn : List ℕ → Naming → Bool
@@ -30,4 +30,4 @@ again f (n ∷ ns) = (f n || any (sameNaming n) ns) || again f ns
 unfoldable pub againAt : (Naming → Bool) → (keys tags : List ℕ) → (met i : ℕ) → Bool
 againAt f keys tags met i =
     let x = entry (getD keys i 0) (getD tags i 0) in
-    cond (isDeclared x) (f (namingOf x) || any (sameNaming (namingOf x)) (gather declaredBy (entriesLeft keys tags met (i + 1)))) false
+    cond (isDeclared x) (f (namingOf x) || any (sameNaming (namingOf x)) (gather declaredBy (metLeft keys tags met (i + 1)))) false

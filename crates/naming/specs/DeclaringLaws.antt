@@ -13,9 +13,10 @@ use Rattle.judgement.specs.Known.{sameNaming}
 use Rattle.language.specs.Reading.{Purpose, label, routine, number, string, purposeNumber, samePurpose, Naming}
 use Rattle.met.specs.Entries.{entry, nameOf, purposeOf, namingOf, isDeclared, gather, declaredBy, usedBy}
 use Rattle.met.specs.Known.{Counted, labelsIn, routinesIn, numberKeys, keysHave}
+use Rattle.met.specs.Known.{labelCountAt, routineCountAt, numberKeysAt, labelKeysAt, routineKeysAt}
 use Rattle.met.specs.KnownLaws.{name-same, routines-have, keys-have}
 use Rattle.naming.specs.ArrayLaws.{labels-have}
-use Rattle.naming.specs.Arrays.{entriesLeft}
+use Rattle.naming.specs.Arrays.{metLeft}
 use Rattle.naming.specs.Declaring.{declaredIn, undeclaredIn, againAt}
 use Rattle.naming.specs.Names.{keyNaming}
 
@@ -78,24 +79,24 @@ module _ (key p k tag : ℕ) where
 -- a name is declared before
 module _ (known : List ℕ) (counted : Counted known) (key p : ℕ) where
   declared-is : declaredIn known (keyNaming key p)
-      ≡ ((eqb p 1 && keysHave known 80 (getD known 68 0) key)
-      || ((eqb p 2 && keysHave known 275 (getD known 69 0) key) || (eqb p 3 && keysHave known 35 (getD known 1 0) key)))
+      ≡ ((eqb p 1 && keysHave known labelKeysAt (getD known labelCountAt 0) key)
+      || ((eqb p 2 && keysHave known routineKeysAt (getD known routineCountAt 0) key) || (eqb p 3 && keysHave known numberKeysAt (getD known 1 0) key)))
   unfolding declaredIn labelsIn routinesIn numberKeys purposeNumber
   declared-is =
       ap₂ {C = Bool} _||_
-      (ap₂ {C = Bool} _&&_ (purpose-is p label (omega arith)) (labels-have known key (getD known 68 0)))
-      (ap₂ {C = Bool} _||_ (ap₂ {C = Bool} _&&_ (purpose-is p routine (omega arith)) (routines-have known key (getD known 69 0)))
+      (ap₂ {C = Bool} _&&_ (purpose-is p label (omega arith)) (labels-have known key (getD known labelCountAt 0)))
+      (ap₂ {C = Bool} _||_ (ap₂ {C = Bool} _&&_ (purpose-is p routine (omega arith)) (routines-have known key (getD known routineCountAt 0)))
       (ap₂ {C = Bool} _&&_ (purpose-is p number (omega arith)) (keys-have known key 35 (getD known 1 0) (omega (arith, counted .size, counted .numbers)))))
 
-  pub declared-label : p ≡ 1 → keysHave known 80 (getD known 68 0) key ≡ declaredIn known (keyNaming key p)
+  pub declared-label : p ≡ 1 → keysHave known labelKeysAt (getD known labelCountAt 0) key ≡ declaredIn known (keyNaming key p)
   declared-label e =
-      sym (declared-is ∙ rw (eq-eqb p 1 e, ne-eqb p 2 (λ f. omega arith), ne-eqb p 3 (λ f. omega arith)) (or-false (keysHave known 80 (getD known 68 0) key)))
+      sym (declared-is ∙ rw (eq-eqb p 1 e, ne-eqb p 2 (λ f. omega arith), ne-eqb p 3 (λ f. omega arith)) (or-false (keysHave known labelKeysAt (getD known labelCountAt 0) key)))
 
-  pub declared-routine : p ≡ 2 → keysHave known 275 (getD known 69 0) key ≡ declaredIn known (keyNaming key p)
+  pub declared-routine : p ≡ 2 → keysHave known routineKeysAt (getD known routineCountAt 0) key ≡ declaredIn known (keyNaming key p)
   declared-routine e =
-      sym (declared-is ∙ rw (eq-eqb p 2 e, ne-eqb p 1 (λ f. omega arith), ne-eqb p 3 (λ f. omega arith)) (or-false (keysHave known 275 (getD known 69 0) key)))
+      sym (declared-is ∙ rw (eq-eqb p 2 e, ne-eqb p 1 (λ f. omega arith), ne-eqb p 3 (λ f. omega arith)) (or-false (keysHave known routineKeysAt (getD known routineCountAt 0) key)))
 
-  pub declared-number : p ≡ 3 → keysHave known 35 (getD known 1 0) key ≡ declaredIn known (keyNaming key p)
+  pub declared-number : p ≡ 3 → keysHave known numberKeysAt (getD known 1 0) key ≡ declaredIn known (keyNaming key p)
   declared-number e = sym (declared-is ∙ rw (eq-eqb p 3 e, ne-eqb p 1 (λ f. omega arith), ne-eqb p 2 (λ f. omega arith)))
 
   pub declared-none : (p ≡ 1 → ⊥) → (p ≡ 2 → ⊥) → (p ≡ 3 → ⊥) → false ≡ declaredIn known (keyNaming key p)
@@ -104,11 +105,11 @@ module _ (known : List ℕ) (counted : Counted known) (key p : ℕ) where
 -- an entry uses a number that is not declared
 module _ (known : List ℕ) (counted : Counted known) (key tag : ℕ) where
   lacks-is : any (undeclaredIn known) (usedBy (entry key tag))
-      ≡ (not (eqb (tag / 8 % 2) 1) && (eqb (tag % 8) 3 && not (keysHave known 35 (getD known 1 0) key)))
+      ≡ (not (eqb (tag / 8 % 2) 1) && (eqb (tag % 8) 3 && not (keysHave known numberKeysAt (getD known 1 0) key)))
   unfolding any undeclaredIn usedBy isDeclared namingOf entry numberKeys purposeNumber
   lacks-is =
       test-cases
-      (λ t. any (undeclaredIn known) (cond t [] (keyNaming key (tag % 8) ∷ [])) ≡ (not t && (eqb (tag % 8) 3 && not (keysHave known 35 (getD known 1 0) key))))
+      (λ t. any (undeclaredIn known) (cond t [] (keyNaming key (tag % 8) ∷ [])) ≡ (not t && (eqb (tag % 8) 3 && not (keysHave known numberKeysAt (getD known 1 0) key))))
       (eqb (tag / 8 % 2) 1) (λ _. refl)
       (λ _.
       or-false (undeclaredIn known (keyNaming key (tag % 8)))
@@ -118,7 +119,7 @@ module _ (known : List ℕ) (counted : Counted known) (key tag : ℕ) where
   pub lacks-declared : tag / 8 % 2 ≡ 1 → false ≡ any (undeclaredIn known) (usedBy (entry key tag))
   lacks-declared d = sym (lacks-is ∙ rw (eq-eqb (tag / 8 % 2) 1 d))
 
-  pub lacks-number : (tag / 8 % 2 ≡ 1 → ⊥) → tag % 8 ≡ 3 → not (keysHave known 35 (getD known 1 0) key) ≡ any (undeclaredIn known) (usedBy (entry key tag))
+  pub lacks-number : (tag / 8 % 2 ≡ 1 → ⊥) → tag % 8 ≡ 3 → not (keysHave known numberKeysAt (getD known 1 0) key) ≡ any (undeclaredIn known) (usedBy (entry key tag))
   lacks-number d e = sym (lacks-is ∙ rw (ne-eqb (tag / 8 % 2) 1 d, eq-eqb (tag % 8) 3 e))
 
   pub lacks-none : (tag / 8 % 2 ≡ 1 → ⊥) → (tag % 8 ≡ 3 → ⊥) → false ≡ any (undeclaredIn known) (usedBy (entry key tag))
@@ -130,7 +131,7 @@ module _ (f : Naming → Bool) (keys tags : List ℕ) (met i : ℕ) where
   name = keyNaming (getD keys i 0) (getD tags i 0 % 8)
 
   abbrev behind : Bool
-  behind = any (sameNaming name) (gather declaredBy (entriesLeft keys tags met (i + 1)))
+  behind = any (sameNaming name) (gather declaredBy (metLeft keys tags met (i + 1)))
 
   again-is : againAt f keys tags met i ≡ cond (eqb (getD tags i 0 / 8 % 2) 1) (f name || behind) false
   unfolding againAt isDeclared namingOf entry

@@ -14,7 +14,7 @@ use Rattle.met.specs.Entries.{Entry, entry, nameOf, nameFrom}
 use Rattle.met.specs.From.{valuesFrom}
 use Rattle.met.specs.Holding.{Arrays, Holds, namesIn, usesIn, usesFrom}
 use Rattle.met.specs.Known.{stringKeys, numberKeys, labelsIn, routinesIn, routinesDown, knownSize}
-use Rattle.naming.specs.Arrays.{knownIn, entriesFrom, arrays}
+use Rattle.naming.specs.Arrays.{knownIn, metFrom, arrays}
 
 -- what is held is what is shown
 pub held-shown : (a : Arrays) (taken : ℕ) (k : Known) → Holds a taken k → knownIn a ≡ k
@@ -117,7 +117,7 @@ nothing-held nk np uk us up s1 s2 s3 s4 s5 =
     }
 
 -- behind a first number of each, places are one less
-entries-behind : (x y : ℕ) (keys tags : List ℕ) (i n : ℕ) → entriesFrom (x ∷ keys) (y ∷ tags) (suc i) n ≡ entriesFrom keys tags i n
+entries-behind : (x y : ℕ) (keys tags : List ℕ) (i n : ℕ) → metFrom (x ∷ keys) (y ∷ tags) (suc i) n ≡ metFrom keys tags i n
 unfolding valuesFrom
 entries-behind x y keys tags i zero = refl
 entries-behind x y keys tags i (suc n) =
@@ -125,7 +125,7 @@ entries-behind x y keys tags i (suc n) =
 
 -- entries that stand at the beginning of the arrays are those there
 entries-first : (es : List Entry) (behind behind′ : List ℕ)
-    → entriesFrom (map (λ x. x .key) es ++ behind) (map (λ x. x .tag) es ++ behind′) 0 (length es) ≡ es
+    → metFrom (map (λ x. x .key) es ++ behind) (map (λ x. x .tag) es ++ behind′) 0 (length es) ≡ es
 unfolding valuesFrom entry
 entries-first [] behind behind′ = refl
 entries-first (e ∷ es) behind behind′ =
@@ -135,6 +135,6 @@ entries-first (e ∷ es) behind behind′ =
 
 -- entries noted from the beginning on are those there
 pub entries-noted : (keys tags keys′ tags′ : List ℕ) (es : List Entry) → keys′ ≡ splice keys 0 (map (λ x. x .key) es)
-    → tags′ ≡ splice tags 0 (map (λ x. x .tag) es) → entriesFrom keys′ tags′ 0 (length es) ≡ es
+    → tags′ ≡ splice tags 0 (map (λ x. x .tag) es) → metFrom keys′ tags′ 0 (length es) ≡ es
 unfolding splice
 entries-noted keys tags keys′ tags′ es p q = rw (p, q) (entries-first es _ _)

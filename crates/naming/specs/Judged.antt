@@ -11,8 +11,8 @@ use Rattle.language.specs.Reading.{Naming}
 use Rattle.met.specs.Contracts.{namesRoom}
 use Rattle.met.specs.Entries.{Entry, gather, declaredBy, usedBy, rolesBy}
 use Rattle.met.specs.Holding.{namesFrom}
-use Rattle.met.specs.Known.{Counted, namesAt}
-use Rattle.naming.specs.Arrays.{entriesFrom}
+use Rattle.met.specs.Known.{Counted, nameCountAt}
+use Rattle.naming.specs.Arrays.{metFrom}
 use Rattle.naming.specs.Declaring.{declaredIn, undeclaredIn, again}
 use Rattle.naming.specs.Names.{Single, Sized}
 use Rattle.naming.specs.declared.Verdict.{Verdict}
@@ -37,20 +37,20 @@ firstNumber known clash es =
 -- the arrays have their sizes, with room for the names met; each name known has one purpose
 pub record Named (known nameKeys namePurposes keys tags : List ℕ) (met : ℕ) : Type 0 where
   pub counted : Counted known
-  pub names : Sized nameKeys namePurposes (getD known namesAt 0 + met)
+  pub names : Sized nameKeys namePurposes (getD known nameCountAt 0 + met)
   pub entries : Sized keys tags met
-  pub single : Single (namesFrom nameKeys namePurposes 0 (getD known namesAt 0))
+  pub single : Single (namesFrom nameKeys namePurposes 0 (getD known nameCountAt 0))
 
 -- the number, and the names known where it is 0
 pub record NamesJudged (known nameKeys namePurposes keys tags : List ℕ) (met : ℕ) (nameKeys′ namePurposes′ : List ℕ) (r : Verdict)
     : Type 0 where
-  pub number : r .number ≡ namesNumber known (namesFrom nameKeys namePurposes 0 (getD known namesAt 0)) (entriesFrom keys tags 0 met)
+  pub number : r .number ≡ namesNumber known (namesFrom nameKeys namePurposes 0 (getD known nameCountAt 0)) (metFrom keys tags 0 met)
   pub keysSize : length nameKeys′ ≡ namesRoom
   pub purposesSize : length namePurposes′ ≡ namesRoom
-  pub few : r .count ≤ getD known namesAt 0 + met
-  pub more : getD known namesAt 0 ≤ r .count
-  pub keysKept : (i : ℕ) → i < getD known namesAt 0 → getD nameKeys′ i 0 ≡ getD nameKeys i 0
-  pub purposesKept : (i : ℕ) → i < getD known namesAt 0 → getD namePurposes′ i 0 ≡ getD namePurposes i 0
+  pub few : r .count ≤ getD known nameCountAt 0 + met
+  pub more : getD known nameCountAt 0 ≤ r .count
+  pub keysKept : (i : ℕ) → i < getD known nameCountAt 0 → getD nameKeys′ i 0 ≡ getD nameKeys i 0
+  pub purposesKept : (i : ℕ) → i < getD known nameCountAt 0 → getD namePurposes′ i 0 ≡ getD namePurposes i 0
   pub learnt : r .number ≡ 0 → namesFrom nameKeys′ namePurposes′ 0 (r .count)
-      ≡ withNames (namesFrom nameKeys namePurposes 0 (getD known namesAt 0)) (namesOf (entriesFrom keys tags 0 met))
+      ≡ withNames (namesFrom nameKeys namePurposes 0 (getD known nameCountAt 0)) (namesOf (metFrom keys tags 0 met))
   pub single : r .number ≡ 0 → Single (namesFrom nameKeys′ namePurposes′ 0 (r .count))

@@ -15,8 +15,8 @@ use Rattle.language.specs.Reading.{Naming}
 use Rattle.met.specs.Entries.{Entry, namingOf, isDeclared, gather, declaredBy, usedBy, rolesBy}
 use Rattle.met.specs.From.{length-from}
 use Rattle.met.specs.Holding.{namesFrom}
-use Rattle.met.specs.Known.{namesAt}
-use Rattle.naming.specs.Arrays.{entryIn, entriesFrom}
+use Rattle.met.specs.Known.{nameCountAt}
+use Rattle.naming.specs.Arrays.{entryIn, metFrom}
 use Rattle.naming.specs.Declaring.{declaredIn, undeclaredIn, again}
 use Rattle.naming.specs.Judged.{namesOf, namesNumber, firstNumber, Named, NamesJudged}
 use Rattle.naming.specs.MeetLaws.{meets-then}
@@ -57,7 +57,7 @@ chosen-size (e ∷ es) =
 -- there is room for those declared, and then for those used
 module _ (nameKeys namePurposes keys tags : List ℕ) (count met : ℕ) where
   abbrev entries : List Entry
-  entries = entriesFrom keys tags 0 met
+  entries = metFrom keys tags 0 met
 
   pub room-first : Sized nameKeys namePurposes (count + met) → Sized nameKeys namePurposes (count + length (gather (chosenBy 1) entries))
   room-first s =
@@ -124,15 +124,15 @@ module _ (known : List ℕ) (clash : Bool) (es : List Entry) where
 
 -- what judging the names does
 pub names-judged : (known nameKeys namePurposes keys tags : List ℕ) (met : ℕ) (nameKeys′ namePurposes′ nameKeys″ namePurposes″ : List ℕ)
-    (b r q : Names) (number : ℕ) → Named known nameKeys namePurposes keys tags met → b ≡ record { count = getD known namesAt 0; clash = false }
-    → Meets nameKeys namePurposes b (gather (chosenBy 1) (entriesFrom keys tags 0 met)) nameKeys′ namePurposes′ r
-    → Meets nameKeys′ namePurposes′ r (gather (chosenBy 0) (entriesFrom keys tags 0 met)) nameKeys″ namePurposes″ q
-    → number ≡ firstNumber known (q .clash) (entriesFrom keys tags 0 met)
+    (b r q : Names) (number : ℕ) → Named known nameKeys namePurposes keys tags met → b ≡ record { count = getD known nameCountAt 0; clash = false }
+    → Meets nameKeys namePurposes b (gather (chosenBy 1) (metFrom keys tags 0 met)) nameKeys′ namePurposes′ r
+    → Meets nameKeys′ namePurposes′ r (gather (chosenBy 0) (metFrom keys tags 0 met)) nameKeys″ namePurposes″ q
+    → number ≡ firstNumber known (q .clash) (metFrom keys tags 0 met)
     → NamesJudged known nameKeys namePurposes keys tags met nameKeys″ namePurposes″ (record { number = number; count = q .count })
 unfolding namesNumber firstNumber
 names-judged known nameKeys namePurposes keys tags met nameKeys′ namePurposes′ nameKeys″ namePurposes″ b r q number pre start m n e =
-    let es = entriesFrom keys tags 0 met in
-    let count = getD known namesAt 0 in
+    let es = metFrom keys tags 0 met in
+    let count = getD known nameCountAt 0 in
     let ns = namesFrom nameKeys namePurposes 0 count in
     let new = namesOf es in
     let before : Names = record { count = count; clash = false } in

@@ -16,7 +16,7 @@ use Rattle.met.specs.Entries.{Entry, entry, purposeOf, namingOf, isDeclared, ga
 use Rattle.met.specs.From.{from-turn, from-none}
 use Rattle.met.specs.Holding.{namingIn, namesFrom}
 use Rattle.met.specs.KnownLaws.{name-same}
-use Rattle.naming.specs.Arrays.{entryIn, entriesFrom, entriesLeft}
+use Rattle.naming.specs.Arrays.{entryIn, metFrom, metLeft}
 use Rattle.naming.specs.Declaring.{again, againAt}
 use Rattle.naming.specs.Names.{keyNaming, standing}
 
@@ -62,31 +62,31 @@ standing-whole keys purposes n key p =
 -- a test of each entry left, one by one
 module _ {A : Type 0} (f : A → Bool) (g : Entry → List A) (keys tags : List ℕ) (met : ℕ) where
   abbrev pub anyFrom : ℕ → Bool
-  anyFrom i = any f (gather g (entriesLeft keys tags met i))
+  anyFrom i = any f (gather g (metLeft keys tags met i))
 
   pub any-turn : (i : ℕ) → i < met → anyFrom i ≡ (any f (g (entry (getD keys i 0) (getD tags i 0))) || anyFrom (i + 1))
   unfolding gather
   any-turn i h =
       ap (λ es. any f (gather g es)) (from-turn (entryIn keys tags) met i h)
-      ∙ any-append f (g (entry (getD keys i 0) (getD tags i 0))) (gather g (entriesLeft keys tags met (i + 1)))
+      ∙ any-append f (g (entry (getD keys i 0) (getD tags i 0))) (gather g (metLeft keys tags met (i + 1)))
 
   pub any-end : (i : ℕ) → met ≤ i → anyFrom i ≡ false
   unfolding gather any
   any-end i h = ap (λ es. any f (gather g es)) (from-none (entryIn keys tags) met i h)
 
-  pub any-whole : anyFrom 0 ≡ any f (gather g (entriesFrom keys tags 0 met))
-  any-whole = let all : met - 0 ≡ met = omega arith in ap (λ m. any f (gather g (entriesFrom keys tags 0 m))) all
+  pub any-whole : anyFrom 0 ≡ any f (gather g (metFrom keys tags 0 met))
+  any-whole = let all : met - 0 ≡ met = omega arith in ap (λ m. any f (gather g (metFrom keys tags 0 m))) all
 
 -- names declared again, one by one
 module _ (f : Naming → Bool) (keys tags : List ℕ) (met : ℕ) where
   abbrev pub againFrom : ℕ → Bool
-  againFrom i = again f (gather declaredBy (entriesLeft keys tags met i))
+  againFrom i = again f (gather declaredBy (metLeft keys tags met i))
 
   pub again-turn : (i : ℕ) → i < met → againFrom i ≡ (againAt f keys tags met i || againFrom (i + 1))
   unfolding gather declaredBy again againAt
   again-turn i h =
       let x = entry (getD keys i 0) (getD tags i 0) in
-      let behind = gather declaredBy (entriesLeft keys tags met (i + 1)) in
+      let behind = gather declaredBy (metLeft keys tags met (i + 1)) in
       ap (λ es. again f (gather declaredBy es)) (from-turn (entryIn keys tags) met i h)
       ∙ test-cases
       (λ t. again f (cond t (namingOf x ∷ []) [] ++ behind)
@@ -96,5 +96,5 @@ module _ (f : Naming → Bool) (keys tags : List ℕ) (met : ℕ) where
   unfolding gather again
   again-end i h = ap (λ es. again f (gather declaredBy es)) (from-none (entryIn keys tags) met i h)
 
-  pub again-whole : againFrom 0 ≡ again f (gather declaredBy (entriesFrom keys tags 0 met))
-  again-whole = let all : met - 0 ≡ met = omega arith in ap (λ m. again f (gather declaredBy (entriesFrom keys tags 0 m))) all
+  pub again-whole : againFrom 0 ≡ again f (gather declaredBy (metFrom keys tags 0 met))
+  again-whole = let all : met - 0 ≡ met = omega arith in ap (λ m. again f (gather declaredBy (metFrom keys tags 0 m))) all

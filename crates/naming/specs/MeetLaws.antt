@@ -16,7 +16,7 @@ use Rattle.met.specs.EntryLaws.{gather-append}
 use Rattle.met.specs.From.{valuesFrom, from-turn, from-last}
 use Rattle.met.specs.Holding.{namingIn, namesFrom}
 use Rattle.naming.specs.ArrayLaws.{names-kept}
-use Rattle.naming.specs.Arrays.{entryIn, entriesFrom, entriesLeft}
+use Rattle.naming.specs.Arrays.{entryIn, metFrom, metLeft}
 use Rattle.naming.specs.NameLaws.{standing-few, meets-append, conflicts-append}
 use Rattle.naming.specs.Names.{keyNaming, standing, meet, meets, conflicts, chosenBy, Sized, Meets}
 use Rattle.naming.specs.declared.names.Names.{Names}
@@ -124,16 +124,16 @@ module _ (keys purposes : List ℕ) (b : Names) (key p : ℕ) (sized : Sized key
 pub record Meeting (keys₀ purposes₀ keys tags : List ℕ) (met wanted : ℕ) (before : Names) (keys′ purposes′ : List ℕ) (r : Names) (i : ℕ)
     : Type 0 where
   pub inside : i ≤ met
-  pub room : r .count + length (gather (chosenBy wanted) (entriesLeft keys tags met i)) ≤ namesRoom
-  pub so : Meets keys₀ purposes₀ before (gather (chosenBy wanted) (entriesFrom keys tags 0 i)) keys′ purposes′ r
+  pub room : r .count + length (gather (chosenBy wanted) (metLeft keys tags met i)) ≤ namesRoom
+  pub so : Meets keys₀ purposes₀ before (gather (chosenBy wanted) (metFrom keys tags 0 i)) keys′ purposes′ r
 
 module _ (keys₀ purposes₀ keys tags : List ℕ) (met wanted : ℕ) (before : Names) where
-  pub meeting-none : Sized keys₀ purposes₀ (before .count + length (gather (chosenBy wanted) (entriesFrom keys tags 0 met)))
+  pub meeting-none : Sized keys₀ purposes₀ (before .count + length (gather (chosenBy wanted) (metFrom keys tags 0 met)))
       → Meeting keys₀ purposes₀ keys tags met wanted before keys₀ purposes₀ before 0
   unfolding valuesFrom gather
   meeting-none s =
       let all : met - 0 ≡ met = omega arith in
-      let sizes = ap (λ m. length (gather (chosenBy wanted) (entriesFrom keys tags 0 m))) all in
+      let sizes = ap (λ m. length (gather (chosenBy wanted) (metFrom keys tags 0 m))) all in
       record {
         inside = omega arith;
         room = omega (arith, sizes, s .room);
@@ -148,18 +148,18 @@ module _ (keys₀ purposes₀ keys tags : List ℕ) (met wanted : ℕ) (before :
     abbrev f : Entry → List Naming
     f = chosenBy wanted
 
-    left : length (gather f (entriesLeft keys tags met i)) ≡ length (f here) + length (gather f (entriesLeft keys tags met (i + 1)))
+    left : length (gather f (metLeft keys tags met i)) ≡ length (f here) + length (gather f (metLeft keys tags met (i + 1)))
     unfolding gather here
     left =
         ap (λ es. length (gather f es)) (from-turn (entryIn keys tags) met i h)
-        ∙ length-append (f here) (gather f (entriesLeft keys tags met (i + 1)))
+        ∙ length-append (f here) (gather f (metLeft keys tags met (i + 1)))
 
-    done : gather f (entriesFrom keys tags 0 (i + 1)) ≡ gather f (entriesFrom keys tags 0 i) ++ f here
+    done : gather f (metFrom keys tags 0 (i + 1)) ≡ gather f (metFrom keys tags 0 i) ++ f here
     unfolding gather here
     done =
         ap (gather f) (from-last (entryIn keys tags) i)
-        ∙ gather-append f (entriesFrom keys tags 0 i) (here ∷ [])
-        ∙ ap (λ (l : List Naming). gather f (entriesFrom keys tags 0 i) ++ l) (append-nil (f here))
+        ∙ gather-append f (metFrom keys tags 0 i) (here ∷ [])
+        ∙ ap (λ (l : List Naming). gather f (metFrom keys tags 0 i) ++ l) (append-nil (f here))
 
     pub meeting-room : getD tags i 0 / 8 % 2 ≡ wanted → Sized keys′ purposes′ (r .count + 1)
     unfolding chosenBy here entry
@@ -174,7 +174,7 @@ module _ (keys₀ purposes₀ keys tags : List ℕ) (met wanted : ℕ) (before :
     meeting-one e keys″ purposes″ r′ n =
         let it : f here ≡ keyNaming (getD keys i 0) (getD tags i 0 % 8) ∷ [] = rw (eq-eqb (getD tags i 0 / 8 % 2) wanted e) in
         let one = ap length it in
-        let xs = gather f (entriesFrom keys tags 0 i) in
+        let xs = gather f (metFrom keys tags 0 i) in
         record {
           inside = omega arith;
           room = omega (arith, m .room, left, n .few);
@@ -188,7 +188,7 @@ module _ (keys₀ purposes₀ keys tags : List ℕ) (met wanted : ℕ) (before :
     meeting-other e =
         let it : f here ≡ [] = rw (ne-eqb (getD tags i 0 / 8 % 2) wanted e) in
         let none = ap length it in
-        let xs = gather f (entriesFrom keys tags 0 i) in
+        let xs = gather f (metFrom keys tags 0 i) in
         record {
           inside = omega arith;
           room = omega (arith, m .room, left);
@@ -198,10 +198,10 @@ module _ (keys₀ purposes₀ keys tags : List ℕ) (met wanted : ℕ) (before :
         }
 
   pub meeting-all : (keys′ purposes′ : List ℕ) (r : Names) (i : ℕ) → Meeting keys₀ purposes₀ keys tags met wanted before keys′ purposes′ r i
-      → met ≤ i → Meets keys₀ purposes₀ before (gather (chosenBy wanted) (entriesFrom keys tags 0 met)) keys′ purposes′ r
+      → met ≤ i → Meets keys₀ purposes₀ before (gather (chosenBy wanted) (metFrom keys tags 0 met)) keys′ purposes′ r
   meeting-all keys′ purposes′ r i m h =
       let all : i ≡ met = omega (arith, m .inside) in
-      subst (λ n. Meets keys₀ purposes₀ before (gather (chosenBy wanted) (entriesFrom keys tags 0 n)) keys′ purposes′ r) all (m .so)
+      subst (λ n. Meets keys₀ purposes₀ before (gather (chosenBy wanted) (metFrom keys tags 0 n)) keys′ purposes′ r) all (m .so)
 
   -- the same by other names of the arrays
   pub meeting-same : {keys′ keys″ purposes′ purposes″ : List ℕ} {r q : Names} {i : ℕ} → keys′ ≡ keys″ → purposes′ ≡ purposes″ → r ≡ q

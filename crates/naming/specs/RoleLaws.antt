@@ -15,7 +15,7 @@ use Rattle.language.specs.Reading.{Role}
 use Rattle.met.specs.Entries.{entry, nameOf, nameFrom, roleOf, gather, rolesBy}
 use Rattle.met.specs.From.{from-turn, from-none}
 use Rattle.met.specs.KnownLaws.{name-same}
-use Rattle.naming.specs.Arrays.{entryIn, entriesFrom, entriesLeft}
+use Rattle.naming.specs.Arrays.{entryIn, metFrom, metLeft}
 use Rattle.naming.specs.NameLaws.{eqb-sym}
 use Rattle.naming.specs.Roles.{roleBy, fillersBefore, fillersHave, Unclashed, clashAt, searchedBehind}
 
@@ -49,7 +49,7 @@ clash-role (suc (suc (suc (suc r)))) key searched fs has h rs =
 -- the roles left, with the key of the reference so far
 module _ (keys tags : List ℕ) (met : ℕ) where
   abbrev pub clashFrom : ℕ → ℕ → Bool
-  clashFrom searched i = clashes (nameOf searched) (fillersBefore keys tags i) (gather rolesBy (entriesLeft keys tags met i))
+  clashFrom searched i = clashes (nameOf searched) (fillersBefore keys tags i) (gather rolesBy (metLeft keys tags met i))
 
   pub clash-turn : (searched i : ℕ) → i < met
       → clashFrom searched i
@@ -59,7 +59,7 @@ module _ (keys tags : List ℕ) (met : ℕ) where
       let k = getD keys i 0 in
       let r = getD tags i 0 / 16 in
       let fs = fillersBefore keys tags i in
-      let rs = gather rolesBy (entriesLeft keys tags met (i + 1)) in
+      let rs = gather rolesBy (metLeft keys tags met (i + 1)) in
       let next : suc i ≡ i + 1 = omega arith in
       ap (λ es. clashes (nameOf searched) fs (gather rolesBy es)) (from-turn (entryIn keys tags) met i h)
       ∙ clash-role r k searched fs (fillersHave keys tags i k) (fillers-have keys tags i k) rs
@@ -69,11 +69,11 @@ module _ (keys tags : List ℕ) (met : ℕ) where
   unfolding gather clashes
   clash-end searched i h = ap (λ es. clashes (nameOf searched) (fillersBefore keys tags i) (gather rolesBy es)) (from-none (entryIn keys tags) met i h)
 
-  pub clash-whole : clashFrom 0 0 ≡ clashes [] [] (gather rolesBy (entriesFrom keys tags 0 met))
+  pub clash-whole : clashFrom 0 0 ≡ clashes [] [] (gather rolesBy (metFrom keys tags 0 met))
   unfolding nameOf nameFrom fillersBefore
   clash-whole =
       let all : met - 0 ≡ met = omega arith in
-      ap (λ m. clashes [] [] (gather rolesBy (entriesFrom keys tags 0 m))) all
+      ap (λ m. clashes [] [] (gather rolesBy (metFrom keys tags 0 m))) all
 
 -- a filler among those up to a place
 pub fillers-turn : (keys tags : List ℕ) (key i : ℕ) → 0 < i

@@ -19,7 +19,7 @@ ghost use Rattle.base.specs.Lists.{any};
 ghost use Rattle.judgement.specs.Known.{sameNaming};
 ghost use Rattle.met.specs.Known.{Counted};
 ghost use Rattle.met.specs.Entries.{entry, gather, declaredBy, usedBy};
-ghost use Rattle.naming.specs.Arrays.{entriesFrom, entriesLeft};
+ghost use Rattle.naming.specs.Arrays.{metFrom, metLeft};
 ghost use Rattle.naming.specs.Names.{keyNaming, Sized};
 ghost use Rattle.naming.specs.Declaring.{declaredIn, undeclaredIn, again, againAt};
 
@@ -65,7 +65,7 @@ fn is_declared_from(
     p: u8,
 ) -> bool
     requires { ⌜ Sized (now keys) (now tags) met × (from ≤ met) ⌝ }
-    ensures { λ r. ⌜ r ≡ any (sameNaming (keyNaming key p)) (gather declaredBy (entriesLeft (now (keys .entry)) (now (tags .entry)) met from)) ⌝ }
+    ensures { λ r. ⌜ r ≡ any (sameNaming (keyNaming key p)) (gather declaredBy (metLeft (now (keys .entry)) (now (tags .entry)) met from)) ⌝ }
 {
     let mut i = from;
     while i < met {
@@ -101,7 +101,7 @@ fn is_again(
 // 6: whether a label, routine or number is declared twice, here or here and before
 pub fn is_twice(known: &[u64; KNOWN], keys: &[u64; NAMES], tags: &[u8; NAMES], met: usize) -> bool
     requires { ⌜ Counted (now known) × Sized (now keys) (now tags) met ⌝ }
-    ensures { λ r. ⌜ r ≡ again (declaredIn (now (known .entry))) (gather declaredBy (entriesFrom (now (keys .entry)) (now (tags .entry)) 0 met)) ⌝ }
+    ensures { λ r. ⌜ r ≡ again (declaredIn (now (known .entry))) (gather declaredBy (metFrom (now (keys .entry)) (now (tags .entry)) 0 met)) ⌝ }
 {
     let mut i: usize = 0;
     while i < met {
@@ -136,7 +136,7 @@ pub fn is_undeclared(
     met: usize,
 ) -> bool
     requires { ⌜ Counted (now known) × Sized (now keys) (now tags) met ⌝ }
-    ensures { λ r. ⌜ r ≡ any (undeclaredIn (now (known .entry))) (gather usedBy (entriesFrom (now (keys .entry)) (now (tags .entry)) 0 met)) ⌝ }
+    ensures { λ r. ⌜ r ≡ any (undeclaredIn (now (known .entry))) (gather usedBy (metFrom (now (keys .entry)) (now (tags .entry)) 0 met)) ⌝ }
 {
     let mut i: usize = 0;
     while i < met {

@@ -14,7 +14,7 @@ use names::meet_names;
 use roles::has_clash;
 ghost use mathlib.Core.Path.{_≡_};
 ghost use Rattle.met.specs.Known.{Counted};
-ghost use Rattle.naming.specs.Arrays.{entriesFrom};
+ghost use Rattle.naming.specs.Arrays.{metFrom};
 ghost use Rattle.naming.specs.Judged.{Named, NamesJudged, firstNumber};
 ghost use Rattle.naming.specs.Names.{Sized};
 
@@ -58,7 +58,7 @@ fn first_number(
     clash: bool,
 ) -> u32
     requires { ⌜ Counted (now known) × Sized (now keys) (now tags) met ⌝ }
-    ensures { λ r. ⌜ r ≡ firstNumber (now (known .entry)) clash (entriesFrom (now (keys .entry)) (now (tags .entry)) 0 met) ⌝ }
+    ensures { λ r. ⌜ r ≡ firstNumber (now (known .entry)) clash (metFrom (now (keys .entry)) (now (tags .entry)) 0 met) ⌝ }
 {
     if clash {
         return 6;

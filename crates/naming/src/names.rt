@@ -10,7 +10,7 @@ ghost use Rattle.language.specs.Reading.{purposeNumber};
 ghost use Rattle.met.specs.Entries.{purposeOf, gather};
 ghost use Rattle.met.specs.Holding.{namesFrom};
 ghost use Rattle.naming.specs.Names.{keyNaming, standing, chosenBy, Sized, Meets};
-ghost use Rattle.naming.specs.Arrays.{entriesFrom};
+ghost use Rattle.naming.specs.Arrays.{metFrom};
 
 // how many names are known, and whether one met has another purpose
 pub struct Names {
@@ -83,8 +83,8 @@ pub fn meet_names(
     wanted: u8,
     before: Names,
 ) -> Names
-    requires { ⌜ Sized (now «name_keys») (now «name_purposes») (before .count + length (gather (chosenBy wanted) (entriesFrom (now keys) (now tags) 0 met))) × Sized (now keys) (now tags) met ⌝ }
-    ensures { λ r. ⌜ Meets (now («name_keys» .entry)) (now («name_purposes» .entry)) before (gather (chosenBy wanted) (entriesFrom (now (keys .entry)) (now (tags .entry)) 0 met)) (now («name_keys» .exit)) (now («name_purposes» .exit)) r ⌝ }
+    requires { ⌜ Sized (now «name_keys») (now «name_purposes») (before .count + length (gather (chosenBy wanted) (metFrom (now keys) (now tags) 0 met))) × Sized (now keys) (now tags) met ⌝ }
+    ensures { λ r. ⌜ Meets (now («name_keys» .entry)) (now («name_purposes» .entry)) before (gather (chosenBy wanted) (metFrom (now (keys .entry)) (now (tags .entry)) 0 met)) (now («name_keys» .exit)) (now («name_purposes» .exit)) r ⌝ }
 {
     let mut r = before;
     let mut i: usize = 0;

@@ -9,7 +9,7 @@ ghost use mathlib.Core.List.{[]};
 ghost use Prim.Native.Nat.{_+_};
 ghost use Rattle.judgement.specs.Refusals.{clashes};
 ghost use Rattle.met.specs.Entries.{gather, rolesBy};
-ghost use Rattle.naming.specs.Arrays.{entriesFrom};
+ghost use Rattle.naming.specs.Arrays.{metFrom};
 ghost use Rattle.naming.specs.Names.{Sized};
 ghost use Rattle.naming.specs.Roles.{roleBy, fillersHave, Unclashed, clashAt, searchedBehind};
 
@@ -68,7 +68,7 @@ fn searched_behind(key: u64, tag: u8, searched: u64) -> u64
 // 8: whether the roles of the names met clash
 pub fn has_clash(keys: &[u64; NAMES], tags: &[u8; NAMES], met: usize) -> bool
     requires { ⌜ Sized (now keys) (now tags) met ⌝ }
-    ensures { λ r. ⌜ r ≡ clashes [] [] (gather rolesBy (entriesFrom (now (keys .entry)) (now (tags .entry)) 0 met)) ⌝ }
+    ensures { λ r. ⌜ r ≡ clashes [] [] (gather rolesBy (metFrom (now (keys .entry)) (now (tags .entry)) 0 met)) ⌝ }
 {
     let mut searched: u64 = 0;
     let mut i: usize = 0;

@@ -15,6 +15,7 @@ use Rattle.language.specs.Numeric.{calledOrNumber, plainFactor}
 use Rattle.language.specs.Reading.{Read, got, broken, give}
 use Rattle.language.specs.Words as Words
 use Rattle.language.specs.Words.{unsigned, numberName, stringName, bound, partName}
+use Rattle.met.specs.Contracts.{namesRoom}
 use Rattle.met.specs.Entries.{Entry, entry, roleOf, metIn}
 use Rattle.met.specs.Known.{placesIn}
 use Rattle.met.specs.declared.Cursor.{Cursor}
@@ -60,8 +61,8 @@ pub record Ready (text keys tags : List ℕ) (c : Cursor) : Type 0 where
   pub items : c .items ≤ 4_294_967_296 + c .at
   pub elements : c .elements ≤ 4_294_967_296 + c .at
   pub literals : c .literals ≤ 4_294_967_296 + c .at
-  pub keysSize : length keys ≡ 32_800
-  pub tagsSize : length tags ≡ 32_800
+  pub keysSize : length keys ≡ namesRoom
+  pub tagsSize : length tags ≡ namesRoom
 
 -- entries stand noted from place n on
 pub record Noting (keys tags : List ℕ) (n : ℕ) (es : List Entry) (keys′ tags′ : List ℕ) : Type 0 where

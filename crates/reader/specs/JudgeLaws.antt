@@ -20,17 +20,18 @@ use Rattle.judgement.specs.Deck.{metBy, unplaced}
 use Rattle.judgement.specs.Known.{Known, numbers, isOneOf, learn}
 use Rattle.judgement.specs.Placed.{number-anywhere, met-anywhere}
 use Rattle.judgement.specs.Refusals.{readStatement, statementNumber, formNumber, metNumber, isMisplaced}
-use Rattle.judging.specs.Callers.{ready}
-use Rattle.judging.specs.Judged.{StatementJudged, Tallied, Ready}
+use Rattle.judging.specs.Callers.{judgeable}
+use Rattle.judging.specs.Judged.{StatementJudged, Tallied, Judgeable}
 use Rattle.language.specs.Keywords as Keywords
 use Rattle.language.specs.Keywords.{leading}
 use Rattle.language.specs.Program.{Statement}
 use Rattle.language.specs.Reading.{Read, got, broken, Met}
+use Rattle.met.specs.Contracts.{namesRoom}
 use Rattle.met.specs.Entries.{metIn}
 use Rattle.met.specs.Holding.{Arrays, Holds}
 use Rattle.met.specs.Known.{placesIn}
 use Rattle.met.specs.declared.Cursor.{Cursor}
-use Rattle.naming.specs.Arrays.{entriesFrom}
+use Rattle.naming.specs.Arrays.{metFrom}
 use Rattle.naming.specs.HoldLaws.{entries-noted}
 use Rattle.words.specs.Kinds.{kindOf}
 use Rattle.words.specs.declared.keywords.Kind.{Kind}
@@ -123,7 +124,7 @@ module _ {most : ℕ} {table keys tags : List ℕ} {c : Cursor} {x : Read (Optio
 
 -- a statement can be read
 pub starts : {a : Arrays} {taken : ℕ} {k : Known} {text keys tags : List ℕ} {c : Cursor} → Holds a taken k → length text ≤ 32_768
-    → length keys ≡ 32_800 → length tags ≡ 32_800 → c ≡ startAt (a .known) → Starts text keys tags c
+    → length keys ≡ namesRoom → length tags ≡ namesRoom → c ≡ startAt (a .known) → Starts text keys tags c
 starts {a} {text = text} {keys} {tags} h small ks ts e =
     subst (Starts text keys tags) (sym e)
     (record {
@@ -138,11 +139,11 @@ starts {a} {text = text} {keys} {tags} h small ks ts e =
     })
 
 -- a statement that is read can be judged
-pub formed-ready : {text : List ℕ} {e : Gathered} {a : Arrays} {v : Option Statement} {table keys tags table′ keys′ tags′ : List ℕ} {c : Cursor}
+pub formed-judgeable : {text : List ℕ} {e : Gathered} {a : Arrays} {v : Option Statement} {table keys tags table′ keys′ tags′ : List ℕ} {c : Cursor}
     {x : Read (Option Statement)} {d : Cursor} → Readied text e a → c .names ≡ 0
-    → Formed v (length text + 1) table keys tags c x table′ keys′ tags′ d → Ready a keys′ tags′ d
-formed-ready {a = a} {keys′ = keys′} {tags′ = tags′} {d = d} q z f =
-    ready a keys′ tags′ d (q .taken) (q .known) (f .keysSize) (f .tagsSize) (omega (arith, q .room, f .names, f .few)) (q .holds)
+    → Formed v (length text + 1) table keys tags c x table′ keys′ tags′ d → Judgeable a keys′ tags′ d
+formed-judgeable {a = a} {keys′ = keys′} {tags′ = tags′} {d = d} q z f =
+    judgeable a keys′ tags′ d (q .taken) (q .known) (f .keysSize) (f .tagsSize) (omega (arith, q .room, f .names, f .few)) (q .holds)
 
 -- a statement that is read and judged has its number
 module _ (a : Arrays) (kind : Kind) (label raw text : List ℕ) (leads : kindOf kind ≡ leading text .kind) (bytes : packed raw ≡ text) where
@@ -185,12 +186,12 @@ module _ (a : Arrays) (kind : Kind) (label raw text : List ℕ) (leads : kindOf 
             subst (λ (z : Cursor). Formed v (length text + 1) table keys tags z
             (readStatement edition1 (numberIn (a .known)) (placesIn (a .known)) label raw) table′ keys′ tags′ d) start g
 
-        entries : entriesFrom keys′ tags′ 0 (d .names) ≡ f .entries
+        entries : metFrom keys′ tags′ 0 (d .names) ≡ f .entries
         entries =
-            ap (entriesFrom keys′ tags′ 0) (f .names ∙ zero-add (length (f .entries)))
+            ap (metFrom keys′ tags′ 0) (f .names ∙ zero-add (length (f .entries)))
             ∙ entries-noted keys tags keys′ tags′ (f .entries) (f .noting .keyed) (f .noting .tagged)
 
-        met : metIn (entriesFrom keys′ tags′ 0 (d .names)) (length (itemsIn v)) (f .rows) (length (allLiterals (elementsIn v)))
+        met : metIn (metFrom keys′ tags′ 0 (d .names)) (length (itemsIn v)) (f .rows) (length (allLiterals (elementsIn v)))
             ≡ metIn (f .entries) (length (itemsIn v)) (f .rows) (length (allLiterals (elementsIn v)))
         met = ap (λ es. metIn es (length (itemsIn v)) (f .rows) (length (allLiterals (elementsIn v)))) entries
 

@@ -16,8 +16,9 @@ use Rattle.judgement.specs.Known.{Known, nothingKnown, numbers, isOneOf, learn}
 use Rattle.judgement.specs.Refusals.{readStatement, statementNumber}
 use Rattle.judgement.specs.Rules.{Judging}
 use Rattle.language.specs.Keywords.{leading}
+use Rattle.met.specs.Contracts.{namesRoom}
 use Rattle.met.specs.Holding.{Arrays, Holds}
-use Rattle.met.specs.Known.{endedAt, itemsAt, elementsAt, literalsAt}
+use Rattle.met.specs.Known.{endedAt, itemCountAt, elementCountAt, literalCountAt}
 use Rattle.met.specs.declared.Cursor.{Cursor}
 use Rattle.forms.specs.Contracts.{Wording}
 use Rattle.packer.specs.Keys.{keyOf, isKeyByte}
@@ -32,8 +33,8 @@ pub record Held (a : Arrays) (taken : ℕ) : Type 0 where
 
 -- the arrays that names are noted in, and the table, have their sizes
 pub record Lent (keys tags table : List ℕ) : Type 0 where
-  pub keysSize : length keys ≡ 32_800
-  pub tagsSize : length tags ≡ 32_800
+  pub keysSize : length keys ≡ namesRoom
+  pub tagsSize : length tags ≡ namesRoom
   pub tableSize : 28_672 ≤ length table
 
 -- a statement of the deck by its label and its bytes, as the code has it in the first bytes of a text
@@ -54,7 +55,7 @@ pub record Readied (text : List ℕ) (e : Gathered) (a : Arrays) : Type 0 where
   pub known : Known
   pub holds : Holds a taken known
   pub small : length text ≤ 32_768
-  pub room : taken + length text < 32_800
+  pub room : taken + length text < namesRoom
 
 -- there is an entry to be judged
 pub record Entered (text : List ℕ) (e : Gathered) (a : Arrays) : Type 0 where
@@ -65,12 +66,12 @@ pub record Entered (text : List ℕ) (e : Gathered) (a : Arrays) : Type 0 where
   pub known : Known
   pub holds : Holds a taken known
   pub small : e .length ≤ 32_768
-  pub room : taken + e .length < 32_800
+  pub room : taken + e .length < namesRoom
 
 -- where the number is 0 the arrays of names have their sizes still
 pub record Stays (r : ℕ) (keys tags : List ℕ) : Type 0 where
-  pub keysSize : r ≡ 0 → length keys ≡ 32_800
-  pub tagsSize : r ≡ 0 → length tags ≡ 32_800
+  pub keysSize : r ≡ 0 → length keys ≡ namesRoom
+  pub tagsSize : r ≡ 0 → length tags ≡ namesRoom
 
 -- the cursor before a statement: nothing of it is read, and the counts are those of the deck so far
 abbrev pub startAt : List ℕ → Cursor
@@ -78,9 +79,9 @@ startAt known =
     record {
       at = 0;
       names = 0;
-      items = getD known itemsAt 0;
-      elements = getD known elementsAt 0;
-      literals = getD known literalsAt 0;
+      items = getD known itemCountAt 0;
+      elements = getD known elementCountAt 0;
+      literals = getD known literalCountAt 0;
       longest = 0;
     }
 
@@ -120,7 +121,7 @@ pub record Passed (deck : List ℕ) (a : Arrays) : Type 0 where
   pub known : Known
   pub taken : ℕ
   pub holds : Holds a taken known
-  pub few : taken ≤ 32_800
+  pub few : taken ≤ namesRoom
   pub is : judgeFrom edition1 nothingKnown (entries edition1 deck) ≡ passed known
 
 pub record StatementsJudged (deck : List ℕ) (r : Verdict) (a : Arrays) : Type 0 where

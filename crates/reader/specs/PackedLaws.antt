@@ -12,6 +12,7 @@ use Rattle.calls.specs.Table.{allLiterals, elementsOf, itemsOf, rowOf}
 use Rattle.forms.specs.Contracts.{Formed, Stepped, itemsIn, elementsIn}
 use Rattle.language.specs.Program.{Statement}
 use Rattle.language.specs.Reading.{Met, Read, got, broken}
+use Rattle.met.specs.Contracts.{namesRoom}
 use Rattle.met.specs.Elements.{withElements}
 use Rattle.met.specs.Items.{withItems}
 use Rattle.met.specs.declared.Cursor.{Cursor}
@@ -41,7 +42,7 @@ module _ {most : ℕ} {table keys tags table′ keys′ tags′ : List ℕ} {x :
     {v : Option Statement} {m : Met} {rest : List ℕ} (is : x ≡ got v m rest) where
   -- no step
   pub none-written : {r : Progress} → r ≡ passedBy p e → Formed none most table keys tags (resumed p) x table′ keys′ tags′ d
-      → Written v e p table r table′ × (length keys′ ≡ 32_800) × (length tags′ ≡ 32_800)
+      → Written v e p table r table′ × (length keys′ ≡ namesRoom) × (length tags′ ≡ namesRoom)
   unfolding itemsIn elementsIn allLiterals withItems withElements
   none-written {r} q f = (
     subst (λ (u : Option Statement). Written u e p table r table′) (same-value (f .is) is)
@@ -62,7 +63,7 @@ module _ {most : ℕ} {table keys tags table′ keys′ tags′ : List ℕ} {x :
   -- a step
   pub step-written : {row : Row} {t : List ℕ} → Stepped row most table keys tags (resumed p) x table′ keys′ tags′ d
       → t ≡ withRow table′ (p .steps) (p .card) (rowMeaning row)
-      → Written v e p table (steppedBy p e d) t × (length keys′ ≡ 32_800) × (length tags′ ≡ 32_800)
+      → Written v e p table (steppedBy p e d) t × (length keys′ ≡ namesRoom) × (length tags′ ≡ namesRoom)
   unfolding itemsIn elementsIn withStep
   step-written {row} {t} s q =
       let f = s .formed in (

@@ -25,14 +25,14 @@ use Rattle.met.specs.Known.{stringKeys, numberKeys}
 use Rattle.reader.specs.Judging.{Accepted, DeckJudged}
 use Rattle.reader.specs.Steps.{Whole, withKnown, StepsWritten}
 use Rattle.reader.specs.StepsLaws.{DeckWritten}
-use Rattle.reader.specs.Writing.{withSteps, withHeader, image-written}
+use Rattle.reader.specs.Writing.{withAllSteps, withHeader, image-written}
 use Rattle.reader.specs.declared.judge.Verdict.{Verdict}
 use Rattle.reader.specs.declared.steps.Progress.{Progress}
 
 -- the steps and the header of an accepted deck's program are written
 pub record TableWritten (deck known t t′ : List ℕ) : Type 0 where
   pub written : (w : Whole deck known)
-      → t′ ≡ splice (withSteps t 0 0 0 0 (stepsFrom edition1 (w .whole) 0 (entries edition1 deck))) 0 (header (programOf edition1 (w .whole) (entries edition1 deck)))
+      → t′ ≡ splice (withAllSteps t 0 0 0 0 (stepsFrom edition1 (w .whole) 0 (entries edition1 deck))) 0 (header (programOf edition1 (w .whole) (entries edition1 deck)))
 
 -- the deck is judged, and the table left accordingly
 pub record DeckRead (deck t : List ℕ) (r : Verdict) (t′ : List ℕ) : Type 0 where
@@ -115,7 +115,7 @@ module _ {deck t : List ℕ} {v : Verdict} {a : Arrays} (small : length deck ≤
         card = j .without z ∙ sym (ap (λ x. readJudged edition1 t x .card) is);
         table =
             w .written whole
-            ∙ ap (λ (x : List ℕ). splice (withSteps x 0 0 0 0 (stepsFrom edition1 (c .known) 0 (entries edition1 deck))) 0 (header p))
+            ∙ ap (λ (x : List ℕ). splice (withAllSteps x 0 0 0 0 (stepsFrom edition1 (c .known) 0 (entries edition1 deck))) 0 (header p))
             (zeroed ∙ zeros-front t 28672)
             ∙ image-written p (drop 28672 t) (accepted-isProgram edition1 deck p small is)
             ∙ sym (ap (λ x. readJudged edition1 t x .table) is);

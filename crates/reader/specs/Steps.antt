@@ -18,11 +18,12 @@ use Rattle.judgement.specs.Placed.Again.{Again}
 use Rattle.judgement.specs.Refusals.{readStatement}
 use Rattle.language.specs.Program.{Statement, Step}
 use Rattle.language.specs.Reading.{Met, got}
+use Rattle.met.specs.Contracts.{namesRoom}
 use Rattle.met.specs.Holding.{Arrays, Holds}
 use Rattle.met.specs.Known.{placesIn, nextAt}
 use Rattle.met.specs.declared.Cursor.{Cursor}
 use Rattle.packer.specs.declared.Gathered.{Gathered}
-use Rattle.reader.specs.Writing.{withStep, withSteps}
+use Rattle.reader.specs.Writing.{withStep, withAllSteps}
 use Rattle.reader.specs.declared.steps.Progress.{Progress}
 
 -- the cursor before a statement in the second pass
@@ -61,7 +62,7 @@ abbrev pub PackedWritten : (text known : List ℕ) (e : Gathered) (p : Progress)
 PackedWritten text known e p t r t′ keys′ tags′ =
     (label raw : List ℕ) → Wording label raw text (e .label) (e .whole) → (v : Option Statement) (m : Met) (rest : List ℕ)
     → readStatement edition1 (numberIn known) (placesIn known) label raw ≡ got v m rest
-    → Written v e p t r t′ × (length keys′ ≡ 32_800) × (length tags′ ≡ 32_800)
+    → Written v e p t r t′ × (length keys′ ≡ namesRoom) × (length tags′ ≡ namesRoom)
 
 -- behind an entry that makes no step
 abbrev pub passedBy : Progress → Gathered → Progress
@@ -103,8 +104,8 @@ stepsAt deck whole p = stepsFrom edition1 whole (p .steps) (entriesAt deck p)
 
 -- what is written from p on is the same as what is written from r on, and no more and no less is counted
 pub record Continues (deck : List ℕ) (whole : Known) (p : Progress) (t : List ℕ) (r : Progress) (t′ : List ℕ) : Type 0 where
-  pub table : withSteps t (p .steps) (p .elements) (p .items) (p .literals) (stepsAt deck whole p)
-      ≡ withSteps t′ (r .steps) (r .elements) (r .items) (r .literals) (stepsAt deck whole r)
+  pub table : withAllSteps t (p .steps) (p .elements) (p .items) (p .literals) (stepsAt deck whole p)
+      ≡ withAllSteps t′ (r .steps) (r .elements) (r .items) (r .literals) (stepsAt deck whole r)
   pub steps : p .steps + length (stepsAt deck whole p) ≡ r .steps + length (stepsAt deck whole r)
   pub elements : p .elements + length (allElements (stepsAt deck whole p)) ≡ r .elements + length (allElements (stepsAt deck whole r))
   pub items : p .items + length (allItems (stepsAt deck whole p)) ≡ r .items + length (allItems (stepsAt deck whole r))
@@ -142,8 +143,8 @@ pub record StillHeld (deck : List ℕ) (whole : Known) (a : Arrays) (taken : ℕ
     (known′ keys′ tags′ t′ : List ℕ) : Type 0 where
   pub entry : EntryWritten deck whole p t r t′
   pub holds : Holds (withKnown a known′) taken whole
-  pub keysSize : length keys′ ≡ 32_800
-  pub tagsSize : length tags′ ≡ 32_800
+  pub keysSize : length keys′ ≡ namesRoom
+  pub tagsSize : length tags′ ≡ namesRoom
 
 -- an entry of an accepted deck is written
 pub record StepWritten (deck known : List ℕ) (p : Progress) (t : List ℕ) (r : Progress) (known′ text′ keys′ tags′ t′ : List ℕ) : Type 0 where
@@ -163,7 +164,7 @@ pub record Whole (deck known : List ℕ) : Type 0 where
 
 -- all its steps are written, and counted
 pub record StepsWritten (steps : List Step) (t : List ℕ) (r : Progress) (t′ : List ℕ) : Type 0 where
-  pub table : t′ ≡ withSteps t 0 0 0 0 steps
+  pub table : t′ ≡ withAllSteps t 0 0 0 0 steps
   pub count : r .steps ≡ length steps
   pub elements : r .elements ≡ length (allElements steps)
   pub items : r .items ≡ length (allItems steps)

@@ -28,6 +28,7 @@ use Rattle.judging.specs.LearningLaws.{labels-same, routines-same}
 use Rattle.language.specs.Keywords.{leading}
 use Rattle.language.specs.Program.{Statement, Step}
 use Rattle.language.specs.Reading.{Met, got}
+use Rattle.met.specs.Contracts.{namesRoom}
 use Rattle.met.specs.Entries.{nameOf}
 use Rattle.met.specs.Holding.{Arrays, Holds, namesIn, namesFrom, usesIn, usesFrom}
 use Rattle.met.specs.Known.{Counted, placesIn, nextAt, stringKeys, numberKeys}
@@ -37,7 +38,7 @@ use Rattle.packer.specs.declared.Gathered.{Gathered}
 use Rattle.reader.specs.EntryLaws.{gathered-worded, wording}
 use Rattle.reader.specs.Steps.{Written, Continues, Resumes, EntryWritten, entriesAt, stepsAt, stepCount, PackedWritten, passedBy, GatheredWritten}
 use Rattle.reader.specs.Steps.{withKnown, StillHeld, StepWritten, Whole, StepsWritten, Small}
-use Rattle.reader.specs.Writing.{withSteps}
+use Rattle.reader.specs.Writing.{withAllSteps}
 use Rattle.reader.specs.declared.steps.Progress.{Progress}
 
 -- a statement read again
@@ -89,7 +90,7 @@ module _ {deck : List ℕ} {whole : Known} {e : Gathered} {p : Progress} {t : Li
   -- a step
   onward-some : (s : Statement) → Written (some s) e p t r t′
       → stepsAt deck whole p ≡ record { card = p .card; statement = s } ∷ stepsAt deck whole r → Continues deck whole p t r t′
-  unfolding elementsIn itemsIn allElements allItems withSteps
+  unfolding elementsIn itemsIn allElements allItems withAllSteps
   onward-some s w q =
       let a : r .steps ≡ suc (p .steps) = omega (arith, w .steps) in
       let es = length-append (elementsOf s) (allElements (stepsAt deck whole r)) in
@@ -213,7 +214,7 @@ module _ {deck text : List ℕ} {e : Gathered} {p : Progress} (g : Gathers deck 
 
       pub statement-written : (a : Arrays) (taken : ℕ) → Holds a taken whole → getD (a .known) nextAt 0 ≡ p .steps + 1
           → (keys tags : List ℕ) → PackedWritten (take (e .length) text) (a .known) e p t r t′ keys tags
-          → EntryWritten deck whole p t r t′ × (length keys ≡ 32_800) × (length tags ≡ 32_800)
+          → EntryWritten deck whole p t r t′ × (length keys ≡ namesRoom) × (length tags ≡ namesRoom)
       statement-written a taken h next keys tags w =
           let n : p .steps + 1 ≡ suc (p .steps) = omega arith in
           let all =
@@ -312,7 +313,7 @@ module _ {a : Arrays} {taken : ℕ} {whole : Known} (h : Holds a taken whole) (v
 
 -- an entry of an accepted deck is written as it was gathered
 pub gathered-steps : {deck text known keys tags : List ℕ} {e : Gathered} {p : Progress} {t : List ℕ} {r : Progress} {known′ keys′ tags′ t′ : List ℕ}
-    → Gathers deck (p .from) text e → length keys ≡ 32_800 → length tags ≡ 32_800 → GatheredWritten text known keys tags e p t r known′ keys′ tags′ t′
+    → Gathers deck (p .from) text e → length keys ≡ namesRoom → length tags ≡ namesRoom → GatheredWritten text known keys tags e p t r known′ keys′ tags′ t′
     → StepWritten deck known p t r known′ text keys′ tags′ t′
 gathered-steps {deck} {text} {known} {keys} {tags} {e} {p} {t} {r} {known′} {keys′} {tags′} {t′} g ks ts w =
     record { textSize = g .size; written = λ a q taken whole h again. each a q taken whole h again }
@@ -335,8 +336,8 @@ gathered-steps {deck} {text} {known} {keys} {tags} {e} {p} {t} {r} {known′} {k
         let x = w .writes f in
         let is : known′ ≡ set (a .known) 70 (p .steps + 1) = x .0 ∙ ap (λ (z : List ℕ). set z 70 (p .steps + 1)) (sym q) in
         let holds : Holds (withKnown a known′) taken whole = subst (λ (z : List ℕ). Holds (withKnown a z) taken whole) (sym is) (holds-next h (p .steps + 1)) in
-        let next : getD known′ 70 0 ≡ p .steps + 1 =
-        ap (λ (z : List ℕ). getD z 70 0) is ∙ getD-set-same (a .known) 70 (p .steps + 1) 0 (omega (arith, h .counted .size)) in
+        let next : getD known′ nextAt 0 ≡ p .steps + 1 =
+        ap (λ (z : List ℕ). getD z nextAt 0) is ∙ getD-set-same (a .known) nextAt (p .steps + 1) 0 (omega (arith, h .counted .size)) in
         let all = statement-written g whole again f (withKnown a known′) taken holds next keys′ tags′ (x .1) in
         record { entry = all .0; holds = holds; keysSize = all .1; tagsSize = all .2 }) refl
 
@@ -344,8 +345,8 @@ gathered-steps {deck} {text} {known} {keys} {tags} {e} {p} {t} {r} {known′} {k
 pub record Ongoing (deck known₀ t₀ : List ℕ) (whole : Known) (a : Arrays) (taken : ℕ) (known : List ℕ) (p : Progress) (t : List ℕ) : Type 0 where
   pub holds : Holds (withKnown a known) taken whole
   pub again : Resumes deck whole p
-  pub table : withSteps t₀ 0 0 0 0 (stepsFrom edition1 whole 0 (entries edition1 deck))
-      ≡ withSteps t (p .steps) (p .elements) (p .items) (p .literals) (stepsAt deck whole p)
+  pub table : withAllSteps t₀ 0 0 0 0 (stepsFrom edition1 whole 0 (entries edition1 deck))
+      ≡ withAllSteps t (p .steps) (p .elements) (p .items) (p .literals) (stepsAt deck whole p)
   pub steps : length (stepsFrom edition1 whole 0 (entries edition1 deck)) ≡ p .steps + length (stepsAt deck whole p)
   pub elements : length (allElements (stepsFrom edition1 whole 0 (entries edition1 deck)))
       ≡ p .elements + length (allElements (stepsAt deck whole p))
@@ -394,7 +395,7 @@ module _ {deck known₀ t₀ : List ℕ} {whole : Known} {a : Arrays} {taken : �
       }
 
   pub ongoing-more : {r : Progress} {known′ text′ keys′ tags′ t′ : List ℕ} → StepWritten deck known p t r known′ text′ keys′ tags′ t′
-      → Ongoing deck known₀ t₀ whole a taken known′ r t′ × (length keys′ ≡ 32_800) × (length tags′ ≡ 32_800) × (p .from < r .from)
+      → Ongoing deck known₀ t₀ whole a taken known′ r t′ × (length keys′ ≡ namesRoom) × (length tags′ ≡ namesRoom) × (p .from < r .from)
   ongoing-more w =
       let b = w .written (withKnown a known) refl taken whole (o .holds) (o .again) in
       let e = b .entry in
@@ -421,11 +422,11 @@ module _ {deck known₀ t₀ : List ℕ} {whole : Known} {a : Arrays} {taken : �
   no-more h = ap (stepsFrom edition1 whole (p .steps)) (entries-behind deck (p .from) h (p .card))
 
   pub ongoing-ends : length deck ≤ p .from → StepsWritten (stepsFrom edition1 whole 0 (entries edition1 deck)) t₀ p t
-  unfolding withSteps allElements allItems allLiterals
+  unfolding withAllSteps allElements allItems allLiterals
   ongoing-ends h =
       let none = no-more h in
       record {
-        table = sym (o .table ∙ ap (withSteps t (p .steps) (p .elements) (p .items) (p .literals)) none);
+        table = sym (o .table ∙ ap (withAllSteps t (p .steps) (p .elements) (p .items) (p .literals)) none);
         count = sym (o .steps ∙ ap (λ ss. p .steps + length ss) none ∙ add-zero (p .steps));
         elements = sym (o .elements ∙ ap (λ ss. p .elements + length (allElements ss)) none ∙ add-zero (p .elements));
         items = sym (o .items ∙ ap (λ ss. p .items + length (allItems ss)) none ∙ add-zero (p .items));

@@ -57,11 +57,11 @@ withStep t k element item literal s =
     withRow (withElements (withItems t item (itemsOf y)) element literal (elementsOf y)) k (s .card) (rowOf element item y)
 
 -- steps from step k on
-unfoldable pub withSteps : List ℕ → (k element item literal : ℕ) → List Step → List ℕ
-withSteps t k element item literal [] = t
-withSteps t k element item literal (s ∷ ss) =
+unfoldable pub withAllSteps : List ℕ → (k element item literal : ℕ) → List Step → List ℕ
+withAllSteps t k element item literal [] = t
+withAllSteps t k element item literal (s ∷ ss) =
     let y = s .statement in
-    withSteps (withStep t k element item literal s) (suc k) (element + length (elementsOf y)) (item + length (itemsOf y))
+    withAllSteps (withStep t k element item literal s) (suc k) (element + length (elementsOf y)) (item + length (itemsOf y))
     (literal + length (allLiterals (elementsOf y))) ss
 
 -- the header's counts: steps, strings, numbers, elements, items, literal bytes
@@ -368,9 +368,9 @@ module _ (ss : List Step) (x : Step) (r : List ℕ) (f : Fits (ss ++ (x ∷ []))
 
 -- all steps
 steps-written : (ss ts : List Step) (r : List ℕ) → Fits (ss ++ ts)
-    → withSteps (written ss r) (length ss) (length (allElements ss)) (length (allItems ss)) (length (allLiterals (allElements ss))) ts
+    → withAllSteps (written ss r) (length ss) (length (allElements ss)) (length (allItems ss)) (length (allLiterals (allElements ss))) ts
     ≡ written (ss ++ ts) r
-unfolding withSteps
+unfolding withAllSteps
 steps-written ss [] r f = ap (λ z. written z r) (sym (append-nil ss))
 steps-written ss (x ∷ ts) r f =
     let whole = append-assoc ss (x ∷ []) ts in
@@ -421,7 +421,7 @@ together h s e i l r = simp append-assoc
 
 -- A zeroed table with a program's steps and header written is the program's image, and what lies behind it stays.
 pub image-written : (p : Program) (r : List ℕ) → isProgram edition1 p ≡ true
-    → splice (withSteps (replicate 28672 0 ++ r) 0 0 0 0 (p .steps)) 0 (header p) ≡ image edition1 p ++ r
+    → splice (withAllSteps (replicate 28672 0 ++ r) 0 0 0 0 (p .steps)) 0 (header p) ≡ image edition1 p ++ r
 unfolding image stepsAt elementsAt itemsAt literalsAt edition1 allElements allItems allLiterals
 image-written p r ok =
     let range = in-range edition1 p ok in
@@ -431,7 +431,7 @@ image-written p r ok =
     let E = filledTo 8192 (elementRows 0 (allElements ss)) in
     let I = filledTo 8192 (itemRows (allItems ss)) in
     let L = filledTo 6080 (allLiterals (allElements ss)) in
-    ap (λ (t : List ℕ). splice (withSteps t 0 0 0 0 ss) 0 (header p)) (zeros-written r)
+    ap (λ (t : List ℕ). splice (withAllSteps t 0 0 0 0 ss) 0 (header p)) (zeros-written r)
     ∙ ap (λ (t : List ℕ). splice t 0 (header p)) (steps-written [] ss r fits)
     ∙ splice-append (replicate 64 0) (S ++ (E ++ (I ++ (L ++ r)))) 0 (header p) (omega (arith, length-header p))
     ∙ ap (λ (z : List ℕ). z ++ (S ++ (E ++ (I ++ (L ++ r))))) (header-filled p)

@@ -26,7 +26,7 @@ ghost use Rattle.closing.specs.Held.{Closable, heldIn};
 ghost use Rattle.forms.specs.Contracts.{Wording};
 ghost use Rattle.judgement.specs.Known.{nothingKnown};
 ghost use Rattle.met.specs.Holding.{Holds};
-ghost use Rattle.met.specs.Known.{Counted};
+ghost use Rattle.met.specs.Known.{Counted, knownSize};
 ghost use Rattle.naming.specs.Arrays.{arrays};
 ghost use Rattle.reader.specs.Judging.{Held, Lent, Stays, startAt, Readied, Entered, Numbered, EntryNumbered, EntryJudged, endedIn, closedBy, StatementsJudged, DeckJudged};
 
@@ -185,7 +185,7 @@ fn judge_entry(
 
 // 4 where END is missing, behind the last line
 fn ended(known: &[u64; KNOWN]) -> Verdict
-    requires { ⌜ length (now known) ≡ 326 ⌝ }
+    requires { ⌜ length (now known) ≡ knownSize ⌝ }
     ensures { λ r. ⌜ r ≡ endedIn (now (known .entry)) ⌝ }
 {
     if known[ENDED] == 1 {

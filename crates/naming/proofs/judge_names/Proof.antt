@@ -2,6 +2,7 @@
 -- Assumes nothing.
 use mathlib.Core.Path.{refl}
 use lib.ListN.{getD}
+use Rattle.met.specs.Known.{nameCountAt}
 use Rattle.naming.specs.JudgedLaws.{room-first, room-second, names-judged}
 use borrow.Author.Needs.{needs}
 use Rattle.naming.proofs.judge_names.Statement.{statement}
@@ -14,13 +15,13 @@ meet-names-requires : tie.Need-meet-names-requires
 meet-names-requires c κs =
     let s = c .before .before .before in
     let a = s .args in
-    (room-first (a .name-keys .now) (a .name-purposes .now) (a .keys .now) (a .tags .now) (getD (a .known .now) 78 0) (a .met) (s .pre .names), s .pre .entries)
+    (room-first (a .name-keys .now) (a .name-purposes .now) (a .keys .now) (a .tags .now) (getD (a .known .now) nameCountAt 0) (a .met) (s .pre .names), s .pre .entries)
 
 meet-names-requires-2 : tie.Need-meet-names-requires-2
 meet-names-requires-2 c κs =
     let s = c .before .before .before .before .before .before in
     let a = s .args in
-    (room-second (a .name-keys .now) (a .name-purposes .now) (a .keys .now) (a .tags .now) (getD (a .known .now) 78 0) (a .met) (s .pre .names) _ _ _ _ refl (c .before .before .meet-names .ensures), s .pre .entries)
+    (room-second (a .name-keys .now) (a .name-purposes .now) (a .keys .now) (a .tags .now) (getD (a .known .now) nameCountAt 0) (a .met) (s .pre .names) _ _ _ _ refl (c .before .before .meet-names .ensures), s .pre .entries)
 
 first-number-requires : tie.Need-first-number-requires
 first-number-requires c κs =

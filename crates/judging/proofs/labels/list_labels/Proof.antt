@@ -2,7 +2,7 @@
 -- Assumes nothing.
 use mathlib.Core.Path.{_≡_, subst}
 use Prim.Native.Nat.{_-_, _≤_}
-use Rattle.naming.specs.Arrays.{entriesFrom}
+use Rattle.naming.specs.Arrays.{metFrom}
 use Rattle.judging.specs.Labels.{Labelled}
 use Rattle.judging.specs.LabelLaws.{labels-start, labels-more}
 use native.Mathlib.Omega.{arith}
@@ -10,7 +10,7 @@ use Rattle.judging.proofs.labels.list_labels.Statement.{statement}
 use Rattle.judging.proofs.labels.list_labels.Tie as tie
 
 abbrev Inv-loop : tie.InvT-loop
-Inv-loop known₀ keys tags met i₀ known i = (i ≤ met) × Labelled known₀ (entriesFrom keys tags 0 i) known
+Inv-loop known₀ keys tags met i₀ known i = (i ≤ met) × Labelled known₀ (metFrom keys tags 0 i) known
 
 abbrev μ-loop : tie.MeasureT-loop
 μ-loop known₀ keys tags met i₀ known i = met - i
@@ -49,7 +49,7 @@ returns c =
     let a = c .before .before .args in
     let l = c .before .loop in
     let all : l .i ≡ a .met = omega (arith, l .inv .0) in
-    subst (λ n. Labelled (a .known .now) (entriesFrom (a .keys .now) (a .tags .now) 0 n) (l .known)) all (l .inv .1)
+    subst (λ n. Labelled (a .known .now) (metFrom (a .keys .now) (a .tags .now) 0 n) (l .known)) all (l .inv .1)
 
 pub list-labels-spec : {M : Type 1} → statement M
 list-labels-spec =

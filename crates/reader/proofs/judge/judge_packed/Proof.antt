@@ -3,7 +3,7 @@
 use mathlib.Core.Logic.{⊎-elim}
 use mathlib.Core.Path.{refl, sym, ap, _∙_}
 use native.Mathlib.Omega.{arith}
-use Rattle.reader.specs.JudgeLaws.{broken-case, no-step-to, step-to, starts, formed-ready}
+use Rattle.reader.specs.JudgeLaws.{broken-case, no-step-to, step-to, starts, formed-judgeable}
 use Rattle.reader.specs.JudgeLaws.{misplaced-numbered, broken-numbered, formed-numbered, stays-not}
 use Rattle.naming.specs.Arrays.{arrays}
 use borrow.Author.Needs.{needs}
@@ -75,7 +75,7 @@ judge-statement-requires c κs =
     let f =
     ⊎-elim (λ w. no-step-to (read .ensures (q .label) (q .raw) (q .wording)) (w .1 .given .1) (w .3))
     (λ w. step-to (read .ensures (q .label) (q .raw) (q .wording)) (w .1 .given .1) (w .3)) (c .before .before .before .before .before .before .before .before .match .came) in
-    formed-ready q (ap (λ d. d .names) (c .before .before .before .before .before .before .before .before .before .before .before .before .before .before .before .before .start .ensures)) (f .formed)
+    formed-judgeable q (ap (λ d. d .names) (c .before .before .before .before .before .before .before .before .before .before .before .before .before .before .before .before .start .ensures)) (f .formed)
 
 same-length-2 : tie.Need-same-length-2
 same-length-2 c = search needs
