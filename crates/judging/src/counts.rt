@@ -71,17 +71,18 @@ pub fn put_counts(
     known[USE_COUNT] = uses as u64;
 }
 
-// 10: whether a count passes what is allowed, or the longest row of the statement does
+// 10: whether a count passes what is allowed, or the longest row of the statement does; there may be as many statements as steps
 pub fn is_over(known: &[u64; KNOWN], longest: usize) -> bool
     requires { ⌜ length (now known) ≡ knownSize ⌝ }
     ensures { λ r. ⌜ r ≡ isOver (now (known .entry)) longest ⌝ }
 {
-    (known[STATEMENTS] > 256)
-        | ((known[STRING_COUNT] > 32)
-            | ((known[NUMBER_COUNT] > 32)
-                | ((known[LABEL_COUNT] > 64)
-                    | ((known[ROUTINE_COUNT] > 16)
-                        | ((longest > 20)
-                            | ((known[ELEMENTS] > 1024)
-                                | ((known[ITEMS] > 1024) | (known[LITERALS] > 4096))))))))
+    (known[STATEMENTS] > base::STEPS as u64)
+        | ((known[STRING_COUNT] > base::STRINGS as u64)
+            | ((known[NUMBER_COUNT] > base::NUMBERS as u64)
+                | ((known[LABEL_COUNT] > base::LABELS as u64)
+                    | ((known[ROUTINE_COUNT] > base::ROUTINES as u64)
+                        | ((longest > base::ROW)
+                            | ((known[ELEMENTS] > base::ELEMENTS as u64)
+                                | ((known[ITEMS] > base::ITEMS as u64)
+                                    | (known[LITERALS] > base::LITERALS as u64))))))))
 }
