@@ -1,18 +1,19 @@
 -- `closing::executed::executed_pairs` notes use by use. The invariant: the pairs of the uses passed.
 -- Assumes nothing.
 use Prim.Native.Nat.{_+_, _-_, _≤_}
-use Rattle.closing.proofs.Pairings.{noPairs, usesTo, uses-start, uses-one, uses-other, uses-whole}
-use Rattle.closing.specs.Pairs.{Paired}
-use mathlib.Core.Bool.{Bool}
+use Rattle.closing.proofs.Pairings.{noPairs, upTo, to-start, uses-one, uses-other, uses-whole}
+use Rattle.closing.specs.Pairs.{Paired, usePairs}
+use mathlib.Core.Bool.{Bool, false}
 use mathlib.Core.List.{List}
 use mathlib.Core.Logic.{⊎-elim}
 use mathlib.Core.Path.{subst, sym}
+use lib.ListN.{length-replicate}
 use native.Mathlib.Omega.{arith}
 use Rattle.closing.proofs.executed.executed_pairs.Statement.{statement}
 use Rattle.closing.proofs.executed.executed_pairs.Tie as tie
 
 abbrev Inv-loop : tie.InvT-loop
-Inv-loop known count use-keys use-scopes use-purposes uses pairs₀ u₀ pairs u = Paired count noPairs pairs (usesTo known use-keys use-scopes use-purposes u) × (u ≤ uses)
+Inv-loop known count use-keys use-scopes use-purposes uses pairs₀ u₀ pairs u = Paired count noPairs pairs (upTo (usePairs known use-keys use-scopes use-purposes) u) × (u ≤ uses)
 
 abbrev μ-loop : tie.MeasureT-loop
 μ-loop known count use-keys use-scopes use-purposes uses pairs₀ u₀ pairs u = uses - u
@@ -24,7 +25,8 @@ loop-holds : tie.Need-loop-holds Inv-loop μ-loop
 loop-holds c =
     let s = c .before in
     let a = s .args in
-    (uses-start (a .count) (s .pre .1) (a .known .now) (a .use-keys .now) (a .use-scopes .now) (a .use-purposes .now), omega arith)
+    let f = usePairs (a .known .now) (a .use-keys .now) (a .use-scopes .now) (a .use-purposes .now) in
+    (to-start (a .count) (s .pre .1) f noPairs (length-replicate 289 false), omega arith)
 
 element-copy-out-if1 : tie.Need-element-copy-out-if1 Inv-loop μ-loop
 element-copy-out-if1 c = omega arith
@@ -59,7 +61,7 @@ loop-again c =
     let a = s .args in
     let l = c .before .before .before .loop in
     let Next : List Bool → Type 0 =
-    λ pairs. Paired (a .count) noPairs pairs (usesTo (a .known .now) (a .use-keys .now) (a .use-scopes .now) (a .use-purposes .now) (l .u + 1)) in (
+    λ pairs. Paired (a .count) noPairs pairs (upTo (usePairs (a .known .now) (a .use-keys .now) (a .use-scopes .now) (a .use-purposes .now)) (l .u + 1)) in (
       ⊎-elim
           (λ w.
           subst Next (sym (w .5))

@@ -1,14 +1,14 @@
 -- `closing::executed::note_row` notes place by place. The invariant: the pairs of the places passed.
 -- Assumes nothing.
 use Prim.Native.Nat.{_-_, _≤_}
-use Rattle.closing.proofs.Pairings.{rowTo, row-start, row-noted, row-whole}
+use Rattle.closing.proofs.Pairings.{rowPairs, upTo, to-start, row-noted, row-whole}
 use Rattle.closing.specs.Pairs.{Paired}
 use native.Mathlib.Omega.{arith}
 use Rattle.closing.proofs.executed.note_row.Statement.{statement}
 use Rattle.closing.proofs.executed.note_row.Tie as tie
 
 abbrev Inv-loop : tie.InvT-loop
-Inv-loop known count pairs₀ i key j₀ pairs j = Paired count pairs₀ pairs (rowTo known key i j) × (j ≤ count)
+Inv-loop known count pairs₀ i key j₀ pairs j = Paired count pairs₀ pairs (upTo (rowPairs known key i) j) × (j ≤ count)
 
 abbrev μ-loop : tie.MeasureT-loop
 μ-loop known count pairs₀ i key j₀ pairs j = count - j
@@ -16,7 +16,7 @@ abbrev μ-loop : tie.MeasureT-loop
 loop-holds : tie.Need-loop-holds Inv-loop μ-loop
 loop-holds c =
     let a = c .args in
-    (row-start (a .count) (c .pre .0 .few) (a .known .now) (a .key) (a .i) (a .pairs .now) (c .pre .0 .size), omega arith)
+    (to-start (a .count) (c .pre .0 .few) (rowPairs (a .known .now) (a .key) (a .i)) (a .pairs .now) (c .pre .0 .size), omega arith)
 
 mul-p : tie.Need-mul-p Inv-loop μ-loop
 mul-p c = omega arith

@@ -1,7 +1,7 @@
 -- `closing::executed::note_use` notes row by row. The invariant: the pairs of the rows passed.
 -- Assumes nothing.
 use Prim.Native.Nat.{_+_, _-_, _≤_}
-use Rattle.closing.proofs.Pairings.{useTo, use-start, use-row, use-other, use-whole}
+use Rattle.closing.proofs.Pairings.{rowsPairs, upTo, to-start, use-row, use-other, use-whole}
 use Rattle.closing.specs.Pairs.{Paired}
 use mathlib.Core.Bool.{Bool}
 use mathlib.Core.List.{List}
@@ -12,7 +12,7 @@ use Rattle.closing.proofs.executed.note_use.Statement.{statement}
 use Rattle.closing.proofs.executed.note_use.Tie as tie
 
 abbrev Inv-loop : tie.InvT-loop
-Inv-loop known count pairs₀ scope key i₀ pairs i = Paired count pairs₀ pairs (useTo known scope key i) × (i ≤ count)
+Inv-loop known count pairs₀ scope key i₀ pairs i = Paired count pairs₀ pairs (upTo (rowsPairs known scope key) i) × (i ≤ count)
 
 abbrev μ-loop : tie.MeasureT-loop
 μ-loop known count pairs₀ scope key i₀ pairs i = count - i
@@ -20,7 +20,7 @@ abbrev μ-loop : tie.MeasureT-loop
 loop-holds : tie.Need-loop-holds Inv-loop μ-loop
 loop-holds c =
     let a = c .args in
-    (use-start (a .count) (c .pre .few) (a .known .now) (a .scope) (a .key) (a .pairs .now) (c .pre .size), omega arith)
+    (to-start (a .count) (c .pre .few) (rowsPairs (a .known .now) (a .scope) (a .key)) (a .pairs .now) (c .pre .size), omega arith)
 
 add-if1 : tie.Need-add-if1 Inv-loop μ-loop
 add-if1 c = omega arith
@@ -54,7 +54,7 @@ loop-again c =
     let a = s .args in
     let l = c .before .before .before .loop in
     let Next : List Bool → Type 0 =
-    λ pairs. Paired (a .count) (a .pairs .now) pairs (useTo (a .known .now) (a .scope) (a .key) (l .i + 1)) in (
+    λ pairs. Paired (a .count) (a .pairs .now) pairs (upTo (rowsPairs (a .known .now) (a .scope) (a .key)) (l .i + 1)) in (
       ⊎-elim
           (λ w.
           subst Next (sym (w .3))
