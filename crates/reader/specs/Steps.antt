@@ -96,26 +96,26 @@ pub record GatheredWritten (text known keys tags : List ℕ) (e : Gathered) (p :
       → (known′ ≡ set known nextAt (p .steps + 1)) × PackedWritten (take (e .length) text) known′ e p t r t′ keys′ tags′
 
 -- the entries from here on, and the steps that they make
-abbrev pub entriesAt : List ℕ → Progress → List Entry
-entriesAt deck p = entriesFrom edition1 (p .card) (Cards.lines (drop (p .from) deck))
+abbrev pub entriesLeft : List ℕ → Progress → List Entry
+entriesLeft deck p = entriesFrom edition1 (p .card) (Cards.lines (drop (p .from) deck))
 
-abbrev pub stepsAt : List ℕ → Known → Progress → List Step
-stepsAt deck whole p = stepsFrom edition1 whole (p .steps) (entriesAt deck p)
+abbrev pub stepsLeft : List ℕ → Known → Progress → List Step
+stepsLeft deck whole p = stepsFrom edition1 whole (p .steps) (entriesLeft deck p)
 
 -- what is written from p on is the same as what is written from r on, and no more and no less is counted
 pub record Continues (deck : List ℕ) (whole : Known) (p : Progress) (t : List ℕ) (r : Progress) (t′ : List ℕ) : Type 0 where
-  pub table : withAllSteps t (p .steps) (p .elements) (p .items) (p .literals) (stepsAt deck whole p)
-      ≡ withAllSteps t′ (r .steps) (r .elements) (r .items) (r .literals) (stepsAt deck whole r)
-  pub steps : p .steps + length (stepsAt deck whole p) ≡ r .steps + length (stepsAt deck whole r)
-  pub elements : p .elements + length (allElements (stepsAt deck whole p)) ≡ r .elements + length (allElements (stepsAt deck whole r))
-  pub items : p .items + length (allItems (stepsAt deck whole p)) ≡ r .items + length (allItems (stepsAt deck whole r))
-  pub literals : p .literals + length (allLiterals (allElements (stepsAt deck whole p)))
-      ≡ r .literals + length (allLiterals (allElements (stepsAt deck whole r)))
+  pub table : withAllSteps t (p .steps) (p .elements) (p .items) (p .literals) (stepsLeft deck whole p)
+      ≡ withAllSteps t′ (r .steps) (r .elements) (r .items) (r .literals) (stepsLeft deck whole r)
+  pub steps : p .steps + length (stepsLeft deck whole p) ≡ r .steps + length (stepsLeft deck whole r)
+  pub elements : p .elements + length (allElements (stepsLeft deck whole p)) ≡ r .elements + length (allElements (stepsLeft deck whole r))
+  pub items : p .items + length (allItems (stepsLeft deck whole p)) ≡ r .items + length (allItems (stepsLeft deck whole r))
+  pub literals : p .literals + length (allLiterals (allElements (stepsLeft deck whole p)))
+      ≡ r .literals + length (allLiterals (allElements (stepsLeft deck whole r)))
 
 -- the entries from here on are those of a deck that passed, read with the places of the whole deck
 pub record Resumes (deck : List ℕ) (whole : Known) (p : Progress) : Type 0 where
   pub run : Known
-  pub reads : Again edition1 whole run (entriesAt deck p)
+  pub reads : Again edition1 whole run (entriesLeft deck p)
   pub steps : run .steps ≡ p .steps
 
 -- an entry is written

@@ -36,7 +36,7 @@ use Rattle.packer.specs.Gathering.{Gathers, entryOf}
 use Rattle.packer.specs.LineLaws.{entries-behind}
 use Rattle.packer.specs.declared.Gathered.{Gathered}
 use Rattle.reader.specs.EntryLaws.{gathered-worded, wording}
-use Rattle.reader.specs.Steps.{Written, Continues, Resumes, EntryWritten, entriesAt, stepsAt, stepCount, PackedWritten, passedBy, GatheredWritten}
+use Rattle.reader.specs.Steps.{Written, Continues, Resumes, EntryWritten, entriesLeft, stepsLeft, stepCount, PackedWritten, passedBy, GatheredWritten}
 use Rattle.reader.specs.Steps.{withKnown, StillHeld, StepWritten, Whole, StepsWritten, Small}
 use Rattle.reader.specs.Writing.{withAllSteps}
 use Rattle.reader.specs.declared.steps.Progress.{Progress}
@@ -74,14 +74,14 @@ learnt-steps k raw m v i = counted (isStep (leading (packed raw) .kind)) v i
 
 -- a comment or blank line
 onward-skip : {deck : List ℕ} {whole : Known} {p : Progress} {t : List ℕ} {r : Progress} {t′ : List ℕ} → t′ ≡ t → r .steps ≡ p .steps
-    → r .elements ≡ p .elements → r .items ≡ p .items → r .literals ≡ p .literals → stepsAt deck whole p ≡ stepsAt deck whole r
+    → r .elements ≡ p .elements → r .items ≡ p .items → r .literals ≡ p .literals → stepsLeft deck whole p ≡ stepsLeft deck whole r
     → Continues deck whole p t r t′
 onward-skip z a b c d q =
     record { table = rw (q, z, a, b, c, d); steps = rw (q, a); elements = rw (q, b); items = rw (q, c); literals = rw (q, d) }
 
 module _ {deck : List ℕ} {whole : Known} {e : Gathered} {p : Progress} {t : List ℕ} {r : Progress} {t′ : List ℕ} where
   -- a statement that is no step
-  onward-none : Written none e p t r t′ → stepsAt deck whole p ≡ stepsAt deck whole r → Continues deck whole p t r t′
+  onward-none : Written none e p t r t′ → stepsLeft deck whole p ≡ stepsLeft deck whole r → Continues deck whole p t r t′
   unfolding elementsIn itemsIn allLiterals
   onward-none w q =
       onward-skip (w .table) (w .steps ∙ add-zero (p .steps)) (w .elements ∙ add-zero (p .elements)) (w .items ∙ add-zero (p .items))
@@ -89,12 +89,12 @@ module _ {deck : List ℕ} {whole : Known} {e : Gathered} {p : Progress} {t : Li
 
   -- a step
   onward-some : (s : Statement) → Written (some s) e p t r t′
-      → stepsAt deck whole p ≡ record { card = p .card; statement = s } ∷ stepsAt deck whole r → Continues deck whole p t r t′
+      → stepsLeft deck whole p ≡ record { card = p .card; statement = s } ∷ stepsLeft deck whole r → Continues deck whole p t r t′
   unfolding elementsIn itemsIn allElements allItems withAllSteps
   onward-some s w q =
       let a : r .steps ≡ suc (p .steps) = omega (arith, w .steps) in
-      let es = length-append (elementsOf s) (allElements (stepsAt deck whole r)) in
-      let is = length-append (itemsOf s) (allItems (stepsAt deck whole r)) in
+      let es = length-append (elementsOf s) (allElements (stepsLeft deck whole r)) in
+      let is = length-append (itemsOf s) (allItems (stepsLeft deck whole r)) in
       record {
         table = rw (q, w .table, a, w .elements, w .items, w .literals);
         steps = rw (q, a) (omega arith);
@@ -104,8 +104,8 @@ module _ {deck : List ℕ} {whole : Known} {e : Gathered} {p : Progress} {t : Li
             rw (q, w .literals)
             (omega (
               arith,
-              ap length (literals-append (elementsOf s) (allElements (stepsAt deck whole r))),
-              length-append (allLiterals (elementsOf s)) (allLiterals (allElements (stepsAt deck whole r))),
+              ap length (literals-append (elementsOf s) (allElements (stepsLeft deck whole r))),
+              length-append (allLiterals (elementsOf s)) (allLiterals (allElements (stepsLeft deck whole r))),
             ));
       }
 
@@ -141,7 +141,7 @@ module _ {deck text : List ℕ} {e : Gathered} {p : Progress} (g : Gathers deck 
   pub skipped-written : (t : List ℕ) → e .skipped ≡ true → EntryWritten deck whole p t (passedBy p e) t
   unfolding entryOf stepsFrom
   skipped-written t s =
-      let here : entriesAt deck p ≡ skipped (p .card) (e .sound) ∷ rest =
+      let here : entriesLeft deck p ≡ skipped (p .card) (e .sound) ∷ rest =
       g .entry (p .card) ∙ ap (λ u. cond u (skipped (p .card) (e .sound)) (statement (p .card) (e .sound) (g .label) (g .raw)) ∷ rest) s in
       record {
         onward = onward-skip refl refl refl refl refl (ap (stepsFrom edition1 whole (p .steps)) here);
@@ -157,7 +157,7 @@ module _ {deck text : List ℕ} {e : Gathered} {p : Progress} (g : Gathers deck 
       }
 
   module _ (f : e .skipped ≡ false) where
-    here : entriesAt deck p ≡ statement (p .card) (e .sound) (g .label) (g .raw) ∷ rest
+    here : entriesLeft deck p ≡ statement (p .card) (e .sound) (g .label) (g .raw) ∷ rest
     unfolding entryOf
     here = g .entry (p .card) ∙ ap (λ u. cond u (skipped (p .card) (e .sound)) (statement (p .card) (e .sound) (g .label) (g .raw)) ∷ rest) f
 
@@ -194,7 +194,7 @@ module _ {deck text : List ℕ} {e : Gathered} {p : Progress} (g : Gathers deck 
             paced = omega (arith, g .paced, w .from, w .card);
           }
         where
-          entries : entriesAt deck r ≡ rest
+          entries : entriesLeft deck r ≡ rest
           entries = rw (w .from, w .card)
 
           onward : (v : Option Statement) → v ≡ reread .value → Written v e p t r t′ → Continues deck whole p t r t′
@@ -346,13 +346,13 @@ pub record Ongoing (deck known₀ t₀ : List ℕ) (whole : Known) (a : Arrays) 
   pub holds : Holds (withKnown a known) taken whole
   pub again : Resumes deck whole p
   pub table : withAllSteps t₀ 0 0 0 0 (stepsFrom edition1 whole 0 (entries edition1 deck))
-      ≡ withAllSteps t (p .steps) (p .elements) (p .items) (p .literals) (stepsAt deck whole p)
-  pub steps : length (stepsFrom edition1 whole 0 (entries edition1 deck)) ≡ p .steps + length (stepsAt deck whole p)
+      ≡ withAllSteps t (p .steps) (p .elements) (p .items) (p .literals) (stepsLeft deck whole p)
+  pub steps : length (stepsFrom edition1 whole 0 (entries edition1 deck)) ≡ p .steps + length (stepsLeft deck whole p)
   pub elements : length (allElements (stepsFrom edition1 whole 0 (entries edition1 deck)))
-      ≡ p .elements + length (allElements (stepsAt deck whole p))
-  pub items : length (allItems (stepsFrom edition1 whole 0 (entries edition1 deck))) ≡ p .items + length (allItems (stepsAt deck whole p))
+      ≡ p .elements + length (allElements (stepsLeft deck whole p))
+  pub items : length (allItems (stepsFrom edition1 whole 0 (entries edition1 deck))) ≡ p .items + length (allItems (stepsLeft deck whole p))
   pub literals : length (allLiterals (allElements (stepsFrom edition1 whole 0 (entries edition1 deck))))
-      ≡ p .literals + length (allLiterals (allElements (stepsAt deck whole p)))
+      ≡ p .literals + length (allLiterals (allElements (stepsLeft deck whole p)))
   pub inside : p .from ≤ length deck + 1
   pub few : p .card ≤ p .from + 1
 
@@ -373,10 +373,10 @@ ongoing-none t₀ w =
       holds = subst (λ (z : List ℕ). Holds (withKnown (w .arrays) z) (w .taken) (w .whole)) (w .same) (w .holds);
       again = record { run = nothingKnown; reads = w .again; steps = refl };
       table = refl;
-      steps = sym (zero-add (length (stepsAt _ (w .whole) first)));
-      elements = sym (zero-add (length (allElements (stepsAt _ (w .whole) first))));
-      items = sym (zero-add (length (allItems (stepsAt _ (w .whole) first))));
-      literals = sym (zero-add (length (allLiterals (allElements (stepsAt _ (w .whole) first)))));
+      steps = sym (zero-add (length (stepsLeft _ (w .whole) first)));
+      elements = sym (zero-add (length (allElements (stepsLeft _ (w .whole) first))));
+      items = sym (zero-add (length (allItems (stepsLeft _ (w .whole) first))));
+      literals = sym (zero-add (length (allLiterals (allElements (stepsLeft _ (w .whole) first)))));
       inside = omega arith;
       few = omega arith;
     }
@@ -417,7 +417,7 @@ module _ {deck known₀ t₀ : List ℕ} {whole : Known} {a : Arrays} {taken : �
       )
 
   -- behind the last line there are no steps
-  no-more : length deck ≤ p .from → stepsAt deck whole p ≡ []
+  no-more : length deck ≤ p .from → stepsLeft deck whole p ≡ []
   unfolding stepsFrom
   no-more h = ap (stepsFrom edition1 whole (p .steps)) (entries-behind deck (p .from) h (p .card))
 
