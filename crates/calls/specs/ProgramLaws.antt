@@ -1,6 +1,6 @@
 -- What a program in range lets its run rely on: every statement is in range, and only the last step has no step behind it.
 -- Assumes nothing.
-use mathlib.Core.Bool.{Bool, true, false, _&&_, and-eq-true-iff, false≢true, true≢false}
+use mathlib.Core.Bool.{true, false, and-eq-true-iff, false≢true, true≢false}
 use mathlib.Core.List.{List, [], _∷_, map}
 use mathlib.Core.Path.{_≡_, refl, sym, _∙_}
 use Prim.Native.Nat.{ℕ, zero, suc, _<_}

@@ -1,7 +1,7 @@
 -- A string appended to another one that 1,024 bytes keep. Assumes nothing.
 use mathlib.Core.List.{List, _++_}
 use mathlib.Core.Path.{_≡_, sym, ap, _∙_}
-use Prim.Native.Nat.{ℕ, _+_, _-_, _≤_, _<_, min}
+use Prim.Native.Nat.{ℕ, _+_, _-_, _≤_, min}
 use native.Mathlib.Nat.{min-eq-left, min-eq-right, min-le-left, min-le-right}
 use native.Mathlib.Omega.{arith}
 use lib.Dec.{leb}

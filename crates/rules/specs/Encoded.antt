@@ -19,7 +19,7 @@ use Rattle.calls.specs.CellLaws.{range-read, part-cell-place}
 use Rattle.calls.specs.RowLaws.{Each, RowFits, comparison-flag, scan-flag}
 use Rattle.calls.specs.RuleLaws.{scan-parts, number-parts}
 use Rattle.calls.specs.Rules.{placeOf, rowHolds, branchHolds, testHolds, statementHolds}
-use Rattle.calls.specs.Table.{cell, noCell, range, rangeCell, row, rowOf, testRow, comparisonNumber, directionNumber, replacementFlag}
+use Rattle.calls.specs.Table.{cell, noCell, range, rangeCell, row, rowOf, testRow, directionNumber, replacementFlag}
 use Rattle.calls.specs.Table.{replacementOf, elementsOf, itemsOf, allLiterals, partCell, operandCell}
 use Rattle.calls.specs.TableReading.{rangeFrom, rangeCount, rangeMore}
 use Rattle.calls.specs.YieldingForms.{literals-append}

@@ -6,7 +6,6 @@ pub mod reference;
 pub mod replacing;
 pub mod valued;
 
-ghost use mathlib.Core.Path.{_≡_};
 ghost use Prim.Native.Nat.{_≤_};
 ghost use lib.ListN.{length};
 ghost use Rattle.statements.specs.Leaving.{Taking, Took, Puts, Setting, Sets};

@@ -22,7 +22,6 @@ use words::constant_at;
 use words::constants::SignedConstant;
 use words::constants::signed;
 use words::stands_at;
-ghost use mathlib.Core.Path.{_≡_};
 ghost use Rattle.met.specs.Known.{Counted};
 ghost use Rattle.numeric.specs.Operands.{Ready};
 ghost use Rattle.strings.specs.Cells.{NumberEnds, NumberFollows, ConstantCalled, NumberCalled, TextCalled, FillerRead};
