@@ -1,13 +1,13 @@
--- `packer::classes::class_of` answers the number of the class: the table is what its rule computes.
+-- `classes::class_of` answers the number of the class: the table is what its rule computes.
 -- Assumes nothing.
 use Rattle.base.specs.Lists.{among}
 use Rattle.base.specs.Text.{bytes}
 use Rattle.cards.specs.Bytes.{between, marks, isLetter, isDigit, isBlank, classOf}
-use Rattle.packer.specs.Classes.{classNumber}
-use Rattle.packer.proofs.Table.{values, table-class}
+use Rattle.classes.specs.Laws.{values, table-class}
+use Rattle.classes.specs.Numbers.{classNumber}
 use borrow.Author.Needs.{needs}
-use Rattle.packer.proofs.classes.class_of.Statement.{statement}
-use Rattle.packer.proofs.classes.class_of.Tie as tie
+use Rattle.classes.proofs.class_of.Statement.{statement}
+use Rattle.classes.proofs.class_of.Tie as tie
 
 array-read-result : tie.Need-array-read-result
 array-read-result c = search needs
