@@ -1,4 +1,4 @@
--- `expressions::compares_value` meets its contract. Either operand may stop the run, the left one first; their notes are few.
+-- `expressions::compares` meets its contract. Either operand may stop the run, the left one first; their notes are few.
 -- Assumes nothing.
 use borrow.Author.Needs.{needs}
 use mathlib.Core.Bool.{Bool}
@@ -13,8 +13,8 @@ use Rattle.rows.specs.Meaning.{operandMeaning}
 use Rattle.values.specs.Work.{done}
 use Rattle.expressions.specs.Memory.{memoryIn}
 use Rattle.expressions.proofs.Working.{operand-notes, both-done, second-stops, first-stops}
-use Rattle.expressions.proofs.compares_value.Statement.{statement}
-use Rattle.expressions.proofs.compares_value.Tie as tie
+use Rattle.expressions.proofs.compares.Statement.{statement}
+use Rattle.expressions.proofs.compares.Tie as tie
 
 quick-value-requires : tie.Need-quick-value-requires
 quick-value-requires c κs = search needs
@@ -77,8 +77,8 @@ returns-3 c =
     let left = number-stops (c .before .before .before .quick-value .ensures) (c .before .k2 .given .1) in
     sym (first-stops (compared (comparison (s .args .x .sign))) (operandIn edition1 m (operandMeaning (s .args .x .right))) left)
 
-pub compares-value-spec : {M : Type 1} → statement M
-compares-value-spec =
+pub compares-spec : {M : Type 1} → statement M
+compares-spec =
     tie.close
     (tie.spec
     quick-value-requires
