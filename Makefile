@@ -1,27 +1,19 @@
 # The front door: build, test, bench, install. PREFIX says where to; DESTDIR, for packagers, is put before it.
 PREFIX = /usr/local
 DESTDIR =
-CC = gcc
-CFLAGS = -O2
-STRICT = -std=c11 -Wall -Wextra -Werror -pedantic
 
 library = target/lib/libstrigol.a
 program = target/bin/strigol
 to = $(DESTDIR)$(PREFIX)
 
-.PHONY: build library test bench install uninstall clean
+.PHONY: build library program test bench install uninstall clean
 
-# the proved library and the program
-build: $(program)
+# the proved library and the proved program, one after the other: both call rt
+.NOTPARALLEL:
+build: library program
 
-library:
-	@tools/library
-
-$(library): library ;
-
-$(program): program/strigol.c include/strigol.h $(library)
-	@mkdir -p $(@D)
-	$(CC) $(STRICT) $(CFLAGS) -Iinclude -o $@ program/strigol.c $(library)
+library program:
+	@tools/$@
 
 # all proofs and all tests: the last line is 'N passed, 0 failed' exactly when all passed
 test:
@@ -38,7 +30,7 @@ install: build
 	install -m 644 $(library) $(to)/lib/libstrigol.a
 	install -m 755 $(program) $(to)/bin/strigol
 	install -m 644 docs/TABLE.md $(to)/share/doc/strigol/TABLE.md
-	sed 's,@PREFIX@,$(PREFIX),' program/strigol.pc >$(to)/lib/pkgconfig/strigol.pc
+	sed 's,@PREFIX@,$(PREFIX),' include/strigol.pc >$(to)/lib/pkgconfig/strigol.pc
 
 uninstall:
 	rm -f $(to)/include/strigol.h $(to)/lib/libstrigol.a $(to)/bin/strigol $(to)/lib/pkgconfig/strigol.pc $(to)/share/doc/strigol/TABLE.md

@@ -7,12 +7,15 @@
        strigol_start(store, sizeof store, state);
        strigol_run(table, sizeof table, store, sizeof store, state, input, input_len, output, sizeof output, 1000000, result);
 
-   What holds of every call:
+   What the caller must ensure, since no call can find it out:
+   - A pointer is not NULL, not even with length 0, and what it points at is as long as the length says. Two buffers lent to one call don't
+     overlap. State, answer and result have their fixed sizes. A buffer may be longer than it need be; the bytes past its size stay.
+   - There is stack enough: 1.2 MB for strigol_read, 60 KB for the others.
+
+   What holds then of every call:
    - It takes any bytes and numbers, and ends. What it can't use gets a number, the lowest of the list below that applies; 0 is success.
    - It keeps nothing, allocates nothing, prints nothing. All it knows is lent by the caller; one table may serve many runs at once, each
      with its own store, state and output, in threads of their own.
-   - A pointer must not be NULL, not even with length 0, and two buffers lent to one call must not overlap. A buffer may be longer than it
-     need be; the bytes past its size stay.
    - The numbers are those of document 01, the layouts those of docs/TABLE.md, installed as share/doc/strigol/TABLE.md. */
 #ifndef STRIGOL_H
 #define STRIGOL_H
@@ -21,11 +24,25 @@
 #include <stddef.h>
 #include <stdint.h>
 
+/* State, answer and result are arrays of a fixed size, lent by the address of their first number. The compiler tells an array that is too
+   short: in C by a warning (so build with -Werror), in C++ by an error. Behind a pointer it can't see how many numbers there are; there the
+   caller must know. */
 #ifdef __cplusplus
-extern "C" {
 #define STRIGOL_CHECK(fact, words) static_assert(fact, words)
+template <typename number, size_t size> struct strigol_lent {
+    number *first;
+    template <size_t length> strigol_lent(number (&numbers)[length]) : first(numbers)
+    {
+        static_assert(length >= size, "this array is too short to be lent");
+    }
+    template <typename pointed> strigol_lent(pointed *const &pointer) : first(pointer) {}
+    operator number *() const { return first; }
+};
+#define STRIGOL_LENT(number, name, size) strigol_lent<number, size> name
+extern "C" {
 #else
 #define STRIGOL_CHECK(fact, words) _Static_assert(fact, words)
+#define STRIGOL_LENT(number, name, size) number name[static size]
 #endif
 
 /* The numbers that a call gives, and document 01's words for each. 1 to 12 refuse a deck, 13 to 16 (and 2) turn a step down, 17 to 21 stop
@@ -171,30 +188,30 @@ uint32_t strigol_read(const uint8_t *deck, size_t deck_len, uint8_t *table, size
 
 /* Makes the store's first 32,832 bytes zero and the state that before the first step: 0. Of the store it looks at the size alone: 14 if it is
    too small; the store then stays and the state is set all the same. */
-uint32_t strigol_start(uint8_t *store, size_t store_len, uint64_t state[STRIGOL_STATE_SIZE]);
+uint32_t strigol_start(uint8_t *store, size_t store_len, STRIGOL_LENT(uint64_t, state, STRIGOL_STATE_SIZE));
 
 /* Makes the next step: 0, or 2 or 13 to 16 (turned down), or 17 to 21 (stopped). Table, store and state are checked each time. A record is
-   taken from the input at the state's input place and put to the output at its output length; lend the same input and output, or at least
-   those bytes, to all steps of a run. After 0, state[STRIGOL_STATUS] tells whether the run has finished. */
-uint32_t strigol_step(const uint8_t *table, size_t table_len, uint8_t *store, size_t store_len, uint64_t state[STRIGOL_STATE_SIZE],
-                      const uint8_t *input, size_t input_len, uint8_t *output, size_t output_len, uint32_t answer[STRIGOL_ANSWER_SIZE]);
+   taken from the input at the state's input place and put to the output at its output length; lend the same input and the same
+   output to all steps of a run. After 0, state[STRIGOL_STATUS] tells whether the run has finished. */
+uint32_t strigol_step(const uint8_t *table, size_t table_len, uint8_t *store, size_t store_len, STRIGOL_LENT(uint64_t, state, STRIGOL_STATE_SIZE),
+                      const uint8_t *input, size_t input_len, uint8_t *output, size_t output_len, STRIGOL_LENT(uint32_t, answer, STRIGOL_ANSWER_SIZE));
 
 /* Repeats the step until one finishes, stops or is turned down, or `count` are done. Leaves what these steps leave, and checks table and store
    only once. Gives result[STRIGOL_BY]. With `count` 0 nothing is looked at, and the outcome is STRIGOL_SPENT. */
-uint32_t strigol_run(const uint8_t *table, size_t table_len, uint8_t *store, size_t store_len, uint64_t state[STRIGOL_STATE_SIZE],
+uint32_t strigol_run(const uint8_t *table, size_t table_len, uint8_t *store, size_t store_len, STRIGOL_LENT(uint64_t, state, STRIGOL_STATE_SIZE),
                      const uint8_t *input, size_t input_len, uint8_t *output, size_t output_len, uint32_t count,
-                     uint64_t result[STRIGOL_RESULT_SIZE]);
+                     STRIGOL_LENT(uint64_t, result, STRIGOL_RESULT_SIZE));
 
 /* Scans the reference by a pattern: 0, or 22 to 24. The pattern is one row of 12 bytes for each element, its strings are parts of `values`;
    the functions below write such rows. The answer is the first split that fits, or none. */
 uint32_t strigol_scan(const uint8_t *reference, size_t reference_len, const uint8_t *values, size_t values_len, const uint8_t *elements,
-                      size_t elements_len, uint32_t answer[STRIGOL_ANSWER_SIZE]);
+                      size_t elements_len, STRIGOL_LENT(uint32_t, answer, STRIGOL_ANSWER_SIZE));
 
 /* What stands in the buffers. The place of a string is 0 to 31 in order of first appearance in the deck, that of a number 0 to 31 in order of
    declaration. */
 
 /* The value of a number of the state. */
-static inline int64_t strigol_number_in(const uint64_t state[STRIGOL_STATE_SIZE], unsigned place)
+static inline int64_t strigol_number_in(STRIGOL_LENT(const uint64_t, state, STRIGOL_STATE_SIZE), unsigned place)
 {
     return (int64_t)(state[STRIGOL_NUMBERS_AT + place] - STRIGOL_BIAS);
 }
@@ -216,7 +233,7 @@ static inline uint32_t strigol_card_of(const uint8_t *table, uint64_t step)
 
 /* Writes an element's row for the scan call: STRIGOL_STRING with the ends of a part of the values, STRIGOL_FIXED with a length and 0,
    STRIGOL_FREE with 0 and 0. */
-static inline void strigol_put_element(uint8_t row[STRIGOL_ROW_SIZE], enum strigol_element kind, uint32_t first, uint32_t second)
+static inline void strigol_put_element(STRIGOL_LENT(uint8_t, row, STRIGOL_ROW_SIZE), enum strigol_element kind, uint32_t first, uint32_t second)
 {
     int i;
     row[0] = (uint8_t)kind;

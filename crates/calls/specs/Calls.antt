@@ -1,29 +1,17 @@
 -- Document 01, "What is turned down, and its number": what each open call answers and leaves in every buffer, for all inputs. Refusals
 -- come first, the lowest number first. (The scan call is in scanning's Call.) Assumes nothing.
-use mathlib.Core.Bool.{Bool, true, false, cond, not, _||_}
+use mathlib.Core.Bool.{Bool, cond, not}
 use mathlib.Core.List.{List, [], _∷_, _++_}
-use mathlib.Core.Option.{Option, none, some}
 use Prim.Native.Nat.{ℕ, zero, suc, _+_}
-use lib.Dec.{leb, ltb, eqb}
+use lib.Dec.{ltb, eqb}
 use lib.ListN.{length, drop, getD, replicate}
 use Rattle.base.specs.Edition.{Edition}
 use Rattle.judgement.specs.Deck.{Judgement, accepted, refused, judge}
-use Rattle.language.specs.Program.{Program}
 use Rattle.machine.specs.Run.{Outcome, FINISHED, STOPPED, SPENT, REFUSED}
 use Rattle.machine.specs.State.{State}
 use Rattle.machine.specs.Step.{Stepped, step, turnedDownBy}
 use Rattle.scanning.specs.Call.{answerNumbers, noAnswer}
-use Rattle.calls.specs.Buffers.{
-  storeSize,
-  stateSize,
-  storeKeeps,
-  stateKeeps,
-  stateIn,
-  storeLeft,
-  stateLeft,
-  outputLeft,
-  firstState,
-}
+use Rattle.calls.specs.Buffers.{storeSize, storeKeeps, stateKeeps, stateIn, storeLeft, stateLeft, outputLeft, firstState}
 use Rattle.calls.specs.Rules.{keepsRules}
 use Rattle.calls.specs.Table.{image}
 use Rattle.calls.specs.TableReading.{programIn}
@@ -73,6 +61,9 @@ pub record Buffers : Type 0 where
   pub store : List ℕ
   pub state : List ℕ
   pub output : List ℕ
+
+abbrev pub buffers : (store state output : List ℕ) → Buffers
+buffers store state output = record { store = store; state = state; output = output }
 
 -- what is left in buffers of a machine
 abbrev pub leftOf : List ℕ → Buffers → State → Buffers
@@ -139,6 +130,24 @@ outcomeNumber FINISHED = 0
 outcomeNumber STOPPED = 1
 outcomeNumber SPENT = 2
 outcomeNumber REFUSED = 3
+
+-- the result's numbers
+unfoldable pub resultNumbers : Outcome → (number steps notes : ℕ) → List ℕ
+resultNumbers o number steps notes = outcomeNumber o ∷ (number ∷ (steps ∷ (notes ∷ [])))
+
+-- what the call gives back: its number, the numbers of its result, and the buffers left
+pub record RunReturned : Type 0 where
+  pub number : ℕ
+  pub result : List ℕ
+  pub left : Buffers
+
+unfoldable pub returned : RunCalled → RunReturned
+returned r =
+    record {
+      number = r .number;
+      result = resultNumbers (r .outcome) (r .number) (r .steps) (r .notes);
+      left = r .left;
+    }
 
 unfoldable pub runEnded : Outcome → ℕ → Buffers → RunCalled
 runEnded o n b = record { outcome = o; number = n; steps = 0; notes = 0; left = b }

@@ -1,15 +1,16 @@
--- The customer's third demand, proved; with it, that the table of an accepted deck holds its program, and that a run of calls is the run
--- of the machine. Assumes nothing; every edition whose sizes fit is covered, and edition 1 is one.
+-- The customer's third demand, proved of every list of calls that keep their equations. Assumes nothing; every edition whose sizes fit is
+-- covered, and edition 1 is one.
 use mathlib.Core.Bool.{true, false, not, _&&_, and-eq-true-iff}
-use mathlib.Core.List.{List, [], _∷_}
+use mathlib.Core.List.{List, [], _∷_, _++_}
+use mathlib.Core.Logic.{⊎-elim}
 use mathlib.Core.Option.{Option, none}
 use mathlib.Core.Path.{_≡_, refl, sym, _∙_, ap, ap₂, subst, subst₂}
 use Prim.Native.Nat.{ℕ, zero, suc, _+_, _≤_, _<_}
 use native.Mathlib.Omega.{arith}
 use lib.Dec.{ltb, eqb, lit<, lit≤}
-use lib.ListN.{length, getD}
-use lib.Seq.{getD-set-other}
-use borrow.Author.Tests.{ltb-true, ltb-false, eqb-true, eqb-false, not-true}
+use lib.ListN.{length, getD, set, length-set, List·getD-eq-default}
+use lib.Seq.{getD-set-same, getD-set-other}
+use borrow.Author.Tests.{ltb-true, ltb-false, lt-ltb, eqb-true, eqb-false, not-true}
 use Rattle.base.specs.Choice.{test-cases, both-true}
 use Rattle.base.specs.Edition.{Edition, edition1}
 use Rattle.base.specs.Lists.{all}
@@ -18,7 +19,7 @@ use Rattle.language.specs.Program as Program
 use Rattle.language.specs.Program.{Part, PatternElement, value, freeFiller, fixedFiller, Direction, Branch, Program}
 use Rattle.machine.specs.Run.{after, run}
 use Rattle.machine.specs.Scanning.{withoutFillers}
-use Rattle.machine.specs.State.{Memory, State, stringAt, withString, fresh}
+use Rattle.machine.specs.State.{Memory, State, stringAt, withString, mostStrings, fresh}
 use Rattle.scanning.specs.Call.{splitIn}
 use Rattle.scanning.specs.Splits.{Split}
 use Rattle.machine.specs.Step.{carrying, statementAt, turnedDownBy, concluded, step}
@@ -26,19 +27,23 @@ use Rattle.values.specs.Conversion.{longestString}
 use Rattle.calls.specs.Accepted.{accepted-isProgram}
 use Rattle.calls.specs.Buffers.{storeSize, stateIn}
 use Rattle.calls.specs.Calls.{longestDeck, readCall, Buffers, givenIn}
-use Rattle.calls.specs.Calls.{carried, stepCall, buffersAfter, runCall}
-use Rattle.calls.specs.Demands.{LeftBy, Scans, StepClaim, ListClaim, HoldsProgram, startedWith, Demand3}
+use Rattle.calls.specs.Calls.{StepCalled, carried, stepCall, buffersAfter, RunReturned, resultNumbers, returned, runEnded, runCall}
+use Rattle.calls.specs.Demands.{LeftBy, Scans, IsFiller, Fails, Observed, observedStep, observedRun, stepsTried}
+use Rattle.calls.specs.Demands.{StepClaim, RunClaim, ListClaim, AllRefused, Linked, History, Demand3}
+use Rattle.calls.specs.GivenLaws.{held-written}
 use Rattle.calls.specs.Holding.{Holding}
-use Rattle.calls.specs.Invariant.{Sound, returns-enough, next-sound, fresh-sound}
+use Rattle.calls.specs.Invariant.{Sound, returns-enough, next-sound, step-sound, fresh-sound}
 use Rattle.calls.specs.ProgramLaws.{Runs, statement-holds, program-runs}
 use Rattle.calls.specs.Numerals.{bias}
 use Rattle.calls.specs.RuleLaws.{scan-parts}
 use Rattle.calls.specs.Rules.{lengthHolds, elementHolds, patternHolds, statementHolds, placeOf, isProgram}
 use Rattle.calls.specs.ScanLaws.{concluded-scans}
-use Rattle.calls.specs.RunLaws.{RunSame, run-same}
-use Rattle.calls.specs.StartLaws.{read-short, read-tabled, started-small, started-holds}
-use Rattle.calls.specs.StepLaws.{Tabled, small-refused, small-called, small-after, refusal-held, call-held, step-holds, after-holds}
+use Rattle.calls.specs.RunLaws.{call-numbers, run-same, run-left, small-run}
+use Rattle.calls.specs.StartLaws.{read-accepted, read-short, read-tabled, startedWith, started-small, started-holds}
+use Rattle.calls.specs.StepLaws.{Tabled, small-called, call-held, call-answer, step-holds}
 use Rattle.calls.specs.Table.{literalsAt}
+use Rattle.calls.specs.TableLaws.{in-range, keeps-image}
+use Rattle.calls.specs.TableReading.{programIn}
 
 -- a string made null leaves every other
 null-apart : (s place : ℕ) (m : Memory) → not (eqb s place) ≡ true → stringAt (withString m s []) place ≡ stringAt m place
@@ -65,6 +70,53 @@ fillers-apart e strings numbers steps place (fixedFiller s n ∷ xs) m h =
     let inner = and-eq-true-iff (ltb s strings) (not (eqb s place) && length) .0 (both .0) .1 in
     let apart = and-eq-true-iff (not (eqb s place)) length .0 inner .0 in
     fillers-apart e strings numbers steps place xs (withString m s []) (both .1) ∙ null-apart s place m apart
+
+-- a null string stays null when another, or the same, is made null
+null-with : (s t : ℕ) (m : Memory) → stringAt m s ≡ [] → stringAt (withString m t []) s ≡ []
+unfolding stringAt withString
+null-with s t m h =
+    test-cases (λ _. getD (set (m .strings) t []) s [] ≡ []) (ltb s (length (m .strings)))
+    (λ q.
+    test-cases (λ _. getD (set (m .strings) t []) s [] ≡ []) (eqb s t)
+    (λ z. subst (λ (i : ℕ). getD (set (m .strings) i []) s [] ≡ []) (eqb-true s t z) (getD-set-same (m .strings) s [] [] (ltb-true _ _ q)))
+    (λ z. getD-set-other (m .strings) t s [] [] (eqb-false s t z) ∙ h))
+    (λ q.
+    let behind = ltb-false s (length (m .strings)) q in
+    List·getD-eq-default (set (m .strings) t []) [] (omega (arith, length-set (m .strings) t [])))
+
+null-stays : (s : ℕ) (xs : List PatternElement) (m : Memory) → stringAt m s ≡ [] → stringAt (withoutFillers xs m) s ≡ []
+unfolding withoutFillers
+null-stays s [] m h = h
+null-stays s (value x ∷ xs) m h = null-stays s xs m h
+null-stays s (freeFiller t ∷ xs) m h = null-stays s xs (withString m t []) (null-with s t m h)
+null-stays s (fixedFiller t n ∷ xs) m h = null-stays s xs (withString m t []) (null-with s t m h)
+
+-- a filler of a pattern is made null
+module _ (e : Edition) (strings numbers steps place : ℕ) where
+  made-null : (s t : ℕ) (xs : List PatternElement) (m : Memory) → s ≡ t → t < length (m .strings)
+      → stringAt (withoutFillers xs (withString m t [])) s ≡ []
+  unfolding stringAt withString
+  made-null s t xs m same inside =
+      subst (λ (i : ℕ). stringAt (withoutFillers xs (withString m t [])) i ≡ []) (sym same)
+      (null-stays t xs (withString m t []) (getD-set-same (m .strings) t [] [] inside))
+
+  filler-null : (s : ℕ) (xs : List PatternElement) (m : Memory) → strings ≤ length (m .strings)
+      → all (patternHolds e strings numbers steps place) xs ≡ true → IsFiller s xs → stringAt (withoutFillers xs m) s ≡ []
+  unfolding all patternHolds withoutFillers withString IsFiller
+  filler-null s [] m enough h f = absurd f
+  filler-null s (value x ∷ xs) m enough h f =
+      filler-null s xs m enough (both-true (elementHolds e strings numbers steps x) (all (patternHolds e strings numbers steps place) xs) h .1) f
+  filler-null s (freeFiller t ∷ xs) m enough h f =
+      let both = both-true (ltb t strings && not (eqb t place)) (all (patternHolds e strings numbers steps place) xs) h in
+      let inside = ltb-true t strings (both-true (ltb t strings) (not (eqb t place)) (both .0) .0) in
+      ⊎-elim (λ same. made-null s t xs m same (omega arith))
+      (λ later. filler-null s xs (withString m t []) (omega (arith, length-set (m .strings) t [])) (both .1) later) f
+  filler-null s (fixedFiller t n ∷ xs) m enough h f =
+      let others = not (eqb t place) && lengthHolds e strings numbers steps n in
+      let both = both-true (ltb t strings && others) (all (patternHolds e strings numbers steps place) xs) h in
+      let inside = ltb-true t strings (both-true (ltb t strings) others (both .0) .0) in
+      ⊎-elim (λ same. made-null s t xs m same (omega arith))
+      (λ later. filler-null s xs (withString m t []) (omega (arith, length-set (m .strings) t [])) (both .1) later) f
 
 -- numbers fit their places, a string's length is a number, p is a program in range, and the table holds it
 module _ (e : Edition) (limit : e .limit < bias) (wide : longestString ≤ e .limit) (p : Program) (runs : Runs e p)
@@ -96,13 +148,13 @@ module _ (e : Edition) (limit : e .limit < bias) (wide : longestString ≤ e .li
         let number : turnedDownBy p c ≡ 0 = sym (ap (λ x. x .number) (call-held e p table input t lent c b h false goes)) ∙ passes in
         absurd (eqb-false (turnedDownBy p c) 0 goes number))
 
-    -- where such a step finds no split, the string searched is as before
+    -- where such a step finds no split, the fillers are null and the string searched is as before
     failure-held : (d : Direction) (q : Part) (xs : List PatternElement) (r : Option (List Program.Element)) (f : Branch)
         → statementAt p (c .next) ≡ Program.scan d q xs r f
         → stepCall e table input b .number ≡ 0
         → getD (stepCall e table input b .answer) 0 0 ≡ 0
-        → stringAt (givenIn e table input (stepCall e table input b .left) .memory) (placeOf q) ≡ stringAt (c .memory) (placeOf q)
-    unfolding LeftBy splitIn statementAt
+        → Fails (c .memory) q xs (givenIn e table input (stepCall e table input b .left) .memory)
+    unfolding LeftBy splitIn statementAt mostStrings
     failure-held d q xs r f is passes fails =
         let claim = scans-held d q xs r f is passes in
         let unfound : splitIn (length (claim .valued)) (stepCall e table input b .answer) ≡ none = rw (fails, splitIn) in
@@ -111,65 +163,117 @@ module _ (e : Edition) (limit : e .limit < bias) (wide : longestString ≤ e .li
         let steps = length (p .steps) in
         let holds = statement-holds e (p .strings) (p .numbers) steps (p .steps) (c .next) (runs .hold) in
         let scan-holds = subst (λ (x : Program.Statement). statementHolds e (p .strings) (p .numbers) steps x ≡ true) is holds in
-        let apart = scan-parts e (p .strings) (p .numbers) steps d q xs r f scan-holds .patterns in
-        ap (λ (x : Memory). stringAt x (placeOf q)) left ∙ fillers-apart e (p .strings) (p .numbers) steps (placeOf q) xs (c .memory) apart
-
-    -- the claim of a step on such buffers
-    claim-held : (store : List ℕ) → storeSize ≤ length store → StepClaim e p table store input c b
-    unfolding givenIn stateIn
-    claim-held store large =
+        let patterns = scan-parts e (p .strings) (p .numbers) steps d q xs r f scan-holds .patterns in
+        let few : p .strings ≤ 32 =
+        subst (λ (x : Program). x .strings ≤ 32) (t .reads) (in-range e (programIn table) (keeps-image e table (t .keeps) .0) .strings) in
+        let enough : p .strings ≤ length (c .memory .strings) = omega (arith, s .memory .strings) in
         record {
-          small = λ less. absurd (omega arith);
-          refusal = λ _. refusal-held e p table input t lent c b h;
-          statement = λ _. ap₂ statementAt (t .reads) (ap (λ x. x .next) (h .given));
-          given = λ _. h .given;
-          scans = scans-held;
-          failure = failure-held;
+          fillers =
+              λ i filler.
+              ap (λ (x : Memory). stringAt x i) left
+              ∙ filler-null e (p .strings) (p .numbers) steps (placeOf q) i xs (c .memory) enough patterns filler;
+          reference =
+              ap (λ (x : Memory). stringAt x (placeOf q)) left
+              ∙ fillers-apart e (p .strings) (p .numbers) steps (placeOf q) xs (c .memory) patterns;
         }
 
-  -- with a store too small every step is turned down
-  claim-small : (store : List ℕ) (c : State) (b : Buffers) → length store < storeSize → length (b .store) < storeSize
-      → StepClaim e p table store input c b
-  claim-small store c b small left =
-      let refused = small-refused e p table input t b left in
-      let called = small-called e p table input t b left in
-      record {
-        small = λ _. refused;
-        refusal = λ large. absurd (omega arith);
-        statement = λ large. absurd (omega arith);
-        given = λ large. absurd (omega arith);
-        scans = λ d q xs r f is passes. absurd (omega (arith, ap (λ x. x .number) called));
-        failure = λ d q xs r f is passes fails. absurd (omega (arith, ap (λ x. x .number) called));
-      }
+    -- the claim of a step on such buffers
+    claim-held : StepClaim e p table input lent c b (stepCall e table input b)
+    unfolding givenIn stateIn
+    claim-held =
+        let left = step-holds e p table input t limit wide runs lent c b s h in
+        record {
+          number = call-numbers e limit wide p runs table input t lent c b h .0;
+          answer = call-answer e p table input t lent c b h;
+          statement = ap₂ statementAt (t .reads) (ap (λ x. x .next) (h .given));
+          given = h .given;
+          scans = scans-held;
+          failure = failure-held;
+          leaves = left .given;
+          written = held-written e p lent input (step e p lent c .state) (stepCall e table input b .left) left;
+        }
 
-  -- the claim of the step behind k steps, by the size of the store lent
-  claim-after : (store output : List ℕ) (k : ℕ)
-      → StepClaim e p table store input (after e p (length output) k (fresh input)) (buffersAfter e table input k (startedWith store output))
-  claim-after store output k =
-      let lent = length output in
-      let c = after e p lent k (fresh input) in
-      let b = buffersAfter e table input k (startedWith store output) in
-      test-cases (λ _. StepClaim e p table store input c b) (ltb (length store) storeSize)
-      (λ q.
-      let small = ltb-true (length store) storeSize q in
-      let same = started-small store output q in
-      let left : length (startedWith store output .store) < storeSize = rw same small in
-      let after-same = small-after e p table input t k (startedWith store output) left in
-      claim-small store c b small (subst (λ (x : Buffers). length (x .store) < storeSize) (sym after-same) left))
-      (λ q.
-      let sound = fresh-sound e wide p runs lent input in
-      let started = started-holds e limit wide p runs store input output (ltb-false (length store) storeSize q) in
-      let both = after-holds e p table input t limit wide runs lent k (fresh input) (startedWith store output) sound started in
-      claim-held lent c b (both .0) (both .1) store (ltb-false (length store) storeSize q))
+  -- calls one behind the other: buffers b that hold a machine c in range, so the buffers left hold the machine left
+  module _ (lent : ℕ) where
+    record Behind (c : State) (b : Buffers) : Type 0 where
+      sound : Sound e p lent input c
+      holds : Holding e p lent input c b
 
--- what holds of the step behind any count of steps holds along the list
-list-claim : (e : Edition) (p : Program) (table store input : List ℕ) (lent k : ℕ) (c : State) (b : Buffers)
-    → ((j : ℕ) → StepClaim e p table store input (after e p lent j c) (buffersAfter e table input j b))
-    → ListClaim e p table store input lent k c b
-unfolding ListClaim after buffersAfter
-list-claim e p table store input lent zero c b claims = tt
-list-claim e p table store input lent (suc k) c b claims =
-    (claims 0, list-claim e p table store input lent k (step e p lent c .state) (stepCall e table input b .left) (λ j. claims (suc j)))
+    behind-step : (c : State) (b : Buffers) → Behind c b → Behind (step e p lent c .state) (stepCall e table input b .left)
+    behind-step c b k =
+        record {
+          sound = step-sound e wide p runs lent input c (k .sound);
+          holds = step-holds e p table input t limit wide runs lent c b (k .sound) (k .holds);
+        }
+
+    behind-steps : (k : ℕ) (c : State) (b : Buffers) → Behind c b → Behind (after e p lent k c) (buffersAfter e table input k b)
+    unfolding after buffersAfter
+    behind-steps zero c b h = h
+    behind-steps (suc k) c b h = behind-steps k (step e p lent c .state) (stepCall e table input b .left) (behind-step c b h)
+
+    -- a run there
+    behind-run : (count : ℕ) (c : State) (b : Buffers) → Behind c b
+        → RunClaim e p table input lent count c b (returned (runCall e table input count b))
+    unfolding returned resultNumbers givenIn
+    behind-run count c b h =
+        let same = run-same e limit wide p runs table input t lent count c b (h .sound) (h .holds) in
+        record {
+          number = refl;
+          result = λ i. resultNumbers (same .outcome i) (same .number i) (same .steps i) (same .notes i);
+          steps =
+              λ k _.
+              let k-behind = behind-steps k c b h in
+              claim-held lent (after e p lent k c) (buffersAfter e table input k b) (k-behind .sound) (k-behind .holds);
+          left-is = run-left e table input count b;
+          leaves = same .holds .given;
+          written = held-written e p lent input (run e p lent count c .state) (runCall e table input count b .left) (same .holds);
+        }
+
+    -- all calls of a list, each of which kept its equation
+    list-claim : (calls : List Observed) (c : State) (b z : Buffers) → Behind c b → Linked e table input b calls z
+        → ListClaim e p table input lent calls c
+    unfolding ListClaim Linked
+    list-claim [] c b z h linked = tt
+    list-claim (observedStep given back ∷ calls) c b z h linked =
+        let here = subst (Behind c) (sym (linked .0)) h in
+        let next = subst (Behind (step e p lent c .state)) (sym (ap (λ x. x .left) (linked .1))) (behind-step c given here) in (
+          subst (StepClaim e p table input lent c given) (sym (linked .1)) (claim-held lent c given (here .sound) (here .holds)),
+          list-claim calls (step e p lent c .state) (back .left) z next (linked .2),
+        )
+    list-claim (observedRun count given back ∷ calls) c b z h linked =
+        let here = subst (Behind c) (sym (linked .0)) h in
+        let claim = subst (RunClaim e p table input lent count c given) (sym (linked .1)) (behind-run count c given here) in
+        let next = subst (Behind (after e p lent (stepsTried back) c)) (sym (claim .left-is)) (behind-steps (stepsTried back) c given here) in
+        (claim, list-claim calls (after e p lent (stepsTried back) c) (back .left) z next (linked .2))
+
+  -- with a store too small every call is turned down, and leaves it so
+  list-small : (calls : List Observed) (b z : Buffers) → length (b .store) < storeSize → Linked e table input b calls z → AllRefused calls
+  unfolding AllRefused Linked returned runEnded runCall
+  list-small [] b z small linked = tt
+  list-small (observedStep given back ∷ calls) b z small linked =
+      let here = subst (λ (x : Buffers). length (x .store) < storeSize) (sym (linked .0)) small in
+      let is = linked .1 ∙ small-called e p table input t given here in
+      let next = subst (λ (x : StepCalled). length (x .left .store) < storeSize) (sym is) here in
+      (is, list-small calls (back .left) z next (linked .2))
+  list-small (observedRun zero given back ∷ calls) b z small linked =
+      let here = subst (λ (x : Buffers). length (x .store) < storeSize) (sym (linked .0)) small in
+      let next = subst (λ (x : RunReturned). length (x .left .store) < storeSize) (sym (linked .1)) here in
+      (linked .1, list-small calls (back .left) z next (linked .2))
+  list-small (observedRun (suc k) given back ∷ calls) b z small linked =
+      let here = subst (λ (x : Buffers). length (x .store) < storeSize) (sym (linked .0)) small in
+      let is = linked .1 ∙ ap returned (small-run e p table input t given here k) in
+      let next = subst (λ (x : RunReturned). length (x .left .store) < storeSize) (sym is) here in
+      (is, list-small calls (back .left) z next (linked .2))
+
+-- one list behind another
+linked-more : (e : Edition) (table input : List ℕ) (calls more : List Observed) (b m z : Buffers) → Linked e table input b calls m
+    → Linked e table input m more z → Linked e table input b (calls ++ more) z
+unfolding Linked
+linked-more e table input [] more b m z h g = subst (λ (x : Buffers). Linked e table input x more z) (sym h) g
+linked-more e table input (observedStep given back ∷ calls) more b m z h g =
+    (h .0, h .1, linked-more e table input calls more (back .left) m z (h .2) g)
+linked-more e table input (observedRun count given back ∷ calls) more b m z h g =
+    (h .0, h .1, linked-more e table input calls more (back .left) m z (h .2) g)
 
 -- the program of a deck that the deck call accepts is in range
 accepted-inside : (e : Edition) (deck table : List ℕ) (p : Program) → judge e deck ≡ accepted p → readCall e deck table .number ≡ 0
@@ -179,34 +283,47 @@ accepted-inside e deck table p judged h = accepted-isProgram e deck p (read-shor
 
 -- numbers fit their places, and tables and string lengths their sizes
 module _ (e : Edition) (limit : e .limit < bias) (wide : longestString ≤ e .limit) (size : literalsAt + 4096 ≤ e .tableSize) where
-  -- R14, Q13 of every deck and table
-  pub holds-program : (deck table : List ℕ) → HoldsProgram e deck table
-  unfolding HoldsProgram
-  holds-program deck table p judged h =
-      let t = read-tabled e limit size deck table p (accepted-inside e deck table p judged h) judged h in
-      (t .keeps, t .reads)
+  -- the table of an accepted deck holds its program
+  pub accepted-tabled : (deck table : List ℕ) (p : Program) → judge e deck ≡ accepted p → readCall e deck table .number ≡ 0
+      → Tabled e p (readCall e deck table .table)
+  accepted-tabled deck table p judged h = read-tabled e limit size deck table p (accepted-inside e deck table p judged h) judged h
 
-  -- demand 3 of every deck, table, store, input and output
-  pub demand3 : (deck table store input output : List ℕ) → Demand3 e deck table store input output
-  unfolding Demand3
-  demand3 deck table store input output p judged h k =
-      let inside = accepted-inside e deck table p judged h in
-      list-claim e p (readCall e deck table .table) store input (length output) k (fresh input) (startedWith store output)
-      (claim-after e limit wide p (program-runs e p inside) (readCall e deck table .table) input
-      (read-tabled e limit size deck table p inside judged h) store output)
-
-  -- with a store that is large enough, a run of an accepted deck from the start is the machine's
-  pub accepted-run : (deck table store input output : List ℕ) (p : Program) → judge e deck ≡ accepted p
-      → readCall e deck table .number ≡ 0 → storeSize ≤ length store → (k : ℕ)
-      → RunSame e p (length output) input (run e p (length output) k (fresh input))
-      (runCall e (readCall e deck table .table) input k (startedWith store output))
-  accepted-run deck table store input output p judged h large k =
-      let inside = accepted-inside e deck table p judged h in
-      let runs = program-runs e p inside in
-      let lent = length output in
-      run-same e limit wide p runs (readCall e deck table .table) input (read-tabled e limit size deck table p inside judged h) lent k
-      (fresh input) (startedWith store output) (fresh-sound e wide p runs lent input)
-      (started-holds e limit wide p runs store input output large)
+  -- demand 3, of every list that ends with a call which kept its equation
+  pub demand3 : (table input : List ℕ) (b : Buffers) (h : History e table input b) (call : Observed) (left : Buffers)
+      → Linked e table input b (call ∷ []) left → Demand3 e table input h call
+  unfolding startedWith
+  demand3 table input b h call left kept =
+      let number : readCall e (h .deck) (h .before) .number ≡ 0 = sym (ap (λ x. x .number) (h .read)) in
+      let left-table : readCall e (h .deck) (h .before) .table ≡ table = sym (ap (λ x. x .table) (h .read)) in
+      let judged = read-accepted e (h .deck) (h .before) number in
+      let p = judged .0 in
+      let runs = program-runs e p (accepted-inside e (h .deck) (h .before) p (judged .1) number) in
+      let t = subst (Tabled e p) left-table (accepted-tabled (h .deck) (h .before) p (judged .1) number) in
+      let lent = length (h .output) in
+      let first : Buffers = record { store = h .start .store; state = h .start .state; output = h .output } in
+      let started : first ≡ startedWith (h .store) (h .output) =
+      ap (λ x. record { store = x .store; state = x .state; output = h .output }) (h .started) in
+      let all-linked = linked-more e table input (h .calls) (call ∷ []) first b left (h .linked) kept in
+      record {
+        program = p;
+        accepts = judged .1;
+        claim =
+            λ large.
+            list-claim e limit wide p runs table input t lent (h .calls ++ (call ∷ [])) (fresh input) first left
+            (record {
+              sound = fresh-sound e wide p runs lent input;
+              holds =
+                  subst (Holding e p lent input (fresh input)) (sym started)
+                  (started-holds e limit wide p runs (h .store) input (h .output) large);
+            })
+            all-linked;
+        small =
+            λ less.
+            let stays = started-small (h .store) (h .output) (lt-ltb (length (h .store)) storeSize less) in
+            let still : length (first .store) < storeSize =
+            subst (λ (l : List ℕ). length l < storeSize) (sym (ap (λ (x : Buffers). x .store) started ∙ stays)) less in
+            list-small e limit wide p runs table input t (h .calls ++ (call ∷ [])) first left still all-linked;
+      }
 
 -- edition 1: its numbers fit their places
 pub edition1-limit : edition1 .limit < bias
@@ -222,7 +339,3 @@ edition1-wide = lit≤ tt
 pub edition1-size : literalsAt + 4096 ≤ edition1 .tableSize
 unfolding edition1 literalsAt
 edition1-size = lit≤ tt
-
--- demand 3 of edition 1
-pub demand3-edition1 : (deck table store input output : List ℕ) → Demand3 edition1 deck table store input output
-demand3-edition1 = demand3 edition1 edition1-limit edition1-wide edition1-size

@@ -2,7 +2,7 @@
 -- Assumes nothing.
 use mathlib.Core.Bool.{Bool, true, false, cond, not, _&&_, and-eq-true-iff}
 use mathlib.Core.List.{List, reverse}
-use mathlib.Core.Path.{_≡_, refl, _∙_}
+use mathlib.Core.Path.{_≡_, refl, sym, ap, _∙_}
 use Prim.Native.Nat.{ℕ, _+_, _≤_, _<_}
 use native.Mathlib.Omega.{arith}
 use lib.Dec.{leb, ltb}
@@ -15,7 +15,7 @@ use Rattle.base.specs.ListLaws.{all-at, length-stretch}
 use Rattle.base.specs.Lists.{all}
 use Rattle.language.specs.Program.{Program}
 use Rattle.machine.specs.Bounds.{Bounded}
-use Rattle.machine.specs.State.{stringAt, numberAt, mostStrings, mostNumbers}
+use Rattle.machine.specs.State.{State, stringAt, numberAt, mostStrings, mostNumbers}
 use Rattle.machine.specs.Step.{mostReturns, turnedDownBy}
 use Rattle.values.specs.Conversion.{longestString}
 use Rattle.values.specs.Numbers.{isInRange}
@@ -117,6 +117,16 @@ module _ (e : Edition) (p : Program) (input : List ℕ) (b : Buffers) (size : le
   -- and they hold it
   pub given-holds : Holding e p (length (b .output)) input (stateIn (b .store) (b .state) input (b .output)) b
   given-holds = record { given = refl; storeGood = good; stateGood = range; stateLength = size; outputLength = refl }
+
+-- the state of buffers that hold a machine tells how much it has put
+pub held-written : (e : Edition) (p : Program) (lent : ℕ) (input : List ℕ) (c : State) (b : Buffers) → Holding e p lent input c b
+    → getD (b .state) 4 0 ≡ length (c .output)
+unfolding stateIn
+held-written e p lent input c b h =
+    let n = getD (b .state) 4 0 in
+    let range = state-in-range e (length (p .steps)) (length input) lent (b .state) (h .stateGood) in
+    let room : n ≤ length (b .output) = omega (arith, range .written, h .outputLength) in
+    sym (length-take-le n (b .output) room) ∙ ap (λ (x : State). length (x .output)) (h .given)
 
 -- what the tests in their order tell where nothing refuses
 pub refusal-none : (small rules store bad : Bool) (n : ℕ) → cond small 2 (cond (not rules) 13 (cond (not store) 14 (cond bad 15 n))) ≡ 0

@@ -1,4 +1,5 @@
--- A run of calls on buffers that hold a machine is the run of the machine. Assumes nothing.
+-- A run of calls on buffers that hold a machine is the run of the machine; any run leaves what the steps that it tried leave; with a store too
+-- small it is turned down. Assumes nothing.
 use mathlib.Core.Bool.{false≢true, Bool, true, false, cond}
 use mathlib.Core.List.{List}
 use mathlib.Core.Logic.{inl, inr}
@@ -7,7 +8,7 @@ use mathlib.Core.Path.{_≡_, refl, sym, _∙_, ap, ap₂, subst, subst₂}
 use Prim.Native.Nat.{ℕ, zero, suc, _+_, _≤_, _<_}
 use native.Mathlib.Omega.{arith}
 use lib.Dec.{ltb, eqb}
-use lib.ListN.{getD}
+use lib.ListN.{length, getD}
 use borrow.Author.Tests.{eqb-true, eqb-false, lt-ltb}
 use Rattle.base.specs.Choice.{test-cases, cond-cases}
 use Rattle.base.specs.Edition.{Edition}
@@ -17,20 +18,22 @@ use Rattle.language.specs.Program.{Program}
 use Rattle.machine.specs.Ends.{Ends, stops}
 use Rattle.machine.specs.Run.{FINISHED, Ran, counted, endedWith, goingOn, run, STOPPED, REFUSED}
 use Rattle.machine.specs.State.{Status, running, finished, stopped, Memory, State}
-use Rattle.machine.specs.StepEnds.{step-turned, still-running, Alive, carrying-alive, undone-notes}
+use Rattle.machine.specs.StepEnds.{step-turned, still-running, Alive, carrying-alive, undone-answer}
 use Rattle.machine.specs.Step.{Done, Stepped, step, statementAt, turnedDownBy, concluded, carrying}
 use Rattle.scanning.specs.Call.{splitNumbers, answerNumbers, noAnswer}
 use Rattle.scanning.specs.Splits.{Split}
 use Rattle.scanning.specs.Trials.{Scanned}
 use Rattle.values.specs.Conversion.{longestString}
 use Rattle.values.specs.Work.{Work, done, stop}
-use Rattle.calls.specs.Buffers.{statusOf, stateIn}
-use Rattle.calls.specs.Calls.{Buffers, StepCalled, carried, stepCall, RunCalled, runEnded, withStep, runBehind, runCall}
+use Rattle.calls.specs.Buffers.{storeSize, statusOf, stateIn}
+use Rattle.calls.specs.Calls.{Buffers, StepCalled, carried, stepCall, buffersAfter, RunCalled, runEnded, withStep, runBehind, runCall}
+use Rattle.calls.specs.Calls.{outcomeNumber, resultNumbers, returned}
+use Rattle.calls.specs.Demands.{stepsTried}
 use Rattle.calls.specs.Holding.{Holding}
 use Rattle.calls.specs.Invariant.{Sound, returns-enough, next-sound, step-sound}
 use Rattle.calls.specs.Numerals.{bias}
 use Rattle.calls.specs.ProgramLaws.{Runs}
-use Rattle.calls.specs.StepLaws.{Tabled, call-held, step-holds}
+use Rattle.calls.specs.StepLaws.{Tabled, small-called, call-held, step-holds}
 
 -- how a run of calls went is how a run of the machine went, and the buffers left hold the machine left
 pub record RunSame (e : Edition) (p : Program) (lent : ℕ) (input : List ℕ) (r : Ran) (k : RunCalled) : Type 0 where
@@ -133,7 +136,7 @@ module _ (e : Edition) (limit : e .limit < bias) (wide : longestString ≤ e .li
   -- buffers b that hold a machine c
   module _ (c : State) (b : Buffers) (h : Holding e p lent input c b) where
     -- the number and the notes of the call are those of the step
-    call-numbers : (stepCall e table input b .number ≡ step e p lent c .answer .number)
+    pub call-numbers : (stepCall e table input b .number ≡ step e p lent c .answer .number)
         × (getD (stepCall e table input b .answer) 3 0 ≡ step e p lent c .answer .notes)
     unfolding carried step answerNumbers noAnswer splitNumbers
     call-numbers =
@@ -183,7 +186,7 @@ module _ (e : Edition) (limit : e .limit < bias) (wide : longestString ≤ e .li
       undone-same some-met =
           let n = machine .answer .number in
           let behind : StepCalled = record { number = n; answer = called .answer; left = called .left } in
-          let no-notes = call-numbers .1 ∙ undone-notes e p lent c some-met in
+          let no-notes = call-numbers .1 ∙ undone-answer e p lent c some-met .0 in
           subst (λ (y : StepCalled). RunSame e p lent input (goingOn machine r) (runBehind y k))
           (λ i. record { number = sym (call-numbers .0) i; answer = called .answer; left = called .left })
           (ended e p lent input n (machine .state) behind left no-notes _ _ (ltb 16 n) (ltb 0 n) (lt-ltb 0 n (omega (arith, some-met))))
@@ -201,3 +204,38 @@ module _ (e : Edition) (limit : e .limit < bias) (wide : longestString ≤ e .li
       test-cases (λ _. RunSame e p lent input (goingOn (step e p lent c) r) (runBehind (stepCall e table input b) q))
       (eqb (step e p lent c .answer .number) 0) (λ e₁. done-same c b h r q s rest (eqb-true _ 0 e₁))
       (λ e₁. undone-same c b h r q s rest (eqb-false _ 0 e₁))
+
+-- the run behind a step, by how the step ended: it leaves what the steps that it tried leave
+module _ (e : Edition) (table input : List ℕ) (b : Buffers) (rest : RunCalled) where
+  behind-left : (stops met ends : Bool)
+      → (let s = stepCall e table input b in
+      rest .left ≡ buffersAfter e table input (stepsTried (returned rest)) (s .left)
+      → (let r = cond stops (withStep s (runEnded STOPPED (s .number) (s .left)))
+      (cond met (runEnded REFUSED (s .number) (s .left))
+      (cond ends (withStep s (runEnded FINISHED 0 (s .left))) (withStep s rest))) in
+      r .left ≡ buffersAfter e table input (stepsTried (returned r)) b))
+  unfolding withStep runEnded returned resultNumbers stepsTried outcomeNumber buffersAfter
+  behind-left true met ends h = refl
+  behind-left false true ends h = refl
+  behind-left false false true h = refl
+  behind-left false false false h =
+      let turned : ℕ = cond (eqb (outcomeNumber (rest .outcome)) 3) 1 0 in
+      let one-more : suc (rest .steps + turned) ≡ 1 + rest .steps + turned = omega arith in
+      h ∙ ap (λ (k : ℕ). buffersAfter e table input k b) one-more
+
+-- a run leaves what the steps that it tried leave
+pub run-left : (e : Edition) (table input : List ℕ) (count : ℕ) (b : Buffers)
+    → runCall e table input count b .left ≡ buffersAfter e table input (stepsTried (returned (runCall e table input count b))) b
+unfolding runCall runBehind runEnded returned resultNumbers stepsTried outcomeNumber buffersAfter
+run-left e table input zero b = refl
+run-left e table input (suc k) b =
+    let s = stepCall e table input b in
+    let rest = runCall e table input k (s .left) in
+    behind-left e table input b rest (ltb 16 (s .number)) (ltb 0 (s .number)) (eqb (getD (s .left .state) 0 0) 1) (run-left e table input k (s .left))
+
+-- with a store too small a run is turned down
+pub small-run : (e : Edition) (p : Program) (table input : List ℕ) → Tabled e p table → (b : Buffers) → length (b .store) < storeSize → (k : ℕ)
+    → runCall e table input (suc k) b ≡ runEnded REFUSED 14 b
+unfolding runCall runBehind
+small-run e p table input t b small k =
+    ap (λ (s : StepCalled). runBehind s (runCall e table input k (s .left))) (small-called e p table input t b small)

@@ -9,7 +9,8 @@ use lib.Dec.{ltb}
 use lib.ListN.{length, drop, replicate, length-append, length-replicate}
 use borrow.Author.Tests.{ltb-false, le-ltb}
 use Rattle.base.specs.Edition.{Edition}
-use Rattle.judgement.specs.Deck.{accepted, judge}
+use Rattle.judgement.specs.Deck.{Judgement, accepted, refused, judge}
+use Rattle.judgement.specs.Laws.{judge-answers}
 use Rattle.language.specs.Program as Program
 use Rattle.language.specs.Program.{Program}
 use Rattle.machine.specs.State.{freshMemory, fresh, mostStrings}
@@ -17,7 +18,6 @@ use Rattle.values.specs.Conversion.{longestString}
 use Rattle.calls.specs.BufferLaws.{fresh-image}
 use Rattle.calls.specs.Buffers.{storeSize, stateSize, storeLeft, stateLeft, outputLeft, firstState}
 use Rattle.calls.specs.Calls.{longestDeck, readJudged, readBy, readCall, StartCalled, startCall, Buffers, leftOf}
-use Rattle.calls.specs.Demands.{startedWith}
 use Rattle.calls.specs.Holding.{Holding, left-holds}
 use Rattle.calls.specs.Invariant.{fresh-sound}
 use Rattle.calls.specs.ProgramLaws.{Runs}
@@ -44,6 +44,18 @@ read-short e deck table h = ltb-false longestDeck (length deck) (short (ltb long
     short true h = absurd (omega arith)
     short false h = refl
 
+-- a deck that gets 0 is accepted
+pub read-accepted : (e : Edition) (deck table : List ℕ) → readCall e deck table .number ≡ 0 → (p : Program) × (judge e deck ≡ accepted p)
+unfolding readCall readJudged
+read-accepted e deck table = by-sizes (ltb longestDeck (length deck)) (ltb (length table) (e .tableSize)) (judge e deck) refl
+  where
+    by-sizes : (long short : Bool) (j : Judgement) → judge e deck ≡ j → readBy e table long short j .number ≡ 0
+        → (p : Program) × (judge e deck ≡ accepted p)
+    by-sizes true short j is h = absurd (omega arith)
+    by-sizes false true j is h = absurd (omega arith)
+    by-sizes false false (accepted p) is h = (p, is)
+    by-sizes false false (refused n card) is h = absurd (omega (arith, judge-answers e deck n card is .low))
+
 -- what the deck call leaves of an accepted deck
 read-table : (e : Edition) (deck table : List ℕ) (p : Program) → judge e deck ≡ accepted p → readCall e deck table .number ≡ 0
     → readCall e deck table .table ≡ image e p ++ drop (e .tableSize) table
@@ -64,6 +76,11 @@ module _ (e : Edition) (limit : e .limit < bias) (size : literalsAt + 4096 ≤ e
       let long : e .tableSize ≤ length (image e p ++ rest) = omega (arith, length-append (image e p) rest, image-length e p inside size) in
       subst (Tabled e p) (sym (read-table e deck table p judged h))
       (record { size = long; keeps = image-keeps e p rest limit size inside; reads = programIn-image e p rest limit size inside })
+
+-- the buffers that starting leaves, with the output lent
+unfoldable pub startedWith : (store output : List ℕ) → Buffers
+startedWith store output =
+    record { store = startCall store .store; state = startCall store .state; output = output }
 
 -- R12 "32 cells of 1,026 bytes"
 cells-size : 1026 * mostStrings ≡ storeSize

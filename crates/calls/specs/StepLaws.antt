@@ -2,22 +2,21 @@
 -- Assumes nothing.
 use mathlib.Core.Bool.{Bool, true, false, cond, not, _&&_}
 use mathlib.Core.List.{List}
-use mathlib.Core.Path.{_≡_, refl, sym, _∙_, ap, ap₂, subst}
-use Prim.Native.Nat.{ℕ, zero, suc, _≤_, _<_}
+use mathlib.Core.Path.{_≡_, sym, _∙_, ap, ap₂, subst}
+use Prim.Native.Nat.{ℕ, _≤_, _<_}
 use lib.Dec.{ltb, eqb}
 use lib.ListN.{length}
 use borrow.Author.Tests.{le-ltb, lt-leb}
 use Rattle.base.specs.Choice.{test-cases}
 use Rattle.base.specs.Edition.{Edition}
 use Rattle.language.specs.Program.{Program}
-use Rattle.machine.specs.Run.{after}
 use Rattle.machine.specs.State.{State, mostStrings}
-use Rattle.machine.specs.Step.{turnedDownBy, Stepped, step}
+use Rattle.machine.specs.Step.{noScan, turnedDownBy, Stepped, step}
 use Rattle.machine.specs.StepEnds.{step-turned}
-use Rattle.scanning.specs.Call.{noAnswer}
+use Rattle.scanning.specs.Call.{answerNumbers, noAnswer, splitNumbers}
 use Rattle.values.specs.Conversion.{longestString}
 use Rattle.calls.specs.Buffers.{storeSize, storeKeeps, cellsKeep, stateKeeps}
-use Rattle.calls.specs.Calls.{Buffers, StepCalled, givenIn, outOfRange, stepRefusal, carried, stepCall, buffersAfter}
+use Rattle.calls.specs.Calls.{Buffers, StepCalled, givenIn, outOfRange, stepRefusal, carried, stepCall}
 use Rattle.calls.specs.Holding.{Holding, left-holds}
 use Rattle.calls.specs.Invariant.{Sound, step-sound}
 use Rattle.calls.specs.ProgramLaws.{Runs}
@@ -44,7 +43,7 @@ refusal-store small rules store n h g k = rw (h, g, k)
 -- the table holds the program p
 module _ (e : Edition) (p : Program) (table input : List ℕ) (t : Tabled e p table) where
   -- a store too small turns every step down
-  pub small-refused : (b : Buffers) → length (b .store) < storeSize → stepRefusal e table input b ≡ 14
+  small-refused : (b : Buffers) → length (b .store) < storeSize → stepRefusal e table input b ≡ 14
   unfolding stepRefusal storeKeeps
   small-refused b small =
       refusal-store (ltb (length table) (e .tableSize)) (keepsRules e table) (storeKeeps (b .store)) _
@@ -60,17 +59,10 @@ module _ (e : Edition) (p : Program) (table input : List ℕ) (t : Tabled e p ta
       let went = carried e table input b (step e (programIn table) (length (b .output)) (givenIn e table input b)) in
       ap (λ n. cond (eqb n 0) went (record { number = n; answer = noAnswer; left = b })) (small-refused b small)
 
-  -- so do all steps
-  pub small-after : (k : ℕ) (b : Buffers) → length (b .store) < storeSize → buffersAfter e table input k b ≡ b
-  unfolding buffersAfter
-  small-after zero b small = refl
-  small-after (suc k) b small =
-      ap (λ (s : StepCalled). buffersAfter e table input k (s .left)) (small-called b small) ∙ small-after k b small
-
   -- buffers b that hold a machine c
   module _ (lent : ℕ) (c : State) (b : Buffers) (h : Holding e p lent input c b) where
     -- only the machine itself turns the step down
-    pub refusal-held : stepRefusal e table input b ≡ turnedDownBy p c
+    refusal-held : stepRefusal e table input b ≡ turnedDownBy p c
     unfolding stepRefusal outOfRange givenIn
     refusal-held =
         let range : stateKeeps e (length (programIn table .steps)) (length input) (length (b .output)) (b .state) ≡ true =
@@ -92,6 +84,15 @@ module _ (e : Edition) (p : Program) (table input : List ℕ) (t : Tabled e p ta
         λ i. went (refusal-held i) (eqb (refusal-held i) 0) (step e (t .reads i) (h .outputLength i) (h .given i)) in
         calls ∙ ap (λ x. went (turnedDownBy p c) x (step e p lent c)) q
 
+    -- the answer's numbers are those of the machine's answer
+    pub call-answer : (let a = step e p lent c .answer in stepCall e table input b .answer ≡ answerNumbers (a .notes) (a .scanned))
+    unfolding carried step answerNumbers noAnswer noScan splitNumbers
+    call-answer =
+        let a = step e p lent c .answer in
+        test-cases (λ _. stepCall e table input b .answer ≡ answerNumbers (a .notes) (a .scanned)) (eqb (turnedDownBy p c) 0)
+        (λ q. ap (λ k. k .answer) (call-held true q))
+        (λ q. ap (λ k. k .answer) (call-held false q) ∙ ap (λ s. answerNumbers (s .answer .notes) (s .answer .scanned)) (sym (step-turned e p lent c q)))
+
   -- numbers fit their places, a string's length is a number, and p is a program in range
   module _ (limit : e .limit < bias) (wide : longestString ≤ e .limit) (runs : Runs e p) (lent : ℕ) where
     -- the buffers left hold the machine left
@@ -107,11 +108,3 @@ module _ (e : Edition) (p : Program) (table input : List ℕ) (t : Tabled e p ta
         (λ q.
         subst Held (sym (call-held lent c b h false q))
         (subst (λ x. Holding e p lent input x b) (sym (ap (λ s. s .state) (step-turned e p lent c q))) h))
-
-    -- and so behind every list of steps
-    pub after-holds : (k : ℕ) (c : State) (b : Buffers) → Sound e p lent input c → Holding e p lent input c b
-        → Sound e p lent input (after e p lent k c) × Holding e p lent input (after e p lent k c) (buffersAfter e table input k b)
-    unfolding after buffersAfter
-    after-holds zero c b s h = (s, h)
-    after-holds (suc k) c b s h =
-        after-holds k (step e p lent c .state) (stepCall e table input b .left) (step-sound e wide p runs lent input c s) (step-holds c b s h)

@@ -1,28 +1,39 @@
--- A step that is stopped leaves store and output byte for byte, and of the state changes the status alone; one that is refused leaves all.
--- Assumes nothing.
+-- A step that is stopped leaves store and output byte for byte, and of the state changes the status alone; one that is refused leaves all. So
+-- does the last step of a run. Assumes nothing.
 use mathlib.Core.Bool.{Bool, true, false, cond, not}
 use mathlib.Core.List.{List, _∷_, _++_, reverse, reverse-reverse}
-use mathlib.Core.Path.{_≡_, refl, sym, _∙_, ap}
-use Prim.Native.Nat.{ℕ, _+_, _-_, _≤_, _<_}
+use mathlib.Core.Path.{_≡_, refl, sym, _∙_, ap, ap₂}
+use Prim.Native.Nat.{ℕ, zero, suc, _+_, _-_, _≤_, _<_}
 use native.Mathlib.Omega.{arith}
 use lib.Dec.{ltb, eqb}
 use lib.ListN.{length, take, drop, getD, length-drop, take-append-drop}
 use lib.Seq.{drop-cons, length-take-le}
 use borrow.Author.Tests.{eqb-true, eqb-false}
-use Rattle.base.specs.Choice.{cond-cases}
+use Rattle.base.specs.Choice.{cond-cases, test-cases}
 use Rattle.base.specs.Edition.{Edition}
 use Rattle.base.specs.ListLaws.{stretch-behind}
 use Rattle.calls.specs.NumeralLaws.{numbers-same}
 use Rattle.machine.specs.State.{Status, stopped, State, withStatus, mostNumbers}
-use Rattle.machine.specs.StepEnds.{stopped-step, turned-down-small}
-use Rattle.machine.specs.Step.{mostReturns, turnedDownBy, step}
-use Rattle.scanning.specs.Call.{noAnswer}
+use Rattle.machine.specs.Run.{FINISHED, STOPPED, REFUSED}
+use Rattle.machine.specs.StepEnds.{stopped-step, step-high, turned-down-small, undone-answer}
+use Rattle.machine.specs.Step.{mostReturns, noScan, turnedDownBy, step}
+use Rattle.scanning.specs.Call.{answerNumbers, noAnswer, splitNumbers}
+use Rattle.values.specs.Conversion.{longestString}
 use Rattle.calls.specs.BufferLaws.{good-image, keeps-good}
 use Rattle.calls.specs.Buffers.{storeKeeps, stateSize, returnsAt, numbersAt, statusNumber, returnsIn, numbersIn}
 use Rattle.calls.specs.Buffers.{stateKeeps, stateIn, storeLeft, stateLeft, outputLeft}
-use Rattle.calls.specs.Calls.{Buffers, leftOf, StepCalled, givenIn, outOfRange, stepRefusal, carried, stepCall}
-use Rattle.calls.specs.GivenLaws.{StateInRange, state-in-range, returns-count, Unrefused, unrefused}
+use Rattle.calls.specs.Calls.{Buffers, leftOf, StepCalled, givenIn, outOfRange, stepRefusal, carried, stepCall, buffersAfter}
+use Rattle.calls.specs.Calls.{RunCalled, RunReturned, outcomeNumber, resultNumbers, returned, runEnded, withStep, runBehind, runCall}
+use Rattle.calls.specs.Demands.{stepsTried}
+use Rattle.calls.specs.GivenLaws.{StateInRange, state-in-range, returns-count, given-sound, given-holds, Unrefused, unrefused}
+use Rattle.calls.specs.Holding.{Holding}
+use Rattle.calls.specs.Invariant.{next-sound, returns-enough}
+use Rattle.calls.specs.Numerals.{bias}
+use Rattle.calls.specs.ProgramLaws.{program-runs}
+use Rattle.calls.specs.Promises.{Keeps}
 use Rattle.calls.specs.Rules.{keepsRules}
+use Rattle.calls.specs.StepLaws.{Tabled, step-holds}
+use Rattle.calls.specs.TableLaws.{keeps-image}
 use Rattle.calls.specs.TableReading.{programIn}
 
 -- the buffers with another state
@@ -93,12 +104,6 @@ refusal-small false true false bad n h = omega arith
 refusal-small false true true true n h = omega arith
 refusal-small false true true false n h = h
 
--- what a step that is not done keeps: strings, output, and all of the state but the status
-pub record Keeps (b left : Buffers) : Type 0 where
-  pub store : left .store ≡ b .store
-  pub state : drop 1 (left .state) ≡ drop 1 (b .state)
-  pub output : left .output ≡ b .output
-
 module _ (e : Edition) (table input : List ℕ) (b : Buffers) where
   refused-small : stepRefusal e table input b ≤ 16
   unfolding stepRefusal
@@ -127,18 +132,111 @@ module _ (e : Edition) (table input : List ℕ) (b : Buffers) where
       ap (leftOf input b) (stopped-step e (programIn table) (length (b .output)) (givenIn e table input b) (u .goes) h)
       ∙ left-same e (length (programIn table .steps)) input b stopped size (u .storeGood) (u .stateGood)
 
-  -- Q17 "17 to 21 mark the state stopped, no more"
-  pub stopped-keeps : length (b .state) ≡ stateSize → 16 < stepCall e table input b .number → Stopped (stepCall e table input b .left)
-  unfolding carried
-  stopped-keeps size =
-      by-refusal (λ s. 16 < s .number → Stopped (s .left)) (λ q h. let small = refused-small in absurd (omega arith))
-      (λ u h. carried-stopped size u (λ z. omega arith))
+  -- numbers fit their places, a string's length is a number, and the state has its size
+  module _ (limit : e .limit < bias) (wide : longestString ≤ e .limit) (size : length (b .state) ≡ stateSize) where
+    -- a step that is carried out has no number up to 16
+    carried-high : (u : Unrefused e table input b)
+        → (let s = step e (programIn table) (length (b .output)) (givenIn e table input b) in ¬ (s .answer .number ≡ 0) → 16 < s .answer .number)
+    unfolding givenIn
+    carried-high u =
+        let p = programIn table in
+        let c = givenIn e table input b in
+        let sound = given-sound e p input b size (u .storeGood) (u .stateGood) in
+        let runs = program-runs e p (keeps-image e table (u .tabled .keeps) .0) in
+        step-high e p (length (b .output)) c (u .goes)
+        (next-sound e wide p runs (length (b .output)) input c sound (returns-enough p c (u .goes)))
 
-  -- demand 1 "a refused or stopped step leaves store, numbers, input place and output as before it"
-  pub undone-keeps : length (b .state) ≡ stateSize → ¬ (stepCall e table input b .number ≡ 0) → Keeps b (stepCall e table input b .left)
-  unfolding carried
-  undone-keeps size =
-      by-refusal (λ s. ¬ (s .number ≡ 0) → Keeps b (s .left)) (λ q h. record { store = refl; state = refl; output = refl })
-      (λ u h.
-      let same = carried-stopped size u h in
-      record { store = ap (λ x. x .store) same; state = ap (λ x. drop 1 (x .state)) same; output = ap (λ x. x .output) same })
+    -- demand 1 "a refused or stopped step leaves store, numbers, input place and output as before it"
+    pub step-keeps : Keeps b (stepCall e table input b .number) (stepCall e table input b .left)
+    unfolding carried
+    step-keeps =
+        by-refusal (λ s. Keeps b (s .number) (s .left))
+        (λ q.
+        record {
+          store = λ _. refl;
+          state = λ _. refl;
+          output = λ _. refl;
+          handed-back = λ _ _. refl;
+          marked = λ high. let small = refused-small in absurd (omega arith);
+        })
+        (λ u.
+        record {
+          store = λ h. ap (λ x. x .store) (carried-stopped size u h);
+          state = λ h. ap (λ x. drop 1 (x .state)) (carried-stopped size u h);
+          output = λ h. ap (λ x. x .output) (carried-stopped size u h);
+          handed-back = λ some low. let high = carried-high u (λ z. omega arith) in absurd (omega arith);
+          marked = λ high. ap (λ x. getD (x .state) 0 0) (carried-stopped size u (λ z. omega arith));
+        })
+
+    -- V12, V13: such a step answers nothing
+    pub step-silent : ¬ (stepCall e table input b .number ≡ 0) → stepCall e table input b .answer ≡ noAnswer
+    unfolding carried answerNumbers noAnswer noScan splitNumbers
+    step-silent =
+        by-refusal (λ s. ¬ (s .number ≡ 0) → s .answer ≡ noAnswer) (λ q h. refl)
+        (λ u h.
+        let a = undone-answer e (programIn table) (length (b .output)) (givenIn e table input b) h in
+        ap₂ answerNumbers (a .0) (a .1))
+
+    -- buffers that pass the tests: what is left holds the machine left
+    pub passed-holds : Tabled e (programIn table) table → storeKeeps (b .store) ≡ true
+        → stateKeeps e (length (programIn table .steps)) (length input) (length (b .output)) (b .state) ≡ true
+        → (let lent = length (b .output) in
+        Holding e (programIn table) lent input (step e (programIn table) lent (givenIn e table input b) .state) (stepCall e table input b .left))
+    unfolding givenIn
+    passed-holds t good range =
+        let p = programIn table in
+        let runs = program-runs e p (keeps-image e table (t .keeps) .0) in
+        step-holds e p table input t limit wide runs (length (b .output)) (givenIn e table input b) b
+        (given-sound e p input b size good range) (given-holds e p input b size good range)
+
+    -- the state left has its size
+    pub step-size : length (stepCall e table input b .left .state) ≡ stateSize
+    unfolding stepCall
+    step-size =
+        test-cases (λ _. length (stepCall e table input b .left .state) ≡ stateSize) (eqb (stepRefusal e table input b) 0)
+        (λ q.
+        let u = unrefused e table input b (eqb-true (stepRefusal e table input b) 0 q) in
+        passed-holds (u .tabled) (u .storeGood) (u .stateGood) .stateLength)
+        (λ q. ap (λ (x : Buffers). length (x .state)) (refused-left q) ∙ size)
+      where
+        refused-left : eqb (stepRefusal e table input b) 0 ≡ false → stepCall e table input b .left ≡ b
+        refused-left q = rw q
+
+-- a run whose last step was refused or stopped: that step was given what the k before it left
+abbrev pub LastKeeps : (e : Edition) (table input : List ℕ) → Buffers → RunReturned → Type 0
+LastKeeps e table input b back =
+    (k : ℕ) × (stepsTried back ≡ suc k) × Keeps (buffersAfter e table input k b) (back .number) (back .left)
+
+-- the run behind a step, by how the step ended
+module _ (e : Edition) (table input : List ℕ) (b : Buffers) (rest : RunCalled) where
+  behind-keeps : (stops met ends : Bool)
+      → (let s = stepCall e table input b in
+      Keeps b (s .number) (s .left)
+      → (¬ (rest .number ≡ 0) → LastKeeps e table input (s .left) (returned rest))
+      → (let r = cond stops (withStep s (runEnded STOPPED (s .number) (s .left)))
+      (cond met (runEnded REFUSED (s .number) (s .left))
+      (cond ends (withStep s (runEnded FINISHED 0 (s .left))) (withStep s rest))) in
+      ¬ (r .number ≡ 0) → LastKeeps e table input b (returned r)))
+  unfolding withStep runEnded returned resultNumbers stepsTried outcomeNumber buffersAfter
+  behind-keeps true met ends k h n = (0, refl, k)
+  behind-keeps false true ends k h n = (0, refl, k)
+  behind-keeps false false true k h n = absurd (n refl)
+  behind-keeps false false false k h n =
+      let last = h n in
+      let turned : ℕ = cond (eqb (outcomeNumber (rest .outcome)) 3) 1 0 in
+      let before : rest .steps + turned ≡ suc (last .0) = last .1 in
+      let one-more : 1 + rest .steps + turned ≡ suc (suc (last .0)) = omega arith in
+      (suc (last .0), one-more, last .2)
+
+-- of every run
+pub run-keeps : (e : Edition) (table input : List ℕ) → e .limit < bias → longestString ≤ e .limit → (count : ℕ) (b : Buffers)
+    → (0 < count → length (b .state) ≡ stateSize) → (let r = runCall e table input count b in ¬ (r .number ≡ 0) → LastKeeps e table input b (returned r))
+unfolding runCall runBehind runEnded
+run-keeps e table input limit wide zero b size n = absurd (n refl)
+run-keeps e table input limit wide (suc k) b size n =
+    let s = stepCall e table input b in
+    let rest = runCall e table input k (s .left) in
+    let now = size (omega arith) in
+    behind-keeps e table input b rest (ltb 16 (s .number)) (ltb 0 (s .number)) (eqb (getD (s .left .state) 0 0) 1)
+    (step-keeps e table input b limit wide now)
+    (run-keeps e table input limit wide k (s .left) (λ _. step-size e table input b limit wide now)) n

@@ -6,17 +6,17 @@ use Prim.Native.Nat.{ℕ}
 use lib.ListN.{length, getD, set}
 use Rattle.base.specs.Edition.{edition1}
 use Rattle.calls.specs.Buffers.{storeKeeps, stateKeeps, stateIn}
-use Rattle.calls.specs.Calls.{Buffers, leftOf}
-use Rattle.language.specs.Program.{Program, Statement}
+use Rattle.calls.specs.Calls.{Buffers, leftOf, buffers}
+use Rattle.expressions.specs.Memory.{memoryIn}
+use Rattle.expressions.specs.Values.{truthWorked}
+use Rattle.expressions.specs.declared.Truth.{Truth}
+use Rattle.language.specs.Program.{Program, Statement, Test, Branch, ifTest}
+use Rattle.machine.specs.Expressions.{testIn}
 use Rattle.machine.specs.State.{State}
 use Rattle.machine.specs.Step.{Done, noScan, carrying}
 use Rattle.statements.specs.declared.Did.{Did}
 use Rattle.statements.specs.declared.Did.the-variants as did
 use Rattle.values.specs.Work.{Work, done, stop}
-
--- the buffers lent
-abbrev pub lent : (store state output : List ℕ) → Buffers
-lent store state output = record { store = store; state = state; output = output }
 
 -- buffers that a step may be given, of a machine that runs the program p and hasn't ended
 pub record Standing (p : Program) (input : List ℕ) (b : Buffers) : Type 0 where
@@ -48,6 +48,12 @@ Carries (did.Stops k) input b left w = Unmoved b left k w
 abbrev pub Does : Statement → Did → (b left : Buffers) → (input : List ℕ) → Type 0
 Does x r b left input =
     (p : Program) → Standing p input b → Carries r input b left (carrying edition1 (length (b .output)) x (machineIn input b))
+
+-- a branch taken by what a test came to: the IF that asks it is carried out, whatever the test and the buffers besides
+abbrev pub TakesBranch : Truth → Branch → Did → (state left : List ℕ) → Type 0
+TakesBranch t f r state left =
+    (store input output : List ℕ) (x : Test) → truthWorked t ≡ testIn edition1 (memoryIn store state) x
+    → Does (ifTest x f) r (buffers store state output) (buffers store left output) input
 
 -- the state moved on to a step, if a statement's work is done
 abbrev pub movedOn : Did → List ℕ → ℕ → List ℕ

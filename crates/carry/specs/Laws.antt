@@ -10,7 +10,7 @@ use lib.Seq.{length-take-le, getD-set-same}
 use Rattle.base.specs.Edition.{edition1}
 use Rattle.calls.specs.BufferLaws.{Good, keeps-good}
 use Rattle.calls.specs.Buffers.{stringsIn, numbersIn, statusOf, stateIn, storeImage, storeLeft, outputLeft, storeSize, stateSize}
-use Rattle.calls.specs.Calls.{Buffers, leftOf}
+use Rattle.calls.specs.Calls.{Buffers, leftOf, buffers}
 use Rattle.calls.specs.GivenLaws.{StateInRange, state-in-range, given-holds, returns-count}
 use Rattle.calls.specs.StopLaws.{output-whole}
 use Rattle.expressions.specs.Memory.{memoryIn}
@@ -30,7 +30,7 @@ use Rattle.states.specs.Contracts.{Popped}
 use Rattle.states.specs.Laws.{Leaves, leaves-all, holding-leaves, leaves-going, leaves-finished, leaves-stopped, leaves-input, leaves-output, leaves-number, leaves-push, leaves-return, numbers-stay}
 use Rattle.values.specs.Work.{Work, done, stop, quietly, _>>=_}
 use Rattle.values.specs.WorkLaws.{bound, stopped, bound-twice}
-use Rattle.carry.specs.Carrying.{lent, Standing, machineIn, Moved, Unmoved, Carries, movedOn, MovesOn}
+use Rattle.carry.specs.Carrying.{Standing, machineIn, Moved, Unmoved, Carries, movedOn, MovesOn}
 
 -- a return changes no string and no output
 returning-keeps : (rs : List ℕ) (c : State) → (returning rs c .memory ≡ c .memory) × (returning rs c .output ≡ c .output)
@@ -63,7 +63,7 @@ module _ (p : Program) (input : List ℕ) (b : Buffers) (s : Standing p input b)
 
   -- what is left of a machine, by its store, its numbers and its output
   pub left-parts : (m : State) (store state output : List ℕ) → Stays (b .store) store → m .memory .strings ≡ stringsIn store
-      → Leaves (b .state) input m state → outputLeft (b .output) m ≡ output → lent store state output ≡ leftOf input b m
+      → Leaves (b .state) input m state → outputLeft (b .output) m ≡ output → buffers store state output ≡ leftOf input b m
   unfolding storeLeft
   left-parts m store state output stays strings leaves outputs =
       let stores : store ≡ storeLeft (b .store) m =
@@ -72,25 +72,25 @@ module _ (p : Program) (input : List ℕ) (b : Buffers) (s : Standing p input b)
 
   -- a machine that has moved on, with the store and the output as they were
   pub stays-parts : (m : State) (state : List ℕ) → m .memory .strings ≡ stringsIn (b .store) → m .output ≡ c .output
-      → Leaves (b .state) input m state → lent (b .store) state (b .output) ≡ leftOf input b m
+      → Leaves (b .state) input m state → buffers (b .store) state (b .output) ≡ leftOf input b m
   stays-parts m state strings outputs leaves =
       left-parts m (b .store) state (b .output) (stays-same (b .store) good) strings leaves (output-same m outputs)
 
   -- a step that is stopped
-  pub stops : lent (b .store) (set (b .state) 0 2) (b .output) ≡ leftOf input b (withStatus Machine.stopped (machineIn input b))
+  pub stops : buffers (b .store) (set (b .state) 0 2) (b .output) ≡ leftOf input b (withStatus Machine.stopped (machineIn input b))
   unfolding withStatus stateIn
   stops = stays-parts (withStatus Machine.stopped c) _ refl refl (leaves-stopped given-leaves)
 
   -- SCAN and BACKSCAN
   pub scans : (store : List ℕ) (k : ℕ) → Stays (b .store) store
-      → lent store (set (b .state) 1 k) (b .output) ≡ leftOf input b (goingTo k (memoryIn store (b .state)) (machineIn input b))
+      → buffers store (set (b .state) 1 k) (b .output) ≡ leftOf input b (goingTo k (memoryIn store (b .state)) (machineIn input b))
   unfolding goingTo stateIn
   scans store k stays =
       let m = goingTo k (memoryIn store (b .state)) c in
       left-parts m store _ (b .output) stays refl (leaves-going given-leaves k (memoryIn store (b .state)) refl) (output-same m refl)
 
   -- GOTO
-  pub goes : (k : ℕ) → Moved input b (lent (b .store) (set (b .state) 1 k) (b .output)) 0
+  pub goes : (k : ℕ) → Moved input b (buffers (b .store) (set (b .state) 1 k) (b .output)) 0
       (carrying edition1 (length (b .output)) (Program.goto k) (machineIn input b))
   unfolding carrying moving quietly goingTo stateIn
   goes k =
@@ -98,7 +98,7 @@ module _ (p : Program) (input : List ℕ) (b : Buffers) (s : Standing p input b)
       record { machine = m; work = refl; left-is = stays-parts m _ refl refl (leaves-going given-leaves k (c .memory) refl) }
 
   -- END
-  pub finishes : Moved input b (lent (b .store) (set (b .state) 0 1) (b .output)) 0
+  pub finishes : Moved input b (buffers (b .store) (set (b .state) 0 1) (b .output)) 0
       (carrying edition1 (length (b .output)) Program.finish (machineIn input b))
   unfolding carrying moving quietly withStatus stateIn
   finishes =
@@ -107,7 +107,7 @@ module _ (p : Program) (input : List ℕ) (b : Buffers) (s : Standing p input b)
   -- a number set
   pub sets-number : (r : Did) (state : List ℕ) (place next : ℕ) (xs : List Program.Item) → place < 32 → next ≡ getD (b .state) 1 0 + 1
       → Assigns r (b .state) state place (numericIn edition1 (memoryIn (b .store) (b .state)) xs)
-      → Carries r input b (lent (b .store) (movedOn r state next) (b .output))
+      → Carries r input b (buffers (b .store) (movedOn r state next) (b .output))
       (carrying edition1 (length (b .output)) (Program.setNumber place xs) (machineIn input b))
   unfolding carrying moving quietly goingTo withNumber stateIn
   sets-number (did.Done notes) state place next xs h e a =
@@ -122,12 +122,12 @@ module _ (p : Program) (input : List ℕ) (b : Buffers) (s : Standing p input b)
         left-is = stays-parts m _ refl refl moved;
       }
   sets-number (did.Stops k) state place next xs h e a =
-      record { work = stopped _ _ k (a .1); same = ap (λ (l : List ℕ). lent (b .store) l (b .output)) (a .0) }
+      record { work = stopped _ _ k (a .1); same = ap (λ (l : List ℕ). buffers (b .store) l (b .output)) (a .0) }
 
   -- a string set
   pub sets-string : (r : Did) (store scratch out : List ℕ) (next : ℕ) (q : Part) (xs : List Program.Element) → next ≡ getD (b .state) 1 0 + 1
       → Stored r (b .store) store (b .state) scratch out (setStringIn edition1 (memoryIn (b .store) (b .state)) q xs)
-      → Carries r input b (lent store (movedOn r (b .state) next) (b .output))
+      → Carries r input b (buffers store (movedOn r (b .state) next) (b .output))
       (carrying edition1 (length (b .output)) (Program.setString q xs) (machineIn input b))
   unfolding carrying moving quietly goingTo stateIn
   sets-string (did.Done notes) store scratch out next q xs e a =
@@ -141,12 +141,12 @@ module _ (p : Program) (input : List ℕ) (b : Buffers) (s : Standing p input b)
         left-is = left-parts m store _ (b .output) (a .leaves .0) refl moved (output-same m refl);
       }
   sets-string (did.Stops k) store scratch out next q xs e a =
-      record { work = stopped _ _ k (a .leaves .1); same = ap (λ (l : List ℕ). lent l (b .state) (b .output)) (a .leaves .0) }
+      record { work = stopped _ _ k (a .leaves .1); same = ap (λ (l : List ℕ). buffers l (b .state) (b .output)) (a .leaves .0) }
 
   -- IF
   pub tests : (holds : Bool) (notes k : ℕ) (t : Program.Test) (f : Branch) → k ≡ chosen holds f
       → testIn edition1 (memoryIn (b .store) (b .state)) t ≡ done holds notes
-      → Moved input b (lent (b .store) (set (b .state) 1 k) (b .output)) notes
+      → Moved input b (buffers (b .store) (set (b .state) 1 k) (b .output)) notes
       (carrying edition1 (length (b .output)) (Program.ifTest t f) (machineIn input b))
   unfolding carrying moving quietly goingTo stateIn
   tests holds notes k t f e w =
@@ -168,7 +168,7 @@ module _ (p : Program) (input : List ℕ) (b : Buffers) (s : Standing p input b)
   has-all = record { memory = refl; input-left = refl }
 
   pub reads : (takes : Bool) (store state : List ℕ) (q : Part) (f : Branch) → Moves takes (b .store) store (b .state) state input q
-      → Moved input b (lent store (set state 1 (chosen takes f)) (b .output)) 0
+      → Moved input b (buffers store (set state 1 (chosen takes f)) (b .output)) 0
       (carrying edition1 (length (b .output)) (Program.read q f) (machineIn input b))
   unfolding carrying moving quietly goingTo withInput stateIn
   reads takes store state q f a =
@@ -188,7 +188,7 @@ module _ (p : Program) (input : List ℕ) (b : Buffers) (s : Standing p input b)
       }
 
   pub read-stops : (k : ℕ) (store state : List ℕ) (q : Part) (f : Branch) → Halts (b .store) store (b .state) state input k q
-      → Unmoved b (lent store state (b .output)) k (carrying edition1 (length (b .output)) (Program.read q f) (machineIn input b))
+      → Unmoved b (buffers store state (b .output)) k (carrying edition1 (length (b .output)) (Program.read q f) (machineIn input b))
   unfolding carrying
   read-stops k store state q f a =
       record { work = a .work f c has-all; same = λ i. record { store = a .same i; state = a .state-same i; output = b .output } }
@@ -197,7 +197,7 @@ module _ (p : Program) (input : List ℕ) (b : Buffers) (s : Standing p input b)
   pub writes : (r : Did) (state output : List ℕ) (next : ℕ) (xs : List Program.Element) → next ≡ getD (b .state) 1 0 + 1
       → PutBy r (b .state) state (b .output) output
       (λ m. stringIn edition1 (memoryIn (b .store) (b .state)) xs >>= λ v. shortened v >>= λ w. putting (length (b .output)) w m)
-      → Carries r input b (lent (b .store) (movedOn r state next) output)
+      → Carries r input b (buffers (b .store) (movedOn r state next) output)
       (carrying edition1 (length (b .output)) (Program.write xs) (machineIn input b))
   unfolding carrying moving quietly goingTo withOutput stateIn outputLeft
   writes (did.Done notes) state output next xs e a =
@@ -241,7 +241,7 @@ module _ (p : Program) (input : List ℕ) (b : Buffers) (s : Standing p input b)
   -- EXECUTE
   pub executes : (next k : ℕ) → next ≡ getD (b .state) 1 0 + 1 → getD (b .state) 2 0 < 16
       → Moved input b
-      (lent (b .store) (set (set (set (b .state) (5 + getD (b .state) 2 0) next) 2 (getD (b .state) 2 0 + 1)) 1 k) (b .output)) 0
+      (buffers (b .store) (set (set (set (b .state) (5 + getD (b .state) 2 0) next) 2 (getD (b .state) 2 0 + 1)) 1 k) (b .output)) 0
       (carrying edition1 (length (b .output)) (Program.execute k) (machineIn input b))
   unfolding carrying moving quietly goingTo withReturns stateIn
   executes next k e h =
@@ -253,7 +253,7 @@ module _ (p : Program) (input : List ℕ) (b : Buffers) (s : Standing p input b)
 
   -- RETURN
   pub returns-to : (state : List ℕ) (k : ℕ) → Popped (b .state) k state → 0 < getD (b .state) 2 0
-      → Moved input b (lent (b .store) (set state 1 k) (b .output)) 0
+      → Moved input b (buffers (b .store) (set state 1 k) (b .output)) 0
       (carrying edition1 (length (b .output)) Program.return (machineIn input b))
   unfolding carrying moving quietly stateIn
   returns-to state k a h =
@@ -268,6 +268,6 @@ module _ (p : Program) (input : List ℕ) (b : Buffers) (s : Standing p input b)
 
 -- what a statement's work leaves, with the state that move_on leaves
 pub carries-on : {asked r : Did} {state left : List ℕ} {k : ℕ} (input : List ℕ) (b : Buffers) (store output : List ℕ) (w : Work Done)
-    → MovesOn asked r state left k → Carries asked input b (lent store (movedOn asked state k) output) w
-    → Carries r input b (lent store left output) w
+    → MovesOn asked r state left k → Carries asked input b (buffers store (movedOn asked state k) output) w
+    → Carries r input b (buffers store left output) w
 carries-on input b store output w m h = rw (m .same, m .left-is) h

@@ -4,21 +4,23 @@ ghost use mathlib.Core.List.{List};
 ghost use mathlib.Core.Path.{_≡_};
 ghost use Prim.Native.Nat.{ℕ, _+_, _≤_, _<_};
 ghost use lib.ListN.{length, getD};
+ghost use Rattle.calls.specs.Calls.{buffers};
+ghost use Rattle.calls.specs.BufferLaws.{Good};
 ghost use Rattle.expressions.specs.Memory.{Ready};
 ghost use Rattle.expressions.specs.Values.{Spellable, Valuable};
 ghost use Rattle.language.specs.Program as Program;
 ghost use Rattle.machine.specs.Step.{chosen};
-ghost use Rattle.rows.specs.Holds.{PartHolds, TestHolds};
-ghost use Rattle.rows.specs.Meaning.{partMeaning, testMeaning, branchMeaning, itemsMeaning, elementsMeaning};
+ghost use Rattle.rows.specs.Holds.{PartHolds, IfHolds};
+ghost use Rattle.rows.specs.Meaning.{partMeaning, ifMeaning, branchMeaning, itemsMeaning, elementsMeaning};
 ghost use Rattle.statements.specs.Valued.{Writable};
-ghost use Rattle.carry.specs.Carrying.{lent, Does, MovesOn};
+ghost use Rattle.carry.specs.Carrying.{Does, MovesOn, TakesBranch};
 use base::LONGEST;
 use calls::STATE_SIZE;
 use expressions::Truth;
 use rows::Branch;
+use rows::If;
 use rows::Part;
 use rows::Stretch;
-use rows::Test;
 use statements::Did;
 use statements::Went;
 
@@ -54,7 +56,7 @@ pub fn set_number(
     requires { ⌜ Valuable (now table) (now store) (now state) s ⌝ }
     requires { ⌜ (place < 32) × (next ≡ getD (now state) 1 0 + 1) ⌝ }
     ensures { λ r. ⌜ ((input output : List ℕ) → Does (Program.setNumber place (itemsMeaning (now (table .entry)) s)) r
-        (lent (now (store .entry)) (now (state .entry)) output) (lent (now (store .entry)) (now (state .exit)) output) input) ⌝ }
+        (buffers (now (store .entry)) (now (state .entry)) output) (buffers (now (store .entry)) (now (state .exit)) output) input) ⌝ }
 {
     let did = statements::valued::assign(table, store, state, place, s);
     move_on(state, next, did)
@@ -74,7 +76,7 @@ pub fn set_string(
     requires { ⌜ Spellable (now table) (now store) (now state) s (now scratch) (now out) ⌝ }
     requires { ⌜ PartHolds p × (next ≡ getD (now state) 1 0 + 1) ⌝ }
     ensures { λ r. ⌜ ((input output : List ℕ) → Does (Program.setString (partMeaning p) (elementsMeaning (now (table .entry)) s)) r
-        (lent (now (store .entry)) (now (state .entry)) output) (lent (now (store .exit)) (now (state .exit)) output) input) ⌝ }
+        (buffers (now (store .entry)) (now (state .entry)) output) (buffers (now (store .exit)) (now (state .exit)) output) input) ⌝ }
     ensures { λ _. ⌜ (length (now (scratch .exit)) ≡ 1024) × (length (now (out .exit)) ≡ 1024) ⌝ }
 {
     let did = statements::valued::set_string(table, store, state, p, s, scratch, out);
@@ -84,7 +86,7 @@ pub fn set_string(
 // GOTO, LABEL and ROUTINE: on to a step
 pub fn go_to(state: &mut [u64; STATE_SIZE], k: usize) -> Did
     ensures { λ r. ⌜ ((store input output : List ℕ) → Does (Program.goto k) r
-        (lent store (now (state .entry)) output) (lent store (now (state .exit)) output) input) ⌝ }
+        (buffers store (now (state .entry)) output) (buffers store (now (state .exit)) output) input) ⌝ }
 {
     states::go_to(state, k);
     Did::Done(0)
@@ -93,26 +95,54 @@ pub fn go_to(state: &mut [u64; STATE_SIZE], k: usize) -> Did
 // END and EXIT
 pub fn finish(state: &mut [u64; STATE_SIZE]) -> Did
     ensures { λ r. ⌜ ((store input output : List ℕ) → Does Program.finish r
-        (lent store (now (state .entry)) output) (lent store (now (state .exit)) output) input) ⌝ }
+        (buffers store (now (state .entry)) output) (buffers store (now (state .exit)) output) input) ⌝ }
 {
     states::finish(state);
     Did::Done(0)
 }
 
-// IF
-pub fn test(store: &[u8], state: &mut [u64; STATE_SIZE], t: Test, b: Branch) -> Did
-    requires { ⌜ Ready (now store) (now state) ⌝ }
-    requires { ⌜ TestHolds t ⌝ }
-    ensures { λ r. ⌜ ((input output : List ℕ) → Does (Program.ifTest (testMeaning t) (branchMeaning b)) r
-        (lent (now (store .entry)) (now (state .entry)) output) (lent (now (store .entry)) (now (state .exit)) output) input) ⌝ }
+// takes the branch that a test asks for; what stops the test changes nothing
+fn take_branch(state: &mut [u64; STATE_SIZE], t: Truth, b: Branch) -> Did
+    ensures { λ r. ⌜ TakesBranch t (branchMeaning b) r (now (state .entry)) (now (state .exit)) ⌝ }
 {
-    match expressions::test_value(store, state, t) {
+    match t {
         Truth::Is { holds, notes } => {
             states::go_to(state, choose(holds, b));
             Did::Done(notes)
         }
         Truth::Stops(k) => Did::Stops(k),
     }
+}
+
+// IF NULL
+pub fn if_null(store: &[u8], state: &mut [u64; STATE_SIZE], place: usize, b: Branch) -> Did
+    requires { ⌜ Good (now store) × (place < 32) ⌝ }
+    ensures { λ r. ⌜ ((input output : List ℕ) → Does (Program.ifTest (Program.isNull place) (branchMeaning b)) r
+        (buffers (now (store .entry)) (now (state .entry)) output) (buffers (now (store .entry)) (now (state .exit)) output) input) ⌝ }
+{
+    take_branch(state, expressions::is_null(store, place), b)
+}
+
+// IF NUMERIC
+pub fn if_numeric(store: &[u8], state: &mut [u64; STATE_SIZE], p: Part, b: Branch) -> Did
+    requires { ⌜ Ready (now store) (now state) ⌝ }
+    requires { ⌜ PartHolds p ⌝ }
+    ensures { λ r. ⌜ ((input output : List ℕ) → Does (Program.ifTest (Program.isNumeric (partMeaning p)) (branchMeaning b)) r
+        (buffers (now (store .entry)) (now (state .entry)) output) (buffers (now (store .entry)) (now (state .exit)) output) input) ⌝ }
+{
+    let t = expressions::is_numeric(store, state, p);
+    take_branch(state, t, b)
+}
+
+// IF with two operands and a sign
+pub fn if_compares(store: &[u8], state: &mut [u64; STATE_SIZE], x: If, b: Branch) -> Did
+    requires { ⌜ Ready (now store) (now state) ⌝ }
+    requires { ⌜ IfHolds x ⌝ }
+    ensures { λ r. ⌜ ((input output : List ℕ) → Does (Program.ifTest (ifMeaning x) (branchMeaning b)) r
+        (buffers (now (store .entry)) (now (state .entry)) output) (buffers (now (store .entry)) (now (state .exit)) output) input) ⌝ }
+{
+    let t = expressions::compares(store, state, x);
+    take_branch(state, t, b)
 }
 
 // READ
@@ -126,7 +156,7 @@ pub fn read(
     requires { ⌜ Ready (now store) (now state) ⌝ }
     requires { ⌜ PartHolds p × (getD (now state) 3 0 ≤ length (now input)) ⌝ }
     ensures { λ r. ⌜ ((output : List ℕ) → Does (Program.read (partMeaning p) (branchMeaning b)) r
-        (lent (now (store .entry)) (now (state .entry)) output) (lent (now (store .exit)) (now (state .exit)) output) (now (input .entry))) ⌝ }
+        (buffers (now (store .entry)) (now (state .entry)) output) (buffers (now (store .exit)) (now (state .exit)) output) (now (input .entry))) ⌝ }
 {
     match statements::reading::read_record(store, state, input, p) {
         Went::Succeeds => {
@@ -155,7 +185,7 @@ pub fn write(
     requires { ⌜ Spellable (now table) (now store) (now state) s (now scratch) (now out) ⌝ }
     requires { ⌜ Writable (now state) (now output) × (next ≡ getD (now state) 1 0 + 1) ⌝ }
     ensures { λ r. ⌜ ((input : List ℕ) → Does (Program.write (elementsMeaning (now (table .entry)) s)) r
-        (lent (now (store .entry)) (now (state .entry)) (now (output .entry))) (lent (now (store .entry)) (now (state .exit)) (now (output .exit))) input) ⌝ }
+        (buffers (now (store .entry)) (now (state .entry)) (now (output .entry))) (buffers (now (store .entry)) (now (state .exit)) (now (output .exit))) input) ⌝ }
     ensures { λ _. ⌜ (length (now (scratch .exit)) ≡ 1024) × (length (now (out .exit)) ≡ 1024) ⌝ }
 {
     let did = statements::valued::write_record(table, store, state, s, output, scratch, out);
@@ -166,7 +196,7 @@ pub fn write(
 pub fn execute(state: &mut [u64; STATE_SIZE], next: usize, k: usize) -> Did
     requires { ⌜ (getD (now state) 2 0 < 16) × (next ≡ getD (now state) 1 0 + 1) ⌝ }
     ensures { λ r. ⌜ ((store input output : List ℕ) → Does (Program.execute k) r
-        (lent store (now (state .entry)) output) (lent store (now (state .exit)) output) input) ⌝ }
+        (buffers store (now (state .entry)) output) (buffers store (now (state .exit)) output) input) ⌝ }
 {
     states::push_return(state, next);
     states::go_to(state, k);
@@ -177,7 +207,7 @@ pub fn execute(state: &mut [u64; STATE_SIZE], next: usize, k: usize) -> Did
 pub fn return_to(state: &mut [u64; STATE_SIZE]) -> Did
     requires { ⌜ (0 < getD (now state) 2 0) × (getD (now state) 2 0 ≤ 16) ⌝ }
     ensures { λ r. ⌜ ((store input output : List ℕ) → Does Program.return r
-        (lent store (now (state .entry)) output) (lent store (now (state .exit)) output) input) ⌝ }
+        (buffers store (now (state .entry)) output) (buffers store (now (state .exit)) output) input) ⌝ }
 {
     let k = states::pop_return(state);
     states::go_to(state, k);

@@ -343,15 +343,18 @@ unfolding
     Rattle.calls.specs.Calls.stepCall
     Rattle.calls.specs.Calls.buffersAfter
     Rattle.calls.specs.Calls.outcomeNumber
+    Rattle.calls.specs.Calls.resultNumbers
+    Rattle.calls.specs.Calls.returned
     Rattle.calls.specs.Calls.runEnded
     Rattle.calls.specs.Calls.withStep
     Rattle.calls.specs.Calls.runBehind
     Rattle.calls.specs.Calls.runCall
     Rattle.calls.specs.Demands.LeftBy
+    Rattle.calls.specs.Demands.IsFiller
+    Rattle.calls.specs.Demands.stepsTried
     Rattle.calls.specs.Demands.ListClaim
-    Rattle.calls.specs.Demands.HoldsProgram
-    Rattle.calls.specs.Demands.startedWith
-    Rattle.calls.specs.Demands.Demand3
+    Rattle.calls.specs.Demands.AllRefused
+    Rattle.calls.specs.Demands.Linked
     Rattle.calls.specs.Numerals.inBytes
     Rattle.calls.specs.Numerals.numberAt
     Rattle.calls.specs.Numerals.bias
@@ -375,6 +378,7 @@ unfolding
     Rattle.calls.specs.Rules.isProgram
     Rattle.calls.specs.Rules.keepsRules
     Rattle.calls.specs.Splices.splice
+    Rattle.calls.specs.StartLaws.startedWith
     Rattle.calls.specs.Strigol.keptDeck
     Rattle.calls.specs.Strigol.keptInput
     Rattle.calls.specs.Strigol.lentOutput

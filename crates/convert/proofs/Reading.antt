@@ -1,13 +1,13 @@
 -- Signs, digits and their value, read from the front of a string. Assumes nothing.
-use mathlib.Core.Bool.{Bool, true, false, cond, not, _&&_, _||_, or-false, and-true, and-eq-true-iff}
+use mathlib.Core.Bool.{Bool, true, false, cond, not, _&&_, _||_, and-true, and-eq-true-iff}
 use mathlib.Core.List.{List, [], _∷_}
 use mathlib.Core.Path.{_≡_, refl, sym, ap, _∙_}
 use Prim.Native.Nat.{ℕ, zero, suc, _+_, _*_, _-_, _≤_, _<_}
 use native.Mathlib.Omega.{arith}
-use lib.Dec.{leb, ltb, eqb, leb·suc-suc}
+use lib.Dec.{ltb, eqb, leb·suc-suc}
 use lib.IntN.{pos, negℤ, natAbs}
 use lib.ListN.{length, drop, getD, drop-of-length-le}
-use borrow.Author.Tests.{ltb-true, le-leb, lt-leb, eq-eqb, ne-eqb, le-ltb, lt-ltb}
+use borrow.Author.Tests.{ltb-true, eq-eqb, ne-eqb, le-ltb, lt-ltb}
 use Rattle.base.specs.Choice.{test-cases, cond-cases}
 use Rattle.base.specs.Edition.{edition1}
 use Rattle.base.specs.ListLaws.{drop-next}
@@ -20,14 +20,6 @@ use Rattle.convert.specs.Numbers.{limit, signLength}
 use Rattle.convert.proofs.Numbers.{negative-size, held-in, held-out}
 
 -- ---- one byte
-
-pub kind-low : (b : ℕ) → b < 48 → isDigitOrBlank b ≡ eqb b 32
-unfolding isDigitOrBlank
-kind-low b h = rw (lt-leb 48 b h)
-
-pub kind-high : (b : ℕ) → 48 ≤ b → isDigitOrBlank b ≡ leb b 57
-unfolding isDigitOrBlank
-kind-high b h = rw (le-leb 48 b h, ne-eqb b 32 (λ e. omega arith)) (or-false (leb b 57))
 
 pub digit-low : (b : ℕ) → b < 48 → digitOf b ≡ 0
 unfolding digitOf

@@ -7,12 +7,13 @@ ghost use lib.IntN.{pos, negℤ, natAbs};
 ghost use lib.ListN.{length, drop, replicate};
 ghost use Rattle.base.specs.Edition.{edition1};
 ghost use Rattle.machine.specs.Expressions.{compared};
-ghost use Rattle.values.specs.Conversion.{isDigitOrBlank, digitOf, decimal, digits, isNumeric, numberOf, signOf};
+ghost use Rattle.values.specs.Conversion.{digitOf, decimal, digits, isNumeric, numberOf, signOf};
 ghost use Rattle.values.specs.Numbers.{isNegative, sum, difference, product, quotient};
 ghost use Rattle.values.specs.Numbers as Numbers;
 ghost use Rattle.convert.specs.Numbers.{limit, InRange, BothInRange, Gives, Answers, signLength, Capped, comparison};
 ghost use Rattle.convert.specs.Text.{longest, Stored, filledText, Room, Writable, Written};
 use base::LONGEST;
+use classes::is_digit_or_blank;
 
 // numbers run from -LIMIT to LIMIT
 pub const LIMIT: u64 = 8_388_607;
@@ -156,12 +157,6 @@ fn sign_length(s: &[u8]) -> usize
     if first == b'-' { 1 } else { 0 }
 }
 
-fn is_digit_or_blank(b: u8) -> bool
-    ensures { λ r. ⌜ r ≡ isDigitOrBlank b ⌝ }
-{
-    if b < b'0' { b == b' ' } else { b <= b'9' }
-}
-
 pub fn is_numeric(s: &[u8]) -> bool
     ensures { λ r. ⌜ r ≡ isNumeric (now (s .entry)) ⌝ }
 {
@@ -236,8 +231,8 @@ fn digit_count(v: u64) -> usize
 }
 
 // the digits of v from at on: the last one behind those of the quotient by ten; where they end
-fn put_digits(v: u64, at: usize, out: &mut [u8; LONGEST]) -> usize
-    requires { ⌜ at + length (digits v) ≤ longest ⌝ }
+pub fn put_digits(v: u64, at: usize, out: &mut [u8]) -> usize
+    requires { ⌜ at + length (digits v) ≤ length (now out) ⌝ }
     ensures { λ r. ⌜ Stored (now (out .entry)) (now (out .exit)) at (digits v) r ⌝ }
 {
     if v < 10 {

@@ -10,12 +10,13 @@ ghost use Rattle.calls.specs.BufferLaws.{Good};
 ghost use Rattle.cells.specs.Contracts.{stringOf};
 ghost use Rattle.convert.specs.Numbers.{InRange, BothInRange, Gives, Answers, worked};
 ghost use Rattle.convert.specs.Text.{Writable};
+ghost use Rattle.language.specs.Program.{isNull, isNumeric};
 ghost use Rattle.machine.specs.Expressions as Expressions;
 ghost use Rattle.machine.specs.Expressions.{lengthIn, partIn, operandIn, itemIn, numericIn, elementIn, stringIn, testIn};
 ghost use Rattle.machine.specs.State.{Memory, numberAt};
-ghost use Rattle.rows.specs.Holds.{LengthHolds, PartHolds, OperandHolds, TestHolds};
+ghost use Rattle.rows.specs.Holds.{LengthHolds, PartHolds, OperandHolds, IfHolds};
 ghost use Rattle.rows.specs.Meaning.{lengthMeaning, partMeaning, operandMeaning, operatorMeaning, signMeaning, itemMeaning, itemsMeaning};
-ghost use Rattle.rows.specs.Meaning.{elementMeaning, elementsMeaning, testMeaning};
+ghost use Rattle.rows.specs.Meaning.{elementMeaning, elementsMeaning, ifMeaning};
 ghost use Rattle.values.specs.Conversion.{substring, textOf};
 ghost use Rattle.values.specs.Work.{Work, done, noting};
 ghost use Rattle.expressions.specs.Appending.{Appended, Addable, Adding};
@@ -32,8 +33,8 @@ use calls::WAITING;
 use convert::Int;
 use convert::Number;
 use convert::Text;
-use rows::Compares;
 use rows::Element;
+use rows::If;
 use rows::Item;
 use rows::Length;
 use rows::Operand;
@@ -41,7 +42,6 @@ use rows::Operator;
 use rows::Part;
 use rows::Sign;
 use rows::Stretch;
-use rows::Test;
 
 // the last of the kinds that operands have in a cell
 const LAST_OPERAND: usize = calls::cell_kinds::LAST_OPERAND as usize;
@@ -478,6 +478,18 @@ pub fn string_value(
     Text::Is { length, notes }
 }
 
+// whether the string of this place is null
+pub fn is_null(store: &[u8], place: usize) -> Truth
+    requires { ⌜ Good (now store) ⌝ }
+    requires { ⌜ place < 32 ⌝ }
+    ensures { λ r. ⌜ ((state : List ℕ) → truthWorked r ≡ testIn edition1 (memoryIn (now (store .entry)) state) (isNull place)) ⌝ }
+{
+    Truth::Is {
+        holds: cells::string_length(store, place) == 0,
+        notes: 0,
+    }
+}
+
 // whether the bytes between two ends are numeric
 fn numeric_between(store: &[u8], ends: Ends) -> Truth
     requires { ⌜ Lies (now store) ends ⌝ }
@@ -491,12 +503,20 @@ fn numeric_between(store: &[u8], ends: Ends) -> Truth
     }
 }
 
-// the comparison of two operands, the left one valued first
-fn compares_value(store: &[u8], state: &[u64; STATE_SIZE], x: Compares) -> Truth
+// whether a part of a string is numeric
+pub fn is_numeric(store: &[u8], state: &[u64; STATE_SIZE], p: Part) -> Truth
     requires { ⌜ Ready (now store) (now state) ⌝ }
-    requires { ⌜ OperandHolds (x .left) × OperandHolds (x .right) ⌝ }
-    ensures { λ r. ⌜ truthWorked r
-        ≡ testIn edition1 (memoryIn (now (store .entry)) (now (state .entry))) (testMeaning (Test.Compares x)) ⌝ }
+    requires { ⌜ PartHolds p ⌝ }
+    ensures { λ r. ⌜ truthWorked r ≡ testIn edition1 (memoryIn (now (store .entry)) (now (state .entry))) (isNumeric (partMeaning p)) ⌝ }
+{
+    numeric_between(store, part_ends(store, state, p))
+}
+
+// whether two operands compare as the sign says, the left one valued first
+pub fn compares(store: &[u8], state: &[u64; STATE_SIZE], x: If) -> Truth
+    requires { ⌜ Ready (now store) (now state) ⌝ }
+    requires { ⌜ IfHolds x ⌝ }
+    ensures { λ r. ⌜ truthWorked r ≡ testIn edition1 (memoryIn (now (store .entry)) (now (state .entry))) (ifMeaning x) ⌝ }
 {
     let left = x.left;
     let right = x.right;
@@ -510,21 +530,5 @@ fn compares_value(store: &[u8], state: &[u64; STATE_SIZE], x: Compares) -> Truth
             Number::Stops(k) => Truth::Stops(k),
         },
         Number::Stops(k) => Truth::Stops(k),
-    }
-}
-
-// what an IF asks
-pub fn test_value(store: &[u8], state: &[u64; STATE_SIZE], t: Test) -> Truth
-    requires { ⌜ Ready (now store) (now state) ⌝ }
-    requires { ⌜ TestHolds t ⌝ }
-    ensures { λ r. ⌜ truthWorked r ≡ testIn edition1 (memoryIn (now (store .entry)) (now (state .entry))) (testMeaning t) ⌝ }
-{
-    match t {
-        Test::IsNull(s) => Truth::Is {
-            holds: cells::string_length(store, s) == 0,
-            notes: 0,
-        },
-        Test::IsNumeric(p) => numeric_between(store, part_ends(store, state, p)),
-        Test::Compares(x) => compares_value(store, state, x),
     }
 }

@@ -5,6 +5,8 @@ pub mod steps;
 
 use branches::Row;
 use calls::step_kinds;
+use classes::is_letter;
+use classes::is_letter_or_digit;
 use met::Cursor;
 use met::KNOWN;
 use met::NAMES;
@@ -14,8 +16,6 @@ use met::tags::LABEL_DECLARED;
 use met::tags::ROUTINE;
 use met::tags::ROUTINE_DECLARED;
 use numeric::operands::skip;
-use packer::classes::is_letter;
-use packer::classes::is_letter_or_digit;
 use steps::if_form;
 use steps::input_form;
 use steps::numbers_form;

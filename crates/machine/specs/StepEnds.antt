@@ -4,7 +4,7 @@ use mathlib.Core.Bool.{Bool, true, false, cond, _||_}
 use mathlib.Core.List.{List, [], _∷_}
 use mathlib.Core.Logic.{_⊎_, inl, inr}
 use mathlib.Core.Path.{_≡_, refl, sym, _∙_, ap}
-use Prim.Native.Nat.{ℕ, _+_, _≤_}
+use Prim.Native.Nat.{ℕ, _+_, _≤_, _<_}
 use native.Mathlib.Omega.{arith}
 use lib.Dec.{leb, eqb}
 use lib.IntN.{natAbs}
@@ -15,7 +15,7 @@ use Rattle.base.specs.Lists.{isNil}
 use Rattle.language.specs.Program as Program
 use Rattle.language.specs.Program.{Part, whole, first, Branch, Statement, setNumber, setString, goto, finish, ifTest, read, write, execute}
 use Rattle.language.specs.Program.{return, Program}
-use Rattle.machine.specs.Ends.{both-done, done-value, stop-not-done}
+use Rattle.machine.specs.Ends.{Ends, ends, stops, both-done, done-value, stop-not-done}
 use Rattle.machine.specs.Expressions.{lengthIn, numericIn, testIn, stringIn}
 use Rattle.machine.specs.Scanning.{scanningIn}
 use Rattle.machine.specs.State.{finished, stopped, isRunning, State, goingTo, withReturns, withInput, withOutput, withStatus}
@@ -31,12 +31,12 @@ pub step-turned : (e : Edition) (p : Program) (lent : ℕ) (c : State) → eqb (
 unfolding step
 step-turned e p lent c q = rw q
 
--- a statement's work that stops changes the status alone, and gives no notes
+-- a statement's work that stops changes the status alone, and gives no notes and no split
 concluded-undone : (c : State) (w : Work Done) → ¬ (concluded c w .answer .number ≡ 0)
-    → (concluded c w .state ≡ withStatus stopped c) × (concluded c w .answer .notes ≡ 0)
+    → (concluded c w .state ≡ withStatus stopped c) × (concluded c w .answer .notes ≡ 0) × (concluded c w .answer .scanned ≡ noScan)
 unfolding concluded
 concluded-undone c (done d n) h = absurd (h refl)
-concluded-undone c (stop k) h = (refl, refl)
+concluded-undone c (stop k) h = (refl, refl, refl)
 
 -- a step that is not turned down and has a number stops the machine and changes nothing else
 pub stopped-step : (e : Edition) (p : Program) (lent : ℕ) (c : State) → turnedDownBy p c ≡ 0 → ¬ (step e p lent c .answer .number ≡ 0)
@@ -47,6 +47,19 @@ stopped-step e p lent c goes =
     (λ q h. concluded-undone c (carrying e lent (statementAt p (c .next)) c) h .0)
     (λ q h. absurd (h goes))
 
+-- a step that is not turned down, and whose work ends so, has no number below 17
+pub step-high : {P : Done → Type 0} (e : Edition) (p : Program) (lent : ℕ) (c : State) → turnedDownBy p c ≡ 0
+    → Ends P (carrying e lent (statementAt p (c .next)) c) → ¬ (step e p lent c .answer .number ≡ 0) → 16 < step e p lent c .answer .number
+unfolding step concluded
+step-high {P} e p lent c goes ended =
+    cond-cases (λ (s : Stepped). ¬ (s .answer .number ≡ 0) → 16 < s .answer .number) (eqb (turnedDownBy p c) 0)
+    (λ q. high (carrying e lent (statementAt p (c .next)) c) ended)
+    (λ q h. absurd (h goes))
+  where
+    high : (w : Work Done) → Ends P w → ¬ (concluded c w .answer .number ≡ 0) → 16 < concluded c w .answer .number
+    high (done d n) (ends k) h = absurd (h refl)
+    high (stop n) (stops low top) h = omega arith
+
 -- the machine turns down by 16 at most
 pub turned-down-small : (p : Program) (c : State) → turnedDownBy p c ≤ 16
 unfolding turnedDownBy
@@ -54,13 +67,16 @@ turned-down-small p c =
     cond-cases (λ n. n ≤ 16) (lacksReturn (statementAt p (c .next)) (c .returns)) (λ q. omega arith)
     (λ q. cond-cases (λ n. n ≤ 16) (isRunning (c .status)) (λ q. omega arith) (λ q. omega arith))
 
--- a step that is not done gives no notes
-pub undone-notes : (e : Edition) (p : Program) (lent : ℕ) (c : State) → ¬ (step e p lent c .answer .number ≡ 0)
-    → step e p lent c .answer .notes ≡ 0
+-- a step that is not done gives no notes and no split
+pub undone-answer : (e : Edition) (p : Program) (lent : ℕ) (c : State) → ¬ (step e p lent c .answer .number ≡ 0)
+    → (step e p lent c .answer .notes ≡ 0) × (step e p lent c .answer .scanned ≡ noScan)
 unfolding step
-undone-notes e p lent c =
-    cond-cases (λ (s : Stepped). ¬ (s .answer .number ≡ 0) → s .answer .notes ≡ 0) (eqb (turnedDownBy p c) 0)
-    (λ q h. concluded-undone c (carrying e lent (statementAt p (c .next)) c) h .1) (λ q h. refl)
+undone-answer e p lent c =
+    cond-cases (λ (s : Stepped). ¬ (s .answer .number ≡ 0) → (s .answer .notes ≡ 0) × (s .answer .scanned ≡ noScan)) (eqb (turnedDownBy p c) 0)
+    (λ q h.
+    let undone = concluded-undone c (carrying e lent (statementAt p (c .next)) c) h in
+    (undone .1, undone .2))
+    (λ q h. (refl, refl))
 
 -- a machine that doesn't turn its step down is running
 pub still-running : (p : Program) (c : State) → turnedDownBy p c ≡ 0 → ¬ (c .status ≡ stopped)

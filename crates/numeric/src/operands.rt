@@ -1,6 +1,7 @@
 // Operands: names, constants, LENGTH and NUMBER, each read as a cell of the table.
 // Assumes nothing.
 use calls::cell_kinds;
+use classes::is_digit;
 use met::BIAS;
 use met::Cursor;
 use met::KNOWN;
@@ -10,7 +11,6 @@ use met::number_place;
 use met::string_place;
 use met::tags::NUMBER;
 use met::tags::STRING;
-use packer::classes::is_digit;
 use words::begins_at;
 use words::byte_at;
 use words::constants::Constant;

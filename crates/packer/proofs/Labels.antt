@@ -8,7 +8,6 @@ use native.Mathlib.Nat.{lt-of-lt-of-le, min-le-left, one-le-pow, pow-le-pow-righ
 use native.Mathlib.Omega.{arith}
 use lib.ListN.{length, take, drop, getD, length-take}
 use lib.Seq.{drop-length}
-use borrow.Author.Tests.{eq-eqb, ne-eqb}
 use Rattle.base.specs.Choice.{test-cases}
 use Rattle.base.specs.ListLaws.{drop-next}
 use Rattle.base.specs.Lists.{keep}
@@ -17,20 +16,20 @@ use Rattle.cards.specs.Cards.{withoutBlanks}
 use Rattle.packer.specs.Keys.{keyOf}
 
 -- the key of the bytes from i on, one byte further to the left
-key-with : (b : ℕ) (bs : List ℕ) → (b ≡ 32 → ⊥) → keyOf (withoutBlanks (b ∷ bs)) ≡ 256 * keyOf (withoutBlanks bs) + b
-unfolding keyOf withoutBlanks keep isBlank
-key-with b bs differs = ap (λ t. keyOf (elim (not t) [ true ↦ b ∷ withoutBlanks bs | false ↦ withoutBlanks bs ])) (ne-eqb b 32 differs)
+key-with : (b : ℕ) (bs : List ℕ) → isBlank b ≡ false → keyOf (withoutBlanks (b ∷ bs)) ≡ 256 * keyOf (withoutBlanks bs) + b
+unfolding keyOf withoutBlanks keep
+key-with b bs other = ap (λ t. keyOf (elim (not t) [ true ↦ b ∷ withoutBlanks bs | false ↦ withoutBlanks bs ])) other
 
-key-without : (b : ℕ) (bs : List ℕ) → b ≡ 32 → keyOf (withoutBlanks (b ∷ bs)) ≡ keyOf (withoutBlanks bs)
-unfolding keyOf withoutBlanks keep isBlank
-key-without b bs same = ap (λ t. keyOf (elim (not t) [ true ↦ b ∷ withoutBlanks bs | false ↦ withoutBlanks bs ])) (eq-eqb b 32 same)
+key-without : (b : ℕ) (bs : List ℕ) → isBlank b ≡ true → keyOf (withoutBlanks (b ∷ bs)) ≡ keyOf (withoutBlanks bs)
+unfolding keyOf withoutBlanks keep
+key-without b bs blank = ap (λ t. keyOf (elim (not t) [ true ↦ b ∷ withoutBlanks bs | false ↦ withoutBlanks bs ])) blank
 
 module _ (xs : List ℕ) (i : ℕ) (h : i < length xs) where
-  pub key-kept : (getD xs i 0 ≡ 32 → ⊥) → keyOf (withoutBlanks (drop i xs)) ≡ 256 * keyOf (withoutBlanks (drop (i + 1) xs)) + getD xs i 0
-  key-kept differs = rw (drop-next xs i 0 h) (key-with _ _ differs)
+  pub key-kept : isBlank (getD xs i 0) ≡ false → keyOf (withoutBlanks (drop i xs)) ≡ 256 * keyOf (withoutBlanks (drop (i + 1) xs)) + getD xs i 0
+  key-kept other = rw (drop-next xs i 0 h) (key-with _ _ other)
 
-  pub key-dropped : getD xs i 0 ≡ 32 → keyOf (withoutBlanks (drop i xs)) ≡ keyOf (withoutBlanks (drop (i + 1) xs))
-  key-dropped same = rw (drop-next xs i 0 h) (key-without _ _ same)
+  pub key-dropped : isBlank (getD xs i 0) ≡ true → keyOf (withoutBlanks (drop i xs)) ≡ keyOf (withoutBlanks (drop (i + 1) xs))
+  key-dropped blank = rw (drop-next xs i 0 h) (key-without _ _ blank)
 
 -- no byte is added where blanks are dropped
 pub blanks-less : (xs : List ℕ) → length (withoutBlanks xs) ≤ length xs
@@ -72,26 +71,26 @@ module _ (bytes : List ℕ) where
     back : i - 1 + 1 ≡ i
     back = omega arith
 
-    pub keyed-with : (getD bytes (i - 1) 0 ≡ 32 → ⊥) → getD bytes (i - 1) 0 < 256 → Keyed bytes (i - 1) (256 * key + getD bytes (i - 1) 0)
-    keyed-with differs byte =
+    pub keyed-with : isBlank (getD bytes (i - 1) 0) ≡ false → getD bytes (i - 1) 0 < 256 → Keyed bytes (i - 1) (256 * key + getD bytes (i - 1) 0)
+    keyed-with other byte =
         record {
           inside = omega arith;
           short = k .short;
           is =
               ap (λ (n : ℕ). 256 * n + getD bytes (i - 1) 0) (k .is ∙ ap (λ (n : ℕ). keyOf (withoutBlanks (drop n bytes))) (sym back))
-              ∙ sym (key-kept bytes (i - 1) (omega arith) differs);
+              ∙ sym (key-kept bytes (i - 1) (omega arith) other);
           fits = let p = power in omega arith;
         }
 
-    pub keyed-without : getD bytes (i - 1) 0 ≡ 32 → Keyed bytes (i - 1) key
-    keyed-without same =
+    pub keyed-without : isBlank (getD bytes (i - 1) 0) ≡ true → Keyed bytes (i - 1) key
+    keyed-without blank =
         record {
           inside = omega arith;
           short = k .short;
           is =
               k .is
               ∙ ap (λ (n : ℕ). keyOf (withoutBlanks (drop n bytes))) (sym back)
-              ∙ sym (key-dropped bytes (i - 1) (omega arith) same);
+              ∙ sym (key-dropped bytes (i - 1) (omega arith) blank);
           fits = let p = power in omega arith;
         }
 

@@ -54,9 +54,9 @@ unfolding placeAfter
 after-doubled b = refl
 
 -- a byte outside literals counts unless it is a blank; every other byte counts
-pub kept-outside : (b : ℕ) → boolByte (not (eqb b 32)) ≡ keptAt outside b
-unfolding keptAt isDropped isBlank
-kept-outside b = test-cases (λ t. boolByte (not t) ≡ elim t [ true ↦ 0 | false ↦ 1 ]) (eqb b 32) (λ _. refl) (λ _. refl)
+kept-outside : (b : ℕ) → boolByte (not (isBlank b)) ≡ keptAt outside b
+unfolding keptAt isDropped
+kept-outside b = test-cases (λ t. boolByte (not t) ≡ elim t [ true ↦ 0 | false ↦ 1 ]) (isBlank b) (λ _. refl) (λ _. refl)
 
 pub kept-other : (p : Place) (b : ℕ) → (isOutside p && not (eqb b 34)) ≡ false → keptAt p b ≡ 1
 unfolding keptAt isDropped isBlank
@@ -82,15 +82,17 @@ outside-only doubled e = absurd (false≢true e)
 outside-only inside e = absurd (false≢true e)
 
 -- one byte more, outside literals and no quote
-pub steps-outside : (s : Packing) (b : ℕ) (flag : Bool) → flag ≡ isOutside (placeOf (s .place)) → (flag && not (eqb b 34)) ≡ true →
-    Steps s b (record { place = Outside; whole = s .whole; length = s .length + boolByte (not (eqb b 32)) })
-steps-outside s b flag e taken =
+pub steps-outside : (s : Packing) (b : ℕ) (flag blank : Bool) → flag ≡ isOutside (placeOf (s .place)) → (flag && not (eqb b 34)) ≡ true →
+    blank ≡ isBlank b → Steps s b (record { place = Outside; whole = s .whole; length = s .length + boolByte (not blank) })
+steps-outside s b flag blank e taken eb =
     let parts = and-eq-true-iff flag (not (eqb b 34)) .0 taken in
     let at : placeOf (s .place) ≡ outside = outside-only _ (sym e ∙ parts .0) in
     record {
       place = after-other outside b (eqb-false b 34 (not-true (eqb b 34) (parts .1))) ∙ ap (λ p. placeAfter p b) (sym at);
       whole = sym (and-true (s .whole)) ∙ ap (λ p. s .whole && staysWhole p b) (sym at);
-      length = ap (λ (n : ℕ). s .length + n) (kept-outside b ∙ ap (λ p. keptAt p b) (sym at));
+      length =
+          ap (λ (n : ℕ). s .length + n)
+          (ap (λ t. boolByte (not t)) eb ∙ kept-outside b ∙ ap (λ p. keptAt p b) (sym at));
     }
 
 -- one byte more, any other

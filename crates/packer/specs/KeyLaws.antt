@@ -68,12 +68,12 @@ module _ (f : ℕ → Bool) where
       (λ same _. ap f (eqb-true b x same) ∙ parts .0)
       (λ _ e. all-among b xs (parts .1) e)
 
-  all-more : (g : ℕ → Bool) → ((b : ℕ) → f b ≡ true → g b ≡ true) → (xs : List ℕ) → all f xs ≡ true → all g xs ≡ true
+  pub all-imply : (g : ℕ → Bool) → ((b : ℕ) → f b ≡ true → g b ≡ true) → (xs : List ℕ) → all f xs ≡ true → all g xs ≡ true
   unfolding all
-  all-more g h [] a = refl
-  all-more g h (x ∷ xs) a =
+  all-imply g h [] a = refl
+  all-imply g h (x ∷ xs) a =
       let parts = and-eq-true-iff (f x) (all f xs) .0 a in
-      ap₂ {C = Bool} _&&_ (h x (parts .0)) (all-more g h xs (parts .1))
+      ap₂ {C = Bool} _&&_ (h x (parts .0)) (all-imply g h xs (parts .1))
 
 name-byte : (b : ℕ) → isNameByte b ≡ true → (48 ≤ b) × (b ≤ 90)
 unfolding isNameByte isLetter isDigit
@@ -84,7 +84,7 @@ name-byte b =
 
 -- a name of letters and digits has no blank, and its key shows it
 pub name-bytes : (xs : List ℕ) → all isNameByte xs ≡ true → all isKeyByte xs ≡ true
-name-bytes = all-more isNameByte isKeyByte (λ b e. let range = name-byte b e in key-byte b (omega arith) (omega arith))
+name-bytes = all-imply isNameByte isKeyByte (λ b e. let range = name-byte b e in key-byte b (omega arith) (omega arith))
 
 pub name-whole : (xs : List ℕ) → all isNameByte xs ≡ true → withoutBlanks xs ≡ xs
 unfolding withoutBlanks keep all isBlank
@@ -126,4 +126,4 @@ sound-label line e =
     all-keep isKeyByte (λ b. not (isBlank b)) (take 8 (take 72 line))
     (all-take isKeyByte 8 (take 72 line)
     (all-take isKeyByte 72 line
-    (all-more (λ b. not (isRefused (classOf b))) isKeyByte data-byte line (and-eq-true-iff (leb (length line) 80) _ .0 e .1))))
+    (all-imply (λ b. not (isRefused (classOf b))) isKeyByte data-byte line (and-eq-true-iff (leb (length line) 80) _ .0 e .1))))

@@ -1,6 +1,5 @@
--- What the packer promises: the numbers of the classes (Classes), the ends of lines (Lines), keys of names (Keys), packing from a place on
--- (Places, Packs), joining lines from the left (Joins), and an entry read from the deck (Gathering); with laws for callers (KeyLaws, LineLaws).
-pub mod Classes
+-- What the packer promises: the ends of lines (Lines), keys of names (Keys), packing from a place on (Places, Packs), joining lines from the
+-- left (Joins), and an entry read from the deck (Gathering); with laws for callers (KeyLaws, LineLaws).
 pub mod Gathering
 pub mod Joins
 pub mod KeyLaws

@@ -1,6 +1,7 @@
 // Names as numbers of 64 bits: the key of up to 8 bytes.
 // Assumes nothing.
 use crate::line;
+use classes::is_blank;
 ghost use mathlib.Core.Path.{_≡_};
 ghost use Prim.Native.Nat.{_<_};
 ghost use lib.ListN.{take};
@@ -24,7 +25,7 @@ pub fn key_of(name: &[u8]) -> u64
     while 0 < i {
         i -= 1;
         let b = bytes[i];
-        if b != b' ' {
+        if !is_blank(b) {
             key = 256 * key + wide(b);
         }
     }

@@ -1,11 +1,11 @@
 // From a deck's bytes to its statements, one after the other: a comment or blank line, or a statement packed from all its lines.
 // Assumes nothing.
-pub mod classes;
 pub mod keys;
 pub mod line;
 pub mod packed;
 
 use base::DECK;
+use classes::is_blank;
 use packed::Packing;
 use packed::Place;
 ghost use mathlib.Core.Path.{_≡_};
@@ -39,7 +39,7 @@ pub struct Gathered {
 fn joins(b: u8) -> bool
     ensures { λ r. ⌜ r ≡ joins b ⌝ }
 {
-    (b != b' ') & (b != b'/')
+    !is_blank(b) & (b != b'/')
 }
 
 // nothing of a statement yet, whose first line starts at from

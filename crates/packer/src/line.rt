@@ -1,23 +1,59 @@
 // One line of a deck: where it ends, whether it is sound, a comment or blank, and its parts by columns.
 // Assumes nothing.
-use crate::classes;
 use base::LINE;
+use classes::is_blank;
+use classes::is_refused;
+ghost use mathlib.Core.Bool.{not};
 ghost use mathlib.Core.Path.{_≡_};
 ghost use Prim.Native.Nat.{_<_};
 ghost use lib.ListN.{length, take, drop, getD};
 ghost use Rattle.base.specs.Edition.{edition1};
+ghost use Rattle.base.specs.Lists.{all};
+ghost use Rattle.cards.specs.Bytes.{between, classOf, isRefused};
 ghost use Rattle.cards.specs.Cards.{column9, isBlankLine, isComment, soundLine, textOf};
 ghost use Rattle.packer.specs.Lines.{Ends, isSkipped};
 
 // the columns that count
 const COLUMNS: usize = 72;
 
-// where the line that starts at from ends: at its byte 10, or at the end of the deck
+// where the line that starts at from ends: at its byte 10, or at the end of the deck; an empty line is told by its first byte
 pub fn line_end(deck: &[u8], from: usize) -> usize
     requires { ⌜ from < length (now deck) ⌝ }
     ensures { λ r. ⌜ Ends (now (deck .entry)) from r ⌝ }
 {
+    if deck[from] == b'\n' {
+        return from;
+    }
     search::next_byte(deck, b'\n', from)
+}
+
+// Whether all bytes are from 32 to 126: a first look, before the class of each is asked for. It leaves no turn out, so that it becomes
+// vector code.
+fn in_range(line: &[u8]) -> bool
+    ensures { λ r. ⌜ r ≡ all (between 32 126) (now (line .entry)) ⌝ }
+{
+    let mut within = true;
+    let mut i = 0;
+    while i < line.len() {
+        let b = line[i];
+        within = within & ((32 <= b) & (b <= 126));
+        i += 1;
+    }
+    within
+}
+
+// whether no byte is refused, by the class of each
+fn none_refused(line: &[u8]) -> bool
+    ensures { λ r. ⌜ r ≡ all (λ b. not (isRefused (classOf b))) (now (line .entry)) ⌝ }
+{
+    let mut i = 0;
+    while i < line.len() {
+        if is_refused(line[i]) {
+            return false;
+        }
+        i += 1;
+    }
+    true
 }
 
 // whether 3 finds the line sound: at most 80 bytes, none of them refused
@@ -27,13 +63,10 @@ pub fn sound_line(line: &[u8]) -> bool
     if LINE < line.len() {
         return false;
     }
-    let mut bad = false;
-    let mut i = 0;
-    while i < line.len() {
-        bad = bad | classes::is_refused(line[i]);
-        i += 1;
+    if in_range(line) {
+        return true;
     }
-    !bad
+    none_refused(line)
 }
 
 // the byte at a place, or a blank behind the end
@@ -77,7 +110,7 @@ pub fn is_blank_line(line: &[u8]) -> bool
     let bytes = front(line, COLUMNS);
     let mut i = 0;
     while i < bytes.len() {
-        if bytes[i] != b' ' {
+        if !is_blank(bytes[i]) {
             return false;
         }
         i += 1;

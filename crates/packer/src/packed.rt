@@ -1,6 +1,7 @@
 // Packing: the bytes of a statement without the blanks outside literals.
 // Assumes nothing.
 use base::DECK;
+use classes::is_blank;
 ghost use mathlib.Core.Path.{_≡_};
 ghost use Prim.Native.Nat.{_<_};
 ghost use Rattle.cards.specs.Packing.{placeAfter};
@@ -79,7 +80,7 @@ fn step(s: Packing, b: u8) -> Packing
         return Packing {
             place: Place::Outside,
             whole: s.whole,
-            length: s.length + (b != b' ') as usize,
+            length: s.length + !is_blank(b) as usize,
         };
     }
     Packing {

@@ -1,21 +1,22 @@
 -- What the deck call does: document 01's number, card and table. Assumes nothing.
-use mathlib.Core.Bool.{true, false, cond}
-use mathlib.Core.List.{List, _++_, map}
-use mathlib.Core.Path.{_≡_, refl, sym, ap, ap₂, subst, _∙_}
+use mathlib.Core.List.{List}
+use mathlib.Core.Path.{_≡_, refl, sym, ap, _∙_}
 use Prim.Native.Nat.{ℕ, _+_, _≤_, _<_}
 use native.Mathlib.Omega.{arith}
-use lib.ListN.{length, take, drop, getD, replicate, length-map}
+use lib.ListN.{length, drop, getD, replicate, length-map}
 use borrow.Author.Tests.{lt-ltb, le-ltb}
 use Rattle.base.specs.Edition.{edition1}
 use Rattle.base.specs.ListLaws.{length-stretch}
 use Rattle.calls.specs.Accepted.{accepted-isProgram}
 use Rattle.calls.specs.Calls.{readCall, readJudged, longestDeck}
+use Rattle.calls.specs.PromiseLaws.{read-promise}
+use Rattle.calls.specs.Promises.{ReadPromise, readBack}
 use Rattle.calls.specs.Splices.{splice}
-use Rattle.calls.specs.Table.{header, image, allElements, allItems, allLiterals}
+use Rattle.calls.specs.Table.{header}
 use Rattle.calls.specs.TableLaws.{in-range}
 use Rattle.cards.specs.Cards.{entries}
 use Rattle.cells.specs.CellLaws.{zeros-front}
-use Rattle.judgement.specs.Deck.{Judgement, accepted, judge, programOf, stepsFrom}
+use Rattle.judgement.specs.Deck.{judge, programOf, stepsFrom}
 use Rattle.judgement.specs.Known as Known
 use Rattle.judgement.specs.Known.{Known}
 use Rattle.judgement.specs.Placed.Again.{passed-again}
@@ -23,7 +24,7 @@ use Rattle.met.specs.Entries.{nameOf}
 use Rattle.met.specs.Holding.{Arrays, Holds}
 use Rattle.met.specs.Known.{stringKeys, numberKeys}
 use Rattle.reader.specs.Judging.{Accepted, DeckJudged}
-use Rattle.reader.specs.Steps.{Whole, withKnown, StepsWritten}
+use Rattle.reader.specs.Steps.{Whole}
 use Rattle.reader.specs.StepsLaws.{DeckWritten}
 use Rattle.reader.specs.Writing.{withAllSteps, withHeader, image-written}
 use Rattle.reader.specs.declared.judge.Verdict.{Verdict}
@@ -40,12 +41,6 @@ pub record DeckRead (deck t : List ℕ) (r : Verdict) (t′ : List ℕ) : Type 0
   pub card : r .card ≡ readJudged edition1 t (judge edition1 deck) .card
   pub table : t′ ≡ readJudged edition1 t (judge edition1 deck) .table
   pub few : r .card ≤ length deck + 1
-
--- the deck call's number, card and table
-pub record ReadWith (deck table : List ℕ) (number card : ℕ) (left : List ℕ) : Type 0 where
-  pub number-right : number ≡ readCall edition1 deck table .number
-  pub card-right : card ≡ readCall edition1 deck table .card
-  pub table-right : left ≡ readCall edition1 deck table .table
 
 -- the counts of strings and numbers
 module _ {a : Arrays} {taken : ℕ} {k : Known} (h : Holds a taken k) where
@@ -124,23 +119,18 @@ module _ {deck t : List ℕ} {v : Verdict} {a : Arrays} (small : length deck ≤
 
 -- the call by the sizes of deck and table
 module _ (deck table : List ℕ) where
-  pub long-deck : 32_768 < length deck → ReadWith deck table 1 0 table
+  pub long-deck : 32_768 < length deck → ReadPromise edition1 deck table (readBack 1 0 table)
   unfolding readCall longestDeck
-  long-deck h =
-      let is = lt-ltb 32768 (length deck) h in
-      record { number-right = rw is; card-right = rw is; table-right = rw is }
+  long-deck h = read-promise (rw (lt-ltb 32768 (length deck) h))
 
-  pub small-table : length deck ≤ 32_768 → length table < 28_672 → ReadWith deck table 2 0 table
+  pub small-table : length deck ≤ 32_768 → length table < 28_672 → ReadPromise edition1 deck table (readBack 2 0 table)
   unfolding readCall longestDeck edition1
-  small-table h g =
-      let is = le-ltb 32768 (length deck) h in
-      let too = lt-ltb (length table) 28672 g in
-      record { number-right = rw (is, too); card-right = rw (is, too); table-right = rw (is, too) }
+  small-table h g = read-promise (rw (le-ltb 32768 (length deck) h, lt-ltb (length table) 28672 g))
 
   pub read-with : {v : Verdict} {t′ : List ℕ} {card : ℕ} → length deck ≤ 32_768 → 28_672 ≤ length table → DeckRead deck table v t′ → card ≡ v .card
-      → ReadWith deck table (v .number) card t′
+      → ReadPromise edition1 deck table (readBack (v .number) card t′)
   unfolding readCall longestDeck edition1
   read-with h g r c =
-      let is = le-ltb 32768 (length deck) h in
-      let too = le-ltb (length table) 28672 g in
-      record { number-right = r .number ∙ sym (rw (is, too)); card-right = c ∙ r .card ∙ sym (rw (is, too)); table-right = r .table ∙ sym (rw (is, too)) }
+      let judged = readJudged edition1 table (judge edition1 deck) in
+      let called : judged ≡ readCall edition1 deck table = rw (le-ltb 32768 (length deck) h, le-ltb (length table) 28672 g) in
+      read-promise ((λ i. readBack (r .number i) ((c ∙ r .card) i) (r .table i)) ∙ called)

@@ -18,9 +18,11 @@ use table::put_header;
 ghost use mathlib.Core.Path.{_≡_};
 ghost use Prim.Native.Nat.{_≤_};
 ghost use lib.ListN.{length};
+ghost use Rattle.base.specs.Edition.{edition1};
+ghost use Rattle.calls.specs.Promises.{ReadPromise, readBack};
 ghost use Rattle.reader.specs.Judging.{Lent};
 ghost use Rattle.reader.specs.Steps.{Whole};
-ghost use Rattle.reader.specs.Reading.{TableWritten, DeckRead, ReadWith};
+ghost use Rattle.reader.specs.Reading.{TableWritten, DeckRead};
 
 // writes the steps of an accepted deck and its header
 fn write_table(
@@ -86,7 +88,7 @@ fn read_deck(deck: &[u8], table: &mut [u8]) -> Verdict
 // The deck call: 0 with the deck's program in the table; or a number and its card, the table zeroed, by 1 and 2 left as it was.
 #[no_mangle]
 pub extern "C" fn strigol_read(deck: &[u8], table: &mut [u8], card: &mut u32) -> u32
-    ensures { λ r. ⌜ ReadWith (now (deck .entry)) (now (table .entry)) r (now (card .exit)) (now (table .exit)) ⌝ }
+    ensures { λ r. ⌜ ReadPromise edition1 (now (deck .entry)) (now (table .entry)) (readBack r (now (card .exit)) (now (table .exit))) ⌝ }
 {
     *card = 0;
     if DECK < deck.len() {

@@ -1,46 +1,26 @@
 -- What a row of the steps stands for, kind by kind. Assumes nothing.
 use mathlib.Core.List.{List}
+use mathlib.Core.Logic.{_⊎_, ⊎-elim}
 use mathlib.Core.Path.{_≡_, refl, sym, _∙_, ap, ap₂}
 use Prim.Native.Nat.{ℕ, _+_, _%_, _/_, _≤_, _<_}
-use native.Mathlib.Omega.{arith}
 use borrow.Author.Tests.{eq-eqb, ne-eqb, le-leb, lt-leb}
 use Rattle.language.specs.Program as Program
 use Rattle.calls.specs.RowLaws.{return-row}
 use Rattle.calls.specs.Table.{Row}
 use Rattle.calls.specs.TableReading.{partOfCell, operandOfCell, comparisonOf, branchOf, testOf, directionOf, statementOfRow}
 use Rattle.calls.specs.TableReading.{rangeMore, elementsOfRow, patternOfRow, replacementOfRow}
-use Rattle.convert.specs.Numbers.{comparison}
-use Rattle.convert.specs.declared.Comparison.{Comparison}
-use Rattle.rows.specs.Meaning.{partMeaning, operandMeaning, testMeaning, branchMeaning, directionMeaning, patternsMeaning}
-use Rattle.rows.specs.Reading.{StretchRead, ReplacementRead, ScanRead, StatementRead}
+use Rattle.rows.specs.Meaning.{partMeaning, branchMeaning, directionMeaning, patternsMeaning}
+use Rattle.rows.specs.Reading.{StretchRead, IfRead, ReplacementRead, ScanRead, StatementRead}
 use Rattle.rows.specs.declared.Part.{Part}
-use Rattle.rows.specs.declared.Operand.{Operand}
 use Rattle.rows.specs.declared.Branch.{Branch}
 use Rattle.rows.specs.declared.Stretch.{Stretch}
-use Rattle.rows.specs.declared.Test as Test
+use Rattle.rows.specs.declared.If.{If}
 use Rattle.rows.specs.declared.Direction.the-variants.{Forward, Backward}
 use Rattle.rows.specs.declared.Replacement.the-variants.{Nothing, By}
 use Rattle.rows.specs.declared.Scan as Scan
 use Rattle.rows.specs.declared.Statement.the-variants as statements
 
 module _ (r : Row) where
-  -- what an IF asks
-  pub null-test : r .kind ≡ 5 → testMeaning (Test.the-variants.IsNull (r .left .place)) ≡ testOf r
-  unfolding testOf
-  null-test h = rw h
-
-  pub numeric-test : (p : Part) → r .kind ≡ 6 → partMeaning p ≡ partOfCell 0 (r .left)
-      → testMeaning (Test.the-variants.IsNumeric p) ≡ testOf r
-  unfolding testOf
-  numeric-test p h e = rw h (ap Program.isNumeric e)
-
-  pub compares-test : (a b : Operand) (s : Comparison) → (r .kind ≡ 5 → ⊥) → (r .kind ≡ 6 → ⊥)
-      → operandMeaning a ≡ operandOfCell (r .left) → comparison s ≡ comparisonOf (r .flag) → operandMeaning b ≡ operandOfCell (r .right)
-      → testMeaning (Test.the-variants.Compares (record { left = a; sign = s; right = b })) ≡ testOf r
-  unfolding testOf
-  compares-test a b s h g x y z =
-      rw (ne-eqb (r .kind) 5 h, ne-eqb (r .kind) 6 g) (λ i. Program.compares (x i) (y i) (z i))
-
   -- the direction of a scan
   pub goes-forward : r .flag % 2 ≡ 1 → directionMeaning Forward ≡ directionOf r
   unfolding directionOf
@@ -81,15 +61,34 @@ module _ (r : Row) where
     unfolding statementOfRow
     finishes h = record { means = rw h; stretches = tt }
 
-    pub tests : (x : Test.Test) (b : Branch) → (r .kind ≡ 1 → ⊥) → (r .kind ≡ 2 → ⊥) → (r .kind ≡ 3 → ⊥) → (r .kind ≡ 4 → ⊥)
-        → r .kind ≤ 7 → testMeaning x ≡ testOf r → branchMeaning b ≡ branchOf r → StatementRead t r (statements.If x b)
-    unfolding statementOfRow
-    tests x b one two three four low e f =
-        let kind = r .kind in
+    -- IF of each kind
+    null-row : r .kind ≡ 5 → statementOfRow t r ≡ Program.ifTest (Program.isNull (r .left .place)) (branchOf r)
+    unfolding statementOfRow testOf
+    null-row h = rw h
+
+    pub tests-null : (b : Branch) → r .kind ≡ 5 → branchMeaning b ≡ branchOf r → StatementRead t r (statements.IfNull (r .left .place) b)
+    tests-null b h f = record { means = ap (Program.ifTest (Program.isNull (r .left .place))) f ∙ sym (null-row h); stretches = tt }
+
+    numeric-row : r .kind ≡ 6 → statementOfRow t r ≡ Program.ifTest (Program.isNumeric (partOfCell 0 (r .left))) (branchOf r)
+    unfolding statementOfRow testOf
+    numeric-row h = rw h
+
+    pub tests-numeric : (p : Part) (b : Branch) → r .kind ≡ 6 → partMeaning p ≡ partOfCell 0 (r .left) → branchMeaning b ≡ branchOf r
+        → StatementRead t r (statements.IfNumeric p b)
+    tests-numeric p b h e f =
+        record { means = (λ i. Program.ifTest (Program.isNumeric (e i)) (f i)) ∙ sym (numeric-row h); stretches = tt }
+
+    operands-row : (r .kind ≡ 0) ⊎ (r .kind ≡ 7)
+        → statementOfRow t r
+        ≡ Program.ifTest (Program.compares (operandOfCell (r .left)) (comparisonOf (r .flag)) (operandOfCell (r .right))) (branchOf r)
+    unfolding statementOfRow testOf
+    operands-row = ⊎-elim (λ h. rw h) (λ h. rw h)
+
+    pub tests-operands : (x : If) (b : Branch) → (r .kind ≡ 0) ⊎ (r .kind ≡ 7) → IfRead r x → branchMeaning b ≡ branchOf r
+        → StatementRead t r (statements.If x b)
+    tests-operands x b h e f =
         record {
-          means =
-              rw (ne-eqb kind 1 one, ne-eqb kind 2 two, ne-eqb kind 3 three, ne-eqb kind 4 four, le-leb kind 7 low)
-              (ap₂ {C = Program.Statement} Program.ifTest e f);
+          means = (λ i. Program.ifTest (Program.compares (e .left i) (e .sign i) (e .right i)) (f i)) ∙ sym (operands-row h);
           stretches = tt;
         }
 
@@ -125,7 +124,5 @@ module _ (r : Row) where
     unfolding statementOfRow
     executes h = record { means = rw h; stretches = tt }
 
-    pub returns-there : 7 < r .kind → (r .kind ≡ 8 → ⊥) → (r .kind ≡ 9 → ⊥) → (r .kind ≡ 10 → ⊥) → (r .kind ≡ 11 → ⊥)
-        → StatementRead t r statements.Return
-    returns-there high eight nine ten eleven =
-        record { means = sym (return-row t r (omega arith)); stretches = tt }
+    pub returns-there : 11 < r .kind → StatementRead t r statements.Return
+    returns-there h = record { means = sym (return-row t r h); stretches = tt }

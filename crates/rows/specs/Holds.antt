@@ -24,8 +24,7 @@ use Rattle.rows.specs.declared.PatternElement.{PatternElement}
 use Rattle.rows.specs.declared.PatternElement.the-variants.{Value, Free, Fixed}
 use Rattle.rows.specs.declared.Branch.{Branch}
 use Rattle.rows.specs.declared.Stretch.{Stretch}
-use Rattle.rows.specs.declared.Test.{Test}
-use Rattle.rows.specs.declared.Test.the-variants.{IsNull, IsNumeric, Compares}
+use Rattle.rows.specs.declared.If.{If}
 use Rattle.rows.specs.declared.Replacement.{Replacement}
 use Rattle.rows.specs.declared.Replacement.the-variants.{Nothing, By}
 use Rattle.rows.specs.declared.Scan as Scan
@@ -108,10 +107,9 @@ pub record BranchHolds (steps : ℕ) (b : Branch) : Type 0 where
   pub success : b .success < steps
   pub failure : b .failure < steps
 
-abbrev pub TestHolds : Test → Type 0
-TestHolds (IsNull s) = s < Limits.strings
-TestHolds (IsNumeric p) = PartHolds p
-TestHolds (Compares x) = OperandHolds (x .left) × OperandHolds (x .right)
+pub record IfHolds (x : If) : Type 0 where
+  pub left : OperandHolds (x .left)
+  pub right : OperandHolds (x .right)
 
 pub record ScanHolds (t : List ℕ) (steps : ℕ) (x : Scan.Scan) : Type 0 where
   pub part : PartHolds (x .part)
@@ -125,7 +123,9 @@ StatementHolds t steps (statements.SetNumber i s) = (i < Limits.numbers) × Item
 StatementHolds t steps (statements.SetString p s) = PartHolds p × ElementsHold t s
 StatementHolds t steps (statements.Goto k) = k < steps
 StatementHolds t steps statements.Finish = Unit {0}
-StatementHolds t steps (statements.If x b) = TestHolds x × BranchHolds steps b
+StatementHolds t steps (statements.IfNull s b) = (s < Limits.strings) × BranchHolds steps b
+StatementHolds t steps (statements.IfNumeric p b) = PartHolds p × BranchHolds steps b
+StatementHolds t steps (statements.If x b) = IfHolds x × BranchHolds steps b
 StatementHolds t steps (statements.Scan x) = ScanHolds t steps x
 StatementHolds t steps (statements.Read p b) = PartHolds p × BranchHolds steps b
 StatementHolds t steps (statements.Write s) = ElementsHold t s

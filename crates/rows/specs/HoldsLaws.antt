@@ -16,8 +16,8 @@ use Rattle.convert.specs.Laws.{in-range}
 use Rattle.convert.specs.Numbers.{InRange}
 use Rattle.convert.specs.declared.Int.{Int}
 use Rattle.rows.specs.Holds.{LengthHolds, PartHolds, OperandHolds, ItemHolds, placeIn}
-use Rattle.rows.specs.Holds.{FillerHolds, BranchHolds, TestHolds}
-use Rattle.rows.specs.Meaning.{lengthMeaning, partMeaning, operandMeaning, itemMeaning, branchMeaning, testMeaning}
+use Rattle.rows.specs.Holds.{FillerHolds, BranchHolds, IfHolds}
+use Rattle.rows.specs.Meaning.{lengthMeaning, partMeaning, operandMeaning, itemMeaning, branchMeaning, ifMeaning}
 use Rattle.rows.specs.declared.Length.{Length}
 use Rattle.rows.specs.declared.Length.the-variants as lengths
 use Rattle.rows.specs.declared.Part.{Part}
@@ -27,8 +27,7 @@ use Rattle.rows.specs.declared.Operand.the-variants as operands
 use Rattle.rows.specs.declared.Item.{Item}
 use Rattle.rows.specs.declared.Item.the-variants as items
 use Rattle.rows.specs.declared.Branch.{Branch}
-use Rattle.rows.specs.declared.Test.{Test}
-use Rattle.rows.specs.declared.Test.the-variants.{IsNull, IsNumeric, Compares}
+use Rattle.rows.specs.declared.If.{If}
 
 -- a constant that passes the test is in range
 pub constant-holds : (z : Int) → isInRange edition1 (z .value) ≡ true → InRange z
@@ -42,7 +41,7 @@ place-is (First s n) = refl
 
 -- a program of so many strings, numbers and steps
 module _ (strings numbers steps : ℕ) (short : strings ≤ Limits.strings) (few : numbers ≤ Limits.numbers) where
-  below-strings : (s : ℕ) → ltb s strings ≡ true → s < Limits.strings
+  pub below-strings : (s : ℕ) → ltb s strings ≡ true → s < Limits.strings
   below-strings s h = omega (arith, ltb-true s strings h)
 
   below-numbers : (i : ℕ) → ltb i numbers ≡ true → i < Limits.numbers
@@ -111,12 +110,10 @@ module _ (strings numbers steps : ℕ) (short : strings ≤ Limits.strings) (few
       let both = branch-inside edition1 strings numbers steps (branchMeaning b) h in
       record { success = both .0; failure = both .1 }
 
-  pub test-holds : (x : Test) → Rules.testHolds edition1 strings numbers steps (testMeaning x) ≡ true → TestHolds x
+  pub if-holds : (x : If) → Rules.testHolds edition1 strings numbers steps (ifMeaning x) ≡ true → IfHolds x
   unfolding Rules.testHolds
-  test-holds (IsNull s) h = below-strings s h
-  test-holds (IsNumeric p) h = part-holds p h
-  test-holds (Compares x) h =
+  if-holds x h =
       let left = Rules.operandHolds edition1 strings numbers steps (operandMeaning (x .left)) in
       let right = Rules.operandHolds edition1 strings numbers steps (operandMeaning (x .right)) in
       let both = and-eq-true-iff left right .0 h in
-      (operand-holds (x .left) (both .0), operand-holds (x .right) (both .1))
+      record { left = operand-holds (x .left) (both .0); right = operand-holds (x .right) (both .1) }

@@ -1,6 +1,6 @@
 -- What a table that keeps the rules lets callers rely on: each statement that is read from it holds, and a step behind it is there.
 -- Assumes nothing.
-use mathlib.Core.Bool.{Bool, true, false, not, and-eq-true-iff, false≢true}
+use mathlib.Core.Bool.{Bool, true, false, not, _&&_, and-eq-true-iff, false≢true}
 use mathlib.Core.List.{List, _∷_, map}
 use mathlib.Core.Path.{_≡_, refl, sym, _∙_, ap, subst}
 use Prim.Native.Nat.{ℕ, zero, suc, _+_, _*_, _-_, _≤_, _<_}
@@ -29,10 +29,10 @@ use Rattle.calls.specs.TableLaws.{InRange, keeps-image}
 use Rattle.calls.specs.TableReading.{cellAt, rowAt, itemOfCell, elementOfCell, patternOfCell, itemsFrom, elementsFrom, patternFrom}
 use Rattle.calls.specs.TableReading.{statementOfRow, stepIn, stepsFrom, programIn}
 use Rattle.rows.specs.Holds.{ItemsHold, ElementsHold, PatternsHold, ReplacementHolds, ElementHolds, PatternHolds}
-use Rattle.rows.specs.Holds.{Within, placeIn, ScanHolds, StatementHolds}
-use Rattle.rows.specs.HoldsLaws.{place-is, part-holds, item-holds, text-holds, free-holds, fixed-holds, branch-holds, test-holds}
+use Rattle.rows.specs.Holds.{Within, placeIn, BranchHolds, ScanHolds, StatementHolds}
+use Rattle.rows.specs.HoldsLaws.{place-is, below-strings, part-holds, item-holds, text-holds, free-holds, fixed-holds, branch-holds, if-holds}
 use Rattle.rows.specs.Meaning.{partMeaning, elementMeaning, patternMeaning, itemsMeaning, elementsMeaning, directionMeaning}
-use Rattle.rows.specs.Meaning.{patternsMeaning, branchMeaning, testMeaning, replacementMeaning, statementMeaning}
+use Rattle.rows.specs.Meaning.{patternsMeaning, branchMeaning, replacementMeaning, statementMeaning}
 use Rattle.rows.specs.Reading.{ElementRead, PatternRead, StretchRead, BehindRead, ScanStretches, StretchesRead, StatementRead}
 use Rattle.rows.specs.Regions.{RowPlace, RangeIs, row-range, program-in-range, kept-row, kept-literal}
 use Rattle.rows.specs.declared.Item.{Item}
@@ -40,6 +40,7 @@ use Rattle.rows.specs.declared.Element.{Element}
 use Rattle.rows.specs.declared.Element.the-variants.{Literal, Part, Text}
 use Rattle.rows.specs.declared.PatternElement.{PatternElement}
 use Rattle.rows.specs.declared.PatternElement.the-variants.{Value, Free, Fixed}
+use Rattle.rows.specs.declared.Branch.{Branch}
 use Rattle.rows.specs.declared.Stretch.{Stretch}
 use Rattle.rows.specs.declared.Replacement.{Replacement}
 use Rattle.rows.specs.declared.Replacement.the-variants.{Nothing, By}
@@ -243,11 +244,18 @@ module _ (t : List ℕ) (kept : keepsRules edition1 t ≡ true) where
         branch = branch-holds strings numbers steps (ok .strings) (ok .numbers) (x .branch) (tests .branch);
       }
 
+  -- what passes a test, with a branch behind it
+  and-branch : {A : Type 0} (test : Bool) (b : Branch) → (test ≡ true → A)
+      → test && Rules.branchHolds edition1 strings numbers steps (branchMeaning b) ≡ true → A × BranchHolds steps b
+  and-branch test b holds h =
+      let both = and-eq-true-iff test (Rules.branchHolds edition1 strings numbers steps (branchMeaning b)) .0 h in
+      (holds (both .0), branch-holds strings numbers steps (ok .strings) (ok .numbers) b (both .1))
+
   -- a statement that is read from its row
   statement-kept : (at card : ℕ) (x : Statement) → RowPlace t at elements items card (statementMeaning t x)
       → StretchesRead (rowAt t at .right .value) x → Rules.statementHolds edition1 strings numbers steps (statementMeaning t x) ≡ true
       → StatementHolds t steps x
-  unfolding Rules.statementHolds rowOf row elementsOf itemsOf
+  unfolding Rules.statementHolds Rules.testHolds rowOf row elementsOf itemsOf
   statement-kept at card (statements.SetNumber i s) p r h =
       let l = itemsMeaning t s in
       let tests = number-parts edition1 strings numbers steps i l h in
@@ -265,19 +273,11 @@ module _ (t : List ℕ) (kept : keepsRules edition1 t ≡ true) where
       )
   statement-kept at card (statements.Goto k) p r h = ltb-true k steps h
   statement-kept at card statements.Finish p r h = tt
-  statement-kept at card (statements.If x b) p r h =
-      let test = Rules.testHolds edition1 strings numbers steps (testMeaning x) in
-      let both = and-eq-true-iff test (Rules.branchHolds edition1 strings numbers steps (branchMeaning b)) .0 h in (
-        test-holds strings numbers steps (ok .strings) (ok .numbers) x (both .0),
-        branch-holds strings numbers steps (ok .strings) (ok .numbers) b (both .1),
-      )
+  statement-kept at card (statements.IfNull s b) p r h = and-branch _ b (below-strings strings numbers steps (ok .strings) (ok .numbers) s) h
+  statement-kept at card (statements.IfNumeric q b) p r h = and-branch _ b (part-holds strings numbers steps (ok .strings) (ok .numbers) q) h
+  statement-kept at card (statements.If x b) p r h = and-branch _ b (if-holds strings numbers steps (ok .strings) (ok .numbers) x) h
   statement-kept at card (statements.Scan x) p r h = scan-holds at card x p r h
-  statement-kept at card (statements.Read q b) p r h =
-      let test = Rules.partHolds edition1 strings numbers steps (partMeaning q) in
-      let both = and-eq-true-iff test (Rules.branchHolds edition1 strings numbers steps (branchMeaning b)) .0 h in (
-        part-holds strings numbers steps (ok .strings) (ok .numbers) q (both .0),
-        branch-holds strings numbers steps (ok .strings) (ok .numbers) b (both .1),
-      )
+  statement-kept at card (statements.Read q b) p r h = and-branch _ b (part-holds strings numbers steps (ok .strings) (ok .numbers) q) h
   statement-kept at card (statements.Write s) p r h =
       let own = rowOf (p .element) (p .item) (Program.write (elementsMeaning t s)) in
       stretch-holds at card (p .element) own s (p .bytes) refl (p .elementsEnd) r h

@@ -27,8 +27,7 @@ use Rattle.rows.specs.declared.PatternElement.{PatternElement}
 use Rattle.rows.specs.declared.PatternElement.the-variants.{Value, Free, Fixed}
 use Rattle.rows.specs.declared.Branch.{Branch}
 use Rattle.rows.specs.declared.Stretch.{Stretch}
-use Rattle.rows.specs.declared.Test.{Test}
-use Rattle.rows.specs.declared.Test.the-variants.{IsNull, IsNumeric, Compares}
+use Rattle.rows.specs.declared.If.{If}
 use Rattle.rows.specs.declared.Direction.{Direction}
 use Rattle.rows.specs.declared.Direction.the-variants.{Forward, Backward}
 use Rattle.rows.specs.declared.Replacement.{Replacement}
@@ -107,10 +106,9 @@ elementsMeaning t s = elementsFrom t (s .from) (s .count)
 abbrev pub patternsMeaning : List ℕ → Stretch → List Program.PatternElement
 patternsMeaning t s = patternFrom t (s .from) (s .count)
 
-abbrev pub testMeaning : Test → Program.Test
-testMeaning (IsNull s) = Program.isNull s
-testMeaning (IsNumeric p) = Program.isNumeric (partMeaning p)
-testMeaning (Compares x) = Program.compares (operandMeaning (x .left)) (comparison (x .sign)) (operandMeaning (x .right))
+-- what an IF of two operands asks
+abbrev pub ifMeaning : If → Program.Test
+ifMeaning x = Program.compares (operandMeaning (x .left)) (comparison (x .sign)) (operandMeaning (x .right))
 
 abbrev pub directionMeaning : Direction → Program.Direction
 directionMeaning Forward = Program.forward
@@ -125,7 +123,9 @@ statementMeaning t (statements.SetNumber i s) = Program.setNumber i (itemsMeanin
 statementMeaning t (statements.SetString p s) = Program.setString (partMeaning p) (elementsMeaning t s)
 statementMeaning t (statements.Goto k) = Program.goto k
 statementMeaning t statements.Finish = Program.finish
-statementMeaning t (statements.If x b) = Program.ifTest (testMeaning x) (branchMeaning b)
+statementMeaning t (statements.IfNull s b) = Program.ifTest (Program.isNull s) (branchMeaning b)
+statementMeaning t (statements.IfNumeric p b) = Program.ifTest (Program.isNumeric (partMeaning p)) (branchMeaning b)
+statementMeaning t (statements.If x b) = Program.ifTest (ifMeaning x) (branchMeaning b)
 statementMeaning t (statements.Scan x) =
     Program.scan (directionMeaning (x .direction)) (partMeaning (x .part)) (patternsMeaning t (x .pattern))
     (replacementMeaning t (x .replacement)) (branchMeaning (x .branch))

@@ -8,9 +8,10 @@ use Rattle.language.specs.Program.{operand, operator}
 use Rattle.calls.specs.Numerals.{numberAt}
 use Rattle.calls.specs.Table as Table
 use Rattle.calls.specs.Table.{literalsAt}
-use Rattle.calls.specs.TableReading.{cellAt, rowAt, rangeFrom, rangeCount, rangeMore, elementOfCell, patternOfCell}
+use Rattle.calls.specs.TableReading.{cellAt, rowAt, rangeFrom, rangeCount, rangeMore, elementOfCell, patternOfCell, comparisonOf}
 use Rattle.calls.specs.TableReading.{directionOf, operandOfCell, operatorOfKind, itemOfCell, partOfCell, branchOf, replacementOfRow, statementOfRow}
-use Rattle.rows.specs.Meaning.{cellMeaning, rowMeaning, partMeaning, elementMeaning, patternMeaning, branchMeaning}
+use Rattle.convert.specs.Numbers.{comparison}
+use Rattle.rows.specs.Meaning.{cellMeaning, rowMeaning, partMeaning, operandMeaning, elementMeaning, patternMeaning, branchMeaning}
 use Rattle.rows.specs.Meaning.{directionMeaning, replacementMeaning, statementMeaning}
 use Rattle.rows.specs.declared.Cell.{Cell}
 use Rattle.rows.specs.declared.Row.{Row}
@@ -20,6 +21,7 @@ use Rattle.rows.specs.declared.Element.the-variants.{Literal, Part, Text
 use Rattle.rows.specs.declared.PatternElement.{PatternElement}
 use Rattle.rows.specs.declared.PatternElement.the-variants.{Value, Free, Fixed}
 use Rattle.rows.specs.declared.Stretch.{Stretch}
+use Rattle.rows.specs.declared.If.{If}
 use Rattle.rows.specs.declared.Replacement.{Replacement}
 use Rattle.rows.specs.declared.Replacement.the-variants.{Nothing, By}
 use Rattle.rows.specs.declared.Scan as Scan
@@ -36,7 +38,9 @@ pub record CellRead (t : List ℕ) (at : ℕ) (c : Cell) : Type 0 where
   pub same : cellMeaning c ≡ cellAt t at
   pub small : SmallCell c
 
+-- and so has the kind of a row
 pub record SmallRow (r : Row) : Type 0 where
+  pub kind : r .kind < 256
   pub left : SmallCell (r .left)
   pub right : SmallCell (r .right)
 
@@ -99,6 +103,8 @@ StretchesRead range (statements.SetNumber i s) = StretchRead range s
 StretchesRead range (statements.SetString p s) = StretchRead range s
 StretchesRead range (statements.Goto k) = Unit {0}
 StretchesRead range statements.Finish = Unit {0}
+StretchesRead range (statements.IfNull s b) = Unit {0}
+StretchesRead range (statements.IfNumeric p b) = Unit {0}
 StretchesRead range (statements.If x b) = Unit {0}
 StretchesRead range (statements.Scan x) = ScanStretches range x
 StretchesRead range (statements.Read p b) = Unit {0}
@@ -110,6 +116,12 @@ StretchesRead range statements.Return = Unit {0}
 pub record StatementRead (t : List ℕ) (r : Table.Row) (x : Statement) : Type 0 where
   pub means : statementMeaning t x ≡ statementOfRow t r
   pub stretches : StretchesRead (r .right .value) x
+
+-- two operands and a sign that were read from a row
+pub record IfRead (r : Table.Row) (x : If) : Type 0 where
+  pub left : operandMeaning (x .left) ≡ operandOfCell (r .left)
+  pub right : operandMeaning (x .right) ≡ operandOfCell (r .right)
+  pub sign : comparison (x .sign) ≡ comparisonOf (r .flag)
 
 -- a scan that was read from a row
 pub record ScanRead (t : List ℕ) (r : Table.Row) (x : Scan.Scan) : Type 0 where

@@ -6,10 +6,10 @@ ghost use Prim.Native.Nat.{ℕ, _+_, _*_, _≤_, _<_, _^_};
 ghost use lib.ListN.{length};
 ghost use Rattle.calls.specs.Numerals.{numberAt, unbiased};
 ghost use Rattle.calls.specs.Table.{stepsAt, elementsAt, itemsAt};
-ghost use Rattle.calls.specs.TableReading.{cellAt, rowAt, lengthOfCell, partOfCell, operandOfCell, operatorOfKind, signOfKind, itemOfCell, comparisonOf, testOf, directionOf, branchOf};
+ghost use Rattle.calls.specs.TableReading.{cellAt, rowAt, lengthOfCell, partOfCell, operandOfCell, operatorOfKind, signOfKind, itemOfCell, comparisonOf, directionOf, branchOf};
 ghost use Rattle.convert.specs.Numbers.{comparison};
-ghost use Rattle.rows.specs.Meaning.{tableSize, cellMeaning, rowMeaning, lengthMeaning, partMeaning, operandMeaning, operatorMeaning, signMeaning, itemMeaning, testMeaning, directionMeaning, branchMeaning};
-ghost use Rattle.rows.specs.Reading.{SmallCell, CellRead, RowRead, SmallRow, StretchRead, ElementRead, PatternRead, ReplacementRead, ScanRead, StatementRead, CountsRead};
+ghost use Rattle.rows.specs.Meaning.{tableSize, cellMeaning, rowMeaning, lengthMeaning, partMeaning, operandMeaning, operatorMeaning, signMeaning, itemMeaning, directionMeaning, branchMeaning};
+ghost use Rattle.rows.specs.Reading.{SmallCell, CellRead, RowRead, SmallRow, StretchRead, ElementRead, PatternRead, IfRead, ReplacementRead, ScanRead, StatementRead, CountsRead};
 use base::wide;
 use calls::ELEMENTS_AT;
 use calls::ITEMS_AT;
@@ -19,6 +19,7 @@ use calls::RANGE_STEP;
 use calls::STEP_ROW;
 use calls::STEPS_AT;
 use calls::TABLE_CELL;
+use calls::step_kinds;
 use cells::spans::number2;
 use convert::Comparison;
 use convert::Int;
@@ -124,17 +125,11 @@ pub struct Stretch {
     pub count: usize,
 }
 
-// IF with two operands
-pub struct Compares {
+// IF with two operands and a sign; if the sign stood between them, the compiled run would tell a step's kind twice
+pub struct If {
     pub left: Operand,
-    pub sign: Comparison,
     pub right: Operand,
-}
-
-pub enum Test {
-    IsNull(usize),
-    IsNumeric(Part),
-    Compares(Compares),
+    pub sign: Comparison,
 }
 
 pub enum Direction {
@@ -161,7 +156,9 @@ pub enum Statement {
     SetString(Part, Stretch),
     Goto(usize),
     Finish,
-    If(Test, Branch),
+    IfNull(usize, Branch),
+    IfNumeric(Part, Branch),
+    If(If, Branch),
     Scan(Scan),
     Read(Part, Branch),
     Write(Stretch),
@@ -378,22 +375,16 @@ fn comparison_of(flag: usize) -> Comparison
     }
 }
 
-// what an IF asks
-fn test_of(r: Row) -> Test
+// the operands and the sign of an IF that has them
+fn if_of(r: Row) -> If
     requires { ⌜ SmallRow r ⌝ }
-    ensures { λ x. ⌜ testMeaning x ≡ testOf (rowMeaning r) ⌝ }
+    ensures { λ x. ⌜ IfRead (rowMeaning r) x ⌝ }
 {
-    if r.kind == 5 {
-        return Test::IsNull(r.left.place);
-    }
-    if r.kind == 6 {
-        return Test::IsNumeric(part_of(0, r.left));
-    }
-    Test::Compares(Compares {
+    If {
         left: operand_of(r.left),
         sign: comparison_of(r.flag),
         right: operand_of(r.right),
-    })
+    }
 }
 
 fn direction_of(r: Row) -> Direction
@@ -443,22 +434,27 @@ fn branch_of(r: Row) -> Branch
     }
 }
 
-// the statement of a row: one case for each kind
+// the statement of a row: one case for each kind; 0, which no table that keeps its rules has, is read as two operands and a sign
 fn statement_of(r: Row) -> Statement
     requires { ⌜ SmallRow r ⌝ }
     ensures { λ x. ⌜ ((t : List ℕ) → StatementRead t (rowMeaning r) x) ⌝ }
 {
-    let kind = r.kind;
+    let kind = r.kind as u8;
     match kind {
-        1 => Statement::SetNumber(r.left.place, stretch_of(r.right.value)),
-        2 => Statement::SetString(part_of(0, r.left), stretch_of(r.right.value)),
-        3 => Statement::Goto(r.success),
-        4 => Statement::Finish,
-        0 | 5..=7 => Statement::If(test_of(r), branch_of(r)),
-        8 => Statement::Scan(scan_of(r)),
-        9 => Statement::Read(part_of(0, r.left), branch_of(r)),
-        10 => Statement::Write(stretch_of(r.right.value)),
-        11 => Statement::Execute(r.success),
+        step_kinds::SET_NUMBER => Statement::SetNumber(r.left.place, stretch_of(r.right.value)),
+        step_kinds::SET_STRING => Statement::SetString(
+            part_of(0, r.left),
+            stretch_of(r.right.value),
+        ),
+        step_kinds::GOTO => Statement::Goto(r.success),
+        step_kinds::FINISH => Statement::Finish,
+        step_kinds::NULL => Statement::IfNull(r.left.place, branch_of(r)),
+        step_kinds::NUMERIC => Statement::IfNumeric(part_of(0, r.left), branch_of(r)),
+        0 | step_kinds::COMPARE => Statement::If(if_of(r), branch_of(r)),
+        step_kinds::SCAN => Statement::Scan(scan_of(r)),
+        step_kinds::READ => Statement::Read(part_of(0, r.left), branch_of(r)),
+        step_kinds::WRITE => Statement::Write(stretch_of(r.right.value)),
+        step_kinds::EXECUTE => Statement::Execute(r.success),
         _ => Statement::Return,
     }
 }

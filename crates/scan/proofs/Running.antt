@@ -30,9 +30,9 @@ pub record Running (reference values rows : List ℕ) (count : ℕ) (answer : Li
   pub short : length reference ≤ 1024
   pub most : count ≤ 20
 
--- the next group leaves less to do
+-- the next group leaves less to do: places count more than groups, of which there are 20 at most
 pub run-less : (size count place g end j : ℕ) → place ≤ end → end ≤ size → g ≤ j → j + 1 < count
-    → size - end + (count - (j + 1)) < size - place + (count - g)
+    → 21 * (size - end) + (count - (j + 1)) < 21 * (size - place) + (count - g)
 run-less size count place g end j forth inside low more = omega arith
 
 module _ {reference values rows : List ℕ} {count : ℕ} where

@@ -77,6 +77,12 @@ module _ {text : List ℕ} {first last span places from : ℕ} where
   pub without-none : from ≤ places → Without text first last span places from from
   without-none h = record { low = omega arith; high = h; differ = λ j low high. absurd (omega arith) }
 
+  -- of places passed, those from a later one on
+  pub without-later : {start to : ℕ} → Without text first last span places start to → start ≤ from → from ≤ to
+      → Without text first last span places from to
+  without-later w above below =
+      record { low = below; high = w .high; differ = λ j low high. w .differ j (omega arith) high }
+
   module _ {k : ℕ} (w : Without text first last span places from k) where
     -- the places from k to k′ as well
     pub without-join : {k′ : ℕ} → Without text first last span places k k′ → Without text first last span places from k′
@@ -118,10 +124,10 @@ module _ {text : List ℕ} {first last span places from : ℕ} where
               getD-stretch text (k + span) n i (omega arith) ∙ ap (λ (n : ℕ). getD text n 0) e′ ∙ l,
             )
 
--- the next place behind those passed in blocks of two sizes
-pub next-behind : {text : List ℕ} {first last span places from b e k : ℕ} → Without text first last span places from b
-    → Without text first last span places b e → Next text first last span places e k → Next text first last span places from k
-next-behind w w′ n = record { passed = without-join (without-join w w′) (n .passed); here = n .here }
+-- the next place behind some that were passed
+pub next-behind : {text : List ℕ} {first last span places from b k : ℕ} → Without text first last span places from b
+    → Next text first last span places b k → Next text first last span places from k
+next-behind w n = record { passed = without-join w (n .passed); here = n .here }
 
 -- both bytes the same, and at the same place
 pub next-byte : {text : List ℕ} {byte from at : ℕ} → Next text byte byte 0 (length text) from at → NextByte text byte from at

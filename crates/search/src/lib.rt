@@ -7,6 +7,13 @@ ghost use lib.ListN.{length};
 ghost use Rattle.base.specs.Lists.{begins};
 ghost use Rattle.search.specs.Passing.{Agrees, Both, Searchable, Without, Next, NextByte, Room, Passes};
 
+// how many places are looked at together: blocks as long as they may be, then shorter ones
+const LONG_BLOCK: usize = 128;
+
+const BLOCK: usize = 32;
+
+const SHORT_BLOCK: usize = 8;
+
 // how many bytes of rest and word are the same, from the first on
 fn same_until(rest: &[u8], word: &[u8]) -> usize
     requires { ⌜ length (now word) ≤ length (now rest) ⌝ }
@@ -73,6 +80,31 @@ fn pass_blocks(
     k
 }
 
+// The same by one block that ends where the places end, if less than a block is left: all of them are passed, or none. The block may begin among
+// places that were passed before.
+fn pass_rest(
+    text: &[u8],
+    first: u8,
+    last: u8,
+    span: usize,
+    places: usize,
+    from: usize,
+    size: usize,
+) -> usize
+    requires { ⌜ Searchable (now text) span places from × (0 < size) ⌝ }
+    ensures { λ r. ⌜ Without (now (text .entry)) first last span places from r ⌝ }
+{
+    if places < size {
+        return from;
+    }
+    let start = places - size;
+    if from <= start {
+        return from;
+    }
+    let k = pass_blocks(text, first, last, span, places, start, size);
+    if k == places { k } else { from }
+}
+
 // the same one place at a time, up to one where both stand
 fn pass_bytes(text: &[u8], first: u8, last: u8, span: usize, places: usize, from: usize) -> usize
     requires { ⌜ Searchable (now text) span places from ⌝ }
@@ -95,23 +127,25 @@ fn next_place(text: &[u8], first: u8, last: u8, span: usize, places: usize, from
     requires { ⌜ Searchable (now text) span places from ⌝ }
     ensures { λ r. ⌜ Next (now (text .entry)) first last span places from r ⌝ }
 {
-    let b = pass_blocks(text, first, last, span, places, from, 32);
-    let e = pass_blocks(text, first, last, span, places, b, 8);
+    let a = pass_blocks(text, first, last, span, places, from, LONG_BLOCK);
+    let b = pass_blocks(text, first, last, span, places, a, BLOCK);
+    let e = pass_blocks(text, first, last, span, places, b, SHORT_BLOCK);
     pass_bytes(text, first, last, span, places, e)
 }
 
-// Where this byte stands next from a place on, or where the text ends. The calls of next_place are made anew here, so that they are compiled
-// for one byte.
+// Where this byte stands next from a place on, or where the text ends. It doesn't call next_place: its blocks are compiled for one byte, and the
+// last one ends where the text ends.
 pub fn next_byte(text: &[u8], byte: u8, from: usize) -> usize
     requires { ⌜ from ≤ length (now text) ⌝ }
     ensures { λ r. ⌜ NextByte (now (text .entry)) byte from r ⌝ }
 {
     let end = text.len();
-    if end - from < 32 {
+    if end - from < BLOCK {
         return pass_bytes(text, byte, byte, 0, end, from);
     }
-    let b = pass_blocks(text, byte, byte, 0, end, from, 32);
-    let e = pass_blocks(text, byte, byte, 0, end, b, 8);
+    let b = pass_blocks(text, byte, byte, 0, end, from, BLOCK);
+    let d = pass_rest(text, byte, byte, 0, end, b, BLOCK);
+    let e = pass_blocks(text, byte, byte, 0, end, d, SHORT_BLOCK);
     pass_bytes(text, byte, byte, 0, end, e)
 }
 
@@ -146,14 +180,14 @@ pub fn passed(text: &[u8], word: &[u8]) -> usize
     ensures { λ r. ⌜ Passes (now (text .entry)) (now (word .entry)) r ⌝ }
 {
     let n = word.len();
+    if n == 1 {
+        return next_byte(text, word[0], 0);
+    }
     if n == 0 {
         return 0;
     }
     if text.len() < n {
         return 0;
-    }
-    if n == 1 {
-        return next_byte(text, word[0], 0);
     }
     passed_word(text, word)
 }

@@ -4,15 +4,8 @@ use mathlib.Core.List.{List}
 use mathlib.Core.Path.{_≡_}
 use Prim.Native.Nat.{ℕ, _+_, _-_}
 use lib.ListN.{getD, set}
-use Rattle.calls.specs.Calls.{startCall}
 
 -- the state without its latest return, and the step of that
 pub record Popped (state : List ℕ) (k : ℕ) (left : List ℕ) : Type 0 where
   pub others : left ≡ set state 2 (getD state 2 0 - 1)
   pub latest : k ≡ getD state (5 + (getD state 2 0 - 1)) 0
-
--- the number, store and state that starting leaves
-pub record StartedWith (store : List ℕ) (number : ℕ) (storeLeft stateLeft : List ℕ) : Type 0 where
-  pub number-right : number ≡ startCall store .number
-  pub store-right : storeLeft ≡ startCall store .store
-  pub state-right : stateLeft ≡ startCall store .state

@@ -8,10 +8,11 @@ ghost use Rattle.base.specs.Edition.{edition1};
 ghost use Rattle.base.specs.Lists.{all};
 ghost use Rattle.calls.specs.Buffers.{statusOf, firstState, returnsIn, numbersIn, stateKeeps};
 ghost use Rattle.calls.specs.Numerals.{biased};
+ghost use Rattle.calls.specs.Promises.{StartPromise, startBack};
 ghost use Rattle.convert.specs.Numbers.{InRange};
 ghost use Rattle.machine.specs.State.{isRunning};
 ghost use Rattle.values.specs.Numbers.{isInRange};
-ghost use Rattle.states.specs.Contracts.{Popped, StartedWith};
+ghost use Rattle.states.specs.Contracts.{Popped};
 use calls::BIAS;
 use calls::FINISHED;
 use calls::HELD_AT;
@@ -181,7 +182,7 @@ pub fn start(state: &mut [u64; STATE_SIZE])
 // The starting call: the state before the first step, and the store zeroed; 14 if the store is too small, which then stays.
 #[no_mangle]
 pub extern "C" fn strigol_start(store: &mut [u8], state: &mut [u64; STATE_SIZE]) -> u32
-    ensures { λ r. ⌜ StartedWith (now (store .entry)) r (now (store .exit)) (now (state .exit)) ⌝ }
+    ensures { λ r. ⌜ StartPromise (now (store .entry)) (startBack r (now (store .exit)) (now (state .exit))) ⌝ }
 {
     start(state);
     cells::start_store(store)

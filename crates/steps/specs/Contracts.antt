@@ -1,13 +1,13 @@
 -- What the functions of a step ask for and leave. Assumes nothing.
 use mathlib.Core.Bool.{true, cond, not}
-use mathlib.Core.List.{List}
+use mathlib.Core.List.{List, [], _∷_}
 use mathlib.Core.Path.{_≡_}
 use Prim.Native.Nat.{ℕ, _+_, _≤_, _<_}
 use lib.Dec.{ltb}
 use lib.ListN.{length, getD, set, replicate}
 use Rattle.base.specs.Edition.{edition1}
 use Rattle.calls.specs.Buffers.{storeKeeps, stateKeeps}
-use Rattle.calls.specs.Calls.{Buffers, leftOf, StepCalled, carried}
+use Rattle.calls.specs.Calls.{Buffers, leftOf, StepCalled, carried, RunCalled, outcomeNumber}
 use Rattle.calls.specs.Numerals.{numberAt}
 use Rattle.calls.specs.Rules.{keepsRules}
 use Rattle.calls.specs.TableReading.{programIn}
@@ -40,6 +40,8 @@ ReturnsEnough (statements.SetNumber i s) held = Unit {0}
 ReturnsEnough (statements.SetString p s) held = Unit {0}
 ReturnsEnough (statements.Goto k) held = Unit {0}
 ReturnsEnough statements.Finish held = Unit {0}
+ReturnsEnough (statements.IfNull s b) held = Unit {0}
+ReturnsEnough (statements.IfNumeric p b) held = Unit {0}
 ReturnsEnough (statements.If x b) held = Unit {0}
 ReturnsEnough (statements.Scan x) held = Unit {0}
 ReturnsEnough (statements.Read p b) held = Unit {0}
@@ -107,6 +109,12 @@ pub record Answers (s : StepCalled) (number : ℕ) (answer : List ℕ) (left : B
   pub number-is : number ≡ s .number
   pub answer-is : answer ≡ s .answer
   pub left-is : left ≡ s .left
+
+-- number, result and buffers left are those of a run; the result is the outcome's number, the number, the steps done and their notes
+pub record RunAnswers (r : RunCalled) (number : ℕ) (result : List ℕ) (left : Buffers) : Type 0 where
+  pub number-is : number ≡ r .number
+  pub result-is : result ≡ outcomeNumber (r .outcome) ∷ (r .number ∷ (r .steps ∷ (r .notes ∷ [])))
+  pub left-is : left ≡ r .left
 
 -- 2, 13, 14, and 15 where a state is out of range, the lowest first, or 0
 abbrev pub unfitNumber : (table store state : List ℕ) (input output : ℕ) → ℕ

@@ -12,7 +12,7 @@ use Rattle.base.specs.Edition.{edition1}
 use Rattle.base.specs.Lists.{isNil}
 use Rattle.calls.specs.BufferLaws.{Good, image-good, fresh-image}
 use Rattle.calls.specs.Buffers.{returnsIn, storeImage, stateIn, stateKeeps, stateSize, statusOf, storeKeeps}
-use Rattle.calls.specs.Calls.{Buffers, carried, givenIn, outOfRange, stepCall, stepRefusal}
+use Rattle.calls.specs.Calls.{Buffers, carried, givenIn, outOfRange, stepCall, stepRefusal, buffers}
 use Rattle.calls.specs.GivenLaws.{StateInRange, state-in-range, given-holds, returns-count, refusal-none}
 use Rattle.calls.specs.Holding.{Holding}
 use Rattle.calls.specs.Numerals.{numberAt}
@@ -21,7 +21,7 @@ use Rattle.calls.specs.Rules.{keepsRules}
 use Rattle.calls.specs.StepLaws.{Tabled, call-held}
 use Rattle.calls.specs.Table.{Row, row, stepsAt}
 use Rattle.calls.specs.TableReading.{programIn, rowAt, statementOfRow}
-use Rattle.carry.specs.Carrying.{Carries, Standing, Unmoved, lent, machineIn}
+use Rattle.carry.specs.Carrying.{Carries, Standing, Unmoved, machineIn}
 use Rattle.carry.specs.Laws.{stops, scans}
 use Rattle.expressions.specs.Memory.{Ready, keeps-ready, memoryIn}
 use Rattle.language.specs.Program as Program
@@ -175,14 +175,14 @@ module _ {table input : List ℕ} {b : Buffers} (g : Given table input b) where
   -- what is concluded of a statement's work
   pub concluded-answers : getD (b .state) 0 0 ≡ 0 → (r : Did) (left : Buffers) (answer : List ℕ) (w : Work Done) → Works r input b left answer w
       → {number : ℕ} {state answerLeft : List ℕ} → Concludes r number (left .state) state answer answerLeft
-      → Answers (carried edition1 table input b (concluded (machineIn input b) w)) number answerLeft (lent (left .store) state (left .output))
+      → Answers (carried edition1 table input b (concluded (machineIn input b) w)) number answerLeft (buffers (left .store) state (left .output))
   unfolding carried concluded
   concluded-answers runs (did.Done notes) left answer w k e =
       rw (k .work)
       (record {
         number-is = e .number-is;
         answer-is = e .answer-is ∙ k .answer-is;
-        left-is = ap (λ (l : List ℕ). lent (left .store) l (left .output)) (e .state-is) ∙ k .left-is;
+        left-is = ap (λ (l : List ℕ). buffers (left .store) l (left .output)) (e .state-is) ∙ k .left-is;
       })
   concluded-answers runs (did.Stops n) left answer w k e =
       rw (k .work)
@@ -190,8 +190,8 @@ module _ {table input : List ℕ} {b : Buffers} (g : Given table input b) where
         number-is = e .number-is;
         answer-is = e .answer-is ∙ stopped-zeros;
         left-is =
-            ap (λ (l : List ℕ). lent (left .store) l (left .output)) (e .state-is)
-            ∙ ap (λ (l : Buffers). lent (l .store) (set (l .state) 0 2) (l .output)) (k .same)
+            ap (λ (l : List ℕ). buffers (left .store) l (left .output)) (e .state-is)
+            ∙ ap (λ (l : Buffers). buffers (l .store) (set (l .state) 0 2) (l .output)) (k .same)
             ∙ stops p input b (given-standing runs);
       })
 
@@ -245,6 +245,8 @@ enough-returns t (statements.SetNumber i s) rs held e h = tt
 enough-returns t (statements.SetString q s) rs held e h = tt
 enough-returns t (statements.Goto k) rs held e h = tt
 enough-returns t statements.Finish rs held e h = tt
+enough-returns t (statements.IfNull s b) rs held e h = tt
+enough-returns t (statements.IfNumeric q b) rs held e h = tt
 enough-returns t (statements.If x b) rs held e h = tt
 enough-returns t (statements.Scan x) rs held e h = tt
 enough-returns t (statements.Read q b) rs held e h = tt
@@ -257,7 +259,7 @@ enough-returns t statements.Return (k ∷ rs) held e h = omega arith
 pub scan-works : {p : Program} {input : List ℕ} {b : Buffers} → Standing p input b → (table : List ℕ) (s : Scan) {store answer : List ℕ} {notes k : ℕ}
     → (e : Ended (b .store) store (b .state) answer notes (scanningOf table (b .store) (b .state) s))
     → k ≡ scannedTo (e .scanned .split) (branchMeaning (s .branch))
-    → Worked input b (lent store (set (b .state) 1 k) (b .output)) answer notes (workOf table input b (statements.Scan s))
+    → Worked input b (buffers store (set (b .state) 1 k) (b .output)) answer notes (workOf table input b (statements.Scan s))
 unfolding carrying quietly stateIn
 scan-works {p} {input} {b} stands table s {store} {notes = notes} e goes =
     let to = scannedTo (e .scanned .split) (branchMeaning (s .branch)) in
@@ -266,7 +268,7 @@ scan-works {p} {input} {b} stands table s {store} {notes = notes} e goes =
       scanned = e .scanned;
       work = bound _ _ (record { memory = memoryIn store (b .state); scanned = e .scanned }) notes _ (e .work) refl;
       left-is =
-          ap (λ (n : ℕ). lent store (set (b .state) 1 n) (b .output)) goes
+          ap (λ (n : ℕ). buffers store (set (b .state) 1 n) (b .output)) goes
           ∙ scans p input b stands store to (e .stays);
       answer-is = ap (λ (l : List ℕ). set l 3 notes) (e .answer-is) ∙ answer-noted (e .scanned) notes notes;
     }
@@ -274,10 +276,10 @@ scan-works {p} {input} {b} stands table s {store} {notes = notes} e goes =
 -- a scan that is stopped
 pub scan-stops : (input : List ℕ) (b : Buffers) (table : List ℕ) (s : Scan) (store : List ℕ) (k : ℕ) → store ≡ b .store
     → scanningOf table (b .store) (b .state) s ≡ stop k
-    → Unmoved b (lent store (b .state) (b .output)) k (workOf table input b (statements.Scan s))
+    → Unmoved b (buffers store (b .state) (b .output)) k (workOf table input b (statements.Scan s))
 unfolding carrying stateIn
 scan-stops input b table s store k same w =
-    record { work = stopped _ _ k w; same = ap (λ (l : List ℕ). lent l (b .state) (b .output)) same }
+    record { work = stopped _ _ k w; same = ap (λ (l : List ℕ). buffers l (b .state) (b .output)) same }
 
 -- zeros are a good store
 zeros-good : Good (replicate 32832 0)

@@ -11,33 +11,24 @@ use Rattle.base.specs.Edition.{edition1}
 use Rattle.calls.specs.Buffers.{stateKeeps, stateSize, storeKeeps}
 use Rattle.calls.specs.Calls.{Buffers, StepCalled, RunCalled, stepCall, runCall, runBehind, runEnded, withStep, outcomeNumber}
 use Rattle.calls.specs.DemandLaws.{edition1-limit, edition1-wide}
-use Rattle.calls.specs.GivenLaws.{given-sound}
-use Rattle.calls.specs.ProgramLaws.{program-runs}
 use Rattle.calls.specs.Rules.{keepsRules}
-use Rattle.calls.specs.StepLaws.{step-holds}
-use Rattle.calls.specs.StopLaws.{refusal-small}
-use Rattle.calls.specs.TableLaws.{keeps-image}
+use Rattle.calls.specs.StopLaws.{passed-holds, refusal-small}
 use Rattle.calls.specs.TableReading.{programIn}
-use Rattle.carry.specs.Carrying.{machineIn}
-use Rattle.steps.specs.Contracts.{Answers, Given, unfitNumber}
-use Rattle.steps.specs.Laws.{tabled, holding}
-use Rattle.steps.specs.Promises.{RunPromise}
+use Rattle.steps.specs.Contracts.{Answers, Given, RunAnswers, unfitNumber}
+use Rattle.steps.specs.Laws.{tabled}
 
 -- the buffers that a step leaves may be given to the next
 pub given-next : {table input : List ℕ} {b : Buffers} → Given table input b → Given table input (stepCall edition1 table input b .left)
 unfolding stateSize edition1
 given-next {table} {input} {b} g =
-    let p = programIn table in
-    let runs = program-runs edition1 p (keeps-image edition1 table (g .keeps) .0) in
-    let s = given-sound edition1 p input b (g .size) (g .store-good) (g .range) in
-    let left = step-holds edition1 p table input (tabled g) edition1-limit edition1-wide runs (length (b .output)) (machineIn input b) b s (holding g) in
+    let left = passed-holds edition1 table input b edition1-limit edition1-wide (g .size) (tabled g) (g .store-good) (g .range) in
     record {
       bytes = g .bytes;
       keeps = g .keeps;
       store-good = left .storeGood;
       size = left .stateLength;
       range =
-          ap (λ (n : ℕ). stateKeeps edition1 (length (p .steps)) (length input) n (stepCall edition1 table input b .left .state)) (left .outputLength)
+          ap (λ (n : ℕ). stateKeeps edition1 (length (programIn table .steps)) (length input) n (stepCall edition1 table input b .left .state)) (left .outputLength)
           ∙ left .stateGood;
     }
 
@@ -77,7 +68,7 @@ module _ (table input : List ℕ) (b : Buffers) {number : ℕ} {answer : List �
 
   -- it was stopped
   pub run-stopped : 17 ≤ number
-      → RunPromise (added steps notes (runCall edition1 table input (suc k) b)) number (1 ∷ (number ∷ ((steps + 1) ∷ ((notes + getD answer 3 0) ∷ [])))) left
+      → RunAnswers (added steps notes (runCall edition1 table input (suc k) b)) number (1 ∷ (number ∷ ((steps + 1) ∷ ((notes + getD answer 3 0) ∷ [])))) left
   unfolding runBehind withStep runEnded outcomeNumber
   run-stopped h =
       let notes-only : notes + getD answer 3 0 ≡ notes + (getD answer 3 0 + 0) = omega arith in
@@ -90,7 +81,7 @@ module _ (table input : List ℕ) (b : Buffers) {number : ℕ} {answer : List �
 
   -- it was turned down
   pub run-refused : number ≤ 16 → 0 < number
-      → RunPromise (added steps notes (runCall edition1 table input (suc k) b)) number (3 ∷ (number ∷ (steps ∷ (notes ∷ [])))) left
+      → RunAnswers (added steps notes (runCall edition1 table input (suc k) b)) number (3 ∷ (number ∷ (steps ∷ (notes ∷ [])))) left
   unfolding runBehind runEnded outcomeNumber
   run-refused h some =
       let same-steps : steps ≡ steps + 0 = omega arith in
@@ -104,7 +95,7 @@ module _ (table input : List ℕ) (b : Buffers) {number : ℕ} {answer : List �
 
   -- it finished
   pub run-finished : number ≡ 0 → eqb (getD (left .state) 0 0) 1 ≡ true
-      → RunPromise (added steps notes (runCall edition1 table input (suc k) b)) 0 (0 ∷ (0 ∷ ((steps + 1) ∷ ((notes + getD answer 3 0) ∷ [])))) left
+      → RunAnswers (added steps notes (runCall edition1 table input (suc k) b)) 0 (0 ∷ (0 ∷ ((steps + 1) ∷ ((notes + getD answer 3 0) ∷ [])))) left
   unfolding runBehind withStep runEnded outcomeNumber
   run-finished none ends =
       let notes-only : notes + getD answer 3 0 ≡ notes + (getD answer 3 0 + 0) = omega arith in
@@ -133,7 +124,7 @@ module _ (table input : List ℕ) (b : Buffers) {number : ℕ} {answer : List �
 
 -- all steps are made
 run-spent : (table input : List ℕ) (b : Buffers) (steps notes : ℕ)
-    → RunPromise (added steps notes (runCall edition1 table input 0 b)) 0 (2 ∷ (0 ∷ (steps ∷ (notes ∷ [])))) b
+    → RunAnswers (added steps notes (runCall edition1 table input 0 b)) 0 (2 ∷ (0 ∷ (steps ∷ (notes ∷ [])))) b
 unfolding runCall runEnded outcomeNumber
 run-spent table input b steps notes =
     let same-steps : steps ≡ steps + 0 = omega arith in
@@ -163,7 +154,7 @@ repeats-none table input b count g =
 
 -- a promise kept by what `end` says
 pub ended-as : {r : RunCalled} {number n : ℕ} {result given should : List ℕ} {left : Buffers} → given ≡ should
-    → (n ≡ number) × (result ≡ given) → RunPromise r number should left → RunPromise r n result left
+    → (n ≡ number) × (result ≡ given) → RunAnswers r number should left → RunAnswers r n result left
 ended-as same is p = rw (is .0, is .1, same) p
 
 -- of a run of one step: before it the buffers are those that were given, behind it the answer is the step's
@@ -210,15 +201,15 @@ module _ {table input : List ℕ} {first : Buffers} {count steps notes : ℕ} {b
       r .run ∙ ap (λ (n : ℕ). added steps notes (runCall edition1 table input n b)) one-less
 
   pub repeats-stopped : 17 ≤ number
-      → RunPromise (runCall edition1 table input count first) number (1 ∷ (number ∷ ((steps + 1) ∷ ((notes + getD answer 3 0) ∷ [])))) left
+      → RunAnswers (runCall edition1 table input count first) number (1 ∷ (number ∷ ((steps + 1) ∷ ((notes + getD answer 3 0) ∷ [])))) left
   repeats-stopped h = rw next-run (run-stopped table input b a steps notes (count - (steps + 1)) h)
 
   pub repeats-refused : number < 17 → 0 < number
-      → RunPromise (runCall edition1 table input count first) number (3 ∷ (number ∷ (steps ∷ (notes ∷ [])))) left
+      → RunAnswers (runCall edition1 table input count first) number (3 ∷ (number ∷ (steps ∷ (notes ∷ [])))) left
   repeats-refused h some = rw next-run (run-refused table input b a steps notes (count - (steps + 1)) (omega arith) some)
 
   pub repeats-finished : number ≤ 0 → eqb (getD (left .state) 0 0) 1 ≡ true
-      → RunPromise (runCall edition1 table input count first) 0 (0 ∷ (0 ∷ ((steps + 1) ∷ ((notes + getD answer 3 0) ∷ [])))) left
+      → RunAnswers (runCall edition1 table input count first) 0 (0 ∷ (0 ∷ ((steps + 1) ∷ ((notes + getD answer 3 0) ∷ [])))) left
   repeats-finished h ends =
       rw next-run (run-finished table input b a steps notes (count - (steps + 1)) (omega arith) ends)
 
@@ -234,7 +225,7 @@ module _ {table input : List ℕ} {first : Buffers} {count steps notes : ℕ} {b
 
 pub repeats-spent : {table input : List ℕ} {first : Buffers} {count steps notes : ℕ} {b : Buffers}
     → Repeats table input first count steps notes b → count ≤ steps
-    → RunPromise (runCall edition1 table input count first) 0 (2 ∷ (0 ∷ (steps ∷ (notes ∷ [])))) b
+    → RunAnswers (runCall edition1 table input count first) 0 (2 ∷ (0 ∷ (steps ∷ (notes ∷ [])))) b
 repeats-spent {table} {input} {first} {count} {steps} {notes} {b} r h =
     let none-left : count - steps ≡ 0 = omega arith in
     rw (r .run, none-left) (run-spent table input b steps notes)
@@ -243,7 +234,7 @@ repeats-spent {table} {input} {first} {count} {steps} {notes} {b} r h =
 pub unfit-run : (table input : List ℕ) (b : Buffers) (n : ℕ)
     → n ≡ unfitNumber table (b .store) (b .state) (length input) (length (b .output)) → 0 < n
     → Answers (stepCall edition1 table input b) n (replicate 24 0) b → (count : ℕ) → 0 < count
-    → RunPromise (runCall edition1 table input count b) n (3 ∷ (n ∷ (0 ∷ (0 ∷ [])))) b
+    → RunAnswers (runCall edition1 table input count b) n (3 ∷ (n ∷ (0 ∷ (0 ∷ [])))) b
 unfit-run table input b n e h a count some =
     let one-less : count ≡ suc (count - 1) = omega arith in
     let small : n ≤ 16 = rw e (refusal-small (ltb (length table) 28672) (keepsRules edition1 table) (storeKeeps (b .store))
@@ -252,5 +243,5 @@ unfit-run table input b n e h a count some =
 
 -- no step is asked for
 pub run-none : (table input : List ℕ) (b : Buffers) (count : ℕ) → count ≡ 0
-    → RunPromise (runCall edition1 table input count b) 0 (2 ∷ (0 ∷ (0 ∷ (0 ∷ [])))) b
+    → RunAnswers (runCall edition1 table input count b) 0 (2 ∷ (0 ∷ (0 ∷ (0 ∷ [])))) b
 run-none table input b count e = rw (e, added-none (runCall edition1 table input 0 b)) (run-spent table input b 0 0)

@@ -1,5 +1,5 @@
 // A step and a run on the buffers: the calls `strigol_step` and `strigol_run`. What is refused is found first, the lowest number first.
-// Each contract is an equation with stepCall and runCall of the crate calls; that of a step carries demand 3 besides.
+// The two calls promise what calls/Promises says: an equation with stepCall or runCall, what a refused or stopped step keeps, and demand 3.
 pub mod run;
 pub mod scans;
 
@@ -8,15 +8,14 @@ ghost use mathlib.Core.Path.{_≡_};
 ghost use Prim.Native.Nat.{ℕ};
 ghost use lib.ListN.{length, replicate};
 ghost use Rattle.base.specs.Edition.{edition1};
-ghost use Rattle.calls.specs.Calls.{stepCall};
+ghost use Rattle.calls.specs.Calls.{stepCall, buffers};
+ghost use Rattle.calls.specs.Promises.{StepPromise, stepBack};
 ghost use Rattle.calls.specs.Table.{Row};
 ghost use Rattle.calls.specs.TableReading.{statementOfRow};
-ghost use Rattle.carry.specs.Carrying.{lent};
 ghost use Rattle.machine.specs.Step.{lacksReturn};
 ghost use Rattle.scanning.specs.Call.{noAnswer};
 ghost use Rattle.scanstep.specs.Scans.{Lent};
 ghost use Rattle.steps.specs.Contracts.{Given, Going, WorksOn, carriedOut, Concludes, Answers, unfitNumber};
-ghost use Rattle.steps.specs.Promises.{StepPromise};
 use base::LONGEST;
 use base::RETURNS;
 use calls::STATE_SIZE;
@@ -60,11 +59,11 @@ fn carry_out(
     out: &mut [u8; LONGEST],
     answer: &mut [u32; ANSWER_SIZE],
 ) -> Did
-    requires { ⌜ Going (now table) (now input) (lent (now store) (now state) (now output)) next x ⌝ }
+    requires { ⌜ Going (now table) (now input) (buffers (now store) (now state) (now output)) next x ⌝ }
     requires { ⌜ now answer ≡ noAnswer ⌝ }
     requires { ⌜ Lent (now kept) (now values) (now rows) (now names) (now reference) (now scratch) (now out) ⌝ }
-    ensures { λ r. ⌜ WorksOn r (now (table .entry)) (now (input .entry)) (lent (now (store .entry)) (now (state .entry)) (now (output .entry)))
-        (lent (now (store .exit)) (now (state .exit)) (now (output .exit))) x (now (answer .exit)) ⌝ }
+    ensures { λ r. ⌜ WorksOn r (now (table .entry)) (now (input .entry)) (buffers (now (store .entry)) (now (state .entry)) (now (output .entry)))
+        (buffers (now (store .exit)) (now (state .exit)) (now (output .exit))) x (now (answer .exit)) ⌝ }
     ensures { λ _. ⌜ Lent (now (kept .exit)) (now (values .exit)) (now (rows .exit)) (now (names .exit)) (now (reference .exit))
         (now (scratch .exit)) (now (out .exit)) ⌝ }
 {
@@ -82,7 +81,9 @@ fn carry_out(
         ),
         Statement::Goto(k) => carry::go_to(state, k),
         Statement::Finish => carry::finish(state),
-        Statement::If(t, b) => carry::test(store, state, t, b),
+        Statement::IfNull(place, b) => carry::if_null(store, state, place, b),
+        Statement::IfNumeric(p, b) => carry::if_numeric(store, state, p, b),
+        Statement::If(operands, b) => carry::if_compares(store, state, operands, b),
         Statement::Scan(s) => scans::scan(
             table,
             store,
@@ -139,10 +140,10 @@ fn go_on(
     out: &mut [u8; LONGEST],
     answer: &mut [u32; ANSWER_SIZE],
 ) -> u32
-    requires { ⌜ Going (now table) (now input) (lent (now store) (now state) (now output)) next x ⌝ }
+    requires { ⌜ Going (now table) (now input) (buffers (now store) (now state) (now output)) next x ⌝ }
     requires { ⌜ Lent (now kept) (now values) (now rows) (now names) (now reference) (now scratch) (now out) ⌝ }
-    ensures { λ r. ⌜ Answers (carriedOut (now (table .entry)) (now (input .entry)) (lent (now (store .entry)) (now (state .entry)) (now (output .entry))) x)
-        r (now (answer .exit)) (lent (now (store .exit)) (now (state .exit)) (now (output .exit))) ⌝ }
+    ensures { λ r. ⌜ Answers (carriedOut (now (table .entry)) (now (input .entry)) (buffers (now (store .entry)) (now (state .entry)) (now (output .entry))) x)
+        r (now (answer .exit)) (buffers (now (store .exit)) (now (state .exit)) (now (output .exit))) ⌝ }
     ensures { λ _. ⌜ Lent (now (kept .exit)) (now (values .exit)) (now (rows .exit)) (now (names .exit)) (now (reference .exit))
         (now (scratch .exit)) (now (out .exit)) ⌝ }
 {
@@ -191,10 +192,10 @@ pub fn step_on(
     out: &mut [u8; LONGEST],
     answer: &mut [u32; ANSWER_SIZE],
 ) -> u32
-    requires { ⌜ Given (now table) (now input) (lent (now store) (now state) (now output)) ⌝ }
+    requires { ⌜ Given (now table) (now input) (buffers (now store) (now state) (now output)) ⌝ }
     requires { ⌜ Lent (now kept) (now values) (now rows) (now names) (now reference) (now scratch) (now out) ⌝ }
-    ensures { λ r. ⌜ Answers (stepCall edition1 (now (table .entry)) (now (input .entry)) (lent (now (store .entry)) (now (state .entry)) (now (output .entry))))
-        r (now (answer .exit)) (lent (now (store .exit)) (now (state .exit)) (now (output .exit))) ⌝ }
+    ensures { λ r. ⌜ Answers (stepCall edition1 (now (table .entry)) (now (input .entry)) (buffers (now (store .entry)) (now (state .entry)) (now (output .entry))))
+        r (now (answer .exit)) (buffers (now (store .exit)) (now (state .exit)) (now (output .exit))) ⌝ }
     ensures { λ _. ⌜ Lent (now (kept .exit)) (now (values .exit)) (now (rows .exit)) (now (names .exit)) (now (reference .exit))
         (now (scratch .exit)) (now (out .exit)) ⌝ }
 {
@@ -269,8 +270,8 @@ pub extern "C" fn strigol_step(
     output: &mut [u8],
     answer: &mut [u32; ANSWER_SIZE],
 ) -> u32
-    ensures { λ r. ⌜ StepPromise (now (table .entry)) (now (input .entry)) (lent (now (store .entry)) (now (state .entry)) (now (output .entry)))
-        r (now (answer .exit)) (lent (now (store .exit)) (now (state .exit)) (now (output .exit))) ⌝ }
+    ensures { λ r. ⌜ StepPromise edition1 (now (table .entry)) (now (input .entry)) (buffers (now (store .entry)) (now (state .entry)) (now (output .entry)))
+        (stepBack r (now (answer .exit)) (buffers (now (store .exit)) (now (state .exit)) (now (output .exit)))) ⌝ }
 {
     let n = unfit(table, store, state, input.len(), output.len());
     if 0 < n {

@@ -3,10 +3,9 @@ ghost use mathlib.Core.List.{[], _∷_};
 ghost use mathlib.Core.Path.{_≡_};
 ghost use lib.ListN.{getD};
 ghost use Rattle.base.specs.Edition.{edition1};
-ghost use Rattle.calls.specs.Calls.{runCall, stepCall};
-ghost use Rattle.carry.specs.Carrying.{lent};
-ghost use Rattle.steps.specs.Contracts.{Given, Answers};
-ghost use Rattle.steps.specs.Promises.{RunPromise};
+ghost use Rattle.calls.specs.Calls.{runCall, stepCall, buffers};
+ghost use Rattle.calls.specs.Promises.{RunPromise, runBack};
+ghost use Rattle.steps.specs.Contracts.{Given, Answers, RunAnswers};
 use crate::scans::NAMES_SIZE;
 use crate::scans::ROWS_SIZE;
 use crate::scans::VALUES_SIZE;
@@ -19,13 +18,13 @@ use scanning::ANSWER_SIZE;
 use scanning::NOTES_AT;
 
 // how a run ends
-const RUN_FINISHED: u64 = 0;
+pub const RUN_FINISHED: u64 = 0;
 
-const RUN_STOPPED: u64 = 1;
+pub const RUN_STOPPED: u64 = 1;
 
-const RUN_SPENT: u64 = 2;
+pub const RUN_SPENT: u64 = 2;
 
-const RUN_REFUSED: u64 = 3;
+pub const RUN_REFUSED: u64 = 3;
 
 // the least number by which a step is stopped; those below turn it down
 const FIRST_STOP: u32 = 17;
@@ -56,11 +55,11 @@ pub fn repeat(
     result: &mut [u64; 4],
     answer: &mut [u32; ANSWER_SIZE],
 ) -> u32
-    requires { ⌜ Given (now table) (now input) (lent (now store) (now state) (now output)) ⌝ }
-    ensures { λ r. ⌜ RunPromise (runCall edition1 (now (table .entry)) (now (input .entry)) count (lent (now (store .entry)) (now (state .entry)) (now (output .entry))))
-        r (now (result .exit)) (lent (now (store .exit)) (now (state .exit)) (now (output .exit))) ⌝ }
-    ensures { λ r. ⌜ (count ≡ 1 → Answers (stepCall edition1 (now (table .entry)) (now (input .entry)) (lent (now (store .entry)) (now (state .entry)) (now (output .entry))))
-        r (now (answer .exit)) (lent (now (store .exit)) (now (state .exit)) (now (output .exit)))) ⌝ }
+    requires { ⌜ Given (now table) (now input) (buffers (now store) (now state) (now output)) ⌝ }
+    ensures { λ r. ⌜ RunAnswers (runCall edition1 (now (table .entry)) (now (input .entry)) count (buffers (now (store .entry)) (now (state .entry)) (now (output .entry))))
+        r (now (result .exit)) (buffers (now (store .exit)) (now (state .exit)) (now (output .exit))) ⌝ }
+    ensures { λ r. ⌜ (count ≡ 1 → Answers (stepCall edition1 (now (table .entry)) (now (input .entry)) (buffers (now (store .entry)) (now (state .entry)) (now (output .entry))))
+        r (now (answer .exit)) (buffers (now (store .exit)) (now (state .exit)) (now (output .exit)))) ⌝ }
 {
     let mut kept = [0u8; STORE_SIZE];
     let mut values = [0u8; VALUES_SIZE];
@@ -114,8 +113,8 @@ pub extern "C" fn strigol_run(
     count: u32,
     result: &mut [u64; 4],
 ) -> u32
-    ensures { λ r. ⌜ RunPromise (runCall edition1 (now (table .entry)) (now (input .entry)) count (lent (now (store .entry)) (now (state .entry)) (now (output .entry))))
-        r (now (result .exit)) (lent (now (store .exit)) (now (state .exit)) (now (output .exit))) ⌝ }
+    ensures { λ r. ⌜ RunPromise edition1 (now (table .entry)) (now (input .entry)) count (buffers (now (store .entry)) (now (state .entry)) (now (output .entry)))
+        (runBack r (now (result .exit)) (buffers (now (store .exit)) (now (state .exit)) (now (output .exit)))) ⌝ }
 {
     if count == 0 {
         return end(result, RUN_SPENT, 0, 0, 0);

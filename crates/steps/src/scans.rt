@@ -1,7 +1,7 @@
 // SCAN and BACKSCAN carried out on the buffers, the state moved on with them.
 ghost use mathlib.Core.List.{List};
 ghost use Prim.Native.Nat.{ℕ};
-ghost use Rattle.carry.specs.Carrying.{lent};
+ghost use Rattle.calls.specs.Calls.{buffers};
 ghost use Rattle.scanstep.specs.Scans.{Scannable, Lent};
 ghost use Rattle.steps.specs.Contracts.{DoesScan};
 use base::LONGEST;
@@ -38,7 +38,7 @@ pub fn scan(
     requires { ⌜ Scannable (now table) (now store) (now state) s ⌝ }
     requires { ⌜ Lent (now kept) (now values) (now rows) (now names) (now reference) (now scratch) (now out) ⌝ }
     ensures { λ r. ⌜ ((input output : List ℕ) → DoesScan s (now (table .entry)) r
-        (lent (now (store .entry)) (now (state .entry)) output) (lent (now (store .exit)) (now (state .exit)) output) input (now (answer .exit))) ⌝ }
+        (buffers (now (store .entry)) (now (state .entry)) output) (buffers (now (store .exit)) (now (state .exit)) output) input (now (answer .exit))) ⌝ }
     ensures { λ _. ⌜ Lent (now (kept .exit)) (now (values .exit)) (now (rows .exit)) (now (names .exit)) (now (reference .exit))
         (now (scratch .exit)) (now (out .exit)) ⌝ }
 {

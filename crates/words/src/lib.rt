@@ -4,7 +4,7 @@ pub mod constants;
 pub mod keywords;
 pub mod names;
 
-use packer::classes::is_digit;
+use classes::is_digit;
 ghost use mathlib.Core.Bool.{_||_};
 ghost use mathlib.Core.List.{[], _∷_};
 ghost use mathlib.Core.Path.{_≡_};

@@ -1,7 +1,9 @@
 // Names: how many bytes of one stand at a place, and the name as a number.
 // Assumes nothing.
 use crate::byte_at;
-use packer::classes;
+use classes::is_digit;
+use classes::is_letter;
+use classes::is_letter_or_digit;
 use packer::keys;
 ghost use mathlib.Core.Path.{_≡_};
 ghost use lib.ListN.{take, drop};
@@ -16,9 +18,9 @@ fn is_counted(b: u8, letters: bool) -> bool
     ensures { λ r. ⌜ r ≡ isCounted letters b ⌝ }
 {
     if letters {
-        classes::is_letter_or_digit(b)
+        is_letter_or_digit(b)
     } else {
-        classes::is_digit(b)
+        is_digit(b)
     }
 }
 
@@ -47,7 +49,7 @@ pub fn digit_count(text: &[u8], at: usize) -> usize
 pub fn name_length(text: &[u8], at: usize) -> usize
     ensures { λ r. ⌜ NameAt (now (text .entry)) at r ⌝ }
 {
-    if !classes::is_letter(byte_at(text, at)) {
+    if !is_letter(byte_at(text, at)) {
         return 0;
     }
     let n = run_length(text, at, true);

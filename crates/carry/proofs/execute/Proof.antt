@@ -1,6 +1,6 @@
 -- `execute` meets its contract. Assumes nothing.
 use borrow.Author.Needs.{needs}
-use Rattle.carry.specs.Carrying.{lent}
+use Rattle.calls.specs.Calls.{buffers}
 use Rattle.carry.specs.Laws.{executes}
 use Rattle.carry.proofs.execute.Statement.{statement}
 use Rattle.carry.proofs.execute.Tie as tie
@@ -16,7 +16,7 @@ returns c store input output p s =
     let start = c .before .before .before .before in
     let a = start .args in
     rw (c .go-to .ensures, c .before .before .push-return .ensures)
-    (executes p input (lent store (a .state .now) output) s (a .next) (a .k) (start .pre .1) (start .pre .0))
+    (executes p input (buffers store (a .state .now) output) s (a .next) (a .k) (start .pre .1) (start .pre .0))
 
 pub execute-spec : {M : Type 1} → statement M
 execute-spec = tie.close (tie.spec push-return-requires go-to-requires returns)

@@ -1,6 +1,6 @@
 -- `finish` meets its contract. Assumes nothing.
 use borrow.Author.Needs.{needs}
-use Rattle.carry.specs.Carrying.{lent}
+use Rattle.calls.specs.Calls.{buffers}
 use Rattle.carry.specs.Laws.{finishes}
 use Rattle.carry.proofs.finish.Statement.{statement}
 use Rattle.carry.proofs.finish.Tie as tie
@@ -10,7 +10,7 @@ finish-requires c κs = search needs
 
 returns : tie.Need-returns
 returns c store input output p s =
-    rw (c .finish .ensures) (finishes p input (lent store (c .before .before .args .state .now) output) s)
+    rw (c .finish .ensures) (finishes p input (buffers store (c .before .before .args .state .now) output) s)
 
 pub finish-spec : {M : Type 1} → statement M
 finish-spec = tie.close (tie.spec finish-requires returns)

@@ -1,6 +1,6 @@
 -- `go_to` meets its contract. Assumes nothing.
 use borrow.Author.Needs.{needs}
-use Rattle.carry.specs.Carrying.{lent}
+use Rattle.calls.specs.Calls.{buffers}
 use Rattle.carry.specs.Laws.{goes}
 use Rattle.carry.proofs.go_to.Statement.{statement}
 use Rattle.carry.proofs.go_to.Tie as tie
@@ -11,7 +11,7 @@ go-to-requires c κs = search needs
 returns : tie.Need-returns
 returns c store input output p s =
     let a = c .before .before .args in
-    rw (c .go-to .ensures) (goes p input (lent store (a .state .now) output) s (a .k))
+    rw (c .go-to .ensures) (goes p input (buffers store (a .state .now) output) s (a .k))
 
 pub go-to-spec : {M : Type 1} → statement M
 go-to-spec = tie.close (tie.spec go-to-requires returns)

@@ -2,10 +2,10 @@
 use mathlib.Core.Bool.{true, false}
 use mathlib.Core.Path.{subst}
 use borrow.Author.Needs.{needs}
+use Rattle.calls.specs.Calls.{buffers}
 use Rattle.machine.specs.Step.{chosen}
 use Rattle.rows.specs.Meaning.{branchMeaning, partMeaning}
 use Rattle.statements.specs.Reading.{Reads}
-use Rattle.carry.specs.Carrying.{lent}
 use Rattle.carry.specs.Laws.{reads, read-stops}
 use Rattle.carry.proofs.read.Statement.{statement}
 use Rattle.carry.proofs.read.Tie as tie
@@ -40,7 +40,7 @@ returns c output p s =
     let moves = subst
     (λ r. Reads r (a .store .now) (went .last .0) (a .state .now) (went .last .1 .0) (a .input .now) (partMeaning (a .p))) told (went .ensures) in
     rw (c .go-to .ensures)
-    (reads p (a .input .now) (lent (a .store .now) (a .state .now) output) s true (went .last .0) (went .last .1 .0) (partMeaning (a .p))
+    (reads p (a .input .now) (buffers (a .store .now) (a .state .now) output) s true (went .last .0) (went .last .1 .0) (partMeaning (a .p))
     (branchMeaning (a .b)) moves)
 
 same-length-2 : tie.Need-same-length-2
@@ -55,7 +55,7 @@ returns-2 c output p s =
     let moves = subst
     (λ r. Reads r (a .store .now) (went .last .0) (a .state .now) (went .last .1 .0) (a .input .now) (partMeaning (a .p))) told (went .ensures) in
     rw (c .go-to2 .ensures)
-    (reads p (a .input .now) (lent (a .store .now) (a .state .now) output) s false (went .last .0) (went .last .1 .0) (partMeaning (a .p))
+    (reads p (a .input .now) (buffers (a .store .now) (a .state .now) output) s false (went .last .0) (went .last .1 .0) (partMeaning (a .p))
     (branchMeaning (a .b)) moves)
 
 same-length-3 : tie.Need-same-length-3
@@ -66,7 +66,7 @@ returns-3 c output p s =
     let told = c .before .k .given in
     let went = c .before .before .before .before .before .read-record in
     let a = c .before .before .before .before .before .before .before .before .before .before .args in
-    read-stops p (a .input .now) (lent (a .store .now) (a .state .now) output) s (told .0 .0) (went .last .0) (went .last .1 .0)
+    read-stops p (a .input .now) (buffers (a .store .now) (a .state .now) output) s (told .0 .0) (went .last .0) (went .last .1 .0)
     (partMeaning (a .p)) (branchMeaning (a .b))
     (subst (λ r. Reads r (a .store .now) (went .last .0) (a .state .now) (went .last .1 .0) (a .input .now) (partMeaning (a .p))) (told .1)
     (went .ensures))

@@ -1,6 +1,6 @@
 -- `return_to` meets its contract. Assumes nothing.
 use borrow.Author.Needs.{needs}
-use Rattle.carry.specs.Carrying.{lent}
+use Rattle.calls.specs.Calls.{buffers}
 use Rattle.carry.specs.Laws.{returns-to}
 use Rattle.carry.proofs.return_to.Statement.{statement}
 use Rattle.carry.proofs.return_to.Tie as tie
@@ -16,7 +16,7 @@ returns c store input output p s =
     let popped = c .before .before .pop-return in
     let start = c .before .before .before .before in
     rw (c .go-to .ensures)
-    (returns-to p input (lent store (start .args .state .now) output) s (popped .last .0) (popped .result) (popped .ensures) (start .pre .0))
+    (returns-to p input (buffers store (start .args .state .now) output) s (popped .last .0) (popped .result) (popped .ensures) (start .pre .0))
 
 pub return-to-spec : {M : Type 1} → statement M
 return-to-spec = tie.close (tie.spec pop-return-requires go-to-requires returns)

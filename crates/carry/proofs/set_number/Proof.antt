@@ -1,6 +1,6 @@
 -- `set_number` meets its contract. Assumes nothing.
 use borrow.Author.Needs.{needs}
-use Rattle.carry.specs.Carrying.{lent}
+use Rattle.calls.specs.Calls.{buffers}
 use Rattle.carry.specs.Laws.{carries-on, sets-number}
 use Rattle.carry.proofs.set_number.Statement.{statement}
 use Rattle.carry.proofs.set_number.Tie as tie
@@ -16,7 +16,7 @@ returns c input output p s =
     let assigned = c .before .before .assign in
     let start = c .before .before .before .before .before .before in
     let a = start .args in
-    let b = lent (a .store .now) (a .state .now) output in
+    let b = buffers (a .store .now) (a .state .now) output in
     carries-on input b (a .store .now) output _ (c .move-on .ensures)
     (sets-number p input b s (assigned .result) (assigned .last .1 .1 .0) (a .place) (a .next) _ (start .pre .1 .0) (start .pre .1 .1)
     (assigned .ensures))

@@ -1,7 +1,7 @@
 -- `set_string` meets its contract. Assumes nothing.
 use borrow.Author.Needs.{needs}
+use Rattle.calls.specs.Calls.{buffers}
 use Rattle.rows.specs.Meaning.{partMeaning}
-use Rattle.carry.specs.Carrying.{lent}
 use Rattle.carry.specs.Laws.{carries-on, sets-string}
 use Rattle.carry.proofs.set_string.Statement.{statement}
 use Rattle.carry.proofs.set_string.Tie as tie
@@ -21,7 +21,7 @@ returns c =
     let a = c .before .before .before .before .before .before .before .before .before .before .before .args in
     let pre = c .before .before .before .before .before .before .before .before .before .before .before .pre in (
       λ input output p s.
-          let b = lent (a .store .now) (a .state .now) output in
+          let b = buffers (a .store .now) (a .state .now) output in
           carries-on input b (stored .last .1 .0) output _ (c .move-on .ensures)
           (sets-string p input b s (stored .result) (stored .last .1 .0) _ _ (a .next) (partMeaning (a .p)) _ (pre .1 .1) (stored .ensures)),
       (stored .ensures .spare, stored .ensures .room),

@@ -1,6 +1,6 @@
 -- `write` meets its contract. Assumes nothing.
 use borrow.Author.Needs.{needs}
-use Rattle.carry.specs.Carrying.{lent}
+use Rattle.calls.specs.Calls.{buffers}
 use Rattle.carry.specs.Laws.{carries-on, writes}
 use Rattle.carry.proofs.write.Statement.{statement}
 use Rattle.carry.proofs.write.Tie as tie
@@ -19,7 +19,7 @@ returns c =
     let written = c .before .before .before .before .write-record in
     let a = c .before .before .before .before .before .before .before .before .before .before .before .before .args in
     let pre = c .before .before .before .before .before .before .before .before .before .before .before .before .pre in
-    let b = lent (a .store .now) (a .state .now) (a .output .now) in (
+    let b = buffers (a .store .now) (a .state .now) (a .output .now) in (
       λ input p s.
           carries-on input b (a .store .now) (written .last .1 .1 .1 .1 .0) _ (c .move-on .ensures)
           (writes p input b s (written .result) (written .last .1 .1 .0) (written .last .1 .1 .1 .1 .0) (a .next) _ (pre .1 .1) (written .ensures .0)),

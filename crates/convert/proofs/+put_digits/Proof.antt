@@ -8,6 +8,7 @@ use lib.ListN.{length, length-append}
 use Rattle.values.specs.Conversion.{digits}
 use Rattle.values.specs.Laws.{digits-small, digits-large}
 use Rattle.convert.proofs.Stores.{stored-behind, stored-one}
+use borrow.Author.Needs.{needs}
 use borrow.Fn.Kinds.{In}
 use borrow.Fn.PlainCycle.{Measures, is, falls, and}
 use Rattle.convert.proofs.put_digits.Reads as put-digits
@@ -47,12 +48,12 @@ put-digits-add-out :
     put-digits.Post
 put-digits-add-out t c = omega arith
 
-put-digits-element-write-out : (t : ℕ) → put-digits-lts.Need-element-write-out (
+put-digits-slice-write-out : (t : ℕ) → put-digits-lts.Need-slice-write-out (
   put-digits-below t,
   put-digits.Post,
 ) (put-digits-at t) put-digits.Post
-put-digits-element-write-out t c =
-    let h : length (digits (c .before .args .v)) ≡ 1 = ap length (digits-small (c .before .args .v) (c .if1 .taken)) in
+put-digits-slice-write-out t c =
+    let h : length (digits (c .before .before .args .v)) ≡ 1 = ap length (digits-small (c .before .before .args .v) (c .if1 .taken)) in
     omega arith
 
 put-digits-add-result : (t : ℕ) → put-digits-lts.Need-add-result (
@@ -60,8 +61,14 @@ put-digits-add-result : (t : ℕ) → put-digits-lts.Need-add-result (
   put-digits.Post,
 ) (put-digits-at t) put-digits.Post
 put-digits-add-result t c =
-    let h : length (digits (c .before .args .v)) ≡ 1 = ap length (digits-small (c .before .args .v) (c .if1 .taken)) in
+    let h : length (digits (c .before .before .args .v)) ≡ 1 = ap length (digits-small (c .before .before .args .v) (c .if1 .taken)) in
     omega arith
+
+put-digits-same-length : (t : ℕ) → put-digits-lts.Need-same-length (
+  put-digits-below t,
+  put-digits.Post,
+) (put-digits-at t) put-digits.Post
+put-digits-same-length t c = search needs
 
 put-digits-returns :
     (t : ℕ) →
@@ -70,7 +77,7 @@ put-digits-returns :
     (put-digits-at t)
     put-digits.Post
 put-digits-returns t c =
-    let s = c .before .args in
+    let s = c .before .before .args in
     rw (digits-small (s .v) (c .if1 .taken)) (stored-one (s .out .now) (s .at) (48 + s .v))
 
 put-digits-put-digits-requires : (t : ℕ) → put-digits-lts.Need-put-digits-requires (
@@ -78,7 +85,7 @@ put-digits-put-digits-requires : (t : ℕ) → put-digits-lts.Need-put-digits-re
   put-digits.Post,
 ) (put-digits-at t) put-digits.Post
 put-digits-put-digits-requires t c κs =
-    let s = c .before .before in
+    let s = c .before .before .before in
     let more = longer (s .args .v) (c .before .if1 .left) in
     (omega arith, omega arith)
 
@@ -94,14 +101,14 @@ put-digits-add-out-2 : (t : ℕ) → put-digits-lts.Need-add-out-2 (
 ) (put-digits-at t) put-digits.Post
 put-digits-add-out-2 t c = omega arith
 
-put-digits-element-write-out-2 : (t : ℕ) → put-digits-lts.Need-element-write-out-2 (
+put-digits-slice-write-out-2 : (t : ℕ) → put-digits-lts.Need-slice-write-out-2 (
   put-digits-below t,
   put-digits.Post,
 ) (put-digits-at t) put-digits.Post
-put-digits-element-write-out-2 t c =
-    let s = c .before .before .before in
-    let more = longer (s .args .v) (c .before .before .if1 .left) in
-    let ends = c .put-digits .ensures .ends in
+put-digits-slice-write-out-2 t c =
+    let s = c .before .before .before .before .before .before in
+    let more = longer (s .args .v) (c .before .before .before .before .if1 .left) in
+    let ends = c .before .before .put-digits .ensures .ends in
     omega arith
 
 put-digits-add-result-2 : (t : ℕ) → put-digits-lts.Need-add-result-2 (
@@ -109,19 +116,26 @@ put-digits-add-result-2 : (t : ℕ) → put-digits-lts.Need-add-result-2 (
   put-digits.Post,
 ) (put-digits-at t) put-digits.Post
 put-digits-add-result-2 t c =
-    let s = c .before .before .before in
-    let more = longer (s .args .v) (c .before .before .if1 .left) in
-    let ends = c .put-digits .ensures .ends in
+    let s = c .before .before .before .before .before .before in
+    let more = longer (s .args .v) (c .before .before .before .before .if1 .left) in
+    let ends = c .before .before .put-digits .ensures .ends in
     omega arith
+
+put-digits-same-length-2 : (t : ℕ) → put-digits-lts.Need-same-length-2 (
+  put-digits-below t,
+  put-digits.Post,
+) (put-digits-at t) put-digits.Post
+put-digits-same-length-2 t c = search needs
 
 put-digits-returns-2 : (t : ℕ) → put-digits-lts.Need-returns-2 (
   put-digits-below t,
   put-digits.Post,
 ) (put-digits-at t) put-digits.Post
 put-digits-returns-2 t c =
-    let v = c .before .before .before .args .v in
-    rw (digits-large v (c .before .before .if1 .left))
-    (stored-behind (c .put-digits .ensures) (stored-one (c .put-digits .last .1 .1 .0) (c .put-digits .result) (48 + v % 10)))
+    let put = c .before .before .put-digits in
+    let v = c .before .before .before .before .before .before .args .v in
+    rw (digits-large v (c .before .before .before .before .if1 .left))
+    (stored-behind (put .ensures) (stored-one (put .last .1 .1 .0) (put .result) (48 + v % 10)))
 
 pub +put-digits-spec : {M : Type 1} → statement M
 +put-digits-spec = close μ-put-digits λ t. put-digits-lts.spec (
@@ -132,12 +146,14 @@ pub +put-digits-spec : {M : Type 1} → statement M
     put-digits.Post
     (put-digits-cast-out t)
     (put-digits-add-out t)
-    (put-digits-element-write-out t)
+    (put-digits-slice-write-out t)
     (put-digits-add-result t)
+    (put-digits-same-length t)
     (put-digits-returns t)
     (put-digits-put-digits-requires t)
     (put-digits-cast-out-2 t)
     (put-digits-add-out-2 t)
-    (put-digits-element-write-out-2 t)
+    (put-digits-slice-write-out-2 t)
     (put-digits-add-result-2 t)
+    (put-digits-same-length-2 t)
     (put-digits-returns-2 t)

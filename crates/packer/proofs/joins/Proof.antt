@@ -1,14 +1,20 @@
 -- `packer::joins` answers whether the byte joins the next line.
 -- Assumes nothing.
-use Rattle.cards.specs.Bytes.{isBlank, slash}
+use Rattle.cards.specs.Bytes.{slash}
 use Rattle.packer.specs.Lines.{joins}
-use mathlib.Core.Path.{refl}
+use borrow.Author.Needs.{needs}
+use lib.Dec.{eqb}
+use mathlib.Core.Bool.{not, _&&_}
+use mathlib.Core.Path.{ap}
 use Rattle.packer.proofs.joins.Statement.{statement}
 use Rattle.packer.proofs.joins.Tie as tie
 
+is-blank-requires : tie.Need-is-blank-requires
+is-blank-requires c κs = search needs
+
 returns : tie.Need-returns
-unfolding joins isBlank slash
-returns c = refl
+unfolding joins slash
+returns c = ap (λ t. not t && not (eqb (c .before .args .b) 47)) (c .is-blank .ensures)
 
 pub joins-spec : {M : Type 1} → statement M
-joins-spec = tie.close (tie.spec returns)
+joins-spec = tie.close (tie.spec is-blank-requires returns)

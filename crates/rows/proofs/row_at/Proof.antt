@@ -1,6 +1,7 @@
 -- `rows::row_at` meets its contract.
 -- Assumes nothing.
 use borrow.Author.Needs.{needs}
+use native.Mathlib.Omega.{arith}
 use Rattle.calls.specs.TableReading.{rowAt}
 use Rattle.rows.proofs.row_at.Statement.{statement}
 use Rattle.rows.proofs.row_at.Tie as tie
@@ -64,7 +65,7 @@ returns c =
             left = left .same i;
             right = right .same i;
           };
-      small = record { left = left .small; right = right .small };
+      small = record { kind = omega (arith, c .before .before .before .before .wide .ensures .1); left = left .small; right = right .small };
     }
 
 pub row-at-spec : {M : Type 1} → statement M

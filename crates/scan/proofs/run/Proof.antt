@@ -11,7 +11,7 @@ use Rattle.scan.specs.Rows.{elementOf}
 use lib.ListN.{drop}
 use mathlib.Core.Path.{_≡_, sym, _∙_, ap, subst}
 use Rattle.scan.proofs.Running.{Running}
-use Prim.Native.Nat.{_+_, _-_}
+use Prim.Native.Nat.{_+_, _*_, _-_}
 use lib.ListN.{length}
 use native.Mathlib.Omega.{arith}
 use borrow.Author.Needs.{needs}
@@ -22,7 +22,7 @@ abbrev Inv-loop : tie.InvT-loop
 Inv-loop reference values rows count answer₀ g₀ from₀ place₀ trials₀ answer g from place trials = Running reference values rows count answer g from place trials
 
 abbrev μ-loop : tie.MeasureT-loop
-μ-loop reference values rows count answer₀ g₀ from₀ place₀ trials₀ answer g from place trials = length reference - place + (count - g)
+μ-loop reference values rows count answer₀ g₀ from₀ place₀ trials₀ answer g from place trials = 21 * (length reference - place) + (count - g)
 
 -- the run after the places passed over
 skipped : (c : tie.After-skip Inv-loop μ-loop)
@@ -144,7 +144,8 @@ add-place-2 c =
 loop-less : tie.Need-loop-less Inv-loop μ-loop
 loop-less c =
     let r = skipped (c .before .before .before .before .before .before) in
-    omega (arith, r .inside, c .if1 .left)
+    let p = c .before .before .before .before .before .before .before .before .before .before .before .before .pre .0 in
+    omega (arith, r .inside, c .if1 .left, p .few)
 
 loop-again : tie.Need-loop-again Inv-loop μ-loop
 unfolding GroupSays

@@ -17,6 +17,9 @@ returns c = next-byte (c .pass-bytes .ensures)
 pass-blocks-requires : tie.Need-pass-blocks-requires
 pass-blocks-requires c κs = search needs
 
+pass-rest-requires : tie.Need-pass-rest-requires
+pass-rest-requires c κs = search needs
+
 pass-blocks-requires-2 : tie.Need-pass-blocks-requires-2
 pass-blocks-requires-2 c κs = search needs
 
@@ -25,7 +28,9 @@ pass-bytes-requires-2 c κs = search needs
 
 returns-2 : tie.Need-returns-2
 returns-2 c =
-    next-byte (next-behind (c .before .before .pass-blocks .ensures) (c .before .pass-blocks2 .ensures) (c .pass-bytes2 .ensures))
+    next-byte
+    (next-behind (c .before .before .before .pass-blocks .ensures)
+    (next-behind (c .before .before .pass-rest .ensures) (next-behind (c .before .pass-blocks2 .ensures) (c .pass-bytes2 .ensures))))
 
 pub next-byte-spec : {M : Type 1} → statement M
 next-byte-spec =
@@ -35,6 +40,7 @@ next-byte-spec =
     pass-bytes-requires
     returns
     pass-blocks-requires
+    pass-rest-requires
     pass-blocks-requires-2
     pass-bytes-requires-2
     returns-2)

@@ -6,21 +6,21 @@ use borrow.Author.Needs.{needs}
 use Rattle.search.proofs.passed.Statement.{statement}
 use Rattle.search.proofs.passed.Tie as tie
 
-returns : tie.Need-returns
-returns c = passes-none
-
-returns-2 : tie.Need-returns-2
-returns-2 c = passes-none
-
 shared-slice-read-next-byte : tie.Need-shared-slice-read-next-byte
 shared-slice-read-next-byte c = search needs
 
 next-byte-requires : tie.Need-next-byte-requires
 next-byte-requires c κs = search needs
 
-returns-3 : tie.Need-returns-3
-returns-3 c =
+returns : tie.Need-returns
+returns c =
     passes-byte (omega arith) (c .next-byte .ensures)
+
+returns-2 : tie.Need-returns-2
+returns-2 c = passes-none
+
+returns-3 : tie.Need-returns-3
+returns-3 c = passes-none
 
 passed-word-requires : tie.Need-passed-word-requires
 passed-word-requires c κs = search needs
@@ -32,10 +32,10 @@ pub passed-spec : {M : Type 1} → statement M
 passed-spec =
     tie.close
     (tie.spec
-    returns
-    returns-2
     shared-slice-read-next-byte
     next-byte-requires
+    returns
+    returns-2
     returns-3
     passed-word-requires
     returns-4)

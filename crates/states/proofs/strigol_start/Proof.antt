@@ -2,6 +2,7 @@
 -- Assumes nothing.
 use mathlib.Core.Path.{sym, _∙_}
 use borrow.Author.Needs.{needs}
+use Rattle.calls.specs.Promises.{startBack}
 use Rattle.states.specs.KeepLaws.{start-state}
 use Rattle.states.proofs.strigol_start.Statement.{statement}
 use Rattle.states.proofs.strigol_start.Tie as tie
@@ -19,11 +20,8 @@ returns : tie.Need-returns
 returns c =
     let stored = c .before .before .start-store .ensures in
     let made = c .before .before .before .before in
-    record {
-      number-right = stored .number-right;
-      store-right = stored .left-right;
-      state-right = made .start .ensures ∙ sym (start-state (made .before .before .before .args .store .now));
-    }
+    let state = made .start .ensures ∙ sym (start-state (made .before .before .before .args .store .now)) in
+    record { does = λ i. startBack (stored .number-right i) (stored .left-right i) (state i) }
 
 pub strigol-start-spec : {M : Type 1} → statement M
 strigol-start-spec = tie.close (tie.spec start-requires start-store-requires same-length returns)

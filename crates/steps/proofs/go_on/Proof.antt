@@ -1,6 +1,6 @@
 -- `go_on` meets its contract. Assumes nothing.
 use borrow.Author.Needs.{needs}
-use Rattle.carry.specs.Carrying.{lent}
+use Rattle.calls.specs.Calls.{buffers}
 use Rattle.steps.specs.Contracts.{workOf}
 use Rattle.steps.specs.Laws.{silent-zeros, concluded-answers}
 use Rattle.steps.proofs.go_on.Statement.{statement}
@@ -34,9 +34,9 @@ returns : tie.Need-returns
 returns c =
     let a = c .before .before .before .before .before .before .before .before .before .before .before .before .before .before .before .before .before .before .before .before .before .before .before .before .before .before .before .before .before .before .before .before .before .before .before .before .args in
     let g = c .before .before .before .before .before .before .before .before .before .before .before .before .before .before .before .before .before .before .before .before .before .before .before .before .before .before .before .before .before .before .before .before .before .before .before .before .pre .0 in
-    let b = lent (a .store .now) (a .state .now) (a .output .now) in
+    let b = buffers (a .store .now) (a .state .now) (a .output .now) in
     let called = c .before .before .before .before .before .before .before .before .before .before .before .before .before .before .before .carry-out in
-    let left = lent (called .last .1 .0) (called .last .1 .1 .0) (called .last .1 .1 .1 .1 .0) in (
+    let left = buffers (called .last .1 .0) (called .last .1 .1 .0) (called .last .1 .1 .1 .1 .0) in (
       concluded-answers (g .given) (g .running) (called .result) left _ (workOf (a .table .now) (a .input .now) b (a .x)) (called .ensures .0 .works)
           (c .conclude .ensures),
       called .ensures .1,

@@ -2,9 +2,9 @@
 use mathlib.Core.Path.{_≡_, refl, _∙_}
 use native.Mathlib.Omega.{arith}
 use borrow.Author.Needs.{needs}
-use Rattle.carry.specs.Carrying.{lent}
+use Rattle.calls.specs.Calls.{buffers}
 use Rattle.steps.specs.Laws.{unfit-answers, fit-given}
-use Rattle.steps.specs.PromiseLaws.{promised}
+use Rattle.steps.specs.PromiseLaws.{step-kept}
 use Rattle.steps.proofs.strigol_step.Statement.{statement}
 use Rattle.steps.proofs.strigol_step.Tie as tie
 
@@ -20,8 +20,8 @@ same-length c = search needs
 returns : tie.Need-returns
 returns c =
     let a = c .before .before .before .before .before .before .before .before .before .before .args in
-    let b = lent (a .store .now) (a .state .now) (a .output .now) in
-    promised
+    let b = buffers (a .store .now) (a .state .now) (a .output .now) in
+    step-kept (c .before .before .before .unfit .ensures .1)
     (unfit-answers (a .table .now) (a .input .now) b (c .before .before .before .unfit .result) (c .before .before .before .unfit .ensures .0) (c .before .before .if1 .taken) (c .turn-down .ensures .0)
     (c .turn-down .ensures .1))
 
@@ -30,7 +30,7 @@ repeat-requires c κs =
     let a = c .before .before .before .before .before .before .before .before .before .before .before .before .before .args in
     let fit = c .before .before .before .before .before .before .unfit in
     let none : 0 ≡ fit .result = omega (arith, c .before .before .before .before .before .if1 .left) in
-    fit-given (a .table .now) (a .input .now) (lent (a .store .now) (a .state .now) (a .output .now)) (none ∙ fit .ensures .0) (fit .ensures .1)
+    fit-given (a .table .now) (a .input .now) (buffers (a .store .now) (a .state .now) (a .output .now)) (none ∙ fit .ensures .0) (fit .ensures .1)
 
 same-length-2 : tie.Need-same-length-2
 same-length-2 c = search needs
@@ -39,7 +39,9 @@ same-length-3 : tie.Need-same-length-3
 same-length-3 c = search needs
 
 returns-2 : tie.Need-returns-2
-returns-2 c = promised (c .before .before .before .before .repeat .ensures .1 refl)
+returns-2 c =
+    step-kept (c .before .before .before .before .before .before .before .before .before .before .before .unfit .ensures .1)
+    (c .before .before .before .before .repeat .ensures .1 refl)
 
 pub strigol-step-spec : {M : Type 1} → statement M
 strigol-step-spec =

@@ -5,6 +5,7 @@ use Rattle.cards.specs.Cards.{withoutBlanks}
 use Rattle.packer.proofs.Labels.{Keyed, front-short, keyed-start, keyed-with, keyed-without, keyed-small}
 use Rattle.packer.specs.Keys.{keyOf}
 use borrow.Author.Needs.{needs}
+use borrow.Author.Tests.{not-false, not-true}
 use lib.ListN.{drop, getD}
 use mathlib.Core.List.{List}
 use mathlib.Core.Path.{_≡_, ap, subst, sym, _∙_}
@@ -32,10 +33,13 @@ sub-i c = omega arith
 shared-slice-read-b : tie.Need-shared-slice-read-b Inv-loop μ-loop
 shared-slice-read-b c = omega arith
 
+is-blank-requires : tie.Need-is-blank-requires Inv-loop μ-loop
+is-blank-requires c κs = search needs
+
 mul-key : tie.Need-mul-key Inv-loop μ-loop
 mul-key c =
-    let bytes = c .before .before .before .before .front .result .now in
-    let s = c .before .before .before .loop in
+    let bytes = c .before .before .before .before .before .front .result .now in
+    let s = c .before .before .before .before .loop in
     let small = keyed-small bytes (s .i) (s .key) (s .inv) (omega arith) in
     omega arith
 
@@ -44,8 +48,8 @@ wide-requires c κs = search needs
 
 add-key : tie.Need-add-key Inv-loop μ-loop
 add-key c =
-    let bytes = c .before .before .before .before .before .front .result .now in
-    let s = c .before .before .before .before .loop in
+    let bytes = c .before .before .before .before .before .before .front .result .now in
+    let s = c .before .before .before .before .before .loop in
     let small = keyed-small bytes (s .i) (s .key) (s .inv) (omega arith) in
     omega arith
 
@@ -54,21 +58,24 @@ loop-less c = omega arith
 
 loop-again : tie.Need-loop-again Inv-loop μ-loop
 loop-again c =
-    let bytes = c .before .before .before .before .before .front .result .now in
-    let s = c .before .before .before .before .loop in
+    let bytes = c .before .before .before .before .before .before .front .result .now in
+    let s = c .before .before .before .before .before .loop in
     let b = getD bytes (s .i - 1) 0 in
     let same : c .wide .result ≡ b = c .wide .ensures .0 in
+    let blank = c .before .before .is-blank in
+    let other = sym (blank .ensures) ∙ not-true (blank .result) (c .before .if1 .taken) in
     subst (λ (n : ℕ). Keyed bytes (s .i - 1) (256 * s .key + n)) (sym same)
-    (keyed-with bytes (s .i) (s .key) (s .inv) (omega arith) (c .before .if1 .taken) (omega arith))
+    (keyed-with bytes (s .i) (s .key) (s .inv) (omega arith) other (omega arith))
 
 loop-less-2 : tie.Need-loop-less-2 Inv-loop μ-loop
 loop-less-2 c = omega arith
 
 loop-again-2 : tie.Need-loop-again-2 Inv-loop μ-loop
 loop-again-2 c =
-    let bytes = c .before .before .before .before .front .result .now in
-    let s = c .before .before .before .loop in
-    keyed-without bytes (s .i) (s .key) (s .inv) (omega arith) (c .if1 .left)
+    let bytes = c .before .before .before .before .before .front .result .now in
+    let s = c .before .before .before .before .loop in
+    let blank = sym (c .before .is-blank .ensures) ∙ not-false (c .before .is-blank .result) (c .if1 .left) in
+    keyed-without bytes (s .i) (s .key) (s .inv) (omega arith) blank
 
 returns : tie.Need-returns Inv-loop μ-loop
 returns c =
@@ -89,6 +96,7 @@ key-of-spec =
     loop-holds
     sub-i
     shared-slice-read-b
+    is-blank-requires
     mul-key
     wide-requires
     add-key

@@ -8,7 +8,7 @@ use Rattle.cards.specs.Bytes.{isBlank}
 use Rattle.cards.specs.Cards.{isBlankLine}
 use Rattle.packer.proofs.Lines.{all-more, all-false}
 use borrow.Author.Needs.{needs}
-use borrow.Author.Tests.{eq-eqb, ne-eqb}
+use borrow.Author.Tests.{not-false, not-true}
 use lib.ListN.{length, drop}
 use mathlib.Core.Path.{_≡_, refl, ap, sym, _∙_}
 use native.Mathlib.Omega.{arith}
@@ -27,17 +27,19 @@ front-requires c κs = search needs
 loop-holds : tie.Need-loop-holds Inv-loop μ-loop
 loop-holds c = (omega arith, refl)
 
-shared-slice-read-if1 : tie.Need-shared-slice-read-if1 Inv-loop μ-loop
-shared-slice-read-if1 c = omega arith
+shared-slice-read-is-blank : tie.Need-shared-slice-read-is-blank Inv-loop μ-loop
+shared-slice-read-is-blank c = omega arith
+
+is-blank-requires : tie.Need-is-blank-requires Inv-loop μ-loop
+is-blank-requires c κs = search needs
 
 returns : tie.Need-returns Inv-loop μ-loop
-unfolding isBlankLine edition1 isBlank
+unfolding isBlankLine edition1
 returns c =
-    let bytes = c .before .before .before .before .front .result .now in
-    let s = c .before .before .before .loop in
-    sym (all-false isBlank bytes (s .i) (omega arith) (ne-eqb _ _ (c .if1 .taken)))
-    ∙ s .inv .1
-    ∙ ap (all isBlank) (c .before .before .before .before .front .ensures)
+    let front = c .before .before .before .before .before .front in
+    let s = c .before .before .before .before .loop in
+    let other = sym (c .before .is-blank .ensures) ∙ not-true (c .before .is-blank .result) (c .if1 .taken) in
+    sym (all-false isBlank (front .result .now) (s .i) (omega arith) other) ∙ s .inv .1 ∙ ap (all isBlank) (front .ensures)
 
 add-i : tie.Need-add-i Inv-loop μ-loop
 add-i c = omega arith
@@ -46,11 +48,11 @@ loop-less : tie.Need-loop-less Inv-loop μ-loop
 loop-less c = omega arith
 
 loop-again : tie.Need-loop-again Inv-loop μ-loop
-unfolding isBlank
 loop-again c =
-    let bytes = c .before .before .before .before .front .result .now in
-    let s = c .before .before .before .loop in
-    (omega arith, all-more isBlank bytes (s .i) (omega arith) (eq-eqb _ _ (c .if1 .left)) ∙ s .inv .1)
+    let bytes = c .before .before .before .before .before .front .result .now in
+    let s = c .before .before .before .before .loop in
+    let blank = sym (c .before .is-blank .ensures) ∙ not-false (c .before .is-blank .result) (c .if1 .left) in
+    (omega arith, all-more isBlank bytes (s .i) (omega arith) blank ∙ s .inv .1)
 
 returns-2 : tie.Need-returns-2 Inv-loop μ-loop
 unfolding isBlankLine edition1
@@ -67,7 +69,8 @@ is-blank-line-spec =
     μ-loop
     front-requires
     loop-holds
-    shared-slice-read-if1
+    shared-slice-read-is-blank
+    is-blank-requires
     returns
     add-i
     loop-less

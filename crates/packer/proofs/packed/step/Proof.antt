@@ -2,7 +2,6 @@
 -- Assumes nothing.
 use Rattle.packer.proofs.Packing.{flag-small, steps-other, steps-outside}
 use borrow.Author.Needs.{needs}
-use lib.Dec.{eqb}
 use mathlib.Core.Bool.{not}
 use native.Mathlib.Omega.{arith}
 use Rattle.packer.proofs.packed.step.Statement.{statement}
@@ -11,16 +10,21 @@ use Rattle.packer.proofs.packed.step.Tie as tie
 is-outside-requires : tie.Need-is-outside-requires
 is-outside-requires c κs = search needs
 
-cast-t9 : tie.Need-cast-t9
-cast-t9 c = search needs
+is-blank-requires : tie.Need-is-blank-requires
+is-blank-requires c κs = search needs
 
-add-t10 : tie.Need-add-t10
-add-t10 c = let small = flag-small (not (eqb (c .before .before .before .args .b) 32)) in omega arith
+cast-t10 : tie.Need-cast-t10
+cast-t10 c = search needs
+
+add-t11 : tie.Need-add-t11
+add-t11 c = let small = flag-small (not (c .before .is-blank .result)) in omega arith
 
 returns : tie.Need-returns
 returns c =
-    let a = c .before .before .before .args in
-    steps-outside (a .s) (a .b) (c .before .before .is-outside .result) (c .before .before .is-outside .ensures) (c .before .if1 .taken)
+    let outside = c .before .before .before .is-outside in
+    let a = c .before .before .before .before .args in
+    steps-outside (a .s) (a .b) (outside .result) (c .before .is-blank .result)
+    (outside .ensures) (c .before .before .if1 .taken) (c .before .is-blank .ensures)
 
 place-after-requires : tie.Need-place-after-requires
 place-after-requires c κs = search needs
@@ -28,8 +32,8 @@ place-after-requires c κs = search needs
 stays-whole-requires : tie.Need-stays-whole-requires
 stays-whole-requires c κs = search needs
 
-add-t12 : tie.Need-add-t12
-add-t12 c = search needs
+add-t13 : tie.Need-add-t13
+add-t13 c = search needs
 
 returns-2 : tie.Need-returns-2
 returns-2 c =
@@ -45,10 +49,11 @@ step-spec =
     tie.close
     (tie.spec
     is-outside-requires
-    cast-t9
-    add-t10
+    is-blank-requires
+    cast-t10
+    add-t11
     returns
     place-after-requires
     stays-whole-requires
-    add-t12
+    add-t13
     returns-2)

@@ -7,7 +7,7 @@ use Prim.Native.Nat.{ℕ, _+_, _-_}
 use native.Mathlib.Omega.{arith}
 use lib.ListN as lists
 use borrow.Author.Needs.{needs}
-use Rattle.carry.specs.Carrying.{lent}
+use Rattle.calls.specs.Calls.{buffers}
 use Rattle.scanstep.specs.Scans.{Lent}
 use Rattle.steps.specs.Laws.{zeros-lent}
 use Rattle.steps.specs.RunLaws.{Alone, alone-none, alone-ends, alone-more, alone-spent}
@@ -17,12 +17,12 @@ use Rattle.steps.proofs.run.repeat.Tie as tie
 
 abbrev Inv-loop : tie.InvT-loop
 Inv-loop table store₀ state₀ input output₀ count result₀ answer₀ kept₀ values₀ rows₀ names₀ reference₀ scratch₀ out₀ done₀ notes₀ store state output result answer kept values rows names reference scratch out done notes =
-    Repeats table input (lent store₀ state₀ output₀) count done notes (lent store state output)
+    Repeats table input (buffers store₀ state₀ output₀) count done notes (buffers store state output)
     × (lists.length store ≡ lists.length store₀)
     × (lists.length output ≡ lists.length output₀)
     × Lent kept values rows names reference scratch out
     × (lists.length kept ≡ 32832)
-    × Alone table input (lent store₀ state₀ output₀) done answer (lent store state output)
+    × Alone table input (buffers store₀ state₀ output₀) done answer (buffers store state output)
 
 abbrev μ-loop : tie.MeasureT-loop
 μ-loop table store₀ state₀ input output₀ count result₀ answer₀ kept₀ values₀ rows₀ names₀ reference₀ scratch₀ out₀ done₀ notes₀ store state output result answer kept values rows names reference scratch out done notes =
@@ -32,7 +32,7 @@ loop-holds : tie.Need-loop-holds Inv-loop μ-loop
 loop-holds c =
     let a = c .before .before .before .before .args in
     let g = c .before .before .before .before .pre in
-    (repeats-none (a .table .now) (a .input .now) (lent (a .store .now) (a .state .now) (a .output .now)) (a .count) g, refl, refl, zeros-lent, lists.length-replicate {A = ℕ} 32832 0, alone-none (a .table .now) (a .input .now) (lent (a .store .now) (a .state .now) (a .output .now)) (a .answer .now))
+    (repeats-none (a .table .now) (a .input .now) (buffers (a .store .now) (a .state .now) (a .output .now)) (a .count) g, refl, refl, zeros-lent, lists.length-replicate {A = ℕ} 32832 0, alone-none (a .table .now) (a .input .now) (buffers (a .store .now) (a .state .now) (a .output .now)) (a .answer .now))
 
 slice-aggregate-step-on : tie.Need-slice-aggregate-step-on Inv-loop μ-loop
 slice-aggregate-step-on c = sym (c .before .before .before .before .before .loop .inv .4)
@@ -133,8 +133,8 @@ loop-again c =
     let a = c .before .before .before .before .before .before .before .before .before .before .before .before .before .before .before .before .before .before .before .before .before .before .before .before .before .before .before .before .before .before .before .before .before .args in
     let s = c .before .before .before .before .before .before .before .before .before .before .before .before .before .before .before .step-on in
     let at = c .before .before .before .before .before .before .before .before .before .before .before .before .before .before .before .before .before .before .before .before .before .before .before .before .before .before .before .before .loop in
-    let b = lent (a .store .now) (a .state .now) (a .output .now) in
-    let left = lent (s .last .1 .0) (s .last .1 .1 .0) (s .last .1 .1 .1 .1 .0) in
+    let b = buffers (a .store .now) (a .state .now) (a .output .now) in
+    let left = buffers (s .last .1 .0) (s .last .1 .1 .0) (s .last .1 .1 .1 .1 .0) in
     let notes = c .before .before .before .before .before .notes-of in (
       subst (λ (n : ℕ). Repeats (a .table .now) (a .input .now) b (a .count) (at .done + 1) (at .notes + n) left) (sym (notes .ensures))
           (repeats-more (at .inv .0) (s .ensures .0) (c .before .before .before .before .before .before .before .before .before .before .before .before .before .before .before .before .before .before .before .before .before .before .before .before .before .before .before .loop-test .taken) (c .before .before .before .if2 .left) (sym (c .before .is-finished .ensures) ∙ c .if3 .left)

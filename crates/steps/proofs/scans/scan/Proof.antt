@@ -1,7 +1,7 @@
 -- `scans::scan` meets its contract: a split goes to success, none to failure. Assumes nothing.
 use mathlib.Core.Path.{_≡_, sym, ap, subst}
 use borrow.Author.Needs.{needs}
-use Rattle.carry.specs.Carrying.{lent}
+use Rattle.calls.specs.Calls.{buffers}
 use Rattle.machine.specs.Step.{scannedTo}
 use Rattle.rows.specs.Meaning.{branchMeaning}
 use Rattle.scanstep.specs.Scans.{Scans, scanningOf}
@@ -110,7 +110,7 @@ returns-3 c =
       λ input output p stands.
           record {
             works =
-                scan-stops input (lent (a .store .now) (a .state .now) output) (a .table .now) (a .s) (called .last .1 .0) (c .before .k .given .0 .0)
+                scan-stops input (buffers (a .store .now) (a .state .now) output) (a .table .now) (a .s) (called .last .1 .0) (c .before .k .given .0 .0)
                 (halted .0) (halted .1);
           },
       called .ensures .1,

@@ -1,0 +1,2 @@
+-- What the program keeps of its files.
+pub mod Keeping
