@@ -1,6 +1,6 @@
 /* strigol-register: a register of contract lines in a file, over the library's two calls. What staff see of it is said in man/strigol-register.1.
 
-       strigol-register FILE add [--plain] <LINES
+       strigol-register FILE add [--run] <LINES
        strigol-register FILE line PLACE
        strigol-register FILE list
 
@@ -28,7 +28,7 @@ enum { DONE = 0, DECLINED = 1, FAILED = 2 };
    times what a register can hold; more would only be declined, and keep others waiting. */
 enum { MOST_INPUT = 1 << 16, MOST_SHOWN = 80, MOST_WAIT = 30 };
 
-static const char usage[] = "usage: strigol-register FILE add [--plain] <LINES\n"
+static const char usage[] = "usage: strigol-register FILE add [--run] <LINES\n"
                             "       strigol-register FILE line PLACE\n"
                             "       strigol-register FILE list\n"
                             "       strigol-register --help | --version\n";
@@ -265,8 +265,8 @@ static _Noreturn void refuse_run(size_t at, struct line closing)
     exit(FAILED);
 }
 
-/* Ends the program unless the input is what finished runs printed: its last line is a closing line, and no closing line tells another outcome. */
-static void require_finished(void)
+/* Ends the program if a closing line tells another outcome than FINISHED; with `whole`, also if the input doesn't end with a closing line. */
+static void require_finished(int whole)
 {
     struct line line;
     size_t from = 0, at;
@@ -275,17 +275,17 @@ static void require_finished(void)
         outcome = outcome_of(line);
         if (outcome > STRIGOL_FINISHED) refuse_run(at, line);
     }
-    if (outcome != STRIGOL_FINISHED)
-        give_up("standard input may be cut off, it doesn't end with a run's closing line: nothing is added; lines from elsewhere need --plain");
+    if (whole && outcome != STRIGOL_FINISHED)
+        give_up("standard input may be cut off, it doesn't end with a run's closing line: nothing is added");
 }
 
 /* Offers all lines but the closing lines of runs: how many were taken. */
-static size_t offer_all(uint8_t buffer[STRIGOL_REGISTER_SIZE], int plain)
+static size_t offer_all(uint8_t buffer[STRIGOL_REGISTER_SIZE])
 {
     struct line line;
     size_t from = 0, at, taken = 0;
     for (at = 0; next_line(&from, &line); at++) {
-        if (!plain && outcome_of(line) == STRIGOL_FINISHED) continue;
+        if (outcome_of(line) == STRIGOL_FINISHED) continue;
         numbers[at] = (uint8_t)strigol_register_offer(buffer, STRIGOL_REGISTER_SIZE, line.at, line.length);
         if (numbers[at] == 0) taken++;
     }
@@ -311,7 +311,7 @@ static int tell(size_t taken)
 /* The commands. */
 
 /* The turn is taken only when all input is there, and over before a line is told: neither a slow run nor a stopped terminal keeps others waiting. */
-static int add_lines(const char *file, int plain)
+static int add_lines(const char *file, int whole)
 {
     uint8_t buffer[STRIGOL_REGISTER_SIZE];
     struct stat as;
@@ -319,13 +319,13 @@ static int add_lines(const char *file, int plain)
     size_t taken;
     int lock, there, status, why = 0;
     take_input();
-    if (!plain) require_finished();
+    require_finished(whole);
     path = real_name(file);
     load(file, buffer, &as); /* so that no lock file is made beside a file that is no register */
     lock = take_turn(path);
     there = load(file, buffer, &as);
     if (there && access(path, W_OK) != 0) give_up("%s: %s: nothing is added", file, strerror(errno)); /* a rename would not ask */
-    taken = offer_all(buffer, plain);
+    taken = offer_all(buffer);
     if (taken > 0 || !there) why = replace(path, buffer, there ? &as : NULL);
     close(lock);
     free(path);
@@ -414,7 +414,7 @@ int main(int argc, char **argv)
     if (argc == 2 && is(argv[1], "--version")) return asked_for("strigol-register " VERSION "\n");
     if (argc > 2 && argv[1][0] != 0) {
         if (argc == 3 && is(argv[2], "add")) return add_lines(argv[1], 0);
-        if (argc == 4 && is(argv[2], "add") && is(argv[3], "--plain")) return add_lines(argv[1], 1);
+        if (argc == 4 && is(argv[2], "add") && is(argv[3], "--run")) return add_lines(argv[1], 1);
         if (argc == 4 && is(argv[2], "line")) return print_line(argv[1], argv[3]);
         if (argc == 3 && is(argv[2], "list")) return print_list(argv[1]);
     }

@@ -34,7 +34,7 @@ slotsOf (line ∷ register) = slotOf line ++ slotsOf register
 unfoldable pub image : Register → List ℕ
 image register = replicate headerSize 0 ++ (slotsOf register ++ replicate (slotSize * (mostLines - length register)) 0)
 
--- Reading: a slot's line is its bytes up to the first zero; so many slots have the lines up to the first slot that begins with zero.
+-- Reading: a slot's line is its bytes up to the first zero; the lines in so many slots are those up to the first slot that begins with zero.
 unfoldable pub lineIn : (slot : List ℕ) → List ℕ
 lineIn [] = []
 lineIn (b ∷ bs) = elim (isZero b) [ true ↦ [] | false ↦ b ∷ lineIn bs ]
@@ -65,5 +65,5 @@ unfoldable pub keepsRules : (buffer : List ℕ) → Bool
 keepsRules buffer = all isZero (take headerSize buffer) && (slotsKeep mostLines (slotsIn buffer) && differ (registerIn buffer))
 
 -- W2.7 not "14 for a buffer under 8,192 bytes or against its written rules"
-unfoldable pub isSound : (buffer : List ℕ) → Bool
-isSound buffer = leb registerSize (length buffer) && keepsRules buffer
+unfoldable pub bufferKeeps : (buffer : List ℕ) → Bool
+bufferKeeps buffer = leb registerSize (length buffer) && keepsRules buffer

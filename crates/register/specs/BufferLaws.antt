@@ -1,15 +1,16 @@
 -- The register as bytes and back: the image of a register keeps the rules and is read as that register; a buffer that keeps them is the image of
 -- the register that is read. Assumes nothing.
-use mathlib.Core.Bool.{Bool, true, false, cond, not, _&&_, false≢true}
-use mathlib.Core.List.{List, [], _∷_, _++_, append-assoc, append-nil}
+use mathlib.Core.Bool.{Bool, true, false, _&&_}
+use mathlib.Core.List.{List, [], _∷_, _++_, append-assoc}
 use mathlib.Core.Path.{_≡_, refl, sym, ap, ap₂, _∙_, subst}
-use Prim.Native.Nat.{ℕ, zero, suc, _+_, _*_, _-_, _≤_, _<_}
+use Prim.Native.Nat.{ℕ, zero, suc, _*_, _-_, _≤_}
 use native.Mathlib.Omega.{arith}
-use lib.Dec.{eqb, leb}
-use lib.ListN.{length, take, drop, getD, replicate, length-append, length-replicate, length-take, length-drop, take-append-drop}
-use lib.Seq.{take-at, drop-at, take-all, length-take-le, take-append-le, drop-append-le, drop-drop, take-add}
-use borrow.Author.Tests.{eqb-true, eqb-false, eq-eqb, ne-eqb, leb-true, leb-false, le-leb}
+use lib.Dec.{leb}
+use lib.ListN.{length, take, drop, getD, replicate, length-append, length-replicate, length-drop, take-append-drop}
+use lib.Seq.{take-at, drop-at, length-take-le, take-add}
+use borrow.Author.Tests.{leb-true, le-leb, not-true}
 use Rattle.base.specs.Choice.{both-true, both-pass, test-cases}
+use Rattle.base.specs.ListLaws.{all-zeros, zeros-are}
 use Rattle.base.specs.Lists.{all}
 use Rattle.register.specs.Buffer.{
   registerSize,
@@ -26,25 +27,12 @@ use Rattle.register.specs.Buffer.{
   slotKeeps,
   slotsKeep,
   keepsRules,
-  isSound,
+  bufferKeeps,
 }
 use Rattle.register.specs.Line.{isLine}
-use Rattle.register.specs.LineLaws.{isText, line-size, line-text, within}
-use Rattle.register.specs.Register.{Register, mostLines, differ, isRegister}
-use Rattle.register.specs.RegisterLaws.{Sound, sound, is-register}
-
--- zeros
-zeros-all : (n : ℕ) → all isZero (replicate n 0) ≡ true
-unfolding all
-zeros-all zero = refl
-zeros-all (suc n) = zeros-all n
-
-all-zeros : (l : List ℕ) → all isZero l ≡ true → l ≡ replicate (length l) 0
-unfolding all
-all-zeros [] a = refl
-all-zeros (b ∷ l) a =
-    let parts = both-true (isZero b) (all isZero l) a in
-    ap₂ {C = List ℕ} _∷_ (eqb-true b 0 (parts .0)) (all-zeros l (parts .1))
+use Rattle.register.specs.LineLaws.{isText, line-size, line-text}
+use Rattle.register.specs.Register.{Register, mostLines, differ}
+use Rattle.register.specs.RegisterLaws.{Sound}
 
 -- a line's slot: its size, and the line is read back, with zeros behind it
 pub slot-size : (line : List ℕ) → length line ≤ slotSize → length (slotOf line) ≡ slotSize
@@ -53,7 +41,7 @@ slot-size line h = simp (length-append, length-replicate) (omega arith)
 
 text-some : (b : ℕ) → isText b ≡ true → isZero b ≡ false
 unfolding isText
-text-some b e = let range = within 1 255 b e in ne-eqb b 0 (λ is. omega arith)
+text-some b e = not-true (isZero b) e
 
 line-read : (line zeros : List ℕ) → all isText line ≡ true → all isZero zeros ≡ true → lineIn (line ++ zeros) ≡ line
 unfolding lineIn all isText
@@ -74,13 +62,13 @@ line-front (b ∷ slot) =
 
 slot-read : (line : List ℕ) → isLine line ≡ true → lineIn (slotOf line) ≡ line
 unfolding slotOf
-slot-read line e = line-read line (replicate (slotSize - length line) 0) (line-text line e) (zeros-all (slotSize - length line))
+slot-read line e = line-read line (replicate (slotSize - length line) 0) (line-text line e) (all-zeros (slotSize - length line))
 
 slot-sound : (line : List ℕ) → isLine line ≡ true → slotKeeps (slotOf line) ≡ true
 unfolding slotKeeps slotOf
 slot-sound line e =
     let zeros : List ℕ = replicate (slotSize - length line) 0 in
-    rw (slot-read line e, e, drop-at line zeros (length line) refl) (zeros-all (slotSize - length line))
+    rw (slot-read line e, e, drop-at line zeros (length line) refl) (all-zeros (slotSize - length line))
 
 -- a slot that keeps its rule is that of the line read
 slot-is : (slot : List ℕ) → length slot ≡ slotSize → slotKeeps slot ≡ true → slotOf (lineIn slot) ≡ slot
@@ -88,7 +76,7 @@ unfolding slotKeeps slotOf
 slot-is slot size e =
     let line = lineIn slot in
     let parts = both-true (isLine line) (all isZero (drop (length line) slot)) e in
-    let zeros = all-zeros (drop (length line) slot) (parts .1) in
+    let zeros = zeros-are (drop (length line) slot) (parts .1) in
     let count : length (drop (length line) slot) ≡ slotSize - length line = length-drop (length line) slot ∙ ap (λ n. n - length line) size in
     ap (λ (z : List ℕ). line ++ z) (sym (zeros ∙ ap (λ n. replicate n 0) count)) ∙ line-front slot
 
@@ -151,7 +139,7 @@ module _ (n : ℕ) (slots : List ℕ) (size : length slots ≡ slotSize * suc n)
   unfolding slotsOf all
   written-none z =
       let count : slotSize * (suc n - 0) ≡ length slots = omega arith in
-      record { lines = refl; few = omega arith; is = ap (λ k. replicate k 0) count ∙ sym (all-zeros slots z) }
+      record { lines = refl; few = omega arith; is = ap (λ k. replicate k 0) count ∙ sym (zeros-are slots z) }
 
   written-more : (register : Register) → slotKeeps (take slotSize slots) ≡ true → Written n register (drop slotSize slots)
       → Written (suc n) (lineIn (take slotSize slots) ∷ register) slots
@@ -165,10 +153,10 @@ module _ (n : ℕ) (slots : List ℕ) (size : length slots ≡ slotSize * suc n)
         lines = both-pass (both-true (isLine line) _ e .0) (w .lines);
         few = omega (arith, w .few);
         is =
-        ap (λ k. (slotOf line ++ slotsOf register) ++ replicate (slotSize * k) 0) (less n (length register))
-        ∙ append-assoc (slotOf line) (slotsOf register) zeros
-        ∙ ap₂ {C = List ℕ} _++_ whole (w .is)
-        ∙ take-append-drop slotSize slots;
+            ap (λ k. (slotOf line ++ slotsOf register) ++ replicate (slotSize * k) 0) (less n (length register))
+            ∙ append-assoc (slotOf line) (slotsOf register) zeros
+            ∙ ap₂ {C = List ℕ} _++_ whole (w .is)
+            ∙ take-append-drop slotSize slots;
       }
     where
       less : (n k : ℕ) → suc n - suc k ≡ n - k
@@ -228,32 +216,32 @@ module _ (register : Register) (s : Sound register) (rest : List ℕ) where
       let header : List ℕ = replicate headerSize 0 in
       ap (λ l. all isZero (take headerSize l)) (append-assoc header (slotsOf register ++ zeros) rest)
       ∙ ap (all isZero) (take-at header ((slotsOf register ++ zeros) ++ rest) headerSize (length-replicate {A = ℕ} headerSize 0))
-      ∙ zeros-all headerSize
+      ∙ all-zeros headerSize
 
   back : ReadBack mostLines register (slotsIn (image register ++ rest))
   back =
       subst (ReadBack mostLines register) (sym slots-back)
-      (read-back mostLines register (replicate (slotSize * (mostLines - length register)) 0) (s .lines) (s .few) (zeros-all (slotSize * (mostLines - length register))))
+      (read-back mostLines register (replicate (slotSize * (mostLines - length register)) 0) (s .lines) (s .few) (all-zeros (slotSize * (mostLines - length register))))
 
   pub image-read : registerIn (image register ++ rest) ≡ register
   unfolding registerIn
   image-read = back .lines
 
-  pub image-sound : isSound (image register ++ rest) ≡ true
-  unfolding isSound keepsRules
+  pub image-sound : bufferKeeps (image register ++ rest) ≡ true
+  unfolding bufferKeeps keepsRules
   image-sound =
       let size = image-size register s in
       both-pass (le-leb registerSize (length (image register ++ rest)) (omega (arith, length-append (image register) rest)))
       (both-pass header-back (both-pass (back .keep) (ap differ image-read ∙ s .different)))
 
 -- The second: a buffer that keeps the rules is the image of the register that is read, and that is one.
-module _ (buffer : List ℕ) (e : isSound buffer ≡ true) where
+module _ (buffer : List ℕ) (e : bufferKeeps buffer ≡ true) where
   pub sound-size : registerSize ≤ length buffer
-  unfolding isSound
+  unfolding bufferKeeps
   sound-size = leb-true registerSize (length buffer) (both-true (leb registerSize (length buffer)) (keepsRules buffer) e .0)
 
   kept : (all isZero (take headerSize buffer) ≡ true) × (slotsKeep mostLines (slotsIn buffer) ≡ true) × (differ (registerIn buffer) ≡ true)
-  unfolding isSound keepsRules
+  unfolding bufferKeeps keepsRules
   kept =
       let rules = both-true (leb registerSize (length buffer)) (keepsRules buffer) e .1 in
       let header = both-true (all isZero (take headerSize buffer)) (slotsKeep mostLines (slotsIn buffer) && differ (registerIn buffer)) rules in
@@ -275,5 +263,5 @@ module _ (buffer : List ℕ) (e : isSound buffer ≡ true) where
   read-image =
       let size = sound-size in
       let front : length (take headerSize buffer) ≡ headerSize = length-take-le headerSize buffer (omega arith) in
-      ap₂ {C = List ℕ} _++_ (sym (all-zeros (take headerSize buffer) (kept .0) ∙ ap (λ n. replicate n 0) front)) (slots-written .is)
+      ap₂ {C = List ℕ} _++_ (sym (zeros-are (take headerSize buffer) (kept .0) ∙ ap (λ n. replicate n 0) front)) (slots-written .is)
       ∙ sym (take-add headerSize (slotSize * mostLines) buffer)

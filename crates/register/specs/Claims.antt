@@ -7,19 +7,22 @@ use Prim.Native.Nat.{ℕ}
 use lib.Dec.{eqb}
 use lib.ListN.{take, replicate}
 use Rattle.register.specs.Buffer.{registerSize}
-use Rattle.register.specs.Calls.{Offered, offerCall, Handed, handing, lineCall}
+use Rattle.register.specs.Calls.{OfferCalled, offerCall, LineCalled, handing, lineCall}
 use Rattle.register.specs.Register.{Register, offerNumber, lineAt}
 
 -- A call as it was observed: what it was given, and what came back.
 pub data Observed : Type 0 where
-  observedOffer : (given line : List ℕ) (back : Offered) → Observed
-  observedLine : (given : List ℕ) (place : ℕ) (back : Handed) → Observed
+  observedOffer : (given line : List ℕ) (back : OfferCalled) → Observed
+  observedLine : (given : List ℕ) (place : ℕ) (back : LineCalled) → Observed
 
--- each call was given just what the last one left, the first one b, and z is left in the end; and each kept the equation of its promise
+-- each call was given the register that the last one left, the first one b's, and z's is left in the end; what lies behind the first 8,192 bytes
+-- doesn't count. Each kept the equation of its promise
 unfoldable pub Linked : List ℕ → List Observed → List ℕ → Type 0
-Linked b [] z = b ≡ z
-Linked b (observedOffer given line back ∷ calls) z = (given ≡ b) × (back ≡ offerCall given line) × Linked (back .left) calls z
-Linked b (observedLine given place back ∷ calls) z = (given ≡ b) × (back ≡ lineCall given place) × Linked given calls z
+Linked b [] z = take registerSize b ≡ take registerSize z
+Linked b (observedOffer given line back ∷ calls) z =
+    (take registerSize b ≡ take registerSize given) × (back ≡ offerCall given line) × Linked (back .left) calls z
+Linked b (observedLine given place back ∷ calls) z =
+    (take registerSize b ≡ take registerSize given) × (back ≡ lineCall given place) × Linked given calls z
 
 -- W2.6 "all zeros is the empty one": whatever happened to a buffer since it held the empty register
 pub record History (buffer : List ℕ) : Type 0 where
@@ -28,8 +31,14 @@ pub record History (buffer : List ℕ) : Type 0 where
   pub calls : List Observed
   pub linked : Linked start calls buffer
 
+-- the lines offered in a list of calls, whatever came back
+unfoldable pub linesOffered : List Observed → List (List ℕ)
+linesOffered [] = []
+linesOffered (observedOffer given line back ∷ calls) = line ∷ linesOffered calls
+linesOffered (observedLine given place back ∷ calls) = linesOffered calls
+
 -- the accepted lines, by the numbers that came back: one that got 0 is behind those before it, one that got another leaves no trace
-unfoldable pub accepting : Register → (line : List ℕ) → Offered → Register
+unfoldable pub accepting : Register → (line : List ℕ) → OfferCalled → Register
 accepting accepted line back = cond (eqb (back .number) 0) (accepted ++ (line ∷ [])) accepted
 
 -- Of each call, with the lines accepted before it: an offer gets the number that the paper gives for these lines; a line handed out is the accepted
@@ -41,7 +50,7 @@ ListClaim accepted (observedOffer given line back ∷ calls) =
 ListClaim accepted (observedLine given place back ∷ calls) = (back ≡ handing 0 (lineAt accepted place)) × ListClaim accepted calls
 
 -- the offering call, given a buffer and a line
-pub record OfferPromise (buffer line : List ℕ) (back : Offered) : Type 0 where
+pub record OfferPromise (buffer line : List ℕ) (back : OfferCalled) : Type 0 where
   -- the number and every byte left
   pub does : back ≡ offerCall buffer line
   -- W2.6 "a call turned down leaves it unchanged"
@@ -50,13 +59,13 @@ pub record OfferPromise (buffer line : List ℕ) (back : Offered) : Type 0 where
   pub list : (h : History buffer) → ListClaim [] (h .calls ++ (observedOffer buffer line back ∷ []))
 
 -- the call for a line, given a buffer and a place
-pub record LinePromise (buffer : List ℕ) (place : ℕ) (back : Handed) : Type 0 where
+pub record LinePromise (buffer : List ℕ) (place : ℕ) (back : LineCalled) : Type 0 where
   pub does : back ≡ lineCall buffer place
   pub list : (h : History buffer) → ListClaim [] (h .calls ++ (observedLine buffer place back ∷ []))
 
 -- what came back, by its parts
-abbrev pub offerBack : (number : ℕ) (left : List ℕ) → Offered
+abbrev pub offerBack : (number : ℕ) (left : List ℕ) → OfferCalled
 offerBack number left = record { number = number; left = left }
 
-abbrev pub lineBack : (number : ℕ) (line : List ℕ) (size : ℕ) → Handed
+abbrev pub lineBack : (number : ℕ) (line : List ℕ) (size : ℕ) → LineCalled
 lineBack number line size = record { number = number; line = line; size = size }

@@ -6,21 +6,14 @@ use lib.Dec.{eqb}
 use lib.ListN.{length, getD}
 use Rattle.base.specs.Lists.{all, begins}
 use Rattle.base.specs.Text.{bytes}
-use Rattle.cards.specs.Bytes.{between, isDigit, isLetter, isNameByte}
+use Rattle.cards.specs.Bytes.{between, comma, isDigit, isLetter, isNameByte}
+use Rattle.cards.specs.Cards.{onFirst}
 use Rattle.values.specs.Conversion.{decimal}
-
-unfoldable pub comma : ℕ
-comma = 44
-
--- one more byte before the first field
-unfoldable pub before : ℕ → List (List ℕ) → List (List ℕ)
-before b [] = (b ∷ []) ∷ []
-before b (f ∷ fs) = (b ∷ f) ∷ fs
 
 -- W2.2 "parted by commas": the fields are what stands before the first comma, between two of them, and behind the last
 unfoldable pub fields : List ℕ → List (List ℕ)
 fields [] = [] ∷ []
-fields (b ∷ bs) = elim (eqb b comma) [ true ↦ [] ∷ fields bs | false ↦ before b (fields bs) ]
+fields (b ∷ bs) = elim (eqb b comma) [ true ↦ [] ∷ fields bs | false ↦ onFirst b (fields bs) ]
 
 -- W2.3 "Contract is 1 to 8 letters A-Z or digits"
 unfoldable pub isContract : List ℕ → Bool

@@ -1,21 +1,21 @@
 -- What the form of a line tells of its bytes, and how its fields are found one after the other. Assumes nothing.
-use mathlib.Core.Bool.{Bool, true, false, not, _&&_, _||_, false≢true}
+use mathlib.Core.Bool.{Bool, true, false, not, _&&_, false≢true}
 use mathlib.Core.List.{List, [], _∷_, _++_}
-use mathlib.Core.Path.{_≡_, refl, sym, ap, ap₂, _∙_, subst}
+use mathlib.Core.Path.{_≡_, refl, sym, ap, _∙_}
 use Prim.Native.Nat.{ℕ, zero, suc, _+_, _*_, _-_, _≤_, _<_}
 use native.Mathlib.Omega.{arith}
 use lib.Dec.{eqb, leb}
 use lib.ListN.{length, take, drop, getD}
-use borrow.Author.Tests.{eqb-true, eq-eqb, ne-eqb, leb-true, leb-false, le-leb}
-use Rattle.base.specs.Choice.{both-true, both-pass, same-truth, test-cases, true-behind}
-use Rattle.base.specs.ListLaws.{begins-iff}
+use borrow.Author.Tests.{eqb-true, eq-eqb, ne-eqb, leb-true, leb-false}
+use Rattle.base.specs.Choice.{both-true, both-pass, same-truth, test-cases}
+use Rattle.base.specs.ListLaws.{all-imply}
 use Rattle.base.specs.Lists.{all, begins, same, total}
 use Rattle.base.specs.Text.{bytes}
-use Rattle.cards.specs.Bytes.{between, isDigit, isLetter, isNameByte}
+use Rattle.cards.specs.ByteLaws.{digit, in-between, letter, name-byte, within}
+use Rattle.cards.specs.Bytes.{between, comma, isDigit, isLetter, isNameByte}
+use Rattle.cards.specs.Cards.{onFirst}
 use Rattle.values.specs.Conversion.{decimal, digitOf}
 use Rattle.register.specs.Line.{
-  comma,
-  before,
   fields,
   isContract,
   isGrain,
@@ -27,17 +27,6 @@ use Rattle.register.specs.Line.{
   isLine,
   contractOf,
 }
-
--- a number that lies between two others
-pub within : (low high n : ℕ) → between low high n ≡ true → (low ≤ n) × (n ≤ high)
-unfolding between
-within low high n e =
-    let parts = both-true (leb low n) (leb n high) e in
-    (leb-true low n (parts .0), leb-true n high (parts .1))
-
-pub in-between : (low high n : ℕ) → low ≤ n → n ≤ high → between low high n ≡ true
-unfolding between
-in-between low high n l h = both-pass (le-leb low n l) (le-leb n high h)
 
 -- v with so many zeros behind it
 unfoldable scale : ℕ → ℕ → ℕ
@@ -52,7 +41,7 @@ scale-more (suc n) v w h = scale-more n (v * 10) (w * 10) (omega arith)
 scale-longer : (n k v : ℕ) → n ≤ k → scale n v ≤ scale k v
 unfolding scale
 scale-longer zero zero v h = omega arith
-scale-longer zero (suc k) v h = 
+scale-longer zero (suc k) v h =
     let rest = scale-longer zero k (v * 10) (omega arith) in
     omega arith
 scale-longer (suc n) zero v h = absurd (omega arith)
@@ -67,14 +56,10 @@ decimal-low v (b ∷ s) =
     let more = scale-more (length s) (v * 10) (v * 10 + digitOf b) (omega arith) in
     omega arith
 
-digit-low : (b : ℕ) → isDigit b ≡ true → (48 ≤ b) × (b ≤ 57)
-unfolding isDigit
-digit-low b e = within 48 57 b e
-
 digit-value : (b : ℕ) → isDigit b ≡ true → digitOf b ≡ b - 48
 unfolding digitOf
 digit-value b e =
-    let range = digit-low b e in
+    let range = digit b e in
     rw (ne-eqb b 32 (λ is. omega arith))
 
 decimal-high : (v : ℕ) (s : List ℕ) → all isDigit s ≡ true → decimal v s < scale (length s) (v + 1)
@@ -82,7 +67,7 @@ unfolding scale decimal all
 decimal-high v [] a = omega arith
 decimal-high v (b ∷ s) a =
     let parts = both-true (isDigit b) (all isDigit s) a in
-    let range = digit-low b (parts .0) in
+    let range = digit b (parts .0) in
     let value = digit-value b (parts .0) in
     let rest = decimal-high (v * 10 + digitOf b) s (parts .1) in
     let more = scale-more (length s) (v * 10 + digitOf b + 1) ((v + 1) * 10) (omega arith) in
@@ -101,7 +86,7 @@ module _ (k most : ℕ) (size : most + 1 ≡ scale k 1) where
   number-short (b ∷ s) e =
       let parts = both-true (all isDigit (b ∷ s)) (not (begins (bytes "0") (b ∷ s))) e in
       let digits = both-true (isDigit b) (all isDigit s) (parts .0) in
-      let range = digit-low b (digits .0) in
+      let range = digit b (digits .0) in
       let value = digit-value b (digits .0) in
       let some : ¬ (b ≡ 48) = λ is. false≢true (sym (ap not (eq-eqb b 48 is)) ∙ (sym (lead b s) ∙ parts .1)) in
       let n = length s in
@@ -112,12 +97,12 @@ module _ (k most : ℕ) (size : most + 1 ≡ scale k 1) where
       let ten = scale-more n (d + 1) 10 (omega arith) in
       same-truth (between 1 most (decimal d s)) (between 1 k (suc n))
       (λ fits. let h = within 1 most (decimal d s) fits .1 in
-        in-between 1 k (suc n) (omega arith)
-        (test-cases (λ _. suc n ≤ k) (leb (suc n) k) (leb-true (suc n) k)
-        (λ e′. absurd (let longer = scale-longer k n 1 (omega (arith, leb-false (suc n) k e′)) in omega arith))))
+      in-between 1 k (suc n) (omega arith)
+      (test-cases (λ _. suc n ≤ k) (leb (suc n) k) (leb-true (suc n) k)
+      (λ e′. absurd (let longer = scale-longer k n 1 (omega (arith, leb-false (suc n) k e′)) in omega arith))))
       (λ few. let h = within 1 k (suc n) few .1 in
-        let longer = scale-longer (suc n) k 1 h in
-        in-between 1 most (decimal d s) (let z = scale-longer 0 n 1 (omega arith) in omega arith) (omega arith))
+      let longer = scale-longer (suc n) k 1 h in
+      in-between 1 most (decimal d s) (let z = scale-longer 0 n 1 (omega arith) in omega arith) (omega arith))
 
   -- such a number, by its digits
   number-digits : (f : List ℕ) → isNumber most f ≡ (isDecimal f && between 1 k (length f))
@@ -136,29 +121,29 @@ price-digits = number-digits 6 999_999 refl
 
 -- The fields of a line: there is one more than there are commas, and its bytes are theirs and the commas.
 sizes : (l : List ℕ) → suc (length l) ≡ total (λ f. suc (length f)) (fields l)
-unfolding fields before total
+unfolding fields onFirst total
 sizes [] = refl
 sizes (b ∷ l) =
     let rest = sizes l in
-    test-cases (λ t. suc (suc (length l)) ≡ total {A = List ℕ} (λ f. suc (length f)) (elim t [ true ↦ [] ∷ fields l | false ↦ before b (fields l) ])) (eqb b comma)
+    test-cases (λ t. suc (suc (length l)) ≡ total {A = List ℕ} (λ f. suc (length f)) (elim t [ true ↦ [] ∷ fields l | false ↦ onFirst b (fields l) ])) (eqb b comma)
     (λ _. omega arith)
     (λ _. longer (fields l) rest)
   where
-    longer : (fs : List (List ℕ)) → suc (length l) ≡ total (λ f. suc (length f)) fs → suc (suc (length l)) ≡ total (λ f. suc (length f)) (before b fs)
+    longer : (fs : List (List ℕ)) → suc (length l) ≡ total (λ f. suc (length f)) fs → suc (suc (length l)) ≡ total (λ f. suc (length f)) (onFirst b fs)
     longer [] e = absurd (omega arith)
     longer (f ∷ fs) e = omega arith
 
 -- a test that all bytes of all fields pass, and the comma, is passed by all bytes of the line
 fields-all : (p : ℕ → Bool) → p comma ≡ true → (l : List ℕ) → all (all p) (fields l) ≡ true → all p l ≡ true
-unfolding fields before all
+unfolding fields onFirst all
 fields-all p c [] a = refl
 fields-all p c (b ∷ l) a =
-    test-cases (λ t. (eqb b comma ≡ t) → all (all p) (elim t [ true ↦ [] ∷ fields l | false ↦ before b (fields l) ]) ≡ true → (p b && all p l) ≡ true) (eqb b comma)
+    test-cases (λ t. (eqb b comma ≡ t) → all (all p) (elim t [ true ↦ [] ∷ fields l | false ↦ onFirst b (fields l) ]) ≡ true → (p b && all p l) ≡ true) (eqb b comma)
     (λ is _ h. both-pass (ap p (eqb-true b comma is) ∙ c) (fields-all p c l h))
     (λ _ _ h. let parts = joins (fields l) h in both-pass (parts .0) (fields-all p c l (parts .1)))
     refl a
   where
-    joins : (fs : List (List ℕ)) → all (all p) (before b fs) ≡ true → (p b ≡ true) × (all (all p) fs ≡ true)
+    joins : (fs : List (List ℕ)) → all (all p) (onFirst b fs) ≡ true → (p b ≡ true) × (all (all p) fs ≡ true)
     joins [] h = let first = both-true (p b && true) true h in (both-true (p b) true (first .0) .0, refl)
     joins (f ∷ fs) h =
         let parts = both-true (p b && all p f) (all (all p) fs) h in
@@ -218,9 +203,9 @@ formed line e =
       price-form = four .passes;
     }
 
--- a byte that may stand in a line is no zero
+-- a byte that isn't zero
 unfoldable pub isText : ℕ → Bool
-isText b = between 1 255 b
+isText b = not (eqb b 0)
 
 module _ {line : List ℕ} (f : Formed line) where
   contract-size : (1 ≤ length (f .contract)) × (length (f .contract) ≤ 8)
@@ -244,39 +229,21 @@ line-size line e =
     (omega arith, omega arith)
 
 -- W2.3 no byte of a line is zero
-all-imply : (p q : ℕ → Bool) → ((b : ℕ) → p b ≡ true → q b ≡ true) → (xs : List ℕ) → all p xs ≡ true → all q xs ≡ true
-unfolding all
-all-imply p q h [] a = refl
-all-imply p q h (x ∷ xs) a =
-    let parts = both-true (p x) (all p xs) a in
-    both-pass (h x (parts .0)) (all-imply p q h xs (parts .1))
-
-name-text : (b : ℕ) → isNameByte b ≡ true → isText b ≡ true
-unfolding isNameByte isLetter isDigit isText
-name-text b =
-    test-cases (λ t. (t || between 48 57 b) ≡ true → between 1 255 b ≡ true) (between 65 90 b)
-    (λ e _. let range = within 65 90 b e in in-between 1 255 b (omega arith) (omega arith))
-    (λ _ e. let range = within 48 57 b e in in-between 1 255 b (omega arith) (omega arith))
-
-letter-name : (b : ℕ) → isLetter b ≡ true → isNameByte b ≡ true
-unfolding isNameByte
-letter-name b e = rw e
-
-digit-name : (b : ℕ) → isDigit b ≡ true → isNameByte b ≡ true
-unfolding isNameByte
-digit-name b e = true-behind (isLetter b) (isDigit b) e
+text : (b : ℕ) → 48 ≤ b → isText b ≡ true
+unfolding isText
+text b h = ap not (ne-eqb b 0 (λ e. omega arith))
 
 decimal-text : (most : ℕ) (f : List ℕ) → isNumber most f ≡ true → all isText f ≡ true
 unfolding isNumber isDecimal
 decimal-text most f e =
-    all-imply isDigit isText (λ b d. name-text b (digit-name b d)) f (both-true _ _ (both-true (isDecimal f) _ e .0) .0)
+    all-imply isDigit isText (λ b d. text b (digit b d .0)) f (both-true _ _ (both-true (isDecimal f) _ e .0) .0)
 
 pub line-text : (line : List ℕ) → isLine line ≡ true → all isText line ≡ true
-unfolding isContract isGrain isTonnes isPrice all isText comma between
+unfolding isContract isGrain isTonnes isPrice all isText comma
 line-text line e =
     let f = formed line e in
-    let c = all-imply isNameByte isText name-text (f .contract) (both-true (between 1 8 (length (f .contract))) _ (f .contract-form) .1) in
-    let g = all-imply isLetter isText (λ b h. name-text b (letter-name b h)) (f .grain) (both-true (eqb (length (f .grain)) 2) _ (f .grain-form) .1) in
+    let c = all-imply isNameByte isText (λ b h. text b (name-byte b h .0)) (f .contract) (both-true (between 1 8 (length (f .contract))) _ (f .contract-form) .1) in
+    let g = all-imply isLetter isText (λ b h. let range = letter b h in text b (omega arith)) (f .grain) (both-true (eqb (length (f .grain)) 2) _ (f .grain-form) .1) in
     let t = decimal-text 99_999 (f .tonnes) (f .tonnes-form) in
     let p = decimal-text 999_999 (f .price) (f .price-form) in
     fields-all isText refl line (rw (f .parts) (both-pass c (both-pass g (both-pass t (both-pass p refl)))))
@@ -285,23 +252,23 @@ line-text line e =
 abbrev pub firstField : List ℕ → List ℕ
 firstField l = getD (fields l) 0 []
 
-before-first : (b : ℕ) (fs : List (List ℕ)) → getD (before b fs) 0 [] ≡ b ∷ getD fs 0 []
-unfolding before
-before-first b [] = refl
-before-first b (f ∷ fs) = refl
+first-first : (b : ℕ) (fs : List (List ℕ)) → getD (onFirst b fs) 0 [] ≡ b ∷ getD fs 0 []
+unfolding onFirst
+first-first b [] = refl
+first-first b (f ∷ fs) = refl
 
-before-some : (b : ℕ) (fs : List (List ℕ)) → before b fs ≡ getD (before b fs) 0 [] ∷ drop 1 (before b fs)
-unfolding before
-before-some b [] = refl
-before-some b (f ∷ fs) = refl
+first-some : (b : ℕ) (fs : List (List ℕ)) → onFirst b fs ≡ getD (onFirst b fs) 0 [] ∷ drop 1 (onFirst b fs)
+unfolding onFirst
+first-some b [] = refl
+first-some b (f ∷ fs) = refl
 
 pub some-field : (l : List ℕ) → fields l ≡ firstField l ∷ drop 1 (fields l)
 unfolding fields
 some-field [] = refl
 some-field (b ∷ l) =
     test-cases
-    (λ t. (let fs = elim t as (λ _. List (List ℕ)) [ true ↦ [] ∷ fields l | false ↦ before b (fields l) ] in fs ≡ getD fs 0 [] ∷ drop 1 fs))
-    (eqb b comma) (λ _. refl) (λ _. before-some b (fields l))
+    (λ t. (let fs = elim t as (λ _. List (List ℕ)) [ true ↦ [] ∷ fields l | false ↦ onFirst b (fields l) ] in fs ≡ getD fs 0 [] ∷ drop 1 fs))
+    (eqb b comma) (λ _. refl) (λ _. first-some b (fields l))
 
 -- The fields from a place on, found by a run of bytes that pass a test; no comma passes it.
 module _ (p : ℕ → Bool) (c : p comma ≡ false) where
@@ -310,14 +277,14 @@ module _ (p : ℕ → Bool) (c : p comma ≡ false) where
 
   -- bytes that all pass, with nothing behind them, with a comma, with another byte
   pub run-whole : (xs : List ℕ) → all p xs ≡ true → fields xs ≡ xs ∷ []
-  unfolding fields before all
+  unfolding fields onFirst all
   run-whole [] a = refl
   run-whole (x ∷ xs) a =
       let parts = both-true (p x) (all p xs) a in
       rw (fields, not-comma x (parts .0), run-whole xs (parts .1))
 
   pub run-comma : (xs ys : List ℕ) → all p xs ≡ true → fields (xs ++ (comma ∷ ys)) ≡ xs ∷ fields ys
-  unfolding fields before all
+  unfolding fields onFirst all
   run-comma [] ys a = rw (fields, eq-eqb comma comma refl)
   run-comma (x ∷ xs) ys a =
       let parts = both-true (p x) (all p xs) a in
@@ -326,10 +293,10 @@ module _ (p : ℕ → Bool) (c : p comma ≡ false) where
   pub run-other : (xs : List ℕ) (b : ℕ) (ys : List ℕ) → all p xs ≡ true → p b ≡ false → eqb b comma ≡ false
       → all p (firstField (xs ++ (b ∷ ys))) ≡ false
   unfolding fields all
-  run-other [] b ys a fails other = rw (fields, other, before-first b (fields ys), all, fails)
+  run-other [] b ys a fails other = rw (fields, other, first-first b (fields ys), all, fails)
   run-other (x ∷ xs) b ys a fails other =
       let parts = both-true (p x) (all p xs) a in
-      rw (fields, not-comma x (parts .0), before-first x (fields (xs ++ (b ∷ ys))), all, parts .0) (run-other xs b ys (parts .1) fails other)
+      rw (fields, not-comma x (parts .0), first-first x (fields (xs ++ (b ∷ ys))), all, parts .0) (run-other xs b ys (parts .1) fails other)
 
 -- tests on fields of which the first doesn't pass; and where no field is left, or one too many
 pub first-fails : (t : List ℕ → Bool) (ts : List (List ℕ → Bool)) (l : List ℕ) → t (firstField l) ≡ false → each (t ∷ ts) (fields l) ≡ false
@@ -342,9 +309,9 @@ unfolding contractOf fields
 contract-front [] = refl
 contract-front (b ∷ line) =
     test-cases
-    (λ t. (let f = getD (elim t as (λ _. List (List ℕ)) [ true ↦ [] ∷ fields line | false ↦ before b (fields line) ]) 0 [] in take (length f) (b ∷ line) ≡ f))
+    (λ t. (let f = getD (elim t as (λ _. List (List ℕ)) [ true ↦ [] ∷ fields line | false ↦ onFirst b (fields line) ]) 0 [] in take (length f) (b ∷ line) ≡ f))
     (eqb b comma) (λ _. refl)
-    (λ _. ap (λ f. take (length f) (b ∷ line)) (before-first b (fields line)) ∙ ap (λ l. b ∷ l) (contract-front line) ∙ sym (before-first b (fields line)))
+    (λ _. ap (λ f. take (length f) (b ∷ line)) (first-first b (fields line)) ∙ ap (λ l. b ∷ l) (contract-front line) ∙ sym (first-first b (fields line)))
 
 -- a contract has 1 to 8 bytes, letters or digits
 pub record Contract (line : List ℕ) : Type 0 where

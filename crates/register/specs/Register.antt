@@ -19,14 +19,13 @@ mostLines = 256
 unfoldable pub holds : Register → (contract : List ℕ) → Bool
 holds register contract = any (λ line. same (contractOf line) contract) register
 
--- W2.7 the number for a line offered: "25 when a line breaks its form, 26 when its contract is held already, 27 when 256 lines are held";
--- the lowest that applies, else 0
+-- W2.7 "25 when a line breaks its form, 26 when its contract is held already, 27 when 256 lines are held": the lowest that applies, else 0
+unfoldable pub lowestOf : (formed held full : Bool) → ℕ
+lowestOf formed held full = cond (not formed) 25 (cond held 26 (cond full 27 0))
+
+-- the number for a line offered
 unfoldable pub offerNumber : Register → (line : List ℕ) → ℕ
-offerNumber register line =
-    cond (not (isLine line)) 25
-    (cond (holds register (contractOf line)) 26
-    (cond (leb mostLines (length register)) 27
-    0))
+offerNumber register line = lowestOf (isLine line) (holds register (contractOf line)) (leb mostLines (length register))
 
 -- W2.5 a line that is taken stands behind all others; W2.6 "a call turned down leaves it unchanged"
 unfoldable pub offered : Register → (line : List ℕ) → Register

@@ -1,8 +1,8 @@
 -- Registers: which a list of offers can leave. Assumes nothing.
-use mathlib.Core.Bool.{Bool, true, false, cond, not, _&&_, _||_, false≢true}
+use mathlib.Core.Bool.{Bool, true, false, cond, not, _&&_, _||_}
 use mathlib.Core.List.{List, [], _∷_, _++_, append-assoc, append-nil}
-use mathlib.Core.Path.{_≡_, refl, sym, ap, ap₂, _∙_, subst}
-use Prim.Native.Nat.{ℕ, zero, suc, _+_, _≤_, _<_}
+use mathlib.Core.Path.{_≡_, refl, sym, ap, _∙_, subst}
+use Prim.Native.Nat.{ℕ, zero, _≤_, _<_}
 use native.Mathlib.Omega.{arith}
 use lib.Dec.{eqb, leb}
 use lib.ListN.{length, length-append}
@@ -11,7 +11,7 @@ use Rattle.base.specs.Choice.{both-true, both-pass, test-cases, neither-true, s
 use Rattle.base.specs.ListLaws.{all-append, same-true, same-iff}
 use Rattle.base.specs.Lists.{all, any, same}
 use Rattle.register.specs.Line.{contractOf, isLine}
-use Rattle.register.specs.Register.{Register, mostLines, holds, offerNumber, offered, fold, differ, isRegister}
+use Rattle.register.specs.Register.{Register, mostLines, holds, lowestOf, offerNumber, offered, fold, differ, isRegister}
 
 -- what a register keeps
 pub record Sound (register : Register) : Type 0 where
@@ -48,13 +48,13 @@ chosen true true full e = absurd (omega arith)
 chosen false held full e = absurd (omega arith)
 
 pub taken : (register : Register) (line : List ℕ) → offerNumber register line ≡ 0 → Taken register line
-unfolding offerNumber
+unfolding offerNumber lowestOf
 taken register line e =
     let tests = chosen (isLine line) (holds register (contractOf line)) (leb mostLines (length register)) e in
     record { form = tests .0; fresh = tests .1; room = leb-false mostLines (length register) (tests .2) }
 
 pub taken-zero : (register : Register) (line : List ℕ) → Taken register line → offerNumber register line ≡ 0
-unfolding offerNumber
+unfolding offerNumber lowestOf
 taken-zero register line t = rw (t .form, t .fresh, lt-leb mostLines (length register) (t .room))
 
 -- a line that is taken stands behind the others, and one that isn't leaves all as it was

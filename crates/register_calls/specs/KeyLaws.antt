@@ -1,26 +1,24 @@
 -- Contracts as keys: a key shows its contract, so keys are compared for contracts; marks tell which keys can't be held. Assumes nothing.
-use mathlib.Core.Bool.{Bool, true, false, cond, not, _&&_, _||_, false≢true}
-use mathlib.Core.List.{List, [], _∷_, _++_, map}
-use mathlib.Core.Path.{_≡_, refl, sym, ap, ap₂, _∙_, subst}
-use Prim.Native.Nat.{ℕ, zero, suc, _+_, _*_, _%_, _/_, _≤_, _<_}
-use native.Mathlib.Nat.{min-le-right}
+use mathlib.Core.Bool.{Bool, true, false, not, _||_, false≢true}
+use mathlib.Core.List.{List, [], _∷_, _++_}
+use mathlib.Core.Path.{_≡_, refl, sym, ap, ap₂, _∙_}
+use Prim.Native.Nat.{ℕ, zero, suc, _+_, _*_, _%_, _≤_, _<_}
 use native.Mathlib.Numerals.{add-one}
 use native.Mathlib.Omega.{arith}
-use lib.Dec.{eqb, leb}
-use lib.ListN.{length, take, getD, set, length-set, length-take}
-use lib.Seq.{take-suc, take-all, take-set-le, take-suc-set, getD-set-same, getD-set-other, take-length}
-use borrow.Author.Tests.{eqb-true, eqb-false, eq-eqb, ne-eqb, leb-true, not-true, not-false}
+use lib.Dec.{eqb}
+use lib.ListN.{length, take, getD, set, length-set}
+use lib.Seq.{take-suc, take-all, getD-set-same, getD-set-other}
+use borrow.Author.Tests.{eqb-true, eqb-false, eq-eqb, ne-eqb}
 use Rattle.base.specs.Choice.{both-true, same-truth, test-cases}
-use Rattle.base.specs.Lists.{all, among, any, keep, same}
-use Rattle.base.specs.ListLaws.{same-true, same-refl, same-iff}
-use Rattle.cards.specs.Bytes.{isNameByte, between}
+use Rattle.base.specs.Lists.{all, among, any, same}
+use Rattle.base.specs.ListLaws.{same-true, same-iff}
+use Rattle.cards.specs.ByteLaws.{within}
 use Rattle.cards.specs.Cards.{withoutBlanks}
 use Rattle.packer.specs.Keys.{keyOf, isKeyByte}
 use Rattle.packer.specs.KeyLaws.{name-bytes, name-whole}
 use Rattle.register.specs.Line.{contractOf, isLine}
 use Rattle.register.specs.LineLaws.{contract-form, contract-front}
 use Rattle.register.specs.Register.{Register, holds}
-use Rattle.register_lines.specs.Fields.{contractLength}
 use Rattle.register_calls.specs.Reading.{keyIn, keysOf, markCount, Marked, Noted}
 
 among-append : (x : ℕ) (xs ys : List ℕ) → among x (xs ++ ys) ≡ (among x xs || among x ys)
@@ -44,8 +42,8 @@ among-next key keys i h =
 
 -- a key shows the bytes of its name
 key-byte : (b : ℕ) → isKeyByte b ≡ true → (1 ≤ b) × (b ≤ 255)
-unfolding isKeyByte between
-key-byte b e = let parts = both-true (leb 1 b) (leb b 255) e in (leb-true 1 b (parts .0), leb-true b 255 (parts .1))
+unfolding isKeyByte
+key-byte b = within 1 255 b
 
 key-same : (a b : List ℕ) → all isKeyByte a ≡ true → all isKeyByte b ≡ true → keyOf a ≡ keyOf b → a ≡ b
 unfolding keyOf all
@@ -93,25 +91,15 @@ keys-hold (l ∷ register) line a e =
     let parts = both-true (isLine l) (all isLine register) a in
     ap₂ {C = Bool} _||_ (contract-key line l e (parts .0)) (keys-hold register line (parts .1) e)
 
--- a contract is no longer than its line
-pub contract-short : (line : List ℕ) → length (contractOf line) ≤ length line
-contract-short line = omega (arith, ap length (contract-front line), length-take (length (contractOf line)) line, min-le-right (length (contractOf line)) (length line))
-
 -- the key of a line, by the bytes of its contract
-pub key-read : (line : List ℕ) (n : ℕ) → n ≡ contractLength line → keyOf (withoutBlanks (take 8 (take n line))) ≡ cond (isLine line) (keyIn line) 0
-unfolding keyIn contractLength withoutBlanks keep keyOf
-key-read line n is =
-    test-cases
-    (λ t. isLine line ≡ t → n ≡ cond t (length (contractOf line)) 0 → keyOf (withoutBlanks (take 8 (take n line))) ≡ cond t (keyOf (contractOf line)) 0)
-    (isLine line)
-    (λ e _ size.
+pub key-read : (line : List ℕ) (n : ℕ) → isLine line ≡ true → n ≡ length (contractOf line) → keyOf (withoutBlanks (take 8 (take n line))) ≡ keyIn line
+unfolding keyIn
+key-read line n e size =
     let c = contract-form line e in
     let front : take n line ≡ contractOf line = ap (λ k. take k line) size ∙ contract-front line in
     ap (λ l. keyOf (withoutBlanks (take 8 l))) front
     ∙ ap (λ l. keyOf (withoutBlanks l)) (take-all 8 (contractOf line) (c .short))
-    ∙ ap keyOf (name-whole (contractOf line) (c .names)))
-    (λ _ _ none. ap (λ k. keyOf (withoutBlanks (take 8 (take k line)))) none)
-    refl is
+    ∙ ap keyOf (name-whole (contractOf line) (c .names))
 
 -- Marks. No key is marked at first; a key whose place has no mark is none of those marked; and one more is marked.
 pub none-marked : (keys marks : List ℕ) → length marks ≡ markCount → Marked keys marks 0
@@ -156,8 +144,8 @@ module _ (keys marks : List ℕ) (k key : ℕ) (m : Marked keys marks k) (h : k 
         few = omega (arith, length-set keys k key);
         size = length-set marks (key % markCount) 1 ∙ m .size;
         each = λ j l.
-        test-cases (λ _. ¬ (getD (set marks (key % markCount) 1) (getD (set keys k key) j 0 % markCount) 0 ≡ 0)) (eqb j k)
-        (λ e. mark-last j (eqb-true j k e)) (λ e. mark-earlier j l (eqb-false j k e));
+            test-cases (λ _. ¬ (getD (set marks (key % markCount) 1) (getD (set keys k key) j 0 % markCount) 0 ≡ 0)) (eqb j k)
+            (λ e. mark-last j (eqb-true j k e)) (λ e. mark-earlier j l (eqb-false j k e));
       }
 
   pub noted : among key (take k keys) ≡ false → Noted keys k key true (set keys k key) (set marks (key % markCount) 1)

@@ -1,5 +1,5 @@
 -- A register read from a buffer, a line put into its slot, and a line handed out. Assumes nothing.
-use mathlib.Core.Bool.{Bool, true, false, cond, not, _&&_}
+use mathlib.Core.Bool.{Bool, true, false, _&&_}
 use mathlib.Core.List.{List, [], _∷_, _++_, append-assoc, append-nil}
 use mathlib.Core.Path.{_≡_, refl, sym, ap, ap₂, _∙_, subst}
 use Prim.Native.Nat.{ℕ, zero, suc, _+_, _*_, _-_, _≤_, _<_}
@@ -7,45 +7,47 @@ use native.Mathlib.Nat.{zero-add}
 use native.Mathlib.Omega.{arith}
 use lib.Dec.{eqb, leb}
 use lib.ListN.{List·getD-eq-default, length, take, drop, getD, replicate, length-append, length-replicate, replicate-append-replicate, take-append-drop}
-use lib.Seq.{drop-drop, take-take, length-take-le}
-use borrow.Author.Tests.{le-leb, lt-leb}
-use Rattle.base.specs.Choice.{both-true, test-cases}
-use Rattle.base.specs.ListLaws.{stretch-cut, stretch-few}
+use lib.Seq.{drop-drop, take-take}
+use borrow.Author.Tests.{eq-eqb, eqb-true, le-leb, leb-true, lt-leb}
+use Rattle.base.specs.Choice.{same-truth, test-cases}
+use Rattle.base.specs.ListLaws.{all-inside, drop-zeros, stretch-cut, stretch-few, stretch-front}
 use Rattle.base.specs.Lists.{all, among}
+use Rattle.cards.specs.Bytes.{isNameByte}
 use Rattle.cards.specs.Cards.{withoutBlanks}
 use Rattle.packer.specs.Keys.{keyOf}
 use Rattle.calls.specs.Splices.{splice, splice-seam}
-use Rattle.register.specs.Buffer.{headerSize, image, isSound, isZero, keepsRules, lineIn, linesIn, registerIn, registerSize, slotOf, slotSize, slotsIn, slotsOf}
+use Rattle.register.specs.Buffer.{headerSize, image, bufferKeeps, isZero, keepsRules, lineIn, linesIn, registerIn, registerSize, slotOf, slotSize, slotsIn, slotsOf}
 use Rattle.register.specs.BufferLaws.{read-image, read-sound, slots-size, sound-size}
-use Rattle.register.specs.CallLaws.{line-handed, line-refused, offer-accepted, offer-declined, offer-refused}
+use Rattle.register.specs.CallLaws.{line-handed, line-refused, offer-taken, offer-declined, offer-refused}
 use Rattle.register.specs.Claims.{lineBack, offerBack}
-use Rattle.register.specs.Calls.{Handed, handing, lineCall, lineSize, offerCall, withRegister}
+use Rattle.register.specs.Calls.{LineCalled, OfferCalled, handing, lineCall, lineSize, offerCall, withRegister}
 use Rattle.register.specs.Line.{contractOf, isLine}
-use Rattle.register.specs.LineLaws.{contract-form, line-size}
-use Rattle.register.specs.Register.{Register, differ, holds, lineAt, mostLines, offerNumber, offered}
-use Rattle.register.specs.RegisterLaws.{taken-zero}
-use Rattle.register_lines.specs.Fields.{contractLength}
+use Rattle.register.specs.LineLaws.{line-size}
+use Rattle.register.specs.Register.{Register, holds, lineAt, lowestOf, mostLines, offerNumber}
+use Rattle.register.specs.RegisterLaws.{Taken, taken}
+use Rattle.register_lines.specs.FieldLaws.{contract-size}
+use Rattle.register_lines.specs.Fields.{Run}
 use Rattle.register_calls.specs.declared.Held.{Held}
 use Rattle.register_calls.specs.declared.Held.the-variants.{Lines, Broken}
-use Rattle.register_calls.specs.KeyLaws.{contract-short, key-read, keys-hold}
-use Rattle.register_calls.specs.Reading.{Finds, Found, Ready, Placed, Puts, keyIn, keysOf, slotsHold}
+use Rattle.register_calls.specs.KeyLaws.{key-read, keys-hold}
+use Rattle.register_calls.specs.Reading.{Finds, Found, Judged, Keyed, Placed, Puts, Ready, slotsHold}
 use Rattle.register_calls.specs.SlotLaws.{found-broken, line-take}
 
 -- Reading: a buffer that is too small, one whose header isn't zero, and one that is judged by its slots
 module _ (buffer keys : List ℕ) (size : length keys ≡ mostLines) where
-  pub buffer-small : length buffer < registerSize → Found (isSound buffer) (registerIn buffer) keys Broken
-  unfolding isSound
-  buffer-small h = found-broken (isSound buffer) (registerIn buffer) keys size (ap (λ b. b && keepsRules buffer) (lt-leb registerSize (length buffer) h))
+  pub buffer-small : length buffer < registerSize → Found (bufferKeeps buffer) (registerIn buffer) keys Broken
+  unfolding bufferKeeps
+  buffer-small h = found-broken (bufferKeeps buffer) (registerIn buffer) keys size (ap (λ b. b && keepsRules buffer) (lt-leb registerSize (length buffer) h))
 
-  pub header-bad : registerSize ≤ length buffer → all isZero (take headerSize buffer) ≡ false → Found (isSound buffer) (registerIn buffer) keys Broken
-  unfolding isSound keepsRules
-  header-bad h e = found-broken (isSound buffer) (registerIn buffer) keys size (rw (le-leb registerSize (length buffer) h, e))
+  pub header-bad : registerSize ≤ length buffer → all isZero (take headerSize buffer) ≡ false → Found (bufferKeeps buffer) (registerIn buffer) keys Broken
+  unfolding bufferKeeps keepsRules
+  header-bad h e = found-broken (bufferKeeps buffer) (registerIn buffer) keys size (rw (le-leb registerSize (length buffer) h, e))
 
 pub slots-judged : (buffer keys : List ℕ) (r : Held) → registerSize ≤ length buffer → all isZero (take headerSize buffer) ≡ true
-    → Found (slotsHold (slotsIn buffer)) (linesIn mostLines (slotsIn buffer)) keys r → Found (isSound buffer) (registerIn buffer) keys r
-unfolding isSound keepsRules registerIn slotsHold
+    → Found (slotsHold (slotsIn buffer)) (linesIn mostLines (slotsIn buffer)) keys r → Found (bufferKeeps buffer) (registerIn buffer) keys r
+unfolding bufferKeeps keepsRules registerIn slotsHold
 slots-judged buffer keys r h e found =
-    let judged : isSound buffer ≡ slotsHold (slotsIn buffer) = rw (le-leb registerSize (length buffer) h, e) in
+    let judged : bufferKeeps buffer ≡ slotsHold (slotsIn buffer) = rw (le-leb registerSize (length buffer) h, e) in
     subst (λ b. Found b (registerIn buffer) keys r) (sym judged) found
 
 -- Putting: the slots with one more line
@@ -80,7 +82,7 @@ slot-seam h s x y rest line at e f =
     let whole : (h ++ (s ++ (x ++ y))) ++ rest ≡ (h ++ s) ++ (x ++ (y ++ rest)) = simp append-assoc in
     ap (λ l. splice l at line) whole ∙ splice-seam (h ++ s) x (y ++ rest) line at e f ∙ simp append-assoc
 
-module _ (buffer : List ℕ) (e : isSound buffer ≡ true) (line : List ℕ) (form : isLine line ≡ true) (room : length (registerIn buffer) < mostLines) where
+module _ (buffer : List ℕ) (e : bufferKeeps buffer ≡ true) (line : List ℕ) (form : isLine line ≡ true) (room : length (registerIn buffer) < mostLines) where
   abbrev place : ℕ
   place = headerSize + slotSize * length (registerIn buffer)
 
@@ -109,70 +111,52 @@ module _ (buffer : List ℕ) (e : isSound buffer ≡ true) (line : List ℕ) (fo
       ∙ slot-seam header (slotsOf r) first others rest line place before (length-replicate {A = ℕ} (length line) 0)
       ∙ ap (λ l. (header ++ l) ++ rest) (slots-put r line fits room)
 
--- a contract lies inside its line
-pub contract-inside : (line : List ℕ) (contract : ℕ) → contract ≡ contractLength line → contract ≤ length line
-unfolding contractLength
-contract-inside line contract c =
-    test-cases (λ t. contract ≡ cond t (length (contractOf line)) 0 → contract ≤ length line) (isLine line)
-    (λ _ k. omega (arith, contract-short line)) (λ _ k. omega arith) c
+-- The number for a line offered, by what the code asks: its form, whether its key is among the others, whether all places are taken
+module _ (line keys : List ℕ) (n contract key : ℕ) (run : Run isNameByte line 0 contract) (k : key ≡ keyOf (withoutBlanks (take 8 (take contract line)))) where
+  held-is : (register : Register) → Keyed register n keys → isLine line ≡ true → among key (take n keys) ≡ holds register (contractOf line)
+  held-is register r form =
+      ap₂ {C = Bool} among (k ∙ key-read line contract form (contract-size line contract run form)) (r .keyed) ∙ keys-hold register line (r .lines) form
 
--- An offer to a register of n lines: what the code asks one after the other
-module _ (buffer line keys : List ℕ) (n : ℕ) (ready : Ready buffer n keys) (contract : ℕ) (c : contract ≡ contractLength line) where
-  pub offer-bad : contract ≡ 0 → offerBack 25 buffer ≡ offerCall buffer line
-  unfolding contractLength offerNumber
-  offer-bad none =
-      let form : isLine line ≡ false =
-      test-cases (λ t. isLine line ≡ t → contract ≡ cond t (length (contractOf line)) 0 → t ≡ false) (isLine line)
-      (λ e _ k. absurd (omega (arith, contract-form line e .some))) (λ _ _ _. refl) refl c in
-      sym (offer-declined buffer line 25 (ready .keeps) (rw form) (λ z. omega arith))
+  full-is : (register : Register) → Keyed register n keys → eqb n mostLines ≡ leb mostLines (length register)
+  full-is register r =
+      same-truth (eqb n mostLines) (leb mostLines (length register))
+      (λ e. le-leb mostLines (length register) (omega (arith, eqb-true n mostLines e, r .count)))
+      (λ e. eq-eqb n mostLines (omega (arith, leb-true mostLines (length register) e, r .count, r .few)))
 
-  pub line-form : ¬ (contract ≡ 0) → isLine line ≡ true
-  unfolding contractLength
-  line-form some =
-      test-cases (λ t. contract ≡ cond t (length (contractOf line)) 0 → t ≡ true) (isLine line)
-      (λ _ _. refl) (λ _ k. absurd (some k)) c
+  pub offer-judged : (formed held : Bool) (number : ℕ) → formed ≡ isLine line → held ≡ among key (take n keys) → number ≡ lowestOf formed held (eqb n mostLines)
+      → Judged line n keys number
+  unfolding offerNumber lowestOf
+  offer-judged formed held number f h lowest =
+      record {
+        judged = λ register r.
+            lowest
+            ∙ test-cases (λ t. isLine line ≡ t → lowestOf formed held (eqb n mostLines) ≡ lowestOf t (holds register (contractOf line)) (leb mostLines (length register)))
+            (isLine line)
+            (λ form _. rw (f ∙ form, h ∙ held-is register r form, full-is register r))
+            (λ form _. rw (f ∙ form)) refl;
+      }
 
-  module _ (some : ¬ (contract ≡ 0)) (key : ℕ) (k : key ≡ keyOf (withoutBlanks (take 8 (take contract line)))) where
-    form : isLine line ≡ true
-    form = line-form some
+-- An offer to a register of n lines, by its number
+module _ (buffer line keys : List ℕ) (n number : ℕ) (ready : Ready buffer n keys) (j : Judged line n keys number) where
+  number-is : offerNumber (registerIn buffer) line ≡ number
+  number-is = sym (j .judged (registerIn buffer) (ready .holds))
 
-    held-is : among key (take n keys) ≡ holds (registerIn buffer) (contractOf line)
-    held-is =
-        let same : key ≡ keyIn line = k ∙ key-read line contract c ∙ ap (λ b. cond b (keyIn line) 0) form in
-        ap₂ {C = Bool} among same (ready .keyed) ∙ keys-hold (registerIn buffer) line (read-sound buffer (ready .keeps) .lines) form
+  pub offer-kept : ¬ (number ≡ 0) → offerBack number buffer ≡ offerCall buffer line
+  offer-kept n = sym (offer-declined buffer line number (ready .keeps) number-is n)
 
-    pub offer-held : among key (take n keys) ≡ true → offerBack 26 buffer ≡ offerCall buffer line
-    unfolding offerNumber
-    offer-held found =
-        sym (offer-declined buffer line 26 (ready .keeps) (rw (form, sym held-is ∙ found)) (λ z. omega arith))
+  module _ (zero-is : number ≡ 0) where
+    takes : Taken (registerIn buffer) line
+    takes = taken (registerIn buffer) line (number-is ∙ zero-is)
 
-    pub offer-full : among key (take n keys) ≡ false → n ≡ mostLines → offerBack 27 buffer ≡ offerCall buffer line
-    unfolding offerNumber
-    offer-full fresh full =
-        let all : leb mostLines (length (registerIn buffer)) ≡ true = le-leb mostLines (length (registerIn buffer)) (omega (arith, ready .count)) in
-        sym (offer-declined buffer line 27 (ready .keeps) (rw (form, sym held-is ∙ fresh, all)) (λ z. omega arith))
+    pub offer-room : headerSize + slotSize * n + length line ≤ length buffer
+    offer-room = omega (arith, line-room buffer (ready .keeps) line (takes .form) (takes .room), ready .holds .count)
 
-    module _ (fresh : among key (take n keys) ≡ false) (some-left : ¬ (n ≡ mostLines)) where
-      room : length (registerIn buffer) < mostLines
-      room = let few = read-sound buffer (ready .keeps) .few in omega (arith, ready .count)
-
-      pub offer-room : headerSize + slotSize * n + length line ≤ length buffer
-      offer-room = omega (arith, line-room buffer (ready .keeps) line form room, ready .count)
-
-      pub offer-taken : (left : List ℕ) → left ≡ splice buffer (headerSize + slotSize * n) line → offerBack 0 left ≡ offerCall buffer line
-      offer-taken left put =
-          let number = taken-zero (registerIn buffer) line (record { form = form; fresh = sym held-is ∙ fresh; room = room }) in
-          let at : splice buffer (headerSize + slotSize * n) line ≡ splice buffer (headerSize + slotSize * length (registerIn buffer)) line =
-          ap (λ m. splice buffer (headerSize + slotSize * m) line) (ready .count) in
-          ap (offerBack 0) (put ∙ at ∙ line-put buffer (ready .keeps) line form room)
-          ∙ sym (offer-accepted buffer line (ready .keeps) number)
-
--- where all pass a test, each place inside does
-all-inside : {A : Type 0} (f : A → Bool) (l : List A) (d : A) → all f l ≡ true → (i : ℕ) → i < length l → f (getD l i d) ≡ true
-unfolding all
-all-inside f [] d a i h = absurd (omega arith)
-all-inside f (x ∷ l) d a zero h = both-true (f x) (all f l) a .0
-all-inside f (x ∷ l) d a (suc i) h = all-inside f l d (both-true (f x) (all f l) a .1) i (omega arith)
+    pub offer-put : (left : List ℕ) → left ≡ splice buffer (headerSize + slotSize * n) line → offerBack number left ≡ offerCall buffer line
+    offer-put left put =
+        let at : splice buffer (headerSize + slotSize * n) line ≡ splice buffer (headerSize + slotSize * length (registerIn buffer)) line =
+        ap (λ m. splice buffer (headerSize + slotSize * m) line) (ready .holds .count) in
+        ap₂ {C = OfferCalled} offerBack zero-is (put ∙ at ∙ line-put buffer (ready .keeps) line (takes .form) (takes .room))
+        ∙ sym (offer-taken buffer line (ready .keeps) (number-is ∙ zero-is))
 
 -- Handing out: the line of a place stands in its slot
 lines-at : (count : ℕ) (slots : List ℕ) (k : ℕ) → k < length (linesIn count slots)
@@ -194,13 +178,6 @@ lines-at (suc n) slots k h =
         let at : slotSize + slotSize * j ≡ slotSize * suc j = omega arith in
         behind j (omega arith) ∙ ap (λ l. lineIn (take slotSize l)) (drop-drop (slotSize * j) slotSize slots ∙ ap (λ n. drop n slots) at)
 
--- a stretch of the first m bytes is one of the list
-stretch-front : (n k m : ℕ) (l : List ℕ) → k + n ≤ m → take n (drop k (take m l)) ≡ take n (drop k l)
-stretch-front n zero m l h = take-take n m l (omega arith)
-stretch-front n (suc k) zero l h = absurd (omega arith)
-stretch-front n (suc k) (suc m) [] h = refl
-stretch-front n (suc k) (suc m) (x ∷ l) h = stretch-front n k m l (omega arith)
-
 pub line-here : (buffer : List ℕ) (place : ℕ) → Placed buffer place
     → lineAt (registerIn buffer) place ≡ lineIn (take slotSize (drop (headerSize + slotSize * place) buffer))
 unfolding lineAt registerIn
@@ -209,11 +186,6 @@ line-here buffer place p =
     let inside = p .inside in
     lines-at mostLines (slotsIn buffer) place (p .inside) ∙ ap lineIn (stretch-front slotSize (slotSize * place) (slotSize * mostLines) (drop headerSize buffer) (omega arith)
     ∙ ap (take slotSize) (drop-drop (slotSize * place) headerSize buffer))
-
-drop-zeros : (k m : ℕ) → drop {A = ℕ} k (replicate m 0) ≡ replicate (m - k) 0
-drop-zeros zero m = let none : m ≡ m - 0 = omega arith in ap (λ n. replicate n 0) none
-drop-zeros (suc k) zero = let none : 0 ≡ 0 - suc k = omega arith in ap {B = List ℕ} (λ n. replicate n 0) none
-drop-zeros (suc k) (suc m) = let less : m - k ≡ suc m - suc k = omega arith in drop-zeros k m ∙ ap (λ n. replicate n 0) less
 
 module _ (buffer : List ℕ) (place : ℕ) (p : Placed buffer place) where
   abbrev at : ℕ
@@ -261,25 +233,30 @@ module _ (buffer : List ℕ) (place : ℕ) (p : Placed buffer place) where
           length-is = here-size ∙ sym (ap length (line-here buffer place p));
           short = let few = line-short in omega arith;
           bytes =
-          put
-          ∙ ap₂ {C = List ℕ} (λ o v. splice o 0 v) zeros here-bytes
-          ∙ ap (λ l. line ++ l) (drop-zeros (0 + length line) lineSize ∙ ap (λ k. replicate (lineSize - k) 0) (zero-add (length line)));
+              put
+              ∙ ap₂ {C = List ℕ} (λ o v. splice o 0 v) zeros here-bytes
+              ∙ ap (λ l. line ++ l) (drop-zeros (0 + length line) lineSize ∙ ap (λ k. replicate (lineSize - k) 0) (zero-add (length line)));
         }
 
 -- What the calls make of what was found
-module _ (buffer keys : List ℕ) (r : Held) (found : Found (isSound buffer) (registerIn buffer) keys r) where
-  pub found-refuses : r ≡ Broken → isSound buffer ≡ false
+module _ (buffer keys : List ℕ) (r : Held) (found : Found (bufferKeeps buffer) (registerIn buffer) keys r) where
+  pub found-refuses : r ≡ Broken → bufferKeeps buffer ≡ false
   unfolding Finds
-  found-refuses is = subst (Finds (isSound buffer) (registerIn buffer) keys) is (found .finds)
+  found-refuses is = subst (Finds (bufferKeeps buffer) (registerIn buffer) keys) is (found .finds)
 
   pub found-ready : (n : ℕ) → r ≡ Lines n → Ready buffer n keys
   unfolding Finds
   found-ready n is =
-      let f = subst (Finds (isSound buffer) (registerIn buffer) keys) is (found .finds) in
-      let few = read-sound buffer (f .0) .few in
-      record { keeps = f .0; count = f .1; keyed = f .2; room = omega (arith, found .size) }
+      let f = subst (Finds (bufferKeeps buffer) (registerIn buffer) keys) is (found .finds) in
+      let s = read-sound buffer (f .0) in
+      let few = s .few in
+      record {
+        keeps = f .0;
+        holds = record { lines = s .lines; few = few; count = f .1; keyed = f .2 };
+        room = omega (arith, found .size);
+      }
 
-pub offer-refuses : (buffer line : List ℕ) → isSound buffer ≡ false → offerBack 14 buffer ≡ offerCall buffer line
+pub offer-refuses : (buffer line : List ℕ) → bufferKeeps buffer ≡ false → offerBack 14 buffer ≡ offerCall buffer line
 offer-refuses buffer line e = sym (offer-refused buffer line e)
 
 -- no line, and a line handed out
@@ -289,21 +266,21 @@ none-handed number out zeros = ap (λ l. lineBack number l 0) zeros
 
 pub line-handed-out : (line : List ℕ) (n : ℕ) (out : List ℕ) → Puts line n out → lineBack 0 out n ≡ handing 0 line
 unfolding handing
-line-handed-out line n out puts = ap₂ {C = Handed} (λ l k. lineBack 0 l k) (puts .bytes) (puts .length-is)
+line-handed-out line n out puts = ap₂ {C = LineCalled} (λ l k. lineBack 0 l k) (puts .bytes) (puts .length-is)
 
 module _ (buffer : List ℕ) (place : ℕ) where
-  pub line-refuses : (out : List ℕ) → out ≡ replicate lineSize 0 → isSound buffer ≡ false → lineBack 14 out 0 ≡ lineCall buffer place
+  pub line-refuses : (out : List ℕ) → out ≡ replicate lineSize 0 → bufferKeeps buffer ≡ false → lineBack 14 out 0 ≡ lineCall buffer place
   line-refuses out zeros e = none-handed 14 out zeros ∙ sym (line-refused buffer place e)
 
   module _ (n : ℕ) (keys : List ℕ) (ready : Ready buffer n keys) where
     pub line-placed : place < n → Placed buffer place
-    line-placed h = record { keeps = ready .keeps; inside = omega (arith, ready .count) }
+    line-placed h = record { keeps = ready .keeps; inside = omega (arith, ready .holds .count) }
 
     pub line-none : (out : List ℕ) → out ≡ replicate lineSize 0 → n ≤ place → lineBack 0 out 0 ≡ lineCall buffer place
     unfolding lineAt
     line-none out zeros h =
         none-handed 0 out zeros
-        ∙ ap (handing 0) (sym (List·getD-eq-default (registerIn buffer) [] (omega (arith, ready .count))))
+        ∙ ap (handing 0) (sym (List·getD-eq-default (registerIn buffer) [] (omega (arith, ready .holds .count))))
         ∙ sym (line-handed buffer place (ready .keeps))
 
     pub line-found : (size : ℕ) (out : List ℕ) → Puts (lineAt (registerIn buffer) place) size out → lineBack 0 out size ≡ lineCall buffer place

@@ -6,10 +6,10 @@ use Prim.Native.Nat.{ℕ, _+_, _*_, _-_, _%_, _≤_, _<_}
 use lib.ListN.{length, take, drop, getD, set, replicate}
 use Rattle.base.specs.Lists.{all, among}
 use Rattle.packer.specs.Keys.{keyOf}
-use Rattle.register.specs.Buffer.{isZero, slotSize, lineIn, linesIn, registerIn, slotKeeps, slotsKeep, isSound}
+use Rattle.register.specs.Buffer.{isZero, slotSize, lineIn, linesIn, registerIn, slotKeeps, slotsKeep, bufferKeeps}
 use Rattle.register.specs.Calls.{lineSize}
 use Rattle.register.specs.Line.{contractOf, isLine}
-use Rattle.register.specs.Register.{Register, mostLines, differ}
+use Rattle.register.specs.Register.{Register, mostLines, differ, offerNumber}
 use Rattle.register_calls.specs.declared.Held.{Held}
 use Rattle.register_calls.specs.declared.Held.the-variants.{Lines, Broken}
 
@@ -53,16 +53,26 @@ pub record Found (keeps : Bool) (register : Register) (keys : List ℕ) (r : Hel
   pub finds : Finds keeps register keys r
   pub size : length keys ≡ mostLines
 
--- a buffer with a register of n lines, and their keys
+-- a register of n lines, with their keys
+pub record Keyed (register : Register) (n : ℕ) (keys : List ℕ) : Type 0 where
+  pub lines : all isLine register ≡ true
+  pub few : length register ≤ mostLines
+  pub count : n ≡ length register
+  pub keyed : take n keys ≡ keysOf register
+
+-- the number for a line offered, whatever register has these keys
+pub record Judged (line : List ℕ) (n : ℕ) (keys : List ℕ) (r : ℕ) : Type 0 where
+  pub judged : (register : Register) → Keyed register n keys → r ≡ offerNumber register line
+
+-- a buffer with such a register
 pub record Ready (buffer : List ℕ) (n : ℕ) (keys : List ℕ) : Type 0 where
-  pub keeps : isSound buffer ≡ true
-  pub count : n ≡ length (registerIn buffer)
-  pub keyed : take n keys ≡ keysOf (registerIn buffer)
+  pub keeps : bufferKeeps buffer ≡ true
+  pub holds : Keyed (registerIn buffer) n keys
   pub room : n ≤ length keys
 
 -- a buffer with a register that has a line at a place
 pub record Placed (buffer : List ℕ) (place : ℕ) : Type 0 where
-  pub keeps : isSound buffer ≡ true
+  pub keeps : bufferKeeps buffer ≡ true
   pub inside : place < length (registerIn buffer)
 
 -- what is found at slot k, which begins with zero: the end of the lines, or a byte that isn't zero behind it

@@ -1,18 +1,19 @@
 -- Slots read one after the other: the line of a slot, the lines and keys so far, and what each end of the reading finds. Assumes nothing.
-use mathlib.Core.Bool.{Bool, true, false, cond, not, _&&_, false≢true}
-use mathlib.Core.List.{List, [], _∷_, _++_, map, append-assoc, append-nil, map-append}
-use mathlib.Core.Path.{_≡_, refl, sym, ap, ap₂, _∙_, subst}
-use Prim.Native.Nat.{ℕ, zero, suc, _+_, _*_, _-_, _%_, _≤_, _<_}
+use mathlib.Core.Bool.{Bool, true, false, cond, _&&_, false≢true, and-false}
+use mathlib.Core.List.{List, [], _∷_, _++_, append-assoc, append-nil, map-append}
+use mathlib.Core.Path.{_≡_, refl, sym, ap, ap₂, _∙_}
+use Prim.Native.Nat.{ℕ, zero, suc, _+_, _*_, _-_, _≤_, _<_}
 use native.Mathlib.Nat.{add-zero}
 use native.Mathlib.Numerals.{add-one}
 use native.Mathlib.Omega.{arith}
 use lib.Dec.{eqb}
-use lib.ListN.{length, take, drop, getD, set, replicate, length-append, length-set, length-replicate, drop-of-length-le}
+use lib.ListN.{length, take, drop, getD, length-append, length-set}
 use lib.Seq.{drop-drop, getD-drop, take-at, take-take, take-suc-set}
-use borrow.Author.Tests.{eqb-true, eqb-false, eq-eqb, ne-eqb, not-true, not-false}
+use borrow.Author.Tests.{not-true}
 use Rattle.base.specs.Choice.{both-true, both-pass, test-cases}
 use Rattle.base.specs.ListLaws.{all-append, stretch-end}
 use Rattle.base.specs.Lists.{all, among}
+use Rattle.cards.specs.Bytes.{isNameByte}
 use Rattle.cards.specs.Cards.{withoutBlanks}
 use Rattle.packer.specs.Keys.{keyOf}
 use Rattle.search.specs.NextLaws.{next-until}
@@ -22,10 +23,11 @@ use Rattle.register.specs.BufferLaws.{line-front}
 use Rattle.register.specs.Line.{contractOf, isLine}
 use Rattle.register.specs.Register.{Register, mostLines, differ, holds}
 use Rattle.register.specs.RegisterLaws.{differ-more, differ-split}
-use Rattle.register_lines.specs.Fields.{contractLength}
+use Rattle.register_lines.specs.FieldLaws.{contract-size}
+use Rattle.register_lines.specs.Fields.{Run}
 use Rattle.register_calls.specs.declared.Held.{Held}
 use Rattle.register_calls.specs.declared.Held.the-variants.{Lines, Broken}
-use Rattle.register_calls.specs.KeyLaws.{contract-short, key-read, key-some, keys-hold, none-marked}
+use Rattle.register_calls.specs.KeyLaws.{key-read, key-some, keys-hold, none-marked}
 use Rattle.register_calls.specs.Reading.{
   EndFinds,
   EndFound,
@@ -63,14 +65,6 @@ line-within slot = omega (arith, ap length (line-front slot), length-append (lin
 pub zeros-behind : (l : List ℕ) (at bits : ℕ) → eqb bits 0 ≡ all isZero (take (length l - at) (drop at l)) → all isZero (drop at l) ≡ eqb bits 0
 zeros-behind l at bits e = ap (all isZero) (sym (stretch-end l at (length l - at) refl)) ∙ sym e
 
-and-false : (b : Bool) → (b && false) ≡ false
-and-false true = refl
-and-false false = refl
-
-and-true : (b : Bool) → (b && true) ≡ b
-and-true true = refl
-and-true false = refl
-
 -- The key of a slot.
 module _ (slot : List ℕ) (n : ℕ) (is : n ≡ length (lineIn slot)) where
   pub slot-broken : all isZero (drop n slot) ≡ false → 0 ≡ slotKey slot
@@ -79,25 +73,25 @@ module _ (slot : List ℕ) (n : ℕ) (is : n ≡ length (lineIn slot)) where
       let behind : all isZero (drop (length (lineIn slot)) slot) ≡ false = ap (λ k. all isZero (drop k slot)) (sym is) ∙ e in
       sym (ap (λ b. cond b (keyIn (lineIn slot)) 0) (ap (λ b. isLine (lineIn slot) && b) behind ∙ and-false (isLine (lineIn slot))))
 
-  pub contract-within : (contract : ℕ) → contract ≡ contractLength (take n slot) → contract ≤ n
-  unfolding contractLength
-  contract-within contract c =
-      let line = line-take slot n is in
-      let size : length (take n slot) ≡ n = ap length line ∙ sym is in
-      test-cases (λ t. contract ≡ cond t (length (contractOf (take n slot))) 0 → contract ≤ n) (isLine (take n slot))
-      (λ _ k. omega (arith, contract-short (take n slot)))
-      (λ _ k. omega arith) c
+  pub slot-formless : isLine (take n slot) ≡ false → 0 ≡ slotKey slot
+  unfolding slotKey slotKeeps
+  slot-formless e =
+      let line = sym (ap isLine (line-take slot n is)) ∙ e in
+      sym (ap (λ b. cond (b && all isZero (drop (length (lineIn slot)) slot)) (keyIn (lineIn slot)) 0) line)
 
-  pub slot-keyed : all isZero (drop n slot) ≡ true → (contract : ℕ) → contract ≡ contractLength (take n slot)
+  pub contract-within : (contract : ℕ) → Run isNameByte (take n slot) 0 contract → contract ≤ n
+  contract-within contract r = omega (arith, r .inside, ap length (line-take slot n is))
+
+  pub slot-keyed : all isZero (drop n slot) ≡ true → isLine (take n slot) ≡ true → (contract : ℕ) → Run isNameByte (take n slot) 0 contract
       → keyOf (withoutBlanks (take 8 (take contract slot))) ≡ slotKey slot
   unfolding slotKey slotKeeps
-  slot-keyed e contract c =
+  slot-keyed e form contract r =
       let line = line-take slot n is in
       let behind : all isZero (drop (length (lineIn slot)) slot) ≡ true = ap (λ k. all isZero (drop k slot)) (sym is) ∙ e in
-      ap (λ l. keyOf (withoutBlanks (take 8 l))) (sym (take-take contract n slot (contract-within contract c)))
-      ∙ key-read (take n slot) contract c
-      ∙ ap (λ l. cond (isLine l) (keyIn l) 0) line
-      ∙ sym (ap (λ b. cond b (keyIn (lineIn slot)) 0) (ap (λ b. isLine (lineIn slot) && b) behind ∙ and-true (isLine (lineIn slot))))
+      ap (λ l. keyOf (withoutBlanks (take 8 l))) (sym (take-take contract n slot (contract-within contract r)))
+      ∙ key-read (take n slot) contract form (contract-size (take n slot) contract r form)
+      ∙ ap keyIn line
+      ∙ sym (ap (λ b. cond b (keyIn (lineIn slot)) 0) (both-pass (sym (ap isLine line) ∙ form) behind))
 
 -- a slot with a key keeps its rule, one without breaks it
 pub key-holds : (slot : List ℕ) → ¬ (slotKey slot ≡ 0) → (slotKeeps slot ≡ true) × (slotKey slot ≡ keyIn (lineIn slot))
@@ -305,16 +299,16 @@ module _ (slots keys marks : List ℕ) (k : ℕ) (r : ReadTo slots keys marks k)
               count = omega (arith, length-append (r .done) (line ∷ []), r .count);
               lines = all-lines ∙ sym (append-assoc (r .done) (line ∷ []) rest);
               keep =
-              r .keep
-              ∙ keep-more slots k h z
-              ∙ ap (λ b. b && slotsKeep (mostLines - (k + 1)) (drop (slotSize * (k + 1)) slots)) (holds-slot .0);
+                  r .keep
+                  ∙ keep-more slots k h z
+                  ∙ ap (λ b. b && slotsKeep (mostLines - (k + 1)) (drop (slotSize * (k + 1)) slots)) (holds-slot .0);
               good = all-append isLine (r .done) (line ∷ []) (r .good) (both-pass form refl);
               different = differ-more (r .done) line (r .different) (sym held-is ∙ fresh);
               keyed =
-              ap₂ {C = List ℕ} take (add-one k) kept
-              ∙ take-suc-set keys k key (omega (arith, r .size))
-              ∙ ap₂ {C = List ℕ} (λ l x. l ++ (x ∷ [])) (r .keyed) (is ∙ holds-slot .1)
-              ∙ sym (map-append keyIn (r .done) (line ∷ []));
+                  ap₂ {C = List ℕ} take (add-one k) kept
+                  ∙ take-suc-set keys k key (omega (arith, r .size))
+                  ∙ ap₂ {C = List ℕ} (λ l x. l ++ (x ∷ [])) (r .keyed) (is ∙ holds-slot .1)
+                  ∙ sym (map-append keyIn (r .done) (line ∷ []));
               marked = noted .marked refl;
               size = ap length kept ∙ length-set keys k key ∙ r .size;
             }

@@ -2,14 +2,14 @@
 // its rules, how many lines it holds, and the contracts of these lines as keys, numbers of 64 bits.
 // Assumes nothing.
 ghost use mathlib.Core.Path.{_≡_};
-ghost use Prim.Native.Nat.{_<_, _≤_};
+ghost use Prim.Native.Nat.{_*_, _<_, _≤_};
 ghost use lib.ListN.{length, replicate, take};
 ghost use Rattle.base.specs.Lists.{among};
-ghost use Rattle.register.specs.Buffer.{lineIn, linesIn, registerIn, isSound};
+ghost use Rattle.register.specs.Buffer.{bufferKeeps, lineIn, linesIn, registerIn, slotSize};
 ghost use Rattle.register.specs.Claims.{OfferPromise, LinePromise, offerBack, lineBack};
-ghost use Rattle.register.specs.Calls.{offerCall};
-ghost use Rattle.register.specs.Register.{lineAt};
-ghost use Rattle.register_calls.specs.Reading.{EndFound, Puts, Found, Marked, Noted, Placed, Ready, slotKey, slotsHold};
+ghost use Rattle.register.specs.Calls.{lineSize, offerCall};
+ghost use Rattle.register.specs.Register.{lineAt, lowestOf, mostLines};
+ghost use Rattle.register_calls.specs.Reading.{EndFound, Found, Judged, Marked, Noted, Placed, Puts, Ready, slotKey, slotsHold};
 use cells::spans;
 use packer::keys;
 use register::BAD_BUFFER;
@@ -17,14 +17,12 @@ use register::BAD_LINE;
 use register::CONTRACT_HELD;
 use register::FULL;
 use register::HEADER;
-use register::LINES;
 use register::LINE_SIZE;
+use register::LINES;
 use register::SIZE;
 use register::SLOT;
 use register_lines::contract_length;
-
-// the bytes of all slots
-const SLOTS: usize = SIZE - HEADER;
+use register_lines::is_line;
 
 // how many marks tell that a key may be held already
 const MARKS: usize = 4093;
@@ -54,7 +52,7 @@ fn note(keys: &mut [u64], marks: &mut [u8], k: usize, key: u64) -> bool
     requires { ⌜ Marked (now keys) (now marks) k × (k < length (now keys)) ⌝ }
     ensures { λ r. ⌜ Noted (now (keys .entry)) k key r (now (keys .exit)) (now (marks .exit)) ⌝ }
 {
-    let place = (key % 4093) as usize;
+    let place = key as usize % MARKS;
     if marks[place] != 0 {
         if is_among(keys, k, key) {
             return false;
@@ -80,13 +78,16 @@ fn slot_key(slot: &[u8]) -> u64
     if spans::marks(&slot[n..]) != 0 {
         return 0;
     }
+    if !is_line(&slot[..n]) {
+        return 0;
+    }
     let contract = contract_length(&slot[..n]);
     keys::key_of(&slot[..contract])
 }
 
 // what is found where slot k begins with zero: all behind it must be zero
 fn found_end(slots: &[u8], k: usize) -> Held
-    requires { ⌜ (length (now slots) ≡ 7168) × (k < 256) ⌝ }
+    requires { ⌜ (length (now slots) ≡ slotSize * mostLines) × (k < mostLines) ⌝ }
     ensures { λ r. ⌜ EndFound (now (slots .entry)) k r ⌝ }
 {
     let at = SLOT * k;
@@ -99,8 +100,8 @@ fn found_end(slots: &[u8], k: usize) -> Held
 
 // the lines in the slots, with their keys
 fn read_slots(slots: &[u8], keys: &mut [u64; LINES]) -> Held
-    requires { ⌜ (length (now slots) ≡ 7168) × (length (now keys) ≡ 256) ⌝ }
-    ensures { λ r. ⌜ Found (slotsHold (now (slots .entry))) (linesIn 256 (now (slots .entry))) (now (keys .exit)) r ⌝ }
+    requires { ⌜ (length (now slots) ≡ slotSize * mostLines) × (length (now keys) ≡ mostLines) ⌝ }
+    ensures { λ r. ⌜ Found (slotsHold (now (slots .entry))) (linesIn mostLines (now (slots .entry))) (now (keys .exit)) r ⌝ }
 {
     let mut marks = [0; MARKS];
     let mut k = 0;
@@ -124,8 +125,8 @@ fn read_slots(slots: &[u8], keys: &mut [u64; LINES]) -> Held
 
 // the register in a buffer
 fn read_register(buffer: &[u8], keys: &mut [u64; LINES]) -> Held
-    requires { ⌜ length (now keys) ≡ 256 ⌝ }
-    ensures { λ r. ⌜ Found (isSound (now (buffer .entry))) (registerIn (now (buffer .entry))) (now (keys .exit)) r ⌝ }
+    requires { ⌜ length (now keys) ≡ mostLines ⌝ }
+    ensures { λ r. ⌜ Found (bufferKeeps (now (buffer .entry))) (registerIn (now (buffer .entry))) (now (keys .exit)) r ⌝ }
 {
     if buffer.len() < SIZE {
         return Held::Broken;
@@ -136,23 +137,43 @@ fn read_register(buffer: &[u8], keys: &mut [u64; LINES]) -> Held
     read_slots(&buffer[HEADER..SIZE], keys)
 }
 
+// the lowest number that applies to a line offered, or 0
+fn lowest(formed: bool, held: bool, full: bool) -> u32
+    ensures { λ r. ⌜ r ≡ lowestOf formed held full ⌝ }
+{
+    if !formed {
+        return BAD_LINE;
+    }
+    if held {
+        return CONTRACT_HELD;
+    }
+    if full {
+        return FULL;
+    }
+    0
+}
+
+// the number for a line offered to a register of n lines with these keys
+fn offer_number(line: &[u8], n: usize, keys: &[u64]) -> u32
+    requires { ⌜ n ≤ length (now keys) ⌝ }
+    ensures { λ r. ⌜ Judged (now (line .entry)) n (now (keys .entry)) r ⌝ }
+{
+    let formed = is_line(line);
+    let contract = contract_length(line);
+    let held = is_among(keys, n, keys::key_of(&line[..contract]));
+    lowest(formed, held, n == LINES)
+}
+
 // a line offered to a register of n lines
 fn offer_to(buffer: &mut [u8], line: &[u8], n: usize, keys: &[u64]) -> u32
     requires { ⌜ Ready (now buffer) n (now keys) ⌝ }
     ensures { λ r. ⌜ offerBack r (now (buffer .exit)) ≡ offerCall (now (buffer .entry)) (now (line .entry)) ⌝ }
 {
-    let contract = contract_length(line);
-    if contract == 0 {
-        return BAD_LINE;
+    let number = offer_number(line, n, keys);
+    if number == 0 {
+        spans::write(buffer, HEADER + SLOT * n, line);
     }
-    if is_among(keys, n, keys::key_of(&line[..contract])) {
-        return CONTRACT_HELD;
-    }
-    if n == LINES {
-        return FULL;
-    }
-    spans::write(buffer, HEADER + SLOT * n, line);
-    0
+    number
 }
 
 // Offers a line to the register.
@@ -170,7 +191,7 @@ pub extern "C" fn strigol_register_offer(buffer: &mut [u8], line: &[u8]) -> u32
 
 // the line of a place where one stands, put before zeros; how many bytes it has
 fn put_line(buffer: &[u8], place: usize, line: &mut [u8; LINE_SIZE]) -> usize
-    requires { ⌜ Placed (now buffer) place × (now line ≡ replicate 32 0) ⌝ }
+    requires { ⌜ Placed (now buffer) place × (now line ≡ replicate lineSize 0) ⌝ }
     ensures { λ r. ⌜ Puts (lineAt (registerIn (now (buffer .entry))) place) r (now (line .exit)) ⌝ }
 {
     let at = HEADER + SLOT * place;
@@ -183,7 +204,12 @@ fn put_line(buffer: &[u8], place: usize, line: &mut [u8; LINE_SIZE]) -> usize
 
 // Hands out the line of a place.
 #[no_mangle]
-pub extern "C" fn strigol_register_line(buffer: &[u8], place: u64, line: &mut [u8; LINE_SIZE], length: &mut u32) -> u32
+pub extern "C" fn strigol_register_line(
+    buffer: &[u8],
+    place: u64,
+    line: &mut [u8; LINE_SIZE],
+    length: &mut u32,
+) -> u32
     ensures { λ r. ⌜ LinePromise (now (buffer .entry)) place (lineBack r (now (line .exit)) (now (length .exit))) ⌝ }
 {
     let mut keys = [0; LINES];

@@ -13,8 +13,8 @@ use Rattle.base.specs.Choice.{both-pass, both-true, neither-true, test-cases}
 use Rattle.base.specs.ListLaws.{all-append, drop-next, length-stretch, stretch-behind, stretch-end}
 use Rattle.base.specs.Lists.{all, begins}
 use Rattle.base.specs.Text.{bytes}
-use Rattle.cards.specs.Bytes.{between, isDigit, isLetter, isNameByte}
-use Rattle.register.specs.Line.{comma, fields, isContract, isGrain, isDecimal, isTonnes, isPrice, each, isLine, contractOf}
+use Rattle.cards.specs.Bytes.{between, comma, isDigit, isLetter, isNameByte}
+use Rattle.register.specs.Line.{fields, isContract, isGrain, isDecimal, isTonnes, isPrice, each, isLine, contractOf}
 use Rattle.register.specs.LineLaws.{
   run-whole,
   run-comma,
@@ -26,7 +26,7 @@ use Rattle.register.specs.LineLaws.{
   tonnes-digits,
   price-digits,
 }
-use Rattle.register_lines.specs.Fields.{Run, behind, contractLength}
+use Rattle.register_lines.specs.Fields.{Run, behind}
 
 -- a run goes on by a byte that passes, and ends where none is left or one doesn't
 module _ (p : ℕ → Bool) (line : List ℕ) (at : ℕ) where
@@ -240,28 +240,19 @@ module _ (line : List ℕ) (at n : ℕ) (is : eqb (getD line at 0) 44 ≡ true) 
       ∙ field-then isLetter comma-letter line (at + 1) n r isGrain grain-bytes isTonnes (isPrice ∷ [])
       ∙ ap (λ t. t && behind (isTonnes ∷ isPrice ∷ []) line (at + 1 + n)) (grain-run line (at + 1) n r)
 
--- the line by its first run: how many bytes its contract has
+-- the line by its first run
 module _ (line : List ℕ) (n : ℕ) (r : Run isNameByte line 0 n) where
-  abbrev others : Bool
-  others = behind (isGrain ∷ isTonnes ∷ isPrice ∷ []) line n
-
-  line-run : isLine line ≡ (between 1 8 n && others)
+  pub line-run : isLine line ≡ (between 1 8 n && behind (isGrain ∷ isTonnes ∷ isPrice ∷ []) line n)
   unfolding isLine
   line-run =
       field-then isNameByte comma-name line 0 n r isContract contract-bytes isGrain (isTonnes ∷ isPrice ∷ [])
       ∙ ap₂ (λ t k. t && behind (isGrain ∷ isTonnes ∷ isPrice ∷ []) line k) (contract-run line 0 n r) (zero-add n)
 
-  pub no-contract : between 1 8 n ≡ false → 0 ≡ contractLength line
-  unfolding contractLength
-  no-contract e = rw (line-run, e)
-
-  pub no-line : between 1 8 n ≡ true → others ≡ false → 0 ≡ contractLength line
-  unfolding contractLength
-  no-line e o = rw (line-run, e, o)
-
-  pub contract-length : between 1 8 n ≡ true → others ≡ true → n ≡ contractLength line
-  unfolding contractLength contractOf behind comma
-  contract-length e o =
-      let here = both-true (eqb (getD line n 0) comma) _ o .0 in
+  -- of a line that has its form, the run is its contract
+  pub contract-size : isLine line ≡ true → n ≡ length (contractOf line)
+  unfolding contractOf behind comma
+  contract-size e =
+      let others = both-true (between 1 8 n) _ (sym line-run ∙ e) .1 in
+      let here = both-true (eqb (getD line n 0) comma) _ others .0 in
       let first = goes-on isNameByte comma-name line 0 n r (omega (arith, comma-inside line n here)) (rw zero-add here) in
-      rw (line-run, e, o, first) (sym (length-stretch line 0 n (r .inside)))
+      rw first (sym (length-stretch line 0 n (r .inside)))

@@ -1,13 +1,13 @@
 -- What the code says of the fields of a line, from a place on. Assumes nothing.
-use mathlib.Core.Bool.{Bool, true, false, cond, _&&_}
+use mathlib.Core.Bool.{Bool, true, false, _&&_}
 use mathlib.Core.List.{List}
 use mathlib.Core.Path.{_≡_}
 use Prim.Native.Nat.{ℕ, _+_, _≤_, _<_}
 use lib.Dec.{eqb}
 use lib.ListN.{length, take, drop, getD}
 use Rattle.base.specs.Lists.{all}
-use Rattle.cards.specs.Bytes.{isDigit, isLetter, isNameByte}
-use Rattle.register.specs.Line.{comma, fields, each, isLine, contractOf}
+use Rattle.cards.specs.Bytes.{comma, isDigit, isLetter, isNameByte}
+use Rattle.register.specs.Line.{fields, each}
 use Rattle.register_lines.specs.declared.Class.{Class}
 use Rattle.register_lines.specs.declared.Class.the-variants.{Names, Letters, Digits}
 
@@ -26,7 +26,3 @@ pub record Run (p : ℕ → Bool) (line : List ℕ) (at n : ℕ) : Type 0 where
 -- a comma stands at a place, and behind it fields that pass these tests
 unfoldable pub behind : List (List ℕ → Bool) → (line : List ℕ) (at : ℕ) → Bool
 behind tests line at = eqb (getD line at 0) comma && each tests (fields (drop (at + 1) line))
-
--- how many bytes the contract of a line has; 0 where it breaks its form
-unfoldable pub contractLength : (line : List ℕ) → ℕ
-contractLength line = cond (isLine line) (length (contractOf line)) 0

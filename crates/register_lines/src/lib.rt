@@ -6,9 +6,9 @@ ghost use mathlib.Core.Path.{_≡_};
 ghost use Prim.Native.Nat.{_+_, _≤_};
 ghost use lib.Dec.{eqb};
 ghost use lib.ListN.{length, getD};
-ghost use Rattle.cards.specs.Bytes.{isDigit, isLetter};
-ghost use Rattle.register.specs.Line.{isGrain, isTonnes, isPrice};
-ghost use Rattle.register_lines.specs.Fields.{Run, behind, contractLength, isOf};
+ghost use Rattle.cards.specs.Bytes.{isDigit, isLetter, isNameByte};
+ghost use Rattle.register.specs.Line.{isGrain, isLine, isTonnes, isPrice};
+ghost use Rattle.register_lines.specs.Fields.{Run, behind, isOf};
 ghost use Rattle.register_lines.specs.FieldLaws.{numberRun};
 
 // the most bytes of a contract, the bytes of a grain, the most digits of tonnes and price
@@ -129,13 +129,20 @@ fn grain_on(line: &[u8], at: usize) -> bool
     tonnes_on(line, from + n)
 }
 
-// how many bytes the contract of a line has; 0 where the line breaks its form
+// how many letters and digits a line begins with: of a line that has its form, those of its contract
 pub fn contract_length(line: &[u8]) -> usize
-    ensures { λ r. ⌜ r ≡ contractLength (now (line .entry)) ⌝ }
+    ensures { λ r. ⌜ Run isNameByte (now (line .entry)) 0 r ⌝ }
 {
-    let n = run(line, 0, Class::Names);
+    run(line, 0, Class::Names)
+}
+
+// whether a line has its form
+pub fn is_line(line: &[u8]) -> bool
+    ensures { λ r. ⌜ r ≡ isLine (now (line .entry)) ⌝ }
+{
+    let n = contract_length(line);
     if (n < 1) | (CONTRACT < n) {
-        return 0;
+        return false;
     }
-    if grain_on(line, n) { n } else { 0 }
+    grain_on(line, n)
 }

@@ -3,7 +3,7 @@
 use borrow.Author.Needs.{needs}
 use native.Mathlib.Omega.{arith}
 use mathlib.Core.Path.{ap}
-use lib.ListN.{length, length-replicate}
+use lib.ListN.{length}
 use Rattle.register_calls.specs.PutLaws.{line-lent, line-puts, line-short, slot-room}
 use Rattle.register_calls.proofs.put_line.Statement.{statement}
 use Rattle.register_calls.proofs.put_line.Tie as tie

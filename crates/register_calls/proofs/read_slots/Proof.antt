@@ -99,11 +99,13 @@ loop-again c =
     let l = c .before .before .before .before .before .before .before .before .before .before .before .loop in
     let key = c .before .before .before .before .before .before .slot-key in
     let n = c .before .before .note in
-    let test = c .before .before .before .before .before .before .before .before .before .before .loop-test .taken in
-    (omega arith, read-more slots (l .keys) (l .marks) (l .k) (l .inv .1) test
-    (ne-eqb (getD slots (28 * l .k) 0) 0 (c .before .before .before .before .before .before .before .before .if1 .left)) (key .result)
-    (key .ensures ∙ ap slotKey (stretch-cut slots (28 * l .k) 28)) (c .before .before .before .before .before .if2 .left) (n .last .0) (n .last .1 .0)
-    (subst (λ r. Noted (l .keys) (l .k) (key .result) r (n .last .0) (n .last .1 .0)) (not-false (n .result) (c .if3 .left)) (n .ensures)))
+    let test = c .before .before .before .before .before .before .before .before .before .before .loop-test .taken in (
+      omega arith,
+      read-more slots (l .keys) (l .marks) (l .k) (l .inv .1) test
+          (ne-eqb (getD slots (28 * l .k) 0) 0 (c .before .before .before .before .before .before .before .before .if1 .left)) (key .result)
+          (key .ensures ∙ ap slotKey (stretch-cut slots (28 * l .k) 28)) (c .before .before .before .before .before .if2 .left) (n .last .0) (n .last .1 .0)
+          (subst (λ r. Noted (l .keys) (l .k) (key .result) r (n .last .0) (n .last .1 .0)) (not-false (n .result) (c .if3 .left)) (n .ensures)),
+    )
 
 returns-4 : tie.Need-returns-4 Inv-loop μ-loop
 returns-4 c =
