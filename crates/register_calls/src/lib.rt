@@ -24,7 +24,7 @@ use register::SLOT;
 use register_lines::contract_length;
 use register_lines::is_line;
 
-// how many marks tell that a key may be held already
+// how many marks tell that a key may be held already: a prime, so that contracts in a row have marks of their own
 const MARKS: usize = 4093;
 
 // how many lines a register holds, or that its buffer is too small or against its rules
