@@ -9,12 +9,13 @@
 
    The lines that a finished run put can be kept in a register of contracts, one call a line, and handed out again by their places:
 
-       uint32_t number = strigol_register_offer(buffer, sizeof buffer, line, line_len);    0, or the line is declined
+       uint32_t number = strigol_register_offer(buffer, sizeof buffer, record, record_len);    0, or the line is declined
        strigol_register_line(buffer, sizeof buffer, place, line, &length);
 
    What the caller must ensure, since no call can find it out:
    - A pointer is not NULL, not even with length 0, and what it points at is as long as the length says. Two buffers lent to one call don't
-     overlap. State, answer, result and the line handed out have their fixed sizes. A buffer may be longer than it need be; the bytes past its size stay.
+     overlap. State, answer, result and the line handed out have their fixed sizes. A buffer may be longer than it need be; the bytes past its
+     size stay.
    - There is stack enough: 1.2 MB for strigol_read, 60 KB for the others.
 
    What holds then of every call:
@@ -122,9 +123,10 @@ enum strigol_size {
     STRIGOL_STATE_SIZE = 64,    /* uint64_t */
     STRIGOL_ANSWER_SIZE = 24,   /* uint32_t */
     STRIGOL_RESULT_SIZE = 4,    /* uint64_t */
+
     STRIGOL_REGISTER_SIZE = 8192, /* a smaller buffer for a register gets 14 */
-    STRIGOL_LINE_SIZE = 32,     /* uint8_t, of a line handed out: the line and zeros behind it */
-    STRIGOL_LINES_MOST = 256,   /* lines of a register */
+    STRIGOL_LINES_MOST = 256,     /* lines of a register */
+    STRIGOL_LINE_SIZE = 32,       /* a line handed out, and zeros behind it */
 
     STRIGOL_STRING_MOST = 1024, /* a string, a record, a reference of the scan call */
     STRIGOL_STRINGS = 32,       /* strings of a store */
@@ -231,7 +233,8 @@ uint32_t strigol_register_offer(uint8_t *buffer, size_t buffer_len, const uint8_
 
 /* Hands out the line of a place, counted from 0: 0, or 14. `line` gets the bytes of the line, just as it was offered, and zeros behind them,
    `length` its length. Where no line stands, and with 14, the line is empty and its length 0; no line held is empty. */
-uint32_t strigol_register_line(const uint8_t *buffer, size_t buffer_len, uint64_t place, STRIGOL_LENT(uint8_t, line, STRIGOL_LINE_SIZE), uint32_t *length);
+uint32_t strigol_register_line(const uint8_t *buffer, size_t buffer_len, uint64_t place, STRIGOL_LENT(uint8_t, line, STRIGOL_LINE_SIZE),
+                               uint32_t *length);
 
 /* What stands in the buffers. The place of a string is 0 to 31 in order of first appearance in the deck, that of a number 0 to 31 in order of
    declaration. */
