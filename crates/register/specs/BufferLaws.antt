@@ -120,8 +120,22 @@ read-back (suc n) (line ∷ register) zeros lines few z =
     let size = slot-size line (omega (arith, line-size line (parts .0) .1)) in
     let first = slot-first line slots (parts .0) in
     record {
-      lines = ap (linesIn (suc n)) whole ∙ rw (linesIn, first, take-at (slotOf line) slots slotSize size, drop-at (slotOf line) slots slotSize size, slot-read line (parts .0), rest .lines);
-      keep = ap (slotsKeep (suc n)) whole ∙ rw (slotsKeep, first, take-at (slotOf line) slots slotSize size, drop-at (slotOf line) slots slotSize size, slot-sound line (parts .0), rest .keep);
+      lines = ap (linesIn (suc n)) whole ∙ rw (
+        linesIn,
+        first,
+        take-at (slotOf line) slots slotSize size,
+        drop-at (slotOf line) slots slotSize size,
+        slot-read line (parts .0),
+        rest .lines,
+      );
+      keep = ap (slotsKeep (suc n)) whole ∙ rw (
+        slotsKeep,
+        first,
+        take-at (slotOf line) slots slotSize size,
+        drop-at (slotOf line) slots slotSize size,
+        slot-sound line (parts .0),
+        rest .keep,
+      );
     }
 
 -- Slots that keep the rules are those of the lines read, with zeros behind them.
@@ -204,7 +218,8 @@ module _ (register : Register) (s : Sound register) (rest : List ℕ) where
       let header : List ℕ = replicate headerSize 0 in
       let slots = slotsOf register ++ zeros in
       let few = s .few in
-      let size : length slots ≡ slotSize * mostLines = length-append (slotsOf register) zeros ∙ rw (slots-size register (s .lines), length-replicate) (omega arith) in
+      let size : length slots ≡ slotSize * mostLines = length-append (slotsOf register) zeros
+      ∙ rw (slots-size register (s .lines), length-replicate) (omega arith) in
       ap (λ l. take (slotSize * mostLines) (drop headerSize l)) (append-assoc header slots rest)
       ∙ ap (take (slotSize * mostLines)) (drop-at header (slots ++ rest) headerSize (length-replicate {A = ℕ} headerSize 0))
       ∙ take-at slots rest (slotSize * mostLines) size
@@ -221,7 +236,8 @@ module _ (register : Register) (s : Sound register) (rest : List ℕ) where
   back : ReadBack mostLines register (slotsIn (image register ++ rest))
   back =
       subst (ReadBack mostLines register) (sym slots-back)
-      (read-back mostLines register (replicate (slotSize * (mostLines - length register)) 0) (s .lines) (s .few) (all-zeros (slotSize * (mostLines - length register))))
+      (read-back mostLines register (replicate (slotSize * (mostLines - length register)) 0) (s .lines) (s .few)
+      (all-zeros (slotSize * (mostLines - length register))))
 
   pub image-read : registerIn (image register ++ rest) ≡ register
   unfolding registerIn

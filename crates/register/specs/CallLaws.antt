@@ -81,7 +81,8 @@ module _ (buffer line : List ℕ) where
       test-cases (λ t. bufferKeeps buffer ≡ t → offerCall buffer line .left ≡ buffer) (bufferKeeps buffer) (λ e _. declined e) (λ e _. refused e) refl
     where
       declined : bufferKeeps buffer ≡ true → offerCall buffer line .left ≡ buffer
-      declined e = ap (λ (back : OfferCalled). back .left) (offer-declined (offerNumber (registerIn buffer) line) e refl (λ z. n (offer-number e ∙ z)))
+      declined e =
+          ap (λ (back : OfferCalled). back .left) (offer-declined (offerNumber (registerIn buffer) line) e refl (λ z. n (offer-number e ∙ z)))
 
       refused : bufferKeeps buffer ≡ false → offerCall buffer line .left ≡ buffer
       refused e = ap (λ (back : OfferCalled). back .left) (offer-refused e)
@@ -116,26 +117,31 @@ zeros-hold : (buffer : List ℕ) → take registerSize buffer ≡ replicate regi
 zeros-hold buffer e = image-holds buffer [] empty-sound (zeros-image ∙ sym e)
 
 -- the lines accepted by the numbers that came back are those that the register keeps
-accepting-is : (register : Register) (line : List ℕ) (back : OfferCalled) → back .number ≡ offerNumber register line → accepting register line back ≡ offered register line
+accepting-is : (register : Register) (line : List ℕ) (back : OfferCalled) → back .number ≡ offerNumber register line
+    → accepting register line back ≡ offered register line
 unfolding accepting offered
 accepting-is register line back e = ap (λ n. cond (eqb n 0) (register ++ (line ∷ [])) register) e
 
 -- A list of calls from a buffer that holds these lines, and one call more, of which the claim holds whatever lines the buffer holds that it is given.
-list-claim : (buffer : List ℕ) (accepted : Register) (calls : List Observed) (given : List ℕ) (call : Observed) → Holds buffer accepted → Linked buffer calls given
+list-claim : (buffer : List ℕ) (accepted : Register) (calls : List Observed) (given : List ℕ) (call : Observed) → Holds buffer accepted
+    → Linked buffer calls given
     → ((register : Register) → Holds given register → ListClaim register (call ∷ []))
     → ListClaim accepted (calls ++ (call ∷ []))
 unfolding Linked ListClaim
 list-claim buffer accepted [] given call h same last = last accepted (same-holds buffer given accepted same h)
 list-claim buffer accepted (observedOffer b line back ∷ calls) given call h (at, does, linked) last =
     let here = same-holds buffer b accepted at h in
-    let number : back .number ≡ offerNumber accepted line = ap (λ (x : OfferCalled). x .number) does ∙ offer-number b line (here .keeps) ∙ ap (λ r. offerNumber r line) (here .holds) in
+    let number : back .number ≡ offerNumber accepted line = ap (λ (x : OfferCalled). x .number) does ∙ offer-number b line (here .keeps)
+    ∙ ap (λ r. offerNumber r line) (here .holds) in
     let left : Holds (back .left) (accepting accepted line back) =
     subst (Holds (back .left)) (sym (accepting-is accepted line back number))
     (subst (λ (x : OfferCalled). Holds (x .left) (offered accepted line)) (sym does) (offer-holds b line accepted here)) in
     (number, list-claim (back .left) (accepting accepted line back) calls given call left linked last)
 list-claim buffer accepted (observedLine b place back ∷ calls) given call h (at, does, linked) last =
-    let here = same-holds buffer b accepted at h in
-    (does ∙ line-handed b place (here .keeps) ∙ ap (λ r. handing 0 (lineAt r place)) (here .holds), list-claim b accepted calls given call here linked last)
+    let here = same-holds buffer b accepted at h in (
+      does ∙ line-handed b place (here .keeps) ∙ ap (λ r. handing 0 (lineAt r place)) (here .holds),
+      list-claim b accepted calls given call here linked last,
+    )
 
 -- A call that keeps its equation keeps its whole promise.
 pub offer-promise : (buffer line : List ℕ) (back : OfferCalled) → back ≡ offerCall buffer line → OfferPromise buffer line back
@@ -194,7 +200,8 @@ same-bytes : (b c : List ℕ) (register : Register) → Holds b register → Hol
 same-bytes b c register h g =
     sym (read-image b (h .keeps)) ∙ ap image (h .holds ∙ sym (g .holds)) ∙ read-image c (g .keeps)
 
-linked-to : (b : List ℕ) (calls : List Observed) (left other : List ℕ) → take registerSize left ≡ take registerSize other → Linked b calls left → Linked b calls other
+linked-to : (b : List ℕ) (calls : List Observed) (left other : List ℕ) → take registerSize left ≡ take registerSize other → Linked b calls left
+    → Linked b calls other
 unfolding Linked
 linked-to b [] left other e same = same ∙ e
 linked-to b (observedOffer given line back ∷ calls) left other e (at, does, linked) = (at, does, linked-to (back .left) calls left other e linked)

@@ -125,11 +125,13 @@ unfolding fields onFirst total
 sizes [] = refl
 sizes (b ∷ l) =
     let rest = sizes l in
-    test-cases (λ t. suc (suc (length l)) ≡ total {A = List ℕ} (λ f. suc (length f)) (elim t [ true ↦ [] ∷ fields l | false ↦ onFirst b (fields l) ])) (eqb b comma)
+    test-cases (λ t. suc (suc (length l)) ≡ total {A = List ℕ} (λ f. suc (length f))
+    (elim t [ true ↦ [] ∷ fields l | false ↦ onFirst b (fields l) ])) (eqb b comma)
     (λ _. omega arith)
     (λ _. longer (fields l) rest)
   where
-    longer : (fs : List (List ℕ)) → suc (length l) ≡ total (λ f. suc (length f)) fs → suc (suc (length l)) ≡ total (λ f. suc (length f)) (onFirst b fs)
+    longer : (fs : List (List ℕ)) → suc (length l) ≡ total (λ f. suc (length f)) fs
+        → suc (suc (length l)) ≡ total (λ f. suc (length f)) (onFirst b fs)
     longer [] e = absurd (omega arith)
     longer (f ∷ fs) e = omega arith
 
@@ -138,7 +140,8 @@ fields-all : (p : ℕ → Bool) → p comma ≡ true → (l : List ℕ) → all 
 unfolding fields onFirst all
 fields-all p c [] a = refl
 fields-all p c (b ∷ l) a =
-    test-cases (λ t. (eqb b comma ≡ t) → all (all p) (elim t [ true ↦ [] ∷ fields l | false ↦ onFirst b (fields l) ]) ≡ true → (p b && all p l) ≡ true) (eqb b comma)
+    test-cases (λ t. (eqb b comma ≡ t) → all (all p) (elim t [ true ↦ [] ∷ fields l | false ↦ onFirst b (fields l) ]) ≡ true
+    → (p b && all p l) ≡ true) (eqb b comma)
     (λ is _ h. both-pass (ap p (eqb-true b comma is) ∙ c) (fields-all p c l h))
     (λ _ _ h. let parts = joins (fields l) h in both-pass (parts .0) (fields-all p c l (parts .1)))
     refl a
@@ -242,8 +245,10 @@ pub line-text : (line : List ℕ) → isLine line ≡ true → all isText line �
 unfolding isContract isGrain isTonnes isPrice all isText comma
 line-text line e =
     let f = formed line e in
-    let c = all-imply isNameByte isText (λ b h. text b (name-byte b h .0)) (f .contract) (both-true (between 1 8 (length (f .contract))) _ (f .contract-form) .1) in
-    let g = all-imply isLetter isText (λ b h. let range = letter b h in text b (omega arith)) (f .grain) (both-true (eqb (length (f .grain)) 2) _ (f .grain-form) .1) in
+    let c = all-imply isNameByte isText (λ b h. text b (name-byte b h .0)) (f .contract)
+    (both-true (between 1 8 (length (f .contract))) _ (f .contract-form) .1) in
+    let g = all-imply isLetter isText (λ b h. let range = letter b h in text b (omega arith)) (f .grain)
+    (both-true (eqb (length (f .grain)) 2) _ (f .grain-form) .1) in
     let t = decimal-text 99_999 (f .tonnes) (f .tonnes-form) in
     let p = decimal-text 999_999 (f .price) (f .price-form) in
     fields-all isText refl line (rw (f .parts) (both-pass c (both-pass g (both-pass t (both-pass p refl)))))
@@ -309,9 +314,11 @@ unfolding contractOf fields
 contract-front [] = refl
 contract-front (b ∷ line) =
     test-cases
-    (λ t. (let f = getD (elim t as (λ _. List (List ℕ)) [ true ↦ [] ∷ fields line | false ↦ onFirst b (fields line) ]) 0 [] in take (length f) (b ∷ line) ≡ f))
+    (λ t. (let f = getD (elim t as (λ _. List (List ℕ)) [ true ↦ [] ∷ fields line | false ↦ onFirst b (fields line) ]) 0 [] in
+    take (length f) (b ∷ line) ≡ f))
     (eqb b comma) (λ _. refl)
-    (λ _. ap (λ f. take (length f) (b ∷ line)) (first-first b (fields line)) ∙ ap (λ l. b ∷ l) (contract-front line) ∙ sym (first-first b (fields line)))
+    (λ _. ap (λ f. take (length f) (b ∷ line)) (first-first b (fields line)) ∙ ap (λ l. b ∷ l) (contract-front line)
+    ∙ sym (first-first b (fields line)))
 
 -- a contract has 1 to 8 bytes, letters or digits
 pub record Contract (line : List ℕ) : Type 0 where

@@ -41,7 +41,8 @@ pub record Taken (register : Register) (line : List ℕ) : Type 0 where
   pub fresh : holds register (contractOf line) ≡ false
   pub room : length register < mostLines
 
-chosen : (form held full : Bool) → _≡_ {A = ℕ} (cond (not form) 25 (cond held 26 (cond full 27 0))) 0 → (form ≡ true) × (held ≡ false) × (full ≡ false)
+chosen : (form held full : Bool) → _≡_ {A = ℕ} (cond (not form) 25 (cond held 26 (cond full 27 0))) 0
+    → (form ≡ true) × (held ≡ false) × (full ≡ false)
 chosen true false false e = (refl, refl, refl)
 chosen true false true e = absurd (omega arith)
 chosen true true full e = absurd (omega arith)

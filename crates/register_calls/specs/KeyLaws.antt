@@ -28,7 +28,8 @@ among-append x (y ∷ xs) ys =
     test-cases (λ t. (t || among x (xs ++ ys)) ≡ ((t || among x xs) || among x ys)) (eqb x y) (λ _. refl) (λ _. among-append x xs ys)
 
 -- one more key among those looked at
-pub among-next : (key : ℕ) (keys : List ℕ) (i : ℕ) → i < length keys → among key (take (i + 1) keys) ≡ (among key (take i keys) || eqb key (getD keys i 0))
+pub among-next : (key : ℕ) (keys : List ℕ) (i : ℕ) → i < length keys
+    → among key (take (i + 1) keys) ≡ (among key (take i keys) || eqb key (getD keys i 0))
 unfolding among
 among-next key keys i h =
     ap (λ n. among key (take n keys)) (add-one i)
@@ -76,11 +77,13 @@ key-some line e z =
     omega (arith, ap length none)
 
 -- contracts are compared by their keys
-contract-key : (line other : List ℕ) → isLine line ≡ true → isLine other ≡ true → eqb (keyIn line) (keyIn other) ≡ same (contractOf other) (contractOf line)
+contract-key : (line other : List ℕ) → isLine line ≡ true → isLine other ≡ true
+    → eqb (keyIn line) (keyIn other) ≡ same (contractOf other) (contractOf line)
 unfolding keyIn
 contract-key line other e f =
     same-truth (eqb (keyIn line) (keyIn other)) (same (contractOf other) (contractOf line))
-    (λ k. same-iff (contractOf other) (contractOf line) .1 (sym (key-same (contractOf line) (contractOf other) (contract-bytes line e) (contract-bytes other f) (eqb-true (keyIn line) (keyIn other) k))))
+    (λ k. same-iff (contractOf other) (contractOf line) .1 (sym
+    (key-same (contractOf line) (contractOf other) (contract-bytes line e) (contract-bytes other f) (eqb-true (keyIn line) (keyIn other) k))))
     (λ s. eq-eqb (keyIn line) (keyIn other) (sym (ap keyOf (same-true (contractOf other) (contractOf line) s))))
 
 pub keys-hold : (register : Register) (line : List ℕ) → all isLine register ≡ true → isLine line ≡ true

@@ -37,9 +37,11 @@ use Rattle.register_calls.specs.SlotLaws.{found-broken, line-take}
 module _ (buffer keys : List ℕ) (size : length keys ≡ mostLines) where
   pub buffer-small : length buffer < registerSize → Found (bufferKeeps buffer) (registerIn buffer) keys Broken
   unfolding bufferKeeps
-  buffer-small h = found-broken (bufferKeeps buffer) (registerIn buffer) keys size (ap (λ b. b && keepsRules buffer) (lt-leb registerSize (length buffer) h))
+  buffer-small h =
+      found-broken (bufferKeeps buffer) (registerIn buffer) keys size (ap (λ b. b && keepsRules buffer) (lt-leb registerSize (length buffer) h))
 
-  pub header-bad : registerSize ≤ length buffer → all isZero (take headerSize buffer) ≡ false → Found (bufferKeeps buffer) (registerIn buffer) keys Broken
+  pub header-bad : registerSize ≤ length buffer → all isZero (take headerSize buffer) ≡ false
+      → Found (bufferKeeps buffer) (registerIn buffer) keys Broken
   unfolding bufferKeeps keepsRules
   header-bad h e = found-broken (bufferKeeps buffer) (registerIn buffer) keys size (rw (le-leb registerSize (length buffer) h, e))
 
@@ -69,7 +71,8 @@ slots-put register line fits room =
     let own : List ℕ = replicate (slotSize - length line) 0 in
     let others : List ℕ = replicate (slotSize * (mostLines - length (register ++ (line ∷ [])))) 0 in
     ap (λ k. (slotsOf register ++ line) ++ replicate k 0) (sym size)
-    ∙ ap (λ l. (slotsOf register ++ line) ++ l) (sym (replicate-append-replicate (slotSize - length line) (slotSize * (mostLines - length (register ++ (line ∷ [])))) 0))
+    ∙ ap (λ l. (slotsOf register ++ line) ++ l) (sym (replicate-append-replicate (slotSize - length line)
+    (slotSize * (mostLines - length (register ++ (line ∷ [])))) 0))
     ∙ joined (slotsOf register) line own others
     ∙ ap (λ l. l ++ others) (sym (slots-more register line))
   where
@@ -82,7 +85,8 @@ slot-seam h s x y rest line at e f =
     let whole : (h ++ (s ++ (x ++ y))) ++ rest ≡ (h ++ s) ++ (x ++ (y ++ rest)) = simp append-assoc in
     ap (λ l. splice l at line) whole ∙ splice-seam (h ++ s) x (y ++ rest) line at e f ∙ simp append-assoc
 
-module _ (buffer : List ℕ) (e : bufferKeeps buffer ≡ true) (line : List ℕ) (form : isLine line ≡ true) (room : length (registerIn buffer) < mostLines) where
+module _ (buffer : List ℕ) (e : bufferKeeps buffer ≡ true) (line : List ℕ) (form : isLine line ≡ true)
+    (room : length (registerIn buffer) < mostLines) where
   abbrev place : ℕ
   place = headerSize + slotSize * length (registerIn buffer)
 
@@ -104,7 +108,8 @@ module _ (buffer : List ℕ) (e : bufferKeeps buffer ≡ true) (line : List ℕ)
       let zeros : first ++ others ≡ replicate (slotSize * (mostLines - n)) 0 =
       replicate-append-replicate (length line) (slotSize * (mostLines - n) - length line) 0 ∙ ap (λ k. replicate k 0) count in
       let whole : buffer ≡ (header ++ (slotsOf r ++ (first ++ others))) ++ rest =
-      sym (take-append-drop registerSize buffer) ∙ ap (λ l. l ++ rest) (sym (read-image buffer e)) ∙ ap (λ l. (header ++ (slotsOf r ++ l)) ++ rest) (sym zeros) in
+      sym (take-append-drop registerSize buffer) ∙ ap (λ l. l ++ rest) (sym (read-image buffer e)) ∙ ap (λ l. (header ++ (slotsOf r ++ l)) ++ rest)
+      (sym zeros) in
       let before : length (header ++ slotsOf r) ≡ place =
       length-append header (slotsOf r) ∙ ap₂ {C = ℕ} _+_ (length-replicate {A = ℕ} headerSize 0) (slots-size r lines) in
       ap (λ b. splice b place line) whole
@@ -112,10 +117,12 @@ module _ (buffer : List ℕ) (e : bufferKeeps buffer ≡ true) (line : List ℕ)
       ∙ ap (λ l. (header ++ l) ++ rest) (slots-put r line fits room)
 
 -- The number for a line offered, by what the code asks: its form, whether its key is among the others, whether all places are taken
-module _ (line keys : List ℕ) (n contract key : ℕ) (run : Run isNameByte line 0 contract) (k : key ≡ keyOf (withoutBlanks (take 8 (take contract line)))) where
+module _ (line keys : List ℕ) (n contract key : ℕ) (run : Run isNameByte line 0 contract)
+    (k : key ≡ keyOf (withoutBlanks (take 8 (take contract line)))) where
   held-is : (register : Register) → Keyed register n keys → isLine line ≡ true → among key (take n keys) ≡ holds register (contractOf line)
   held-is register r form =
-      ap₂ {C = Bool} among (k ∙ key-read line contract form (contract-size line contract run form)) (r .keyed) ∙ keys-hold register line (r .lines) form
+      ap₂ {C = Bool} among (k ∙ key-read line contract form (contract-size line contract run form)) (r .keyed)
+      ∙ keys-hold register line (r .lines) form
 
   full-is : (register : Register) → Keyed register n keys → eqb n mostLines ≡ leb mostLines (length register)
   full-is register r =
@@ -123,14 +130,16 @@ module _ (line keys : List ℕ) (n contract key : ℕ) (run : Run isNameByte lin
       (λ e. le-leb mostLines (length register) (omega (arith, eqb-true n mostLines e, r .count)))
       (λ e. eq-eqb n mostLines (omega (arith, leb-true mostLines (length register) e, r .count, r .few)))
 
-  pub offer-judged : (formed held : Bool) (number : ℕ) → formed ≡ isLine line → held ≡ among key (take n keys) → number ≡ lowestOf formed held (eqb n mostLines)
+  pub offer-judged : (formed held : Bool) (number : ℕ) → formed ≡ isLine line → held ≡ among key (take n keys)
+      → number ≡ lowestOf formed held (eqb n mostLines)
       → Judged line n keys number
   unfolding offerNumber lowestOf
   offer-judged formed held number f h lowest =
       record {
         judged = λ register r.
             lowest
-            ∙ test-cases (λ t. isLine line ≡ t → lowestOf formed held (eqb n mostLines) ≡ lowestOf t (holds register (contractOf line)) (leb mostLines (length register)))
+            ∙ test-cases (λ t. isLine line ≡ t → lowestOf formed held (eqb n mostLines) ≡ lowestOf t (holds register (contractOf line))
+            (leb mostLines (length register)))
             (isLine line)
             (λ form _. rw (f ∙ form, h ∙ held-is register r form, full-is register r))
             (λ form _. rw (f ∙ form)) refl;
@@ -184,7 +193,8 @@ unfolding lineAt registerIn
 line-here buffer place p =
     let few = read-sound buffer (p .keeps) .few in
     let inside = p .inside in
-    lines-at mostLines (slotsIn buffer) place (p .inside) ∙ ap lineIn (stretch-front slotSize (slotSize * place) (slotSize * mostLines) (drop headerSize buffer) (omega arith)
+    lines-at mostLines (slotsIn buffer) place (p .inside) ∙ ap lineIn
+    (stretch-front slotSize (slotSize * place) (slotSize * mostLines) (drop headerSize buffer) (omega arith)
     ∙ ap (take slotSize) (drop-drop (slotSize * place) headerSize buffer))
 
 module _ (buffer : List ℕ) (place : ℕ) (p : Placed buffer place) where

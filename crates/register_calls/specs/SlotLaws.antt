@@ -48,7 +48,8 @@ unfolding until lineIn
 line-until [] = refl
 line-until (b ∷ slot) =
     test-cases
-    (λ t. elim t as (λ _. ℕ) [ true ↦ 0 | false ↦ suc (until 0 slot) ] ≡ length {A = ℕ} (elim t as (λ _. List ℕ) [ true ↦ [] | false ↦ b ∷ lineIn slot ]))
+    (λ t. elim t as (λ _. ℕ) [ true ↦ 0 | false ↦ suc (until 0 slot) ] ≡ length {A = ℕ}
+    (elim t as (λ _. List ℕ) [ true ↦ [] | false ↦ b ∷ lineIn slot ]))
     (isZero b) (λ _. refl) (λ _. ap suc (line-until slot))
 
 pub line-next : (slot : List ℕ) (n : ℕ) → NextByte slot 0 0 n → n ≡ length (lineIn slot)
@@ -278,7 +279,8 @@ module _ (slots keys marks : List ℕ) (k : ℕ) (r : ReadTo slots keys marks k)
         held-is =
             ap₂ {C = Bool} among (is ∙ holds-slot .1) (r .keyed) ∙ keys-hold (r .done) line (r .good) form
 
-        pub read-twice : (keys′ : List ℕ) → length keys′ ≡ mostLines → among key (take k keys) ≡ true → Found (slotsHold slots) (linesIn mostLines slots) keys′ Broken
+        pub read-twice : (keys′ : List ℕ) → length keys′ ≡ mostLines → among key (take k keys) ≡ true
+            → Found (slotsHold slots) (linesIn mostLines slots) keys′ Broken
         unfolding slotsHold
         read-twice keys′ size found =
             let same : differ (linesIn mostLines slots) ≡ false =
@@ -287,7 +289,8 @@ module _ (slots keys marks : List ℕ) (k : ℕ) (r : ReadTo slots keys marks k)
             let apart = differ-split (r .done) line rest (sym (ap differ all-lines) ∙ e) in
             absurd (false≢true (sym apart ∙ (sym held-is ∙ found))))
             (λ _ _. refl) refl in
-            found-broken (slotsHold slots) (linesIn mostLines slots) keys′ size (ap (λ b. slotsKeep mostLines slots && b) same ∙ and-false (slotsKeep mostLines slots))
+            found-broken (slotsHold slots) (linesIn mostLines slots) keys′ size
+            (ap (λ b. slotsKeep mostLines slots && b) same ∙ and-false (slotsKeep mostLines slots))
 
         pub read-more : (keys′ marks′ : List ℕ) → Noted keys k key true keys′ marks′ → ReadTo slots keys′ marks′ (k + 1)
         unfolding all

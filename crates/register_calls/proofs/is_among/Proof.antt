@@ -37,8 +37,11 @@ loop-less c = search needs
 loop-again : tie.Need-loop-again Inv-loop μ-loop
 loop-again c =
     let a = c .before .before .before .args in
-    let l = c .before .before .loop in
-    (omega arith, ap (λ b. b || eqb (a .key) (getD (a .keys .now) (l .i) 0)) (l .inv .1) ∙ sym (among-next (a .key) (a .keys .now) (l .i) (omega arith)))
+    let l = c .before .before .loop in (
+      omega arith,
+      ap (λ b. b || eqb (a .key) (getD (a .keys .now) (l .i) 0)) (l .inv .1)
+          ∙ sym (among-next (a .key) (a .keys .now) (l .i) (omega arith)),
+    )
 
 returns : tie.Need-returns Inv-loop μ-loop
 returns c =

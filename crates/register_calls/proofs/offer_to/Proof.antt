@@ -29,7 +29,8 @@ returns c =
     let s = c .before .before .before .before .before .before .before .before .before in
     let a = s .args in
     let number = c .before .before .before .before .before .offer-number in
-    offer-put (a .buffer .now) (a .line .now) (a .keys .now) (a .n) (number .result) (s .pre) (number .ensures) (c .before .before .before .before .if1 .taken)
+    offer-put (a .buffer .now) (a .line .now) (a .keys .now) (a .n) (number .result) (s .pre) (number .ensures)
+    (c .before .before .before .before .if1 .taken)
     (c .before .before .write .last .0) (c .before .before .write .ensures)
 
 returns-2 : tie.Need-returns-2

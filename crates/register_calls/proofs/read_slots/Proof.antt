@@ -76,15 +76,16 @@ note-requires c κs =
 
 returns-3 : tie.Need-returns-3 Inv-loop μ-loop
 returns-3 c =
-    let slots = c .before .before .before .before .before .before .before .before .before .before .before .before .before .args .slots .now in
-    let l = c .before .before .before .before .before .before .before .before .before .before .before .loop in
-    let key = c .before .before .before .before .before .before .slot-key in
+    let judged = c .before .before .before .before .before in
+    let first = judged .before .before .before in
+    let slots = first .before .before .before .before .before .args .slots .now in
+    let l = first .before .before .before .loop in
+    let key = judged .before .slot-key in
     let n = c .before .before .note in
     let inv = l .inv .1 in
-    read-twice slots (l .keys) (l .marks) (l .k) inv (c .before .before .before .before .before .before .before .before .before .before .loop-test .taken)
-    (ne-eqb (getD slots (28 * l .k) 0) 0 (c .before .before .before .before .before .before .before .before .if1 .left)) (key .result)
-    (key .ensures ∙ ap slotKey (stretch-cut slots (28 * l .k) 28)) (c .before .before .before .before .before .if2 .left) (n .last .0)
-    (n .kept .0 ∙ inv .size)
+    read-twice slots (l .keys) (l .marks) (l .k) inv (first .before .before .loop-test .taken)
+    (ne-eqb (getD slots (28 * l .k) 0) 0 (first .if1 .left)) (key .result) (key .ensures ∙ ap slotKey (stretch-cut slots (28 * l .k) 28))
+    (judged .if2 .left) (n .last .0) (n .kept .0 ∙ inv .size)
     (not-false (among (key .result) (take (l .k) (l .keys))) (sym (n .ensures .new) ∙ not-true (n .result) (c .if3 .taken)))
 
 add-k : tie.Need-add-k Inv-loop μ-loop
@@ -95,17 +96,18 @@ loop-less c = search needs
 
 loop-again : tie.Need-loop-again Inv-loop μ-loop
 loop-again c =
-    let slots = c .before .before .before .before .before .before .before .before .before .before .before .before .before .args .slots .now in
-    let l = c .before .before .before .before .before .before .before .before .before .before .before .loop in
-    let key = c .before .before .before .before .before .before .slot-key in
+    let judged = c .before .before .before .before .before in
+    let first = judged .before .before .before in
+    let slots = first .before .before .before .before .before .args .slots .now in
+    let l = first .before .before .before .loop in
+    let key = judged .before .slot-key in
     let n = c .before .before .note in
-    let test = c .before .before .before .before .before .before .before .before .before .before .loop-test .taken in (
-      omega arith,
-      read-more slots (l .keys) (l .marks) (l .k) (l .inv .1) test
-          (ne-eqb (getD slots (28 * l .k) 0) 0 (c .before .before .before .before .before .before .before .before .if1 .left)) (key .result)
-          (key .ensures ∙ ap slotKey (stretch-cut slots (28 * l .k) 28)) (c .before .before .before .before .before .if2 .left) (n .last .0) (n .last .1 .0)
-          (subst (λ r. Noted (l .keys) (l .k) (key .result) r (n .last .0) (n .last .1 .0)) (not-false (n .result) (c .if3 .left)) (n .ensures)),
-    )
+    let more =
+    read-more slots (l .keys) (l .marks) (l .k) (l .inv .1) (first .before .before .loop-test .taken)
+    (ne-eqb (getD slots (28 * l .k) 0) 0 (first .if1 .left)) (key .result) (key .ensures ∙ ap slotKey (stretch-cut slots (28 * l .k) 28))
+    (judged .if2 .left) (n .last .0) (n .last .1 .0)
+    (subst (λ r. Noted (l .keys) (l .k) (key .result) r (n .last .0) (n .last .1 .0)) (not-false (n .result) (c .if3 .left)) (n .ensures)) in
+    (omega arith, more)
 
 returns-4 : tie.Need-returns-4 Inv-loop μ-loop
 returns-4 c =

@@ -75,7 +75,8 @@ returns-3 c =
     let form = c .before .before .before .before .before .is-line in
     let k = c .before .before .contract-length in
     c .key-of .ensures
-    ∙ slot-keyed slot (n .result) (n .ensures) (zeros-behind slot (n .result) (m .result) (m .ensures) ∙ eq-eqb (m .result) 0 (c .before .before .before .before .before .before .before .if1 .left))
+    ∙ slot-keyed slot (n .result) (n .ensures) (zeros-behind slot (n .result) (m .result) (m .ensures) ∙ eq-eqb (m .result) 0
+    (c .before .before .before .before .before .before .before .if1 .left))
     (sym (form .ensures) ∙ not-false (form .result) (c .before .before .before .before .if2 .left)) (k .result) (k .ensures)
 
 pub slot-key-spec : {M : Type 1} → statement M

@@ -22,7 +22,8 @@ offer-to-requires : tie.Need-offer-to-requires
 offer-to-requires c κs =
     let f = c .before .before .before .before .before .read-register in
     let n = c .before .before .before .held .given in
-    found-ready (c .before .before .before .before .before .before .before .before .before .before .args .buffer .now) (f .last .1 .0) (f .result) (f .ensures) (n .0 .0) (n .1)
+    found-ready (c .before .before .before .before .before .before .before .before .before .before .args .buffer .now) (f .last .1 .0) (f .result)
+    (f .ensures) (n .0 .0) (n .1)
 
 same-length : tie.Need-same-length
 same-length c = search needs
