@@ -257,15 +257,15 @@ line-text line e =
 abbrev pub firstField : List ℕ → List ℕ
 firstField l = getD (fields l) 0 []
 
-first-first : (b : ℕ) (fs : List (List ℕ)) → getD (onFirst b fs) 0 [] ≡ b ∷ getD fs 0 []
+put-first : (b : ℕ) (fs : List (List ℕ)) → getD (onFirst b fs) 0 [] ≡ b ∷ getD fs 0 []
 unfolding onFirst
-first-first b [] = refl
-first-first b (f ∷ fs) = refl
+put-first b [] = refl
+put-first b (f ∷ fs) = refl
 
-first-some : (b : ℕ) (fs : List (List ℕ)) → onFirst b fs ≡ getD (onFirst b fs) 0 [] ∷ drop 1 (onFirst b fs)
+put-some : (b : ℕ) (fs : List (List ℕ)) → onFirst b fs ≡ getD (onFirst b fs) 0 [] ∷ drop 1 (onFirst b fs)
 unfolding onFirst
-first-some b [] = refl
-first-some b (f ∷ fs) = refl
+put-some b [] = refl
+put-some b (f ∷ fs) = refl
 
 pub some-field : (l : List ℕ) → fields l ≡ firstField l ∷ drop 1 (fields l)
 unfolding fields
@@ -273,7 +273,7 @@ some-field [] = refl
 some-field (b ∷ l) =
     test-cases
     (λ t. (let fs = elim t as (λ _. List (List ℕ)) [ true ↦ [] ∷ fields l | false ↦ onFirst b (fields l) ] in fs ≡ getD fs 0 [] ∷ drop 1 fs))
-    (eqb b comma) (λ _. refl) (λ _. first-some b (fields l))
+    (eqb b comma) (λ _. refl) (λ _. put-some b (fields l))
 
 -- The fields from a place on, found by a run of bytes that pass a test; no comma passes it.
 module _ (p : ℕ → Bool) (c : p comma ≡ false) where
@@ -298,10 +298,10 @@ module _ (p : ℕ → Bool) (c : p comma ≡ false) where
   pub run-other : (xs : List ℕ) (b : ℕ) (ys : List ℕ) → all p xs ≡ true → p b ≡ false → eqb b comma ≡ false
       → all p (firstField (xs ++ (b ∷ ys))) ≡ false
   unfolding fields all
-  run-other [] b ys a fails other = rw (fields, other, first-first b (fields ys), all, fails)
+  run-other [] b ys a fails other = rw (fields, other, put-first b (fields ys), all, fails)
   run-other (x ∷ xs) b ys a fails other =
       let parts = both-true (p x) (all p xs) a in
-      rw (fields, not-comma x (parts .0), first-first x (fields (xs ++ (b ∷ ys))), all, parts .0) (run-other xs b ys (parts .1) fails other)
+      rw (fields, not-comma x (parts .0), put-first x (fields (xs ++ (b ∷ ys))), all, parts .0) (run-other xs b ys (parts .1) fails other)
 
 -- tests on fields of which the first doesn't pass; and where no field is left, or one too many
 pub first-fails : (t : List ℕ → Bool) (ts : List (List ℕ → Bool)) (l : List ℕ) → t (firstField l) ≡ false → each (t ∷ ts) (fields l) ≡ false
@@ -317,8 +317,8 @@ contract-front (b ∷ line) =
     (λ t. (let f = getD (elim t as (λ _. List (List ℕ)) [ true ↦ [] ∷ fields line | false ↦ onFirst b (fields line) ]) 0 [] in
     take (length f) (b ∷ line) ≡ f))
     (eqb b comma) (λ _. refl)
-    (λ _. ap (λ f. take (length f) (b ∷ line)) (first-first b (fields line)) ∙ ap (λ l. b ∷ l) (contract-front line)
-    ∙ sym (first-first b (fields line)))
+    (λ _. ap (λ f. take (length f) (b ∷ line)) (put-first b (fields line)) ∙ ap (λ l. b ∷ l) (contract-front line)
+    ∙ sym (put-first b (fields line)))
 
 -- a contract has 1 to 8 bytes, letters or digits
 pub record Contract (line : List ℕ) : Type 0 where

@@ -1,4 +1,5 @@
--- What the code of the register's calls says (Reading), and the laws behind it: keys (KeyLaws), slots (SlotLaws), a line put and handed out (LineLaws).
+-- What the code of the register's calls says (Reading), and the laws behind it: contracts as keys (KeyLaws), slots read one after the other
+-- (SlotLaws), a line put into its slot and a line handed out (PutLaws).
 pub mod KeyLaws
 pub mod PutLaws
 pub mod Reading
