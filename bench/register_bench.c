@@ -120,7 +120,8 @@ static void hand_out(void)
     uint8_t line[STRIGOL_LINE_SIZE];
     uint32_t length;
     int place = next_place();
-    if (strigol_register_line(buffer, sizeof buffer, (uint64_t)place, line, &length) != 0 || length != (uint32_t)held[place].length)
+    if (strigol_register_line(buffer, sizeof buffer, (uint64_t)place, line, &length) != 0 || length != (uint32_t)held[place].length ||
+        memcmp(line, held[place].line, length) != 0)
         give_up("another line is handed out");
     sink = line[0];
 }

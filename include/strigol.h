@@ -115,7 +115,7 @@ static inline const char *strigol_words(uint32_t number)
 }
 #undef STRIGOL_WORDS
 
-/* Sizes. A state, an answer, a result and a register's lines are counted in numbers, the others in bytes. */
+/* Sizes. A state, an answer and a result are counted in numbers; what is a count of things says so; the others are in bytes. */
 enum strigol_size {
     STRIGOL_DECK_MOST = 32768,  /* a longer deck gets 1 */
     STRIGOL_TABLE_SIZE = 28672, /* a smaller table gets 2 */

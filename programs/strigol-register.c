@@ -24,8 +24,8 @@
 /* Exit statuses. */
 enum { DONE = 0, DECLINED = 1, FAILED = 2 };
 
-/* Bytes of input taken, bytes of a line shown, seconds to wait for another run of this program. The input is four times what a run can print and ten
-   times what a register can hold; more would only be declined, and keep others waiting. */
+/* Bytes of input taken, bytes of a line shown, seconds to wait for another run of this program. The input is four times the records that a run can
+   print, and ten times what a register can hold; more would only be declined, and keep others waiting. */
 enum { MOST_INPUT = 1 << 16, MOST_SHOWN = 80, MOST_WAIT = 30 };
 
 static const char usage[] = "usage: strigol-register FILE add [--run] <LINES\n"

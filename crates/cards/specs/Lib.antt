@@ -1,4 +1,5 @@
--- From the bytes of a deck to its statements: classes of bytes (Bytes, with what they tell in ByteLaws), lines and cards (Cards), the packed statement (Packing).
+-- From the bytes of a deck to its statements: classes of bytes (Bytes, and what they tell in ByteLaws), lines and cards (Cards), the packed
+-- statement (Packing).
 pub mod ByteLaws
 pub mod Bytes
 pub mod Cards
