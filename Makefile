@@ -4,15 +4,16 @@ DESTDIR =
 
 library = target/lib/libstrigol.a
 program = target/bin/strigol
+register = target/bin/strigol-register
 to = $(DESTDIR)$(PREFIX)
 
-.PHONY: build library program test bench install uninstall clean
+.PHONY: build library program register test bench install uninstall clean
 
-# the proved library and the proved program, one after the other: both call rt
+# the proved library and the proved program, one after the other: both call rt; then the program for the register, in C over the library
 .NOTPARALLEL:
-build: library program
+build: library program register
 
-library program:
+library program register:
 	@tools/$@
 
 # all proofs and all tests: the last line is 'N passed, 0 failed' exactly when all passed
@@ -23,17 +24,20 @@ test:
 bench: build
 	bench/pages docs/BENCH.md docs/GATEWAY.md
 
-# header, static library, program, pkg-config file, and the page of the layouts that the header names
+# header, static library, programs, manual page, pkg-config file, and the pages of the layouts that the header names
 install: build
-	install -d $(to)/include $(to)/lib/pkgconfig $(to)/bin $(to)/share/doc/strigol
+	install -d $(to)/include $(to)/lib/pkgconfig $(to)/bin $(to)/share/doc/strigol $(to)/share/man/man1
 	install -m 644 include/strigol.h $(to)/include/strigol.h
 	install -m 644 $(library) $(to)/lib/libstrigol.a
 	install -m 755 $(program) $(to)/bin/strigol
-	install -m 644 docs/TABLE.md $(to)/share/doc/strigol/TABLE.md
+	install -m 755 $(register) $(to)/bin/strigol-register
+	install -m 644 man/strigol-register.1 $(to)/share/man/man1/strigol-register.1
+	install -m 644 docs/TABLE.md docs/REGISTER.md $(to)/share/doc/strigol
 	sed 's,@PREFIX@,$(PREFIX),' include/strigol.pc >$(to)/lib/pkgconfig/strigol.pc
 
 uninstall:
-	rm -f $(to)/include/strigol.h $(to)/lib/libstrigol.a $(to)/bin/strigol $(to)/lib/pkgconfig/strigol.pc $(to)/share/doc/strigol/TABLE.md
+	rm -f $(to)/include/strigol.h $(to)/lib/libstrigol.a $(to)/lib/pkgconfig/strigol.pc $(to)/bin/strigol $(to)/bin/strigol-register
+	rm -f $(to)/share/man/man1/strigol-register.1 $(to)/share/doc/strigol/TABLE.md $(to)/share/doc/strigol/REGISTER.md
 	rmdir $(to)/share/doc/strigol 2>/dev/null || true
 
 clean:

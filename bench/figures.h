@@ -95,4 +95,27 @@ static inline const char *met(int yes)
     return yes ? "met" : "not met";
 }
 
+/* One pass over bytes, which are added up: one at a time, and with vector instructions. */
+#define PASS                                                                                                                                   \
+    uint32_t sum = 0;                                                                                                                          \
+    for (size_t i = 0; i < n; i++) sum += bytes[i];                                                                                            \
+    return sum;
+__attribute__((optimize("no-tree-vectorize"), unused)) static uint32_t pass_over(const uint8_t *bytes, size_t n) { PASS }
+__attribute__((optimize("O3"), unused)) static uint32_t vector_pass_over(const uint8_t *bytes, size_t n) { PASS }
+#undef PASS
+
+/* A table of calls beside passes over so many bytes: its head, and a call's row with all times in microseconds. */
+static inline void show_passes_head(const char *what, size_t bytes, int most)
+{
+    printf("| %s | us | one pass over %s bytes, us | in passes; demanded: at most %d | | a pass in vectors, us | in passes |\n", what,
+           whole(bytes), most);
+    printf("|---|---|---|---|---|---|---|\n");
+}
+
+static inline void show_passes(const char *what, double ours, double pass, double vectors, int most)
+{
+    printf("| %s | %s | %s | %.2f | %s | %s | %.2f |\n", what, figure(ours), figure(pass), ours / pass, met(ours <= most * pass), figure(vectors),
+           ours / vectors);
+}
+
 #endif

@@ -13,7 +13,7 @@
 #include <stdio.h>
 #include <string.h>
 
-enum { STEPS = 1000000, ROUNDS = 200, CALLS = 100 };
+enum { STEPS = 1000000, ROUNDS = 200, CALLS = 100, MOST_PASSES = 3 };
 
 static uint8_t table[STRIGOL_TABLE_SIZE], store[STRIGOL_STORE_SIZE], output[16384];
 static uint64_t state[STRIGOL_STATE_SIZE];
@@ -50,16 +50,16 @@ static void step(void)
         give_up("a step gets another number than it should");
 }
 
-/* One pass over table and store. */
-#define PASS                                                                                                                                   \
-    uint32_t sum = 0;                                                                                                                          \
-    for (size_t i = 0; i < sizeof table; i++) sum += table[i];                                                                                 \
-    for (size_t i = 0; i < stored; i++) sum += store[i];                                                                                       \
-    sink = sum;
+/* One pass over table and store, a byte at a time, and with vector instructions. */
+static void pass(void)
+{
+    sink = pass_over(table, sizeof table) + pass_over(store, stored);
+}
 
-/* A byte at a time, and with vector instructions. */
-__attribute__((optimize("no-tree-vectorize"))) static void pass(void) { PASS }
-__attribute__((optimize("O3"))) static void vector_pass(void) { PASS }
+static void vector_pass(void)
+{
+    sink = vector_pass_over(table, sizeof table) + vector_pass_over(store, stored);
+}
 
 /* Microseconds for one. */
 static double time_one(void (*one)(void))
@@ -72,14 +72,11 @@ static double time_one(void (*one)(void))
 /* Steps of decks, given as a name and a file each, on the bytes lent, beside passes over these bytes. */
 static void beside_passes(const char *what, int count, char **decks)
 {
-    printf("| %s | us | one pass over %s bytes, us | in passes; demanded: at most 3 | | a pass in vectors, us | in passes |\n", what,
-           whole(sizeof table + stored));
-    printf("|---|---|---|---|---|---|---|\n");
+    show_passes_head(what, sizeof table + stored, MOST_PASSES);
     for (int i = 0; i + 1 < count; i += 2) {
         read_deck(decks[i + 1]);
         double ours = time_one(step), plain = time_one(pass), vectors = time_one(vector_pass);
-        printf("| %s | %s | %s | %.2f | %s | %s | %.2f |\n", decks[i], figure(ours), figure(plain), ours / plain, met(ours <= 3 * plain),
-               figure(vectors), ours / vectors);
+        show_passes(decks[i], ours, plain, vectors, MOST_PASSES);
     }
 }
 

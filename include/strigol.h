@@ -7,16 +7,22 @@
        strigol_start(store, sizeof store, state);
        strigol_run(table, sizeof table, store, sizeof store, state, input, input_len, output, sizeof output, 1000000, result);
 
+   The lines that a finished run put can be kept in a register of contracts, one call a line, and handed out again by their places:
+
+       uint32_t number = strigol_register_offer(buffer, sizeof buffer, record, record_len);    0, or the line is declined
+       strigol_register_line(buffer, sizeof buffer, place, line, &length);
+
    What the caller must ensure, since no call can find it out:
    - A pointer is not NULL, not even with length 0, and what it points at is as long as the length says. Two buffers lent to one call don't
-     overlap. State, answer and result have their fixed sizes. A buffer may be longer than it need be; the bytes past its size stay.
+     overlap. State, answer, result and the line handed out have their fixed sizes. A buffer may be longer than it need be; the bytes past its
+     size stay.
    - There is stack enough: 1.2 MB for strigol_read, 60 KB for the others.
 
    What holds then of every call:
    - It takes any bytes and numbers, and ends. What it can't use gets a number, the lowest of the list below that applies; 0 is success.
    - It keeps nothing, allocates nothing, prints nothing. All it knows is lent by the caller; one table may serve many runs at once, each
      with its own store, state and output, in threads of their own.
-   - The numbers are those of document 01, the layouts those of docs/TABLE.md, installed as share/doc/strigol/TABLE.md. */
+   - The numbers are those of documents 01 and 02, the layouts those of docs/TABLE.md and docs/REGISTER.md, installed under share/doc/strigol. */
 #ifndef STRIGOL_H
 #define STRIGOL_H
 
@@ -24,7 +30,7 @@
 #include <stddef.h>
 #include <stdint.h>
 
-/* State, answer and result are arrays of a fixed size, lent by the address of their first number. The compiler tells an array that is too
+/* State, answer, result and line are arrays of a fixed size, lent by the address of their first number. The compiler tells an array that is too
    short: in C by a warning (so build with -Werror), in C++ by an error. Behind a pointer it can't see how many numbers there are; there the
    caller must know. */
 #ifdef __cplusplus
@@ -45,13 +51,14 @@ extern "C" {
 #define STRIGOL_LENT(number, name, size) number name[static size]
 #endif
 
-/* The numbers that a call gives, and document 01's words for each. 1 to 12 refuse a deck, 13 to 16 (and 2) turn a step down, 17 to 21 stop
-   it, 22 to 24 turn a scan call down.
+/* The numbers that a call gives, and the documents' words for each. 1 to 12 refuse a deck, 13 to 16 (and 2) turn a step down, 17 to 21 stop
+   it, 22 to 24 turn a scan call down, 14 and 25 to 27 a call of the register.
 
    1, 2           strigol_read leaves the table as it was.
    3 to 12        strigol_read leaves a table of zeros, which every step turns down by 13.
    2, 13 to 16    strigol_step changes nothing. strigol_start gives 14 with a good state if the store is too small, and leaves the store.
-   17 to 21       strigol_step sets the state's status to stopped and changes nothing else. */
+   17 to 21       strigol_step sets the state's status to stopped and changes nothing else.
+   14, 25 to 27   strigol_register_offer changes nothing. strigol_register_line gives 14 with the empty line. */
 #define STRIGOL_NUMBER_LIST(X)                                                                                                                 \
     X(STRIGOL_DECK_TOO_LONG, 1, "the deck exceeds 32,768 bytes")                                                                               \
     X(STRIGOL_TABLE_TOO_SMALL, 2, "the table has under 28,672 bytes")                                                                          \
@@ -69,7 +76,9 @@ extern "C" {
     X(STRIGOL_BAD_TARGET, 11, "a label or routine used is undefined, or a branch crosses a routine's border")                                 \
     X(STRIGOL_RECURSION, 12, "a routine executes itself, directly or through others")                                                         \
     X(STRIGOL_BAD_TABLE, 13, "the table breaks its written rules")                                                                             \
-    X(STRIGOL_BAD_STORE, 14, "the store is under 32,832 bytes, a length exceeds 1,024, or a byte behind it isn't zero")                       \
+    X(STRIGOL_BAD_STORE, 14,                                                                                                                   \
+      "the store is under 32,832 bytes, a length exceeds 1,024, or a byte behind it isn't zero; or the register's buffer is under 8,192 "     \
+      "bytes or against its written rules")                                                                                                    \
     X(STRIGOL_BAD_STATE, 15,                                                                                                                   \
       "the state's statement, held return or their count, number, input place or output length is out of range; or RETURN or ENDROUTINE "     \
       "comes next with no return held, or EXECUTE with 16 held")                                                                              \
@@ -82,15 +91,19 @@ extern "C" {
     X(STRIGOL_REFERENCE_TOO_LONG, 22, "in the scan call, the reference exceeds 1,024 bytes")                                                  \
     X(STRIGOL_TOO_MANY_ELEMENTS, 23, "the pattern has over 20 elements")                                                                       \
     X(STRIGOL_BAD_ELEMENT, 24,                                                                                                                 \
-      "an element has no known kind, a fixed filler's length is negative, or a string isn't a part of the values lent")
+      "an element has no known kind, a fixed filler's length is negative, or a string isn't a part of the values lent")                       \
+    X(STRIGOL_BAD_LINE, 25, "a line breaks its form")                                                                                          \
+    X(STRIGOL_CONTRACT_HELD, 26, "its contract is held already")                                                                               \
+    X(STRIGOL_REGISTER_FULL, 27, "256 lines are held")
 
 #define STRIGOL_NAMED(name, number, words) name = number,
 #define STRIGOL_COUNTED(name, number, words) + 1
 enum strigol_number { STRIGOL_OK = 0, STRIGOL_NUMBER_LIST(STRIGOL_NAMED) STRIGOL_LAST_NUMBER = 0 STRIGOL_NUMBER_LIST(STRIGOL_COUNTED) };
 #undef STRIGOL_NAMED
 #undef STRIGOL_COUNTED
+#define STRIGOL_BAD_REGISTER STRIGOL_BAD_STORE /* 14, as the register's calls give it */
 
-/* Document 01's words for a number of the list; "" for any other. */
+/* The words for a number of the list; "" for any other. */
 #define STRIGOL_WORDS(name, number, words)                                                                                                     \
     case number: return words;
 static inline const char *strigol_words(uint32_t number)
@@ -102,7 +115,7 @@ static inline const char *strigol_words(uint32_t number)
 }
 #undef STRIGOL_WORDS
 
-/* Sizes. A state, an answer and a result are counted in numbers, the others in bytes. */
+/* Sizes. A state, an answer and a result are counted in numbers; what is a count of things says so; the others are in bytes. */
 enum strigol_size {
     STRIGOL_DECK_MOST = 32768,  /* a longer deck gets 1 */
     STRIGOL_TABLE_SIZE = 28672, /* a smaller table gets 2 */
@@ -110,6 +123,10 @@ enum strigol_size {
     STRIGOL_STATE_SIZE = 64,    /* uint64_t */
     STRIGOL_ANSWER_SIZE = 24,   /* uint32_t */
     STRIGOL_RESULT_SIZE = 4,    /* uint64_t */
+
+    STRIGOL_REGISTER_SIZE = 8192, /* a smaller buffer for a register gets 14 */
+    STRIGOL_LINES_MOST = 256,     /* lines of a register */
+    STRIGOL_LINE_SIZE = 32,       /* a line handed out, and zeros behind it */
 
     STRIGOL_STRING_MOST = 1024, /* a string, a record, a reference of the scan call */
     STRIGOL_STRINGS = 32,       /* strings of a store */
@@ -206,6 +223,18 @@ uint32_t strigol_run(const uint8_t *table, size_t table_len, uint8_t *store, siz
    the functions below write such rows. The answer is the first split that fits, or none. */
 uint32_t strigol_scan(const uint8_t *reference, size_t reference_len, const uint8_t *values, size_t values_len, const uint8_t *elements,
                       size_t elements_len, STRIGOL_LENT(uint32_t, answer, STRIGOL_ANSWER_SIZE));
+
+/* The register keeps contract lines, such as A17,WH,250,19950: contract (1 to 8 letters A-Z or digits), grain (two letters A-Z), tonnes (1 to
+   99,999) and price (1 to 999,999 cents per tonne), parted by commas, numbers in decimal without leading zeros. Its lines stand in order of
+   arrival in the first 8,192 bytes of a buffer, which is checked each time; all zeros is the empty register. */
+
+/* Offers a line, without byte 10, to the register: 0, and it is kept behind all others; or 14, 25, 26, 27, and nothing changes. */
+uint32_t strigol_register_offer(uint8_t *buffer, size_t buffer_len, const uint8_t *line, size_t line_len);
+
+/* Hands out the line of a place, counted from 0: 0, or 14. `line` gets the bytes of the line, just as it was offered, and zeros behind them,
+   `length` its length. Where no line stands, and with 14, the line is empty and its length 0; no line held is empty. */
+uint32_t strigol_register_line(const uint8_t *buffer, size_t buffer_len, uint64_t place, STRIGOL_LENT(uint8_t, line, STRIGOL_LINE_SIZE),
+                               uint32_t *length);
 
 /* What stands in the buffers. The place of a string is 0 to 31 in order of first appearance in the deck, that of a number 0 to 31 in order of
    declaration. */

@@ -1,11 +1,15 @@
 #!/usr/bin/env python3
-"""Writes the computed facts of crates/vectors from tests/vectors, and the list of what they unfold to crates/computing."""
+"""Writes the computed facts of crates/vectors and crates/register_vectors from tests/vectors, and the lists of what they unfold, the first to
+crates/computing."""
 import glob, os, re
 
 ROOT = os.path.dirname(os.path.dirname(os.path.abspath(__file__)))
 SPECS = os.path.join(ROOT, "crates/vectors/specs")
 DEFINITIONS = ["base", "scanning", "cards", "language", "judgement", "values", "machine", "calls"]
 PER_FILE = 20
+REGISTER_SPECS = os.path.join(ROOT, "crates/register_vectors/specs")
+REGISTER_DEFINITIONS = ["base", "cards", "values", "register"]
+LONG = 100  # bytes of a line that is written out
 
 
 def text(data):
@@ -15,8 +19,8 @@ def text(data):
         c = chr(b)
         if c in '"\\':
             out.append("\\" + c)
-        elif c == "\n":
-            out.append("\\n")
+        elif c in "\0\t\n\r":
+            out.append({"\0": "\\0", "\t": "\\t", "\n": "\\n", "\r": "\\r"}[c])
         elif 32 <= b < 127:
             out.append(c)
         else:
@@ -24,10 +28,10 @@ def text(data):
     return '"' + "".join(out) + '"'
 
 
-def unfoldable():
+def unfoldable(crates):
     """Every definition that a computed fact unfolds, by its whole path."""
     names = []
-    for crate in DEFINITIONS:
+    for crate in crates:
         for path in sorted(glob.glob(os.path.join(ROOT, "crates", crate, "specs", "*.antt"))):
             module = os.path.basename(path)[:-5]
             source = open(path).read()
@@ -38,9 +42,83 @@ def unfoldable():
     return names
 
 
-def write(name, lines):
-    with open(os.path.join(SPECS, name + ".antt"), "w") as f:
+def write(name, lines, specs=SPECS):
+    with open(os.path.join(specs, name + ".antt"), "w") as f:
         f.write("\n".join(lines) + "\n")
+
+
+def line_of(data):
+    """A line of the register: quoted, bytes from 128 on as numbers; of a long one the piece that it repeats once."""
+    if len(data) > LONG:
+        before, many, piece, behind = re.fullmatch(rb"(.*?)((.+?)\3{3,})(.*)", data).groups()
+        assert max(data) < 128 and len(before + piece + behind) <= LONG
+        out = f"times {len(many) // len(piece)} (bytes {text(piece)})"
+        out += f" ++ bytes {text(behind)}" if behind else ""
+        return f"(bytes {text(before)} ++ ({out}))" if before else f"({out})"
+    out = "[]"
+    for part in reversed([part for part in re.split(b"([\x80-\xff])", data) if part]):
+        if part[0] >= 128:
+            out = f"({part[0]} ∷ {out})"
+        else:
+            out = f"(bytes {text(part)})" if out == "[]" else f"(bytes {text(part)} ++ {out})"
+    return out
+
+
+def entries_of(script, answers):
+    """A script's commands with their answers: those that can be said on lists, and how many follow a `size`, up to a `reset`, and are left out."""
+    entries, dropped, sized = [], 0, False
+    commands = [c for c in script.split(b"\n")[:-1] if not c.startswith(b"#")]
+    given = answers.split(b"\n")[:-1]
+    assert len(commands) == len(given)
+    for command, answer in zip(commands, given):
+        word, _, rest = command.partition(b" ")
+        number, _, line = answer.partition(b"|")
+        sized = word == b"size" or (sized and word != b"reset")
+        if sized:
+            dropped += 1
+            continue
+        if word == b"offer":
+            entries.append(f"(offer {line_of(rest)}, number {int(number)})")
+        elif word == b"offerhex":
+            entries.append(f"(offer {line_of(b'' if rest == b'-' else bytes.fromhex(rest.decode()))}, number {int(number)})")
+        elif word == b"get":
+            entries.append(f"(get {int(rest)}, handed {int(number)} {line_of(line)})")
+        else:
+            assert word == b"reset"
+            entries.append(f"(reset, number {int(number)})")
+    return entries, dropped
+
+
+def register():
+    write("Everything", [
+        "-- A fact about closed values is proved by computing, with every definition unfolded: `unfolding everything`. Assumes nothing.",
+        "",
+        "unfoldable pub everything : Unit {0}",
+        "unfolding",
+    ] + ["    " + n for n in unfoldable(REGISTER_DEFINITIONS)] + ["everything = tt"], REGISTER_SPECS)
+    facts, out = [], []
+    for path in sorted(glob.glob(os.path.join(ROOT, "tests/vectors/register02/*.register"))):
+        name = os.path.basename(path)[:-9]
+        script = open(path, "rb").read()
+        entries, dropped = entries_of(script, open(path[:-9] + ".answers", "rb").read())
+        if not entries:
+            out.append(name)
+            continue
+        facts.append("")
+        if script.startswith(b"#"):
+            facts.append("-- " + script.split(b"\n")[0][1:].decode().strip())
+        if dropped:
+            facts.append(f"-- without {dropped} commands, from a `size` on")
+        facts += [f"{name} : Answered (", "    " + "\n    ∷ ".join(entries + ["[])"]), "unfolding everything answers times", f"{name} = refl"]
+    write("Scripts", [
+        "-- The scripts of tests/vectors/register02 with their answers, on lists. Commands after a `size` are about buffers, so they are left out up to the",
+        f"-- next `reset`. Nothing is left of {', '.join(out)}. Assumes nothing.",
+        "use mathlib.Core.List.{[], _∷_, _++_}",
+        "use mathlib.Core.Path.{refl}",
+        "use Rattle.base.specs.Text.{bytes}",
+        "use Rattle.register_vectors.specs.Everything.{everything}",
+        "use Rattle.register_vectors.specs.Script.{offer, get, reset, number, handed, answers, Answered, times}",
+    ] + facts, REGISTER_SPECS)
 
 
 def main():
@@ -50,7 +128,7 @@ def main():
             "",
             "unfoldable pub everything : Unit {0}",
             "unfolding",
-        ] + ["  " + n for n in unfoldable()] + ["everything = tt"]) + "\n")
+        ] + ["    " + n for n in unfoldable(DEFINITIONS)] + ["everything = tt"]) + "\n")
     for old in glob.glob(os.path.join(SPECS, "Decks*.antt")) + glob.glob(os.path.join(SPECS, "Scans*.antt")):
         os.remove(old)
     modules = ["Scans", "Trace"]
@@ -77,6 +155,7 @@ def main():
     write("Scans", lines)
     write("Lib", ["-- The definitions answer the vectors, as computed facts: how an answer is written (Trace), decks (Decks..), scans (Scans)."]
           + ["pub mod " + m for m in sorted(modules)])
+    register()
 
 
 main()

@@ -1,4 +1,4 @@
-/* The numbers that no deck gets through the program `strigol`, 2, 13 to 16 and 22 to 24, each by a call that a gateway could make by mistake;
+/* The numbers that no deck gets through the program `strigol`, 2, 13 to 16 and 22 to 27, each by a call that a gateway could make by mistake;
    and 1, 4 and 21 by such calls too. Prints a line for each call: its number, the call, what was lent. docs/DECKS.md says what to do. */
 #include "strigol.h"
 
@@ -90,10 +90,39 @@ static void scans(void)
     show(strigol_scan(reference, 10, values, 1, rows, STRIGOL_ROW_SIZE, answer), "scan: a string of 2 bytes in values of 1");
 }
 
+static uint8_t contracts[STRIGOL_REGISTER_SIZE];
+
+static uint32_t offer(const char *line)
+{
+    return strigol_register_offer(contracts, sizeof contracts, (const uint8_t *)line, strlen(line));
+}
+
+static void registers(void)
+{
+    uint8_t line[STRIGOL_LINE_SIZE];
+    uint32_t length;
+    char contract[STRIGOL_LINE_SIZE];
+    int i;
+    show(strigol_register_offer(contracts, sizeof contracts - 1, (const uint8_t *)"W7,WH,120,2150", 14), "offer: a register of 8,191 bytes");
+    contracts[0] = 'W';
+    show(strigol_register_line(contracts, sizeof contracts, 0, line, &length), "line: a register with a byte in its header");
+    contracts[0] = 0;
+    show(offer("W7,WH,120,2150\n"), "offer: a line with its byte 10");
+    show(offer("W7,WH,0120,2150"), "offer: tonnes with a leading zero");
+    offer("W7,WH,120,2150");
+    show(offer("W7,BA,35,1875"), "offer: another line of contract W7");
+    for (i = 1; i < STRIGOL_LINES_MOST; i++) {
+        snprintf(contract, sizeof contract, "C%d,WH,1,1", i);
+        offer(contract);
+    }
+    show(offer("B2,BA,35,1875"), "offer: a line where 256 are held");
+}
+
 int main(void)
 {
     decks_and_tables();
     stores_and_states();
     scans();
+    registers();
     return 0;
 }

@@ -59,6 +59,26 @@ static uint32_t right_scan(struct lent *l)
     return oracle_scan_call(COPY(l, REFERENCE), COPY(l, VALUES), COPY(l, ELEMENTS), COPIED_32(l, ANSWER));
 }
 
+static uint32_t call_offer(struct lent *l)
+{
+    return strigol_register_offer(LENT(l, REGISTER), LENT(l, OFFERED));
+}
+
+static uint32_t right_offer(struct lent *l)
+{
+    return oracle_register_offer(COPY(l, REGISTER), COPY(l, OFFERED));
+}
+
+static uint32_t call_hand_out(struct lent *l)
+{
+    return strigol_register_line(LENT(l, REGISTER), l->place, l->b[LINE].at, NUMBERS_32(l, LENGTH));
+}
+
+static uint32_t right_hand_out(struct lent *l)
+{
+    return oracle_register_line(COPY(l, REGISTER), l->place, kept(&l->b[LINE]), COPIED_32(l, LENGTH));
+}
+
 #define BIT(n) (1u << (n))
 #define FROM_TO(from, to) (BIT((to) + 1) - BIT(from))
 #define STEP_NUMBERS (BIT(0) | BIT(2) | FROM_TO(13, 21))
@@ -70,6 +90,8 @@ struct call_beside calls[CALLS] = {
     {"strigol_step", call_step, right_step, STEP_NUMBERS, STEP_BUFFERS | BIT(ANSWER), {0}},
     {"strigol_run", call_run, right_run, STEP_NUMBERS, STEP_BUFFERS | BIT(RESULT), {0}},
     {"strigol_scan", call_scan, right_scan, BIT(0) | FROM_TO(22, 24), BIT(REFERENCE) | BIT(VALUES) | BIT(ELEMENTS) | BIT(ANSWER), {0}},
+    {"strigol_register_offer", call_offer, right_offer, BIT(0) | BIT(14) | FROM_TO(25, 27), BIT(REGISTER) | BIT(OFFERED), {0}},
+    {"strigol_register_line", call_hand_out, right_hand_out, BIT(0) | BIT(14), BIT(REGISTER) | BIT(LINE) | BIT(LENGTH), {0}},
 };
 
 void begin_test(const char *name, struct lent *l)
@@ -131,6 +153,8 @@ void lay_small(struct lent *l, enum side side)
     lay_empty(l, side, STATE, STRIGOL_STATE_SIZE * sizeof(uint64_t));
     lay_empty(l, side, ANSWER, STRIGOL_ANSWER_SIZE * sizeof(uint32_t));
     lay_empty(l, side, RESULT, STRIGOL_RESULT_SIZE * sizeof(uint64_t));
+    lay_empty(l, side, LINE, STRIGOL_LINE_SIZE);
+    lay_empty(l, side, LENGTH, sizeof(uint32_t));
 }
 
 void lay_deck(struct lent *l, enum side side, const struct deck *deck, size_t table_len)
@@ -161,6 +185,17 @@ void lay_scan(struct lent *l, enum side side, const struct scan *s)
     lay(&l->b[REFERENCE], side, s->reference, s->reference_len, s->reference_len);
     lay(&l->b[VALUES], side, s->values, s->values_len, s->values_len);
     lay(&l->b[ELEMENTS], side, s->rows, s->rows_len, s->rows_len);
+}
+
+void lay_register(struct lent *l, enum side side, const uint8_t bytes[STRIGOL_REGISTER_SIZE], size_t length)
+{
+    doing.deck = NULL;
+    lay(&l->b[REGISTER], side, bytes, STRIGOL_REGISTER_SIZE, length);
+}
+
+void lay_line(struct lent *l, enum side side, const struct line *line)
+{
+    lay(&l->b[OFFERED], side, line->bytes, line->length, line->length);
 }
 
 void lay_again(struct buffer *b, enum side side, size_t length)

@@ -6,6 +6,7 @@
 #include "damage.h"
 #include "decks.h"
 #include "fences.h"
+#include "lines.h"
 #include "oracle.h"
 #include "strigol.h"
 
@@ -15,9 +16,9 @@
 #define COPIED_64(l, which) ((uint64_t *)(void *)kept(&(l)->b[which]))
 #define COPIED_32(l, which) ((uint32_t *)(void *)kept(&(l)->b[which]))
 
-/* A call, by what is lent: the numbers that document 01 lets it give, as bits, the buffers lent to it, as bits, and how often each number was
+/* A call, by what is lent: the numbers that documents 01 and 02 let it give, as bits, the buffers lent to it, as bits, and how often each number was
    right so far. */
-enum call { READ, START, STEP, RUN, SCAN, CALLS };
+enum call { READ, START, STEP, RUN, SCAN, OFFER, HAND_OUT, CALLS };
 struct call_beside {
     const char *name;
     uint32_t (*call)(struct lent *), (*right)(struct lent *);
@@ -60,6 +61,10 @@ enum { MOST_OUTPUT = 2000, MORE = 64 };
 void lay_random_run(struct lent *l, enum side side, struct draws *d);
 
 void lay_scan(struct lent *l, enum side side, const struct scan *s);
+
+/* A register of this length, its further bytes being others, and a line to offer. */
+void lay_register(struct lent *l, enum side side, const uint8_t bytes[STRIGOL_REGISTER_SIZE], size_t length);
+void lay_line(struct lent *l, enum side side, const struct line *line);
 
 /* Lays the bytes of a buffer again, in another length: the bytes that fit, and others behind them. */
 void lay_again(struct buffer *b, enum side side, size_t length);

@@ -14,14 +14,15 @@
 
 enum { FENCE = 65536, MOST_SHOWN = 5, MOST_LENT = 8, UNWRITTEN = 0x5a };
 
-const char *const buffer_name[BUFFERS] = {"deck",   "table",  "card",   "store",     "state",  "input",
-                                          "output", "answer", "result", "reference", "values", "elements"};
+const char *const buffer_name[BUFFERS] = {"deck",   "table",     "card",   "store",    "state",    "input",        "output",          "answer",
+                                          "result", "reference", "values", "elements", "register", "line offered", "line handed out", "length"};
 
 static const size_t room[BUFFERS] = {
     [DECK] = DECK_ROOM, [TABLE] = STRIGOL_TABLE_SIZE + PAGE, [CARD] = sizeof(uint32_t), [STORE] = STRIGOL_STORE_SIZE + PAGE,
     [STATE] = STRIGOL_STATE_SIZE * sizeof(uint64_t), [INPUT] = INPUT_ROOM, [OUTPUT] = PAGE,
     [ANSWER] = STRIGOL_ANSWER_SIZE * sizeof(uint32_t), [RESULT] = STRIGOL_RESULT_SIZE * sizeof(uint64_t), [REFERENCE] = PAGE,
-    [VALUES] = PAGE, [ELEMENTS] = PAGE};
+    [VALUES] = PAGE, [ELEMENTS] = PAGE, [REGISTER] = STRIGOL_REGISTER_SIZE + PAGE, [OFFERED] = 3 * PAGE, [LINE] = STRIGOL_LINE_SIZE,
+    [LENGTH] = sizeof(uint32_t)};
 
 const char *test = "a test";
 _Thread_local struct doing doing = {"nothing", "no call", 0, NULL};

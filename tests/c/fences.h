@@ -11,15 +11,15 @@ enum side { BEHIND, BEFORE, SIDES };
 enum { PAGE = 4096 };
 
 /* All that is lent to the calls. */
-enum which { DECK, TABLE, CARD, STORE, STATE, INPUT, OUTPUT, ANSWER, RESULT, REFERENCE, VALUES, ELEMENTS, BUFFERS };
+enum which { DECK, TABLE, CARD, STORE, STATE, INPUT, OUTPUT, ANSWER, RESULT, REFERENCE, VALUES, ELEMENTS, REGISTER, OFFERED, LINE, LENGTH, BUFFERS };
 extern const char *const buffer_name[BUFFERS];
 
 /* The bytes from `from` to `to` may be touched and the pages before and behind them not. The buffer lent is `length` bytes at `at`. A copy of
    all bytes between the fences is for the oracle to work on. */
 struct buffer { uint8_t *from, *to, *at, *copy; size_t length; };
 
-/* The buffers of one run, and how many steps are lent to it. */
-struct lent { struct buffer b[BUFFERS]; uint32_t count; };
+/* The buffers of one run, how many steps are lent to it, and the place of a line asked for. */
+struct lent { struct buffer b[BUFFERS]; uint32_t count; uint64_t place; };
 
 /* What is being done, for messages: the test; its part, the call and the seed, and the deck at hand if there is one. */
 struct doing { const char *part, *call; uint64_t seed; const struct deck *deck; };

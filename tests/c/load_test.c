@@ -205,6 +205,21 @@ static void fault_scan(struct draws *d, enum side side)
     make_right(&first, SCAN);
 }
 
+/* A register of few lines, full or nearly so, sound or damaged, of any size. */
+static void fault_register(struct draws *d, enum side side)
+{
+    static uint8_t bytes[STRIGOL_REGISTER_SIZE];
+    struct line line;
+    random_register(d, bytes);
+    if (draw(d, 3) == 0) damage_register(d, bytes);
+    random_line(d, bytes, &line);
+    lay_register(&first, side, bytes, draw(d, 4) ? sizeof bytes : a_length(d, sizeof bytes, sizeof bytes + PAGE));
+    lay_line(&first, side, &line);
+    make_right(&first, OFFER);
+    first.place = random_place(d, bytes);
+    make_right(&first, HAND_OUT);
+}
+
 static void faults_on(enum side side)
 {
     doing.part = side == BEHIND ? "faults, fences behind" : "faults, fences before";
@@ -215,6 +230,7 @@ static void faults_on(enum side side)
         fault_start(&d, side);
         fault_step(&d, side);
         fault_scan(&d, side);
+        fault_register(&d, side);
     }
 }
 
@@ -287,6 +303,30 @@ static void far_buffers(uint8_t *long_one)
     if (number != STRIGOL_TOO_MANY_ELEMENTS) fail("number %u, not 23, for rows of over 2^32 bytes", number);
 }
 
+/* A register's buffer and a line that are right but for being so long, and places past 2^32. */
+static void far_register(uint8_t *long_one)
+{
+    static const uint8_t line[] = "A,WH,1,1";
+    uint8_t handed[STRIGOL_LINE_SIZE];
+    uint32_t length, number;
+    doing.call = "strigol_register_offer";
+    memset(long_one, 0, STRIGOL_REGISTER_SIZE);
+    number = strigol_register_offer(long_one, far + 100, line, 8);
+    if (number != 0) fail("number %u, not 0, for a buffer of over 2^32 bytes", number);
+    doing.call = "strigol_register_line";
+    number = strigol_register_line(long_one, far + 100, 0, handed, &length);
+    if (number != 0 || length != 8 || memcmp(handed, line, 8) != 0) fail("number %u and length %u, not 0 and 8, with such a buffer", number, length);
+    for (uint64_t place = far; place != 0; place <<= 1) {
+        number = strigol_register_line(long_one, STRIGOL_REGISTER_SIZE, place, handed, &length);
+        if (number != 0 || length != 0) fail("number %u and length %u, not 0 and 0, for place %llu", number, length, (unsigned long long)place);
+    }
+    doing.call = "strigol_register_offer";
+    memset(far_table, 0, STRIGOL_REGISTER_SIZE);
+    memcpy(long_one, line, 8);
+    number = strigol_register_offer(far_table, sizeof far_table, long_one, far + 8);
+    if (number != STRIGOL_BAD_LINE) fail("number %u, not 25, for a line of over 2^32 bytes", number);
+}
+
 static void far_away(void)
 {
     size_t pages = (size_t)far + 16 * PAGE;
@@ -302,6 +342,7 @@ static void far_away(void)
     memcpy(long_one + far + 6, "XYZ\nAB", 6);
     far_step(long_one, far + 12, far + 6, far_output, sizeof far_output, 1);
     far_step((const uint8_t *)"A\nXYZ\n", 6, 2, long_one, far + 50, far + 3);
+    far_register(long_one);
     munmap(long_one, pages);
     printf("load test: far: buffers and places past 2^32\n");
 }
@@ -418,8 +459,25 @@ static uint64_t run_job(struct lent *l, uint64_t all)
     return mixed_run(all, l, RESULT);
 }
 
-/* All calls: the deck is read into a table of the run's own, then come steps and a run on the table shared, and a scan. Gives what was given
-   and left, as one number. */
+/* Lines offered to a register of the job's own, and one handed out. */
+static uint64_t register_job(struct lent *l, enum side side, struct draws *d, uint64_t all)
+{
+    uint8_t bytes[STRIGOL_REGISTER_SIZE];
+    struct line line;
+    random_register(d, bytes);
+    lay_register(l, side, bytes, sizeof bytes);
+    for (int i = 0; i < 4; i++) {
+        random_line(d, bytes, &line);
+        lay_line(l, side, &line);
+        all = all * 31 + make(l, OFFER);
+    }
+    l->place = random_place(d, bytes);
+    all = all * 31 + make(l, HAND_OUT);
+    return mixed_buffer(mixed_buffer(mixed_buffer(all, l, REGISTER), l, LINE), l, LENGTH);
+}
+
+/* All calls: the deck is read into a table of the run's own, then come steps and a run on the table shared, a scan, and a register. Gives what was
+   given and left, as one number. */
 static uint64_t do_job(struct lent *l, const struct job *job, enum side side)
 {
     uint8_t input[INPUT_ROOM];
@@ -440,7 +498,7 @@ static uint64_t do_job(struct lent *l, const struct job *job, enum side side)
     random_scan(&d, &s);
     lay_scan(l, side, &s);
     all = all * 31 + make(l, SCAN);
-    return mixed_buffer(all, l, ANSWER);
+    return register_job(l, side, &d, mixed_buffer(all, l, ANSWER));
 }
 
 static struct job jobs[2 * PAIRS];
@@ -568,7 +626,20 @@ static void probe_decks(void)
     for (int i = 0; edge_deck(i, &deck); i++) probe_deck(&deck);
 }
 
-/* Random decks, their steps and runs, and scans. */
+static void probe_register(struct draws *d)
+{
+    static uint8_t bytes[STRIGOL_REGISTER_SIZE];
+    struct line line;
+    random_register(d, bytes);
+    random_line(d, bytes, &line);
+    lay_register(&first, BEHIND, bytes, sizeof bytes);
+    lay_line(&first, BEHIND, &line);
+    first.place = random_place(d, bytes);
+    probe_stack(OFFER, &first, "a random register");
+    probe_stack(HAND_OUT, &first, "a random register");
+}
+
+/* Random decks, their steps and runs, scans and registers. */
 static void probe_random(uint64_t seed)
 {
     static struct deck deck;
@@ -587,6 +658,7 @@ static void probe_random(uint64_t seed)
     random_scan(&d, &s);
     lay_scan(&first, BEHIND, &s);
     probe_stack(SCAN, &first, "a random scan");
+    probe_register(&d);
 }
 
 static void show_stacks(const char *on)
@@ -597,15 +669,15 @@ static void show_stacks(const char *on)
 
 static void stacks(void)
 {
-    static const size_t most[CALLS] = {STACK_OF_READ, STACK_OF_OTHERS, STACK_OF_OTHERS, STACK_OF_OTHERS, STACK_OF_OTHERS};
     doing.part = "stacks";
     for (uint64_t seed = first_seed(); more_seeds(seed, PROBED); seed++) probe_random(seed);
     show_stacks("random decks");
     probe_decks();
     show_stacks(stack_use[READ].by);
     for (int i = 0; i < CALLS; i++) {
+        size_t most = i == READ ? STACK_OF_READ : STACK_OF_OTHERS;
         doing.call = calls[i].name;
-        if (stack_use[i].most > most[i]) fail("%zu bytes of stack, more than the %zu that docs/GATEWAY.md says", stack_use[i].most, most[i]);
+        if (stack_use[i].most > most) fail("%zu bytes of stack, more than the %zu that docs/GATEWAY.md says", stack_use[i].most, most);
     }
 }
 

@@ -223,15 +223,6 @@ static void check_example(const char *stem)
 
 /* Scans: `REFERENCE ELEMENT.. => answer`. */
 
-static int from_hex(const char *hex, uint8_t *bytes)
-{
-    int n = 0;
-    unsigned byte;
-    if (strcmp(hex, "-") == 0) return 0;
-    for (; sscanf(hex + 2 * n, "%2x", &byte) == 1; n++) bytes[n] = (uint8_t)byte;
-    return n;
-}
-
 static void check_scan(char *line)
 {
     uint8_t reference[MOST_STRING], values[MOST_ROW][MOST_STRING];
@@ -323,32 +314,13 @@ static void check_first_fit(void)
     }
 }
 
-/* The table that docs/TABLE.md prints, "An example": lines with a place and bytes in hexadecimal, and words behind them. */
-static void printed_table(uint8_t table[TABLE_SIZE])
-{
-    FILE *page = fopen("docs/TABLE.md", "r");
-    char line[512];
-    int inside = 0;
-    while (page && fgets(line, sizeof line, page)) {
-        const char *word;
-        size_t place;
-        if (line[0] == '#') inside = strcmp(line, "## An example\n") == 0;
-        word = strtok(line, " \n");
-        if (!inside || !word || strspn(word, "0123456789") != strlen(word)) continue;
-        place = strtoul(word, NULL, 10);
-        while ((word = strtok(NULL, " \n")) && strlen(word) == 2 && strspn(word, "0123456789ABCDEF") == 2 && place < TABLE_SIZE)
-            from_hex(word, table + place++);
-    }
-    if (page) fclose(page);
-}
-
 /* The table of LOTS is the one that is printed. */
 static void check_lots(void)
 {
     static struct oracle_program p;
     static uint8_t table[TABLE_SIZE], right[TABLE_SIZE];
     uint32_t card;
-    printed_table(right);
+    example_of("docs/TABLE.md", right, TABLE_SIZE);
     if (!read_file("examples/lots", ".deck", &deck) || oracle_read(deck.bytes, deck.length, &p, &card) != 0) fail("refused", "LOTS");
     oracle_table(&p, table);
     if (memcmp(table, right, TABLE_SIZE) != 0) fail("not the table of docs/TABLE.md", "LOTS");
@@ -406,8 +378,8 @@ static void check_damaged(int *kept)
 
 int main(void)
 {
-    int decks = each_deck("tests/vectors/decks/*.deck", check_vector), scans = 0, edges = 0, runs = 0, kept = 0;
-    int examples = each_deck("examples/*.deck", check_example) + each_deck("examples/*/*.deck", check_example);
+    int decks = each_stem("tests/vectors/decks/*.deck", check_vector), scans = 0, edges = 0, runs = 0, kept = 0;
+    int examples = each_stem("examples/*.deck", check_example) + each_stem("examples/*/*.deck", check_example);
     check_scans(&scans);
     check_first_fit();
     check_lots();

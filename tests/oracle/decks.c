@@ -6,6 +6,7 @@
 
 #include <glob.h>
 #include <stdio.h>
+#include <stdlib.h>
 #include <string.h>
 
 /* Draws */
@@ -921,16 +922,43 @@ long file_bytes(const char *stem, const char *ending, uint8_t *to, size_t most)
     return n;
 }
 
-int each_deck(const char *pattern, void (*each)(const char *stem))
+int each_stem(const char *pattern, void (*each)(const char *stem))
 {
     glob_t found;
     int count = 0;
     if (glob(pattern, 0, NULL, &found) != 0) return 0;
     for (; count < (int)found.gl_pathc; count++) {
         char *stem = found.gl_pathv[count];
-        stem[strlen(stem) - strlen(".deck")] = 0;
+        *strrchr(stem, '.') = 0;
         each(stem);
     }
     globfree(&found);
     return count;
+}
+
+int from_hex(const char *hex, uint8_t *bytes)
+{
+    int n = 0;
+    unsigned byte;
+    if (strcmp(hex, "-") == 0) return 0;
+    for (; sscanf(hex + 2 * n, "%2x", &byte) == 1; n++) bytes[n] = (uint8_t)byte;
+    return n;
+}
+
+void example_of(const char *page, uint8_t *bytes, size_t size)
+{
+    FILE *file = fopen(page, "r");
+    char line[512];
+    int inside = 0;
+    while (file && fgets(line, sizeof line, file)) {
+        const char *word;
+        size_t place;
+        if (line[0] == '#') inside = strcmp(line, "## An example\n") == 0;
+        word = strtok(line, " \n");
+        if (!inside || !word || strspn(word, "0123456789") != strlen(word)) continue;
+        place = strtoul(word, NULL, 10);
+        while ((word = strtok(NULL, " \n")) && strlen(word) == 2 && strspn(word, "0123456789ABCDEF") == 2 && place < size)
+            from_hex(word, bytes + place++);
+    }
+    if (file) fclose(file);
 }

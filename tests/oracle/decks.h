@@ -55,7 +55,13 @@ int run_edge(int place, struct run_edge *edge);
 /* The bytes of the file that has this stem and ending: how many, or -1 if it isn't there or has more than fit. */
 long file_bytes(const char *stem, const char *ending, uint8_t *to, size_t most);
 
-/* Goes through the files *.deck that match, in order, by their stems: how many. */
-int each_deck(const char *pattern, void (*each)(const char *stem));
+/* Goes through the files that match, in order, by their stems, which have no ending: how many. */
+int each_stem(const char *pattern, void (*each)(const char *stem));
+
+/* Bytes written in hexadecimal, `-` for none: how many. */
+int from_hex(const char *hex, uint8_t *bytes);
+
+/* The bytes that a page prints under "An example", on lines with a place and bytes in hexadecimal, and words behind them. All others stay. */
+void example_of(const char *page, uint8_t *bytes, size_t size);
 
 #endif

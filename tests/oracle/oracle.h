@@ -1,5 +1,6 @@
-/* A second reader and interpreter of STRIGOL decks, to test the calls against. It follows document 01 sentence by sentence; the sentences'
-   numbers (C1, Q3, ..) are those of docs/PAPER.md. It says what is right and takes no care to be fast. */
+/* A second reader and interpreter of STRIGOL decks, and a second register of contract lines, to test the calls against. They follow documents 01
+   and 02 sentence by sentence; the sentences' numbers (C1, Q3, W2.4, ..) are those of docs/PAPER.md. They say what is right and take no care to be
+   fast. */
 #ifndef ORACLE_H
 #define ORACLE_H
 
@@ -10,18 +11,20 @@ enum {
     MOST_DECK = 32768, MOST_STEPS = 256, MOST_STRINGS = 32, MOST_NUMBERS = 32, MOST_LABELS = 64, MOST_ROUTINES = 16,
     MOST_ROW = 20, MOST_ELEMENTS = 1024, MOST_ITEMS = 1024, MOST_LITERALS = 4096, MOST_DEPTH = 16, MOST_NAME = 8,
     MOST_STRING = 1024, MOST_HELD = 16, MOST_WAITING = 64, LIMIT = 8388607,
-    TABLE_SIZE = 28672, STORE_SIZE = 32832, CELL_SIZE = 1026, STATE_SIZE = 64, ANSWER_SIZE = 24, RESULT_SIZE = 4
+    TABLE_SIZE = 28672, STORE_SIZE = 32832, CELL_SIZE = 1026, STATE_SIZE = 64, ANSWER_SIZE = 24, RESULT_SIZE = 4,
+    REGISTER_SIZE = 8192, MOST_LINES = 256, LINE_SIZE = 32
 };
 
 /* The layouts of docs/TABLE.md: the table's counts and regions, its rows and cells; places in a state, an answer and a result; a row lent to the
-   scan call. */
+   scan call. That of docs/REGISTER.md: the slots of a register. */
 enum {
     COUNTS_AT = 2, COUNTS_END = 14, STEPS_AT = 64, ELEMENTS_AT = 6208, ITEMS_AT = 14400, LITERALS_AT = 22592, LITERALS_END = 26688,
     ROW_SIZE = 24, CARD_AT = 2, SUCCESS_AT = 4, FAILURE_AT = 6, CELL = 8,
     STATUS_AT = 0, NEXT_AT, HELD_AT, TAKEN_AT, PUT_AT, RETURNS_AT, NUMBERS_AT = 21, NUMBERS_END = 53,
     SPLIT_AT = 0, START_AT, TRIALS_AT, NOTES_AT, LENGTHS_AT,
     OUTCOME_AT = 0, BY_AT, DONE_AT, NOTED_AT,
-    SCAN_ROW = 12, SCAN_FIRST_AT = 4, SCAN_SECOND_AT = 8
+    SCAN_ROW = 12, SCAN_FIRST_AT = 4, SCAN_SECOND_AT = 8,
+    SLOTS_AT = 1024, SLOT_SIZE = 28
 };
 enum count { STEP_COUNT, STRING_COUNT, NUMBER_COUNT, ELEMENT_COUNT, ITEM_COUNT, LITERAL_COUNT, COUNTS };
 #define BIAS ((int64_t)1 << 47)
@@ -121,5 +124,11 @@ uint32_t oracle_scan_call(const uint8_t *reference, size_t reference_len, const 
                           size_t elements_len, uint32_t *answer);
 void oracle_run_call(const uint8_t *table, size_t table_len, uint8_t *store, size_t store_len, uint64_t *state, const uint8_t *input,
                      size_t input_len, uint8_t *output, size_t output_len, uint32_t count, uint64_t *result);
+
+/* register.c: whether bytes keep the rules of a register, how many slots stand before the first empty one, and the register's calls. */
+int oracle_register_keeps(const uint8_t buffer[REGISTER_SIZE]);
+uint64_t oracle_register_lines(const uint8_t buffer[REGISTER_SIZE]);
+uint32_t oracle_register_offer(uint8_t *buffer, size_t buffer_len, const uint8_t *line, size_t line_len);
+uint32_t oracle_register_line(const uint8_t *buffer, size_t buffer_len, uint64_t place, uint8_t *line, uint32_t *length);
 
 #endif

@@ -8,8 +8,8 @@ use native.Mathlib.Nat.{min-le-left, min-le-right}
 use native.Mathlib.Numerals.{add-one}
 use native.Mathlib.Omega.{arith}
 use lib.Dec.{eqb}
-use lib.ListN.{take, length, drop, getD, length-take, length-drop, drop-of-length-le, take-append-drop}
-use lib.Seq.{length-take-le, take-all, getD-take, getD-drop, drop-drop, drop-cons}
+use lib.ListN.{take, length, drop, getD, replicate, length-take, length-drop, drop-of-length-le, take-append-drop}
+use lib.Seq.{length-take-le, take-all, take-take, getD-take, getD-drop, drop-drop, drop-cons}
 use borrow.Author.Tests.{eqb-true, eq-eqb, ne-eqb}
 use Rattle.base.specs.Choice.{both-pass}
 use Rattle.base.specs.Lists.{same, begins, all, isNil}
@@ -79,7 +79,21 @@ all-append f (x ∷ xs) ys h g =
     let both = and-eq-true-iff (f x) (all f xs) .0 h in
     both-pass (both .0) (all-append f xs ys (both .1) g)
 
--- where all pass a test, and what is read behind the last does, each place does
+-- what passes a test passes one that follows from it
+pub all-imply : {A : Type 0} (f g : A → Bool) → ((x : A) → f x ≡ true → g x ≡ true) → (xs : List A) → all f xs ≡ true → all g xs ≡ true
+unfolding all
+all-imply f g h [] a = refl
+all-imply f g h (x ∷ xs) a =
+    let both = and-eq-true-iff (f x) (all f xs) .0 a in
+    both-pass (h x (both .0)) (all-imply f g h xs (both .1))
+
+-- where all pass a test, each place inside does; and so does any place where what is read behind the last passes too
+pub all-inside : {A : Type 0} (f : A → Bool) (l : List A) (d : A) → all f l ≡ true → (i : ℕ) → i < length l → f (getD l i d) ≡ true
+unfolding all
+all-inside f [] d a i h = absurd (omega arith)
+all-inside f (x ∷ l) d a zero h = and-eq-true-iff (f x) (all f l) .0 a .0
+all-inside f (x ∷ l) d a (suc i) h = all-inside f l d (and-eq-true-iff (f x) (all f l) .0 a .1) i (omega arith)
+
 pub all-at : {A : Type 0} (f : A → Bool) (l : List A) (d : A) → f d ≡ true → all f l ≡ true → (i : ℕ) → f (getD l i d) ≡ true
 unfolding all
 all-at f [] d last h i = last
@@ -114,3 +128,28 @@ stretch-end l at n e = take-all n (drop at l) (omega (arith, length-drop at l))
 pub stretch-behind : (l : List ℕ) (at n next : ℕ) → at + n ≡ next → take n (drop at l) ++ drop next l ≡ drop at l
 stretch-behind l at n next e =
     ap (λ r. take n (drop at l) ++ r) (ap (λ k. drop k l) (sym e) ∙ sym (drop-drop n at l)) ∙ take-append-drop n (drop at l)
+
+-- a stretch of the first m elements is one of the list
+pub stretch-front : (n k m : ℕ) (l : List ℕ) → k + n ≤ m → take n (drop k (take m l)) ≡ take n (drop k l)
+stretch-front n zero m l h = take-take n m l (omega arith)
+stretch-front n (suc k) zero l h = absurd (omega arith)
+stretch-front n (suc k) (suc m) [] h = refl
+stretch-front n (suc k) (suc m) (x ∷ l) h = stretch-front n k m l (omega arith)
+
+-- a list of zeros alone
+pub zeros-are : (l : List ℕ) → all (λ b. eqb b 0) l ≡ true → l ≡ replicate (length l) 0
+unfolding all
+zeros-are [] e = refl
+zeros-are (x ∷ xs) e =
+    let h = and-eq-true-iff (eqb x 0) (all (λ b. eqb b 0) xs) .0 e in
+    ap₂ {C = List ℕ} _∷_ (eqb-true x 0 (h .0)) (zeros-are xs (h .1))
+
+pub all-zeros : (n : ℕ) → all (λ b. eqb b 0) (replicate n 0) ≡ true
+unfolding all
+all-zeros zero = refl
+all-zeros (suc n) = all-zeros n
+
+pub drop-zeros : (k m : ℕ) → drop {A = ℕ} k (replicate m 0) ≡ replicate (m - k) 0
+drop-zeros zero m = let none : m ≡ m - 0 = omega arith in ap (λ n. replicate n 0) none
+drop-zeros (suc k) zero = let none : 0 ≡ 0 - suc k = omega arith in ap {B = List ℕ} (λ n. replicate n 0) none
+drop-zeros (suc k) (suc m) = let less : m - k ≡ suc m - suc k = omega arith in drop-zeros k m ∙ ap (λ n. replicate n 0) less

@@ -11,7 +11,8 @@ use lib.Dec.{leb, ltb, eqb, lit<}
 use lib.ListN.{length, take, drop, getD, set, replicate, length-append, length-drop, length-replicate, length-set}
 use lib.ListN.{replicate-append-replicate, take-append-drop}
 use lib.Seq.{drop-at, drop-cons, drop-drop, length-take-le, take-add}
-use borrow.Author.Tests.{leb-true, ltb-true, eqb-true, le-leb, lt-ltb}
+use borrow.Author.Tests.{leb-true, ltb-true, le-leb, lt-ltb}
+use Rattle.base.specs.ListLaws.{all-zeros, zeros-are}
 use Rattle.base.specs.Lists.{all}
 use Rattle.machine.specs.Bounds.{set-everywhere}
 use Rattle.machine.specs.State.{mostStrings}
@@ -67,19 +68,6 @@ cell-told store at e =
 pub cell-keeps : (store : List ℕ) (at : ℕ) → Cell store at → cellKeeps store at ≡ true
 unfolding cellKeeps longestString
 cell-keeps store at c = rw (lt-ltb _ _ (c .low), le-leb _ _ (c .short), c .zeros)
-
--- a list of zeros alone
-pub zeros-are : (l : List ℕ) → all (λ b. eqb b 0) l ≡ true → l ≡ replicate (length l) 0
-unfolding all
-zeros-are [] e = refl
-zeros-are (x ∷ xs) e =
-    let h = and-eq-true-iff (eqb x 0) (all (λ b. eqb b 0) xs) .0 e in
-    ap₂ {C = List ℕ} _∷_ (eqb-true x 0 (h .0)) (zeros-are xs (h .1))
-
-pub all-zeros : (n : ℕ) → all (λ b. eqb b 0) (replicate n 0) ≡ true
-unfolding all
-all-zeros zero = refl
-all-zeros (suc n) = all-zeros n
 
 all-behind : (s t : List ℕ) → all (λ b. eqb b 0) (s ++ t) ≡ true → all (λ b. eqb b 0) t ≡ true
 unfolding all

@@ -54,6 +54,9 @@ newline = 10
 unfoldable pub quote : ℕ
 quote = 34
 
+unfoldable pub comma : ℕ
+comma = 44
+
 unfoldable pub star : ℕ
 star = 42
 

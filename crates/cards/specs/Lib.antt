@@ -1,4 +1,6 @@
--- From the bytes of a deck to its statements: classes of bytes (Bytes), lines and cards (Cards), the packed statement (Packing).
+-- From the bytes of a deck to its statements: classes of bytes (Bytes, and what they tell in ByteLaws), lines and cards (Cards), the packed
+-- statement (Packing).
+pub mod ByteLaws
 pub mod Bytes
 pub mod Cards
 pub mod Packing

@@ -54,6 +54,7 @@ unfolding
     Rattle.cards.specs.Bytes.isRefused
     Rattle.cards.specs.Bytes.newline
     Rattle.cards.specs.Bytes.quote
+    Rattle.cards.specs.Bytes.comma
     Rattle.cards.specs.Bytes.star
     Rattle.cards.specs.Bytes.slash
     Rattle.cards.specs.Cards.onFirst

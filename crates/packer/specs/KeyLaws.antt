@@ -6,11 +6,13 @@ use Prim.Native.Nat.{ℕ, suc, _≤_}
 use native.Mathlib.Omega.{arith}
 use lib.Dec.{eqb, leb}
 use lib.ListN.{length, take}
-use borrow.Author.Tests.{eqb-true, leb-true, le-leb, ne-eqb}
+use borrow.Author.Tests.{eqb-true, ne-eqb}
 use Rattle.base.specs.Choice.{test-cases}
 use Rattle.base.specs.Edition.{edition1}
+use Rattle.base.specs.ListLaws.{all-imply}
 use Rattle.base.specs.Lists.{all, among, keep}
 use Rattle.base.specs.Text.{bytes}
+use Rattle.cards.specs.ByteLaws.{in-between, name-byte, within}
 use Rattle.cards.specs.Bytes.{
   letter,
   digit,
@@ -30,15 +32,9 @@ use Rattle.cards.specs.Bytes.{
 use Rattle.cards.specs.Cards.{labelOf, soundLine, withoutBlanks}
 use Rattle.packer.specs.Keys.{isKeyByte}
 
-within : (low high b : ℕ) → between low high b ≡ true → (low ≤ b) × (b ≤ high)
-unfolding between
-within low high b e =
-    let parts = and-eq-true-iff (leb low b) (leb b high) .0 e in
-    (leb-true low b (parts .0), leb-true b high (parts .1))
-
 key-byte : (b : ℕ) → 1 ≤ b → b ≤ 255 → isKeyByte b ≡ true
-unfolding isKeyByte between
-key-byte b low high = ap₂ {C = Bool} _&&_ (le-leb 1 b low) (le-leb b 255 high)
+unfolding isKeyByte
+key-byte b = in-between 1 255 b
 
 -- what holds of all bytes holds of some of them
 module _ (f : ℕ → Bool) where
@@ -67,20 +63,6 @@ module _ (f : ℕ → Bool) where
       test-cases (λ t. (t || among b xs) ≡ true → f b ≡ true) (eqb b x)
       (λ same _. ap f (eqb-true b x same) ∙ parts .0)
       (λ _ e. all-among b xs (parts .1) e)
-
-  pub all-imply : (g : ℕ → Bool) → ((b : ℕ) → f b ≡ true → g b ≡ true) → (xs : List ℕ) → all f xs ≡ true → all g xs ≡ true
-  unfolding all
-  all-imply g h [] a = refl
-  all-imply g h (x ∷ xs) a =
-      let parts = and-eq-true-iff (f x) (all f xs) .0 a in
-      ap₂ {C = Bool} _&&_ (h x (parts .0)) (all-imply g h xs (parts .1))
-
-name-byte : (b : ℕ) → isNameByte b ≡ true → (48 ≤ b) × (b ≤ 90)
-unfolding isNameByte isLetter isDigit
-name-byte b =
-    test-cases (λ t. (t || between 48 57 b) ≡ true → (48 ≤ b) × (b ≤ 90)) (between 65 90 b)
-    (λ e _. let range = within 65 90 b e in (omega arith, omega arith))
-    (λ _ e. let range = within 48 57 b e in (omega arith, omega arith))
 
 -- a name of letters and digits has no blank, and its key shows it
 pub name-bytes : (xs : List ℕ) → all isNameByte xs ≡ true → all isKeyByte xs ≡ true

@@ -9,10 +9,9 @@ use lib.ListN.{length, getD, replicate}
 use borrow.Author.Tests.{leb-true, leb-false, eqb-true, le-leb, eq-eqb, ne-eqb}
 use Rattle.base.specs.Choice.{test-cases, same-truth}
 use Rattle.base.specs.Edition.{edition1}
-use Rattle.base.specs.ListLaws.{length-stretch}
+use Rattle.base.specs.ListLaws.{all-zeros, length-stretch, zeros-are}
 use Rattle.base.specs.Lists.{all}
 use Rattle.language.specs.Program.{isFinish, lastFinishes}
-use Rattle.calls.specs.BufferLaws.{zeros-are, all-zeros}
 use Rattle.calls.specs.Numerals.{numberAt}
 use Rattle.calls.specs.ProgramLaws.{program-runs, first-step}
 use Rattle.calls.specs.RowLaws.{return-row}

@@ -1,11 +1,11 @@
 -- `packer::line::sound_line` answers whether the line is sound: no byte in the range is refused, and of others the table tells.
 -- Assumes nothing.
 use Rattle.base.specs.Choice.{both-pass}
+use Rattle.base.specs.ListLaws.{all-imply}
 use Rattle.base.specs.Lists.{all}
 use Rattle.cards.specs.Bytes.{between, classOf, isRefused}
 use Rattle.cards.specs.Cards.{soundLine}
 use Rattle.classes.specs.Laws.{data-range}
-use Rattle.packer.specs.KeyLaws.{all-imply}
 use borrow.Author.Needs.{needs}
 use borrow.Author.Tests.{le-leb, lt-leb}
 use lib.ListN.{length}

@@ -1,0 +1,262 @@
+/* The register's calls, each with its check of all rules: a line offered to 255 others, and one handed out of 256, beside one pass over the 8,192
+   bytes. Each figure is the best of several rounds in one run. Then, for the record, beside SQLite: a table in memory that has the contract as its
+   primary key, an index on the place, and prepared statements. Both must hand out the same line. Printed are tables in Markdown. */
+#include "figures.h"
+#include "strigol.h"
+
+#include <sqlite3.h>
+#include <stdio.h>
+#include <string.h>
+
+enum {
+    ROUNDS = 200, CALLS = 100, TABLES = 100, OFFER_PASSES = 12, LINE_PASSES = 10,
+    LINES = STRIGOL_LINES_MOST, LAST = LINES - 1, SLOT = 28, LAST_AT = STRIGOL_REGISTER_SIZE - SLOT, MOST_CONTRACT = 8, MARKS = 4093
+};
+
+/* The lines of a register, and their contracts. */
+static struct { char contract[MOST_CONTRACT + 1], line[STRIGOL_LINE_SIZE]; int length; } held[LINES];
+static uint8_t buffer[STRIGOL_REGISTER_SIZE];
+static volatile uint32_t sink;
+
+/* A row of random numbers, the same in every run. */
+static uint32_t draw(uint32_t below)
+{
+    static uint64_t state = 1;
+    state = state * 6364136223846793005u + 1442695040888963407u;
+    return (uint32_t)(state >> 33) % below;
+}
+
+/* A contract of so many random letters and digits. */
+static void draw_contract(char *to, uint32_t n)
+{
+    memset(to, 0, MOST_CONTRACT + 1);
+    for (uint32_t i = 0; i < n; i++) to[i] = "ABCDEFGHIJKLMNOPQRSTUVWXYZ0123456789"[draw(36)];
+}
+
+static int is_held(int count, const char *contract)
+{
+    for (int i = 0; i < count; i++)
+        if (strcmp(held[i].contract, contract) == 0) return 1;
+    return 0;
+}
+
+/* The registers: which contract the line of a place has, and the other fields. */
+
+static void sequence(int place)
+{
+    snprintf(held[place].contract, sizeof held[place].contract, "C%07u", (unsigned)place % LINES);
+}
+
+static void any(int place)
+{
+    do draw_contract(held[place].contract, 1 + draw(MOST_CONTRACT));
+    while (is_held(place, held[place].contract));
+}
+
+static void two_signs(int place)
+{
+    do draw_contract(held[place].contract, 2);
+    while (is_held(place, held[place].contract));
+}
+
+/* Contracts made against the code. It takes a contract as a number, the first byte lowest, and compares it with those before it only where one of
+   them left the same rest when divided by 4,093. All of these do. */
+static void together(int place)
+{
+    uint64_t key;
+    do {
+        draw_contract(held[place].contract, MOST_CONTRACT);
+        key = 0;
+        for (int i = MOST_CONTRACT - 1; i >= 0; i--) key = key << 8 | (uint8_t)held[place].contract[i];
+    } while (key % MARKS != 0 || is_held(place, held[place].contract));
+}
+
+static const struct { const char *name; void (*contract)(int place); unsigned tonnes, price; } registers[] = {
+    {"C0000000, C0000001, ..; lines of 24 bytes", sequence, 99999, 999999},
+    {"random contracts, tonnes and prices", any, 0, 0},
+    {"contracts of two signs; lines of 9 bytes", two_signs, 1, 1},
+    {"contracts that fall together; lines of 24 bytes", together, 99999, 999999},
+};
+
+static void make_lines(size_t which)
+{
+    for (int i = 0; i < LINES; i++) {
+        unsigned tonnes = registers[which].tonnes ? registers[which].tonnes : 1 + draw(99999);
+        unsigned price = registers[which].price ? registers[which].price : 1 + draw(999999);
+        registers[which].contract(i);
+        held[i].length = snprintf(held[i].line, sizeof held[i].line, "%s,WH,%u,%u", held[i].contract, tonnes, price);
+    }
+}
+
+static uint32_t offer(int i)
+{
+    return strigol_register_offer(buffer, sizeof buffer, (const uint8_t *)held[i].line, (size_t)held[i].length);
+}
+
+/* Offers so many of the lines to a buffer of zeros. */
+static void fill(int count)
+{
+    memset(buffer, 0, sizeof buffer);
+    for (int i = 0; i < count; i++)
+        if (offer(i) != 0) give_up("a line is declined");
+}
+
+/* Offers the 256th line, and takes it out again. */
+static void offer_last(void)
+{
+    if (offer(LAST) != 0) give_up("the last line is declined");
+    memset(buffer + LAST_AT, 0, SLOT);
+}
+
+/* The next place, round and round. */
+static int next_place(void)
+{
+    static int place;
+    return place = (place + 1) % LINES;
+}
+
+static void hand_out(void)
+{
+    uint8_t line[STRIGOL_LINE_SIZE];
+    uint32_t length;
+    int place = next_place();
+    if (strigol_register_line(buffer, sizeof buffer, (uint64_t)place, line, &length) != 0 || length != (uint32_t)held[place].length ||
+        memcmp(line, held[place].line, length) != 0)
+        give_up("another line is handed out");
+    sink = line[0];
+}
+
+static void pass(void)
+{
+    sink = pass_over(buffer, sizeof buffer);
+}
+
+static void vector_pass(void)
+{
+    sink = vector_pass_over(buffer, sizeof buffer);
+}
+
+/* Microseconds for one. */
+static double time_one(void (*one)(void))
+{
+    double best;
+    BEST_NS(best, ROUNDS, CALLS, one());
+    return best / 1e3;
+}
+
+/* A call on each of the registers, of so many lines. */
+static void beside_passes(const char *what, void (*one)(void), int count, int most)
+{
+    show_passes_head(what, sizeof buffer, most);
+    for (size_t i = 0; i < sizeof registers / sizeof registers[0]; i++) {
+        make_lines(i);
+        fill(count);
+        double ours = time_one(one), plain = time_one(pass), vectors = time_one(vector_pass);
+        show_passes(registers[i].name, ours, plain, vectors, most);
+    }
+}
+
+/* SQLite */
+
+static sqlite3 *database;
+static sqlite3_stmt *inserts[TABLES], *deletes[TABLES], *get_line;
+
+static sqlite3_stmt *prepare(const char *form, int table)
+{
+    char text[128];
+    sqlite3_stmt *statement;
+    snprintf(text, sizeof text, form, table);
+    if (sqlite3_prepare_v2(database, text, -1, &statement, NULL) != SQLITE_OK) give_up(sqlite3_errmsg(database));
+    return statement;
+}
+
+static void step(sqlite3_stmt *statement)
+{
+    if (sqlite3_step(statement) != SQLITE_DONE) give_up(sqlite3_errmsg(database));
+    sqlite3_reset(statement);
+}
+
+static void insert(int table, int i)
+{
+    sqlite3_bind_int(inserts[table], 1, i);
+    sqlite3_bind_text(inserts[table], 2, held[i].contract, -1, SQLITE_STATIC);
+    sqlite3_bind_text(inserts[table], 3, held[i].line, held[i].length, SQLITE_STATIC);
+    step(inserts[table]);
+}
+
+static void delete_last(int table)
+{
+    sqlite3_bind_int(deletes[table], 1, LAST);
+    step(deletes[table]);
+}
+
+static void open_tables(void)
+{
+    if (sqlite3_open(":memory:", &database) != SQLITE_OK) give_up("SQLite doesn't open");
+    for (int table = 0; table < TABLES; table++) {
+        sqlite3_stmt *create = prepare("CREATE TABLE register%d (place INTEGER UNIQUE, contract TEXT PRIMARY KEY, line TEXT NOT NULL)", table);
+        step(create);
+        sqlite3_finalize(create);
+    }
+    for (int table = 0; table < TABLES; table++) {
+        inserts[table] = prepare("INSERT INTO register%d VALUES (?, ?, ?)", table);
+        deletes[table] = prepare("DELETE FROM register%d WHERE place = ?", table);
+        for (int i = 0; i < LAST; i++) insert(table, i);
+    }
+    get_line = prepare("SELECT line FROM register%d WHERE place = ?", 0);
+}
+
+/* Inserts the 256th line into each table. They are deleted again while nothing is timed. */
+static double time_inserts(void)
+{
+    double best = 1e18, time;
+    for (int round = 0; round < ROUNDS; round++) {
+        int table = 0;
+        BEST_NS(time, 1, TABLES, insert(table++, LAST));
+        if (time < best) best = time;
+        while (table > 0) delete_last(--table);
+    }
+    return best / 1e3;
+}
+
+static void select_one(void)
+{
+    char line[STRIGOL_LINE_SIZE] = {0};
+    int place = next_place();
+    sqlite3_bind_int(get_line, 1, place);
+    if (sqlite3_step(get_line) != SQLITE_ROW) give_up("SQLite has no such line");
+    memcpy(line, sqlite3_column_text(get_line, 0), (size_t)sqlite3_column_bytes(get_line, 0));
+    if (memcmp(line, held[place].line, (size_t)held[place].length) != 0) give_up("SQLite has another line");
+    sqlite3_reset(get_line);
+    sink = (uint8_t)line[0];
+}
+
+static void show_beside(const char *what, double ours, double theirs)
+{
+    printf("| %s | %s | %s | %.2f |\n", what, figure(ours), figure(theirs), theirs / ours);
+}
+
+static void beside_sqlite(void)
+{
+    double ours;
+    make_lines(0);
+    open_tables();
+    printf("| for the record | call, us | SQLite, us | ratio |\n|---|---|---|---|\n");
+    fill(LAST);
+    ours = time_one(offer_last);
+    show_beside("the 256th line is taken", ours, time_inserts());
+    fill(LINES);
+    insert(0, LAST);
+    ours = time_one(hand_out);
+    show_beside("a line of 256 is handed out by its place", ours, time_one(select_one));
+}
+
+int main(void)
+{
+    beside_passes("offering a line to 255 others", offer_last, LAST, OFFER_PASSES);
+    printf("\n");
+    beside_passes("handing out a line of 256", hand_out, LINES, LINE_PASSES);
+    printf("\n");
+    beside_sqlite();
+    return 0;
+}

@@ -1,0 +1,339 @@
+-- What the form of a line tells of its bytes, and how its fields are found one after the other. Assumes nothing.
+use mathlib.Core.Bool.{Bool, true, false, not, _&&_, false≢true}
+use mathlib.Core.List.{List, [], _∷_, _++_}
+use mathlib.Core.Path.{_≡_, refl, sym, ap, _∙_}
+use Prim.Native.Nat.{ℕ, zero, suc, _+_, _*_, _-_, _≤_, _<_}
+use native.Mathlib.Omega.{arith}
+use lib.Dec.{eqb, leb}
+use lib.ListN.{length, take, drop, getD}
+use borrow.Author.Tests.{eqb-true, eq-eqb, ne-eqb, leb-true, leb-false}
+use Rattle.base.specs.Choice.{both-true, both-pass, same-truth, test-cases}
+use Rattle.base.specs.ListLaws.{all-imply}
+use Rattle.base.specs.Lists.{all, begins, same, total}
+use Rattle.base.specs.Text.{bytes}
+use Rattle.cards.specs.ByteLaws.{digit, in-between, letter, name-byte, within}
+use Rattle.cards.specs.Bytes.{between, comma, isDigit, isLetter, isNameByte}
+use Rattle.cards.specs.Cards.{onFirst}
+use Rattle.values.specs.Conversion.{decimal, digitOf}
+use Rattle.register.specs.Line.{
+  fields,
+  isContract,
+  isGrain,
+  isDecimal,
+  isNumber,
+  isTonnes,
+  isPrice,
+  each,
+  isLine,
+  contractOf,
+}
+
+-- v with so many zeros behind it
+unfoldable scale : ℕ → ℕ → ℕ
+scale zero v = v
+scale (suc n) v = scale n (v * 10)
+
+scale-more : (n v w : ℕ) → v ≤ w → scale n v ≤ scale n w
+unfolding scale
+scale-more zero v w h = h
+scale-more (suc n) v w h = scale-more n (v * 10) (w * 10) (omega arith)
+
+scale-longer : (n k v : ℕ) → n ≤ k → scale n v ≤ scale k v
+unfolding scale
+scale-longer zero zero v h = omega arith
+scale-longer zero (suc k) v h =
+    let rest = scale-longer zero k (v * 10) (omega arith) in
+    omega arith
+scale-longer (suc n) zero v h = absurd (omega arith)
+scale-longer (suc n) (suc k) v h = scale-longer n k (v * 10) (omega arith)
+
+-- the value of digits behind a value: not below it with as many zeros, and below the next one
+decimal-low : (v : ℕ) (s : List ℕ) → scale (length s) v ≤ decimal v s
+unfolding scale decimal
+decimal-low v [] = omega arith
+decimal-low v (b ∷ s) =
+    let rest = decimal-low (v * 10 + digitOf b) s in
+    let more = scale-more (length s) (v * 10) (v * 10 + digitOf b) (omega arith) in
+    omega arith
+
+digit-value : (b : ℕ) → isDigit b ≡ true → digitOf b ≡ b - 48
+unfolding digitOf
+digit-value b e =
+    let range = digit b e in
+    rw (ne-eqb b 32 (λ is. omega arith))
+
+decimal-high : (v : ℕ) (s : List ℕ) → all isDigit s ≡ true → decimal v s < scale (length s) (v + 1)
+unfolding scale decimal all
+decimal-high v [] a = omega arith
+decimal-high v (b ∷ s) a =
+    let parts = both-true (isDigit b) (all isDigit s) a in
+    let range = digit b (parts .0) in
+    let value = digit-value b (parts .0) in
+    let rest = decimal-high (v * 10 + digitOf b) s (parts .1) in
+    let more = scale-more (length s) (v * 10 + digitOf b + 1) ((v + 1) * 10) (omega arith) in
+    omega arith
+
+-- the first digit of a number isn't 0
+pub lead : (b : ℕ) (s : List ℕ) → not (begins (bytes "0") (b ∷ s)) ≡ not (eqb b 48)
+unfolding begins bytes same
+lead b s = test-cases (λ t. not (t && true) ≡ not t) (eqb b 48) (λ _. refl) (λ _. refl)
+
+-- A decimal number without leading zeros is at most 9 .. 9 exactly when it has no more digits.
+module _ (k most : ℕ) (size : most + 1 ≡ scale k 1) where
+  number-short : (f : List ℕ) → isDecimal f ≡ true → between 1 most (decimal 0 f) ≡ between 1 k (length f)
+  unfolding isDecimal between decimal scale all
+  number-short [] e = refl
+  number-short (b ∷ s) e =
+      let parts = both-true (all isDigit (b ∷ s)) (not (begins (bytes "0") (b ∷ s))) e in
+      let digits = both-true (isDigit b) (all isDigit s) (parts .0) in
+      let range = digit b (digits .0) in
+      let value = digit-value b (digits .0) in
+      let some : ¬ (b ≡ 48) = λ is. false≢true (sym (ap not (eq-eqb b 48 is)) ∙ (sym (lead b s) ∙ parts .1)) in
+      let n = length s in
+      let d = 0 + digitOf b in
+      let low = decimal-low d s in
+      let high = decimal-high d s (digits .1) in
+      let one = scale-more n 1 d (omega arith) in
+      let ten = scale-more n (d + 1) 10 (omega arith) in
+      same-truth (between 1 most (decimal d s)) (between 1 k (suc n))
+      (λ fits. let h = within 1 most (decimal d s) fits .1 in
+      in-between 1 k (suc n) (omega arith)
+      (test-cases (λ _. suc n ≤ k) (leb (suc n) k) (leb-true (suc n) k)
+      (λ e′. absurd (let longer = scale-longer k n 1 (omega (arith, leb-false (suc n) k e′)) in omega arith))))
+      (λ few. let h = within 1 k (suc n) few .1 in
+      let longer = scale-longer (suc n) k 1 h in
+      in-between 1 most (decimal d s) (let z = scale-longer 0 n 1 (omega arith) in omega arith) (omega arith))
+
+  -- such a number, by its digits
+  number-digits : (f : List ℕ) → isNumber most f ≡ (isDecimal f && between 1 k (length f))
+  unfolding isNumber
+  number-digits f =
+      test-cases (λ t. (isDecimal f ≡ t) → (t && between 1 most (decimal 0 f)) ≡ (t && between 1 k (length f))) (isDecimal f)
+      (λ e _. number-short f e) (λ _ _. refl) refl
+
+pub tonnes-digits : (f : List ℕ) → isTonnes f ≡ (isDecimal f && between 1 5 (length f))
+unfolding isTonnes scale
+tonnes-digits = number-digits 5 99_999 refl
+
+pub price-digits : (f : List ℕ) → isPrice f ≡ (isDecimal f && between 1 6 (length f))
+unfolding isPrice scale
+price-digits = number-digits 6 999_999 refl
+
+-- The fields of a line: there is one more than there are commas, and its bytes are theirs and the commas.
+sizes : (l : List ℕ) → suc (length l) ≡ total (λ f. suc (length f)) (fields l)
+unfolding fields onFirst total
+sizes [] = refl
+sizes (b ∷ l) =
+    let rest = sizes l in
+    test-cases (λ t. suc (suc (length l)) ≡ total {A = List ℕ} (λ f. suc (length f))
+    (elim t [ true ↦ [] ∷ fields l | false ↦ onFirst b (fields l) ])) (eqb b comma)
+    (λ _. omega arith)
+    (λ _. longer (fields l) rest)
+  where
+    longer : (fs : List (List ℕ)) → suc (length l) ≡ total (λ f. suc (length f)) fs
+        → suc (suc (length l)) ≡ total (λ f. suc (length f)) (onFirst b fs)
+    longer [] e = absurd (omega arith)
+    longer (f ∷ fs) e = omega arith
+
+-- a test that all bytes of all fields pass, and the comma, is passed by all bytes of the line
+fields-all : (p : ℕ → Bool) → p comma ≡ true → (l : List ℕ) → all (all p) (fields l) ≡ true → all p l ≡ true
+unfolding fields onFirst all
+fields-all p c [] a = refl
+fields-all p c (b ∷ l) a =
+    test-cases (λ t. (eqb b comma ≡ t) → all (all p) (elim t [ true ↦ [] ∷ fields l | false ↦ onFirst b (fields l) ]) ≡ true
+    → (p b && all p l) ≡ true) (eqb b comma)
+    (λ is _ h. both-pass (ap p (eqb-true b comma is) ∙ c) (fields-all p c l h))
+    (λ _ _ h. let parts = joins (fields l) h in both-pass (parts .0) (fields-all p c l (parts .1)))
+    refl a
+  where
+    joins : (fs : List (List ℕ)) → all (all p) (onFirst b fs) ≡ true → (p b ≡ true) × (all (all p) fs ≡ true)
+    joins [] h = let first = both-true (p b && true) true h in (both-true (p b) true (first .0) .0, refl)
+    joins (f ∷ fs) h =
+        let parts = both-true (p b && all p f) (all (all p) fs) h in
+        let first = both-true (p b) (all p f) (parts .0) in
+        (first .0, both-pass (first .1) (parts .1))
+
+-- What a line of good form is: four fields, each with its form.
+pub record Formed (line : List ℕ) : Type 0 where
+  pub contract : List ℕ
+  pub grain : List ℕ
+  pub tonnes : List ℕ
+  pub price : List ℕ
+  pub parts : fields line ≡ contract ∷ grain ∷ tonnes ∷ price ∷ []
+  pub contract-form : isContract contract ≡ true
+  pub grain-form : isGrain grain ≡ true
+  pub tonnes-form : isTonnes tonnes ≡ true
+  pub price-form : isPrice price ≡ true
+
+-- fields that pass their tests: the first passes the first, the others theirs; and without tests there are none
+record First (t : List ℕ → Bool) (ts : List (List ℕ → Bool)) (fs : List (List ℕ)) : Type 0 where
+  field : List ℕ
+  rest : List (List ℕ)
+  is : fs ≡ field ∷ rest
+  passes : t field ≡ true
+  others : each ts rest ≡ true
+
+each-first : (t : List ℕ → Bool) (ts : List (List ℕ → Bool)) (fs : List (List ℕ)) → each (t ∷ ts) fs ≡ true → First t ts fs
+unfolding each
+each-first t ts [] e = absurd (false≢true e)
+each-first t ts (f ∷ fs) e =
+    let parts = both-true (t f) (each ts fs) e in
+    record { field = f; rest = fs; is = refl; passes = parts .0; others = parts .1 }
+
+each-none : (fs : List (List ℕ)) → each [] fs ≡ true → fs ≡ []
+unfolding each
+each-none [] e = refl
+each-none (f ∷ fs) e = absurd (false≢true e)
+
+pub formed : (line : List ℕ) → isLine line ≡ true → Formed line
+unfolding isLine
+formed line e =
+    let one = each-first isContract (isGrain ∷ isTonnes ∷ isPrice ∷ []) (fields line) e in
+    let two = each-first isGrain (isTonnes ∷ isPrice ∷ []) (one .rest) (one .others) in
+    let three = each-first isTonnes (isPrice ∷ []) (two .rest) (two .others) in
+    let four = each-first isPrice [] (three .rest) (three .others) in
+    let first : List ℕ → List (List ℕ) → List (List ℕ) = λ f fs. f ∷ fs in
+    let last = four .is ∙ ap (first (four .field)) (each-none (four .rest) (four .others)) in
+    record {
+      contract = one .field;
+      grain = two .field;
+      tonnes = three .field;
+      price = four .field;
+      parts = one .is ∙ ap (first (one .field)) (two .is ∙ ap (first (two .field)) (three .is ∙ ap (first (three .field)) last));
+      contract-form = one .passes;
+      grain-form = two .passes;
+      tonnes-form = three .passes;
+      price-form = four .passes;
+    }
+
+-- a byte that isn't zero
+unfoldable pub isText : ℕ → Bool
+isText b = not (eqb b 0)
+
+module _ {line : List ℕ} (f : Formed line) where
+  contract-size : (1 ≤ length (f .contract)) × (length (f .contract) ≤ 8)
+  unfolding isContract
+  contract-size = within 1 8 (length (f .contract)) (both-true _ _ (f .contract-form) .0)
+
+  pub contract-is : contractOf line ≡ f .contract
+  unfolding contractOf
+  contract-is = ap (λ fs. getD fs 0 []) (f .parts)
+
+-- W2 the longest line has 24 bytes, and no line is empty
+pub line-size : (line : List ℕ) → isLine line ≡ true → (1 ≤ length line) × (length line ≤ 24)
+unfolding isGrain total
+line-size line e =
+    let f = formed line e in
+    let c = contract-size f in
+    let g = eqb-true (length (f .grain)) 2 (both-true _ _ (f .grain-form) .0) in
+    let t = within 1 5 (length (f .tonnes)) (both-true (isDecimal (f .tonnes)) _ (sym (tonnes-digits (f .tonnes)) ∙ f .tonnes-form) .1) in
+    let p = within 1 6 (length (f .price)) (both-true (isDecimal (f .price)) _ (sym (price-digits (f .price)) ∙ f .price-form) .1) in
+    let whole = sizes line ∙ ap (total (λ x. suc (length x))) (f .parts) in
+    (omega arith, omega arith)
+
+-- W2.3 no byte of a line is zero
+text : (b : ℕ) → 48 ≤ b → isText b ≡ true
+unfolding isText
+text b h = ap not (ne-eqb b 0 (λ e. omega arith))
+
+decimal-text : (most : ℕ) (f : List ℕ) → isNumber most f ≡ true → all isText f ≡ true
+unfolding isNumber isDecimal
+decimal-text most f e =
+    all-imply isDigit isText (λ b d. text b (digit b d .0)) f (both-true _ _ (both-true (isDecimal f) _ e .0) .0)
+
+pub line-text : (line : List ℕ) → isLine line ≡ true → all isText line ≡ true
+unfolding isContract isGrain isTonnes isPrice all isText comma
+line-text line e =
+    let f = formed line e in
+    let c = all-imply isNameByte isText (λ b h. text b (name-byte b h .0)) (f .contract)
+    (both-true (between 1 8 (length (f .contract))) _ (f .contract-form) .1) in
+    let g = all-imply isLetter isText (λ b h. let range = letter b h in text b (omega arith)) (f .grain)
+    (both-true (eqb (length (f .grain)) 2) _ (f .grain-form) .1) in
+    let t = decimal-text 99_999 (f .tonnes) (f .tonnes-form) in
+    let p = decimal-text 999_999 (f .price) (f .price-form) in
+    fields-all isText refl line (rw (f .parts) (both-pass c (both-pass g (both-pass t (both-pass p refl)))))
+
+-- there is a first field
+abbrev pub firstField : List ℕ → List ℕ
+firstField l = getD (fields l) 0 []
+
+put-first : (b : ℕ) (fs : List (List ℕ)) → getD (onFirst b fs) 0 [] ≡ b ∷ getD fs 0 []
+unfolding onFirst
+put-first b [] = refl
+put-first b (f ∷ fs) = refl
+
+put-some : (b : ℕ) (fs : List (List ℕ)) → onFirst b fs ≡ getD (onFirst b fs) 0 [] ∷ drop 1 (onFirst b fs)
+unfolding onFirst
+put-some b [] = refl
+put-some b (f ∷ fs) = refl
+
+pub some-field : (l : List ℕ) → fields l ≡ firstField l ∷ drop 1 (fields l)
+unfolding fields
+some-field [] = refl
+some-field (b ∷ l) =
+    test-cases
+    (λ t. (let fs = elim t as (λ _. List (List ℕ)) [ true ↦ [] ∷ fields l | false ↦ onFirst b (fields l) ] in fs ≡ getD fs 0 [] ∷ drop 1 fs))
+    (eqb b comma) (λ _. refl) (λ _. put-some b (fields l))
+
+-- The fields from a place on, found by a run of bytes that pass a test; no comma passes it.
+module _ (p : ℕ → Bool) (c : p comma ≡ false) where
+  not-comma : (x : ℕ) → p x ≡ true → eqb x comma ≡ false
+  not-comma x e = ne-eqb x comma (λ is. false≢true (sym c ∙ (ap p (sym is) ∙ e)))
+
+  -- bytes that all pass, with nothing behind them, with a comma, with another byte
+  pub run-whole : (xs : List ℕ) → all p xs ≡ true → fields xs ≡ xs ∷ []
+  unfolding fields onFirst all
+  run-whole [] a = refl
+  run-whole (x ∷ xs) a =
+      let parts = both-true (p x) (all p xs) a in
+      rw (fields, not-comma x (parts .0), run-whole xs (parts .1))
+
+  pub run-comma : (xs ys : List ℕ) → all p xs ≡ true → fields (xs ++ (comma ∷ ys)) ≡ xs ∷ fields ys
+  unfolding fields onFirst all
+  run-comma [] ys a = rw (fields, eq-eqb comma comma refl)
+  run-comma (x ∷ xs) ys a =
+      let parts = both-true (p x) (all p xs) a in
+      rw (fields, not-comma x (parts .0), run-comma xs ys (parts .1))
+
+  pub run-other : (xs : List ℕ) (b : ℕ) (ys : List ℕ) → all p xs ≡ true → p b ≡ false → eqb b comma ≡ false
+      → all p (firstField (xs ++ (b ∷ ys))) ≡ false
+  unfolding fields all
+  run-other [] b ys a fails other = rw (fields, other, put-first b (fields ys), all, fails)
+  run-other (x ∷ xs) b ys a fails other =
+      let parts = both-true (p x) (all p xs) a in
+      rw (fields, not-comma x (parts .0), put-first x (fields (xs ++ (b ∷ ys))), all, parts .0) (run-other xs b ys (parts .1) fails other)
+
+-- tests on fields of which the first doesn't pass; and where no field is left, or one too many
+pub first-fails : (t : List ℕ → Bool) (ts : List (List ℕ → Bool)) (l : List ℕ) → t (firstField l) ≡ false → each (t ∷ ts) (fields l) ≡ false
+unfolding each
+first-fails t ts l e = rw (some-field l, e)
+
+-- a line begins with its contract
+pub contract-front : (line : List ℕ) → take (length (contractOf line)) line ≡ contractOf line
+unfolding contractOf fields
+contract-front [] = refl
+contract-front (b ∷ line) =
+    test-cases
+    (λ t. (let f = getD (elim t as (λ _. List (List ℕ)) [ true ↦ [] ∷ fields line | false ↦ onFirst b (fields line) ]) 0 [] in
+    take (length f) (b ∷ line) ≡ f))
+    (eqb b comma) (λ _. refl)
+    (λ _. ap (λ f. take (length f) (b ∷ line)) (put-first b (fields line)) ∙ ap (λ l. b ∷ l) (contract-front line)
+    ∙ sym (put-first b (fields line)))
+
+-- a contract has 1 to 8 bytes, letters or digits
+pub record Contract (line : List ℕ) : Type 0 where
+  pub some : 1 ≤ length (contractOf line)
+  pub short : length (contractOf line) ≤ 8
+  pub names : all isNameByte (contractOf line) ≡ true
+
+pub contract-form : (line : List ℕ) → isLine line ≡ true → Contract line
+unfolding isContract
+contract-form line e =
+    let f = formed line e in
+    let size = contract-size f in
+    let is = contract-is f in
+    record {
+      some = omega (arith, ap length is);
+      short = omega (arith, ap length is);
+      names = ap (all isNameByte) is ∙ both-true (between 1 8 (length (f .contract))) _ (f .contract-form) .1;
+    }

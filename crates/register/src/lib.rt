@@ -1,0 +1,22 @@
+// Definitions: the register of contracts of document 02. For code: the layout of specs/Buffer, and the numbers that a call gives.
+
+// the most lines, and the bytes of a register, of its header and of a line's slot
+pub const LINES: usize = 256;
+
+pub const SIZE: usize = 8192;
+
+pub const HEADER: usize = 1024;
+
+pub const SLOT: usize = 28;
+
+// the bytes that a line is handed out in
+pub const LINE_SIZE: usize = 32;
+
+// the buffer is too small or against its rules; a line breaks its form; its contract is held already; all places are taken
+pub const BAD_BUFFER: u32 = 14;
+
+pub const BAD_LINE: u32 = 25;
+
+pub const CONTRACT_HELD: u32 = 26;
+
+pub const FULL: u32 = 27;

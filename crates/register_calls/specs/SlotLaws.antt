@@ -1,0 +1,317 @@
+-- Slots read one after the other: the line of a slot, the lines and keys so far, and what each end of the reading finds. Assumes nothing.
+use mathlib.Core.Bool.{Bool, true, false, cond, _&&_, false≢true, and-false}
+use mathlib.Core.List.{List, [], _∷_, _++_, append-assoc, append-nil, map-append}
+use mathlib.Core.Path.{_≡_, refl, sym, ap, ap₂, _∙_}
+use Prim.Native.Nat.{ℕ, zero, suc, _+_, _*_, _-_, _≤_, _<_}
+use native.Mathlib.Nat.{add-zero}
+use native.Mathlib.Numerals.{add-one}
+use native.Mathlib.Omega.{arith}
+use lib.Dec.{eqb}
+use lib.ListN.{length, take, drop, getD, length-append, length-set}
+use lib.Seq.{drop-drop, getD-drop, take-at, take-take, take-suc-set}
+use borrow.Author.Tests.{not-true}
+use Rattle.base.specs.Choice.{both-true, both-pass, test-cases}
+use Rattle.base.specs.ListLaws.{all-append, stretch-end}
+use Rattle.base.specs.Lists.{all, among}
+use Rattle.cards.specs.Bytes.{isNameByte}
+use Rattle.cards.specs.Cards.{withoutBlanks}
+use Rattle.packer.specs.Keys.{keyOf}
+use Rattle.search.specs.NextLaws.{next-until}
+use Rattle.search.specs.Passing.{NextByte, until}
+use Rattle.register.specs.Buffer.{isZero, slotSize, lineIn, linesIn, slotKeeps, slotsKeep}
+use Rattle.register.specs.BufferLaws.{line-front}
+use Rattle.register.specs.Line.{contractOf, isLine}
+use Rattle.register.specs.Register.{Register, mostLines, differ, holds}
+use Rattle.register.specs.RegisterLaws.{differ-more, differ-split}
+use Rattle.register_lines.specs.FieldLaws.{contract-size}
+use Rattle.register_lines.specs.Fields.{Run}
+use Rattle.register_calls.specs.declared.Held.{Held}
+use Rattle.register_calls.specs.declared.Held.the-variants.{Lines, Broken}
+use Rattle.register_calls.specs.KeyLaws.{key-read, key-some, keys-hold, none-marked}
+use Rattle.register_calls.specs.Reading.{
+  EndFinds,
+  EndFound,
+  Finds,
+  Found,
+  Marked,
+  Noted,
+  keyIn,
+  keysOf,
+  markCount,
+  slotKey,
+  slotsHold,
+}
+
+-- The line of a slot: its bytes up to the first zero.
+line-until : (slot : List ℕ) → until 0 slot ≡ length (lineIn slot)
+unfolding until lineIn
+line-until [] = refl
+line-until (b ∷ slot) =
+    test-cases
+    (λ t. elim t as (λ _. ℕ) [ true ↦ 0 | false ↦ suc (until 0 slot) ] ≡ length {A = ℕ}
+    (elim t as (λ _. List ℕ) [ true ↦ [] | false ↦ b ∷ lineIn slot ]))
+    (isZero b) (λ _. refl) (λ _. ap suc (line-until slot))
+
+pub line-next : (slot : List ℕ) (n : ℕ) → NextByte slot 0 0 n → n ≡ length (lineIn slot)
+line-next slot n next = omega (arith, next-until slot 0 0 n next, line-until slot)
+
+pub line-take : (slot : List ℕ) (n : ℕ) → n ≡ length (lineIn slot) → take n slot ≡ lineIn slot
+line-take slot n e =
+    ap (take n) (sym (line-front slot)) ∙ take-at (lineIn slot) (drop (length (lineIn slot)) slot) n (sym e)
+
+pub line-within : (slot : List ℕ) → length (lineIn slot) ≤ length slot
+line-within slot = omega (arith, ap length (line-front slot), length-append (lineIn slot) (drop (length (lineIn slot)) slot))
+
+-- the bits of all bytes from a place on tell whether they are zero
+pub zeros-behind : (l : List ℕ) (at bits : ℕ) → eqb bits 0 ≡ all isZero (take (length l - at) (drop at l)) → all isZero (drop at l) ≡ eqb bits 0
+zeros-behind l at bits e = ap (all isZero) (sym (stretch-end l at (length l - at) refl)) ∙ sym e
+
+-- The key of a slot.
+module _ (slot : List ℕ) (n : ℕ) (is : n ≡ length (lineIn slot)) where
+  pub slot-broken : all isZero (drop n slot) ≡ false → 0 ≡ slotKey slot
+  unfolding slotKey slotKeeps
+  slot-broken e =
+      let behind : all isZero (drop (length (lineIn slot)) slot) ≡ false = ap (λ k. all isZero (drop k slot)) (sym is) ∙ e in
+      sym (ap (λ b. cond b (keyIn (lineIn slot)) 0) (ap (λ b. isLine (lineIn slot) && b) behind ∙ and-false (isLine (lineIn slot))))
+
+  pub slot-formless : isLine (take n slot) ≡ false → 0 ≡ slotKey slot
+  unfolding slotKey slotKeeps
+  slot-formless e =
+      let line = sym (ap isLine (line-take slot n is)) ∙ e in
+      sym (ap (λ b. cond (b && all isZero (drop (length (lineIn slot)) slot)) (keyIn (lineIn slot)) 0) line)
+
+  pub contract-within : (contract : ℕ) → Run isNameByte (take n slot) 0 contract → contract ≤ n
+  contract-within contract r = omega (arith, r .inside, ap length (line-take slot n is))
+
+  pub slot-keyed : all isZero (drop n slot) ≡ true → isLine (take n slot) ≡ true → (contract : ℕ) → Run isNameByte (take n slot) 0 contract
+      → keyOf (withoutBlanks (take 8 (take contract slot))) ≡ slotKey slot
+  unfolding slotKey slotKeeps
+  slot-keyed e form contract r =
+      let line = line-take slot n is in
+      let behind : all isZero (drop (length (lineIn slot)) slot) ≡ true = ap (λ k. all isZero (drop k slot)) (sym is) ∙ e in
+      ap (λ l. keyOf (withoutBlanks (take 8 l))) (sym (take-take contract n slot (contract-within contract r)))
+      ∙ key-read (take n slot) contract form (contract-size (take n slot) contract r form)
+      ∙ ap keyIn line
+      ∙ sym (ap (λ b. cond b (keyIn (lineIn slot)) 0) (both-pass (sym (ap isLine line) ∙ form) behind))
+
+-- a slot with a key keeps its rule, one without breaks it
+pub key-holds : (slot : List ℕ) → ¬ (slotKey slot ≡ 0) → (slotKeeps slot ≡ true) × (slotKey slot ≡ keyIn (lineIn slot))
+unfolding slotKey
+key-holds slot n =
+    test-cases (λ t. ¬ (cond t (keyIn (lineIn slot)) 0 ≡ 0) → (t ≡ true) × (cond t (keyIn (lineIn slot)) 0 ≡ keyIn (lineIn slot))) (slotKeeps slot)
+    (λ _ _. (refl, refl)) (λ _ no-key. absurd (no-key refl)) n
+
+pub key-lacks : (slot : List ℕ) → slotKey slot ≡ 0 → slotKeeps slot ≡ false
+unfolding slotKey slotKeeps
+key-lacks slot z =
+    test-cases (λ t. slotKeeps slot ≡ t → t ≡ false) (slotKeeps slot)
+    (λ e _. absurd (key-some (lineIn slot) (both-true (isLine (lineIn slot)) _ e .0) (sym (ap (λ b. cond b (keyIn (lineIn slot)) 0) e) ∙ z)))
+    (λ _ _. refl) refl
+
+-- Slots read up to slot k: the lines so far, with their keys, all marked; what is left to read, and to judge.
+pub record ReadTo (slots keys marks : List ℕ) (k : ℕ) : Type 0 where
+  pub done : Register
+  pub count : length done ≡ k
+  pub lines : linesIn mostLines slots ≡ done ++ linesIn (mostLines - k) (drop (slotSize * k) slots)
+  pub keep : slotsKeep mostLines slots ≡ slotsKeep (mostLines - k) (drop (slotSize * k) slots)
+  pub good : all isLine done ≡ true
+  pub different : differ done ≡ true
+  pub keyed : take k keys ≡ keysOf done
+  pub marked : Marked keys marks k
+  pub size : length keys ≡ mostLines
+
+pub read-none : (slots keys marks : List ℕ) → length keys ≡ mostLines → length marks ≡ markCount → ReadTo slots keys marks 0
+unfolding all differ
+read-none slots keys marks size marked =
+    record {
+      done = [];
+      count = refl;
+      lines = refl;
+      keep = refl;
+      good = refl;
+      different = refl;
+      keyed = refl;
+      marked = none-marked keys marks marked;
+      size = size;
+    }
+
+-- one slot of several
+lines-end : (n : ℕ) (l : List ℕ) → isZero (getD l 0 0) ≡ true → linesIn (suc n) l ≡ []
+unfolding linesIn
+lines-end n l z = rw (linesIn, z)
+
+keep-end : (n : ℕ) (l : List ℕ) → isZero (getD l 0 0) ≡ true → slotsKeep (suc n) l ≡ all isZero l
+unfolding slotsKeep
+keep-end n l z = rw (slotsKeep, z)
+
+lines-first : (n : ℕ) (l : List ℕ) → isZero (getD l 0 0) ≡ false → linesIn (suc n) l ≡ lineIn (take slotSize l) ∷ linesIn n (drop slotSize l)
+unfolding linesIn
+lines-first n l z = rw (linesIn, z)
+
+keep-first : (n : ℕ) (l : List ℕ) → isZero (getD l 0 0) ≡ false → slotsKeep (suc n) l ≡ (slotKeeps (take slotSize l) && slotsKeep n (drop slotSize l))
+unfolding slotsKeep
+keep-first n l z = rw (slotsKeep, z)
+
+-- slot k, and those behind it
+module _ (slots : List ℕ) (k : ℕ) (h : k < mostLines) where
+  abbrev here : List ℕ
+  here = drop (slotSize * k) slots
+
+  abbrev next : List ℕ
+  next = drop (slotSize * (k + 1)) slots
+
+  left : mostLines - k ≡ suc (mostLines - (k + 1))
+  left = omega arith
+
+  first-is : getD here 0 0 ≡ getD slots (slotSize * k) 0
+  first-is = getD-drop (slotSize * k) slots 0 0 ∙ ap (λ n. getD slots n 0) (add-zero (slotSize * k))
+
+  next-is : drop slotSize here ≡ next
+  next-is =
+      let at : slotSize * k + slotSize ≡ slotSize * (k + 1) = omega arith in
+      drop-drop slotSize (slotSize * k) slots ∙ ap (λ n. drop n slots) at
+
+  module _ (z : isZero (getD slots (slotSize * k) 0) ≡ true) where
+    lines-stop : linesIn (mostLines - k) here ≡ []
+    lines-stop = ap (λ n. linesIn n here) left ∙ lines-end (mostLines - (k + 1)) here (ap isZero first-is ∙ z)
+
+    keep-stop : slotsKeep (mostLines - k) here ≡ all isZero here
+    keep-stop = ap (λ n. slotsKeep n here) left ∙ keep-end (mostLines - (k + 1)) here (ap isZero first-is ∙ z)
+
+  module _ (z : isZero (getD slots (slotSize * k) 0) ≡ false) where
+    lines-more : linesIn (mostLines - k) here ≡ lineIn (take slotSize here) ∷ linesIn (mostLines - (k + 1)) next
+    lines-more =
+        ap (λ n. linesIn n here) left
+        ∙ lines-first (mostLines - (k + 1)) here (ap isZero first-is ∙ z)
+        ∙ ap (λ l. lineIn (take slotSize here) ∷ linesIn (mostLines - (k + 1)) l) next-is
+
+    keep-more : slotsKeep (mostLines - k) here ≡ (slotKeeps (take slotSize here) && slotsKeep (mostLines - (k + 1)) next)
+    keep-more =
+        ap (λ n. slotsKeep n here) left
+        ∙ keep-first (mostLines - (k + 1)) here (ap isZero first-is ∙ z)
+        ∙ ap (λ l. slotKeeps (take slotSize here) && slotsKeep (mostLines - (k + 1)) l) next-is
+
+-- what a reading finds
+found-lines : (keeps : Bool) (register : Register) (keys : List ℕ) (n : ℕ) → length keys ≡ mostLines → keeps ≡ true → n ≡ length register
+    → take n keys ≡ keysOf register → Found keeps register keys (Lines n)
+unfolding Finds
+found-lines keeps register keys n size e count keyed = record { finds = (e, count, keyed); size = size }
+
+pub found-broken : (keeps : Bool) (register : Register) (keys : List ℕ) → length keys ≡ mostLines → keeps ≡ false → Found keeps register keys Broken
+unfolding Finds
+found-broken keeps register keys size e = record { finds = e; size = size }
+
+-- what is found at slot k, where the lines end
+pub end-found : (slots : List ℕ) (k : ℕ) → all isZero (drop (slotSize * k) slots) ≡ true → EndFound slots k (Lines k)
+unfolding EndFinds
+end-found slots k e = record { finds = (refl, e) }
+
+pub end-broken : (slots : List ℕ) (k : ℕ) → all isZero (drop (slotSize * k) slots) ≡ false → EndFound slots k Broken
+unfolding EndFinds
+end-broken slots k e = record { finds = e }
+
+-- The reading at slot k: it ends, breaks off or goes on.
+module _ (slots keys marks : List ℕ) (k : ℕ) (r : ReadTo slots keys marks k) where
+  -- all slots are read
+  pub read-all : k ≡ mostLines → Found (slotsHold slots) (linesIn mostLines slots) keys (Lines k)
+  unfolding slotsHold linesIn slotsKeep
+  read-all full =
+      let none : mostLines - k ≡ 0 = omega arith in
+      let lines : linesIn mostLines slots ≡ r .done =
+      r .lines ∙ ap (λ n. r .done ++ linesIn n (drop (slotSize * k) slots)) none ∙ append-nil (r .done) in
+      let keep : slotsKeep mostLines slots ≡ true = r .keep ∙ ap (λ n. slotsKeep n (drop (slotSize * k) slots)) none in
+      found-lines (slotsHold slots) (linesIn mostLines slots) keys k (r .size)
+      (both-pass keep (ap differ lines ∙ r .different)) (sym (r .count) ∙ sym (ap length lines)) (r .keyed ∙ sym (ap keysOf lines))
+
+  module _ (h : k < mostLines) where
+    -- slot k is empty
+    module _ (z : isZero (getD slots (slotSize * k) 0) ≡ true) where
+      ended-lines : linesIn mostLines slots ≡ r .done
+      ended-lines = r .lines ∙ ap (λ l. r .done ++ l) (lines-stop slots k h z) ∙ append-nil (r .done)
+
+      ended-keep : slotsKeep mostLines slots ≡ all isZero (drop (slotSize * k) slots)
+      ended-keep = r .keep ∙ keep-stop slots k h z
+
+      pub read-ends : (held : Held) → EndFound slots k held → Found (slotsHold slots) (linesIn mostLines slots) keys held
+      unfolding EndFinds slotsHold
+      read-ends (Lines n) e =
+          let is = e .finds .0 in
+          found-lines (slotsHold slots) (linesIn mostLines slots) keys n (r .size)
+          (both-pass (ended-keep ∙ e .finds .1) (ap differ ended-lines ∙ r .different))
+          (is ∙ sym (r .count) ∙ sym (ap length ended-lines))
+          (ap (λ m. take m keys) is ∙ r .keyed ∙ sym (ap keysOf ended-lines))
+      read-ends Broken e =
+          found-broken (slotsHold slots) (linesIn mostLines slots) keys (r .size)
+          (ap (λ b. b && differ (linesIn mostLines slots)) (ended-keep ∙ e .finds))
+
+    -- slot k has a line
+    module _ (z : isZero (getD slots (slotSize * k) 0) ≡ false) where
+      abbrev slot : List ℕ
+      slot = take slotSize (drop (slotSize * k) slots)
+
+      pub read-bad : (key : ℕ) → key ≡ slotKey slot → key ≡ 0 → Found (slotsHold slots) (linesIn mostLines slots) keys Broken
+      unfolding slotsHold
+      read-bad key is none =
+          let lacks = key-lacks slot (sym is ∙ none) in
+          found-broken (slotsHold slots) (linesIn mostLines slots) keys (r .size)
+          (ap (λ b. b && differ (linesIn mostLines slots))
+          (r .keep ∙ keep-more slots k h z ∙ ap (λ b. b && slotsKeep (mostLines - (k + 1)) (drop (slotSize * (k + 1)) slots)) lacks))
+
+      module _ (key : ℕ) (is : key ≡ slotKey slot) (some : ¬ (key ≡ 0)) where
+        abbrev line : List ℕ
+        line = lineIn slot
+
+        abbrev rest : Register
+        rest = linesIn (mostLines - (k + 1)) (drop (slotSize * (k + 1)) slots)
+
+        holds-slot : (slotKeeps slot ≡ true) × (slotKey slot ≡ keyIn line)
+        holds-slot = key-holds slot (λ e. some (is ∙ e))
+
+        form : isLine line ≡ true
+        unfolding slotKeeps
+        form = both-true (isLine line) (all isZero (drop (length line) slot)) (holds-slot .0) .0
+
+        all-lines : linesIn mostLines slots ≡ r .done ++ (line ∷ rest)
+        all-lines = r .lines ∙ ap (λ l. r .done ++ l) (lines-more slots k h z)
+
+        -- whether the contract is held is whether its key is among those noted
+        held-is : among key (take k keys) ≡ holds (r .done) (contractOf line)
+        held-is =
+            ap₂ {C = Bool} among (is ∙ holds-slot .1) (r .keyed) ∙ keys-hold (r .done) line (r .good) form
+
+        pub read-twice : (keys′ : List ℕ) → length keys′ ≡ mostLines → among key (take k keys) ≡ true
+            → Found (slotsHold slots) (linesIn mostLines slots) keys′ Broken
+        unfolding slotsHold
+        read-twice keys′ size found =
+            let same : differ (linesIn mostLines slots) ≡ false =
+            test-cases (λ t. differ (linesIn mostLines slots) ≡ t → t ≡ false) (differ (linesIn mostLines slots))
+            (λ e _.
+            let apart = differ-split (r .done) line rest (sym (ap differ all-lines) ∙ e) in
+            absurd (false≢true (sym apart ∙ (sym held-is ∙ found))))
+            (λ _ _. refl) refl in
+            found-broken (slotsHold slots) (linesIn mostLines slots) keys′ size
+            (ap (λ b. slotsKeep mostLines slots && b) same ∙ and-false (slotsKeep mostLines slots))
+
+        pub read-more : (keys′ marks′ : List ℕ) → Noted keys k key true keys′ marks′ → ReadTo slots keys′ marks′ (k + 1)
+        unfolding all
+        read-more keys′ marks′ noted =
+            let fresh = not-true (among key (take k keys)) (sym (noted .new)) in
+            let kept = noted .kept refl in
+            record {
+              done = r .done ++ (line ∷ []);
+              count = omega (arith, length-append (r .done) (line ∷ []), r .count);
+              lines = all-lines ∙ sym (append-assoc (r .done) (line ∷ []) rest);
+              keep =
+                  r .keep
+                  ∙ keep-more slots k h z
+                  ∙ ap (λ b. b && slotsKeep (mostLines - (k + 1)) (drop (slotSize * (k + 1)) slots)) (holds-slot .0);
+              good = all-append isLine (r .done) (line ∷ []) (r .good) (both-pass form refl);
+              different = differ-more (r .done) line (r .different) (sym held-is ∙ fresh);
+              keyed =
+                  ap₂ {C = List ℕ} take (add-one k) kept
+                  ∙ take-suc-set keys k key (omega (arith, r .size))
+                  ∙ ap₂ {C = List ℕ} (λ l x. l ++ (x ∷ [])) (r .keyed) (is ∙ holds-slot .1)
+                  ∙ sym (map-append keyIn (r .done) (line ∷ []));
+              marked = noted .marked refl;
+              size = ap length kept ∙ length-set keys k key ∙ r .size;
+            }

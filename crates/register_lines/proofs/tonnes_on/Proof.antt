@@ -1,0 +1,73 @@
+-- `register_lines::tonnes_on` answers whether a comma stands at a place, and behind it the tonnes and what follows.
+-- Assumes nothing.
+use borrow.Author.Needs.{needs}
+use borrow.Author.Tests.{not-true, not-false}
+use mathlib.Core.Bool.{true}
+use mathlib.Core.List.{[], _∷_}
+use mathlib.Core.Path.{_≡_, sym, _∙_}
+use native.Mathlib.Omega.{arith}
+use lib.Dec.{eqb}
+use lib.ListN.{getD}
+use Rattle.register.specs.Line.{isTonnes, isPrice}
+use Rattle.register_lines.specs.FieldLaws.{no-comma, comma-inside, tonnes-behind}
+use Rattle.register_lines.proofs.tonnes_on.Statement.{statement}
+use Rattle.register_lines.proofs.tonnes_on.Tie as tie
+
+has-comma-requires : tie.Need-has-comma-requires
+has-comma-requires c κs = search needs
+
+returns : tie.Need-returns
+returns c =
+    let a = c .before .before .before .args in
+    no-comma (a .line .now) (a .at) (isTonnes ∷ isPrice ∷ [])
+    (sym (c .before .has-comma .ensures) ∙ not-true (c .before .has-comma .result) (c .if1 .taken))
+
+here : (c : tie.Else1) → (let a = c .before .before .before .args in eqb (getD (a .line .now) (a .at) 0) 44 ≡ true)
+here c = sym (c .before .has-comma .ensures) ∙ not-false (c .before .has-comma .result) (c .if1 .left)
+
+add-from : tie.Need-add-from
+add-from c = let a = c .before .before .before .args in omega (arith, comma-inside (a .line .now) (a .at) (here c))
+
+run-requires : tie.Need-run-requires
+run-requires c κs = let a = c .before .before .before .args in omega (arith, comma-inside (a .line .now) (a .at) (here c))
+
+is-number-requires : tie.Need-is-number-requires
+is-number-requires c κs = search needs
+
+returns-2 : tie.Need-returns-2
+returns-2 c =
+    let a = c .before .before .before .before .before .before .args in
+    let run = c .before .before .run in
+    rw (
+      tonnes-behind (a .line .now) (a .at) (run .result) (here (c .before .before .before)) (run .ensures),
+      sym (c .before .is-number .ensures) ∙ not-true (c .before .is-number .result) (c .if2 .taken),
+    )
+
+add-price-on : tie.Need-add-price-on
+add-price-on c = search needs
+
+price-on-requires : tie.Need-price-on-requires
+price-on-requires c κs = search needs
+
+returns-3 : tie.Need-returns-3
+returns-3 c =
+    let a = c .before .before .before .before .before .before .before .args in
+    let run = c .before .before .before .run in
+    rw (
+      tonnes-behind (a .line .now) (a .at) (run .result) (here (c .before .before .before .before)) (run .ensures),
+      sym (c .before .before .is-number .ensures) ∙ not-false (c .before .before .is-number .result) (c .before .if2 .left),
+    ) (c .price-on .ensures)
+
+pub tonnes-on-spec : {M : Type 1} → statement M
+tonnes-on-spec =
+    tie.close
+    (tie.spec
+    has-comma-requires
+    returns
+    add-from
+    run-requires
+    is-number-requires
+    returns-2
+    add-price-on
+    price-on-requires
+    returns-3)

@@ -1,0 +1,1 @@
+// Computed facts only: the definitions answer the register's scripts.
