@@ -87,7 +87,7 @@ extern "C" {
     X(STRIGOL_ZERO_DIVISOR, 18, "a divisor is zero")                                                                                           \
     X(STRIGOL_OUT_OF_RANGE, 19, "a number leaves its range")                                                                                   \
     X(STRIGOL_STRING_TOO_LONG, 20, "a string to be stored, or |n| in STRING(n,m), exceeds 1,024 bytes")                                       \
-    X(STRIGOL_OUTPUT_FULL, 21, "a record and its byte 10 exceed the output left")                                                             \
+    X(STRIGOL_OUTPUT_FULL, 21, "a record and its byte 10 exceed the output left; or the output can't hold the register's report")             \
     X(STRIGOL_REFERENCE_TOO_LONG, 22, "in the scan call, the reference exceeds 1,024 bytes")                                                  \
     X(STRIGOL_TOO_MANY_ELEMENTS, 23, "the pattern has over 20 elements")                                                                       \
     X(STRIGOL_BAD_ELEMENT, 24,                                                                                                                 \
@@ -127,6 +127,7 @@ enum strigol_size {
     STRIGOL_REGISTER_SIZE = 8192, /* a smaller buffer for a register gets 14 */
     STRIGOL_LINES_MOST = 256,     /* lines of a register */
     STRIGOL_LINE_SIZE = 32,       /* a line handed out, and zeros behind it */
+    STRIGOL_REPORT_MOST = 6434,   /* no report of a register is longer */
 
     STRIGOL_STRING_MOST = 1024, /* a string, a record, a reference of the scan call */
     STRIGOL_STRINGS = 32,       /* strings of a store */
@@ -235,6 +236,11 @@ uint32_t strigol_register_offer(uint8_t *buffer, size_t buffer_len, const uint8_
    `length` its length. Where no line stands, and with 14, the line is empty and its length 0; no line held is empty. */
 uint32_t strigol_register_line(const uint8_t *buffer, size_t buffer_len, uint64_t place, STRIGOL_LENT(uint8_t, line, STRIGOL_LINE_SIZE),
                                uint32_t *length);
+
+/* Puts the closing report of the register to the start of the output: 0; or 14, or 21 if the output can't hold it all, and nothing is put. The
+   report is each line held, in order and byte for byte, then TOTAL,count,tonnes,value: how many lines there are, the sum of their tonnes and that
+   of tonnes times price, in cents. Byte 10 ends each of them. `length` is set to how many bytes were put; those of the output behind them stay. */
+uint32_t strigol_register_report(const uint8_t *buffer, size_t buffer_len, uint8_t *output, size_t output_len, uint32_t *length);
 
 /* What stands in the buffers. The place of a string is 0 to 31 in order of first appearance in the deck, that of a number 0 to 31 in order of
    declaration. */

@@ -6,7 +6,7 @@ use Prim.Native.Nat.{ℕ, zero, suc, _+_, _*_, _-_, _≤_, _<_}
 use native.Mathlib.Omega.{arith}
 use lib.Dec.{eqb, leb}
 use lib.ListN.{length, take, drop, getD}
-use borrow.Author.Tests.{eqb-true, eq-eqb, ne-eqb, leb-true, leb-false}
+use borrow.Author.Tests.{eqb-true, eq-eqb, ne-eqb, leb-true, leb-false, le-leb}
 use Rattle.base.specs.Choice.{both-true, both-pass, same-truth, test-cases}
 use Rattle.base.specs.ListLaws.{all-imply}
 use Rattle.base.specs.Lists.{all, begins, same, total}
@@ -136,7 +136,7 @@ sizes (b ∷ l) =
     longer (f ∷ fs) e = omega arith
 
 -- a test that all bytes of all fields pass, and the comma, is passed by all bytes of the line
-fields-all : (p : ℕ → Bool) → p comma ≡ true → (l : List ℕ) → all (all p) (fields l) ≡ true → all p l ≡ true
+pub fields-all : (p : ℕ → Bool) → p comma ≡ true → (l : List ℕ) → all (all p) (fields l) ≡ true → all p l ≡ true
 unfolding fields onFirst all
 fields-all p c [] a = refl
 fields-all p c (b ∷ l) a =
@@ -231,27 +231,38 @@ line-size line e =
     let whole = sizes line ∙ ap (total (λ x. suc (length x))) (f .parts) in
     (omega arith, omega arith)
 
--- W2.3 no byte of a line is zero
-text : (b : ℕ) → 48 ≤ b → isText b ≡ true
-unfolding isText
-text b h = ap not (ne-eqb b 0 (λ e. omega arith))
+-- W2.3 no byte of a line is below the comma
+unfoldable pub isPlain : ℕ → Bool
+isPlain b = leb comma b
 
-decimal-text : (most : ℕ) (f : List ℕ) → isNumber most f ≡ true → all isText f ≡ true
+plain : (b : ℕ) → 48 ≤ b → isPlain b ≡ true
+unfolding isPlain comma
+plain b h = le-leb 44 b (omega arith)
+
+pub digit-plain : (b : ℕ) → isDigit b ≡ true → isPlain b ≡ true
+digit-plain b d = plain b (digit b d .0)
+
+number-plain : (most : ℕ) (f : List ℕ) → isNumber most f ≡ true → all isPlain f ≡ true
 unfolding isNumber isDecimal
-decimal-text most f e =
-    all-imply isDigit isText (λ b d. text b (digit b d .0)) f (both-true _ _ (both-true (isDecimal f) _ e .0) .0)
+number-plain most f e = all-imply isDigit isPlain digit-plain f (both-true _ _ (both-true (isDecimal f) _ e .0) .0)
 
-pub line-text : (line : List ℕ) → isLine line ≡ true → all isText line ≡ true
-unfolding isContract isGrain isTonnes isPrice all isText comma
-line-text line e =
+pub line-plain : (line : List ℕ) → isLine line ≡ true → all isPlain line ≡ true
+unfolding isContract isGrain isTonnes isPrice all isPlain comma
+line-plain line e =
     let f = formed line e in
-    let c = all-imply isNameByte isText (λ b h. text b (name-byte b h .0)) (f .contract)
+    let c = all-imply isNameByte isPlain (λ b h. plain b (name-byte b h .0)) (f .contract)
     (both-true (between 1 8 (length (f .contract))) _ (f .contract-form) .1) in
-    let g = all-imply isLetter isText (λ b h. let range = letter b h in text b (omega arith)) (f .grain)
+    let g = all-imply isLetter isPlain (λ b h. let range = letter b h in plain b (omega arith)) (f .grain)
     (both-true (eqb (length (f .grain)) 2) _ (f .grain-form) .1) in
-    let t = decimal-text 99_999 (f .tonnes) (f .tonnes-form) in
-    let p = decimal-text 999_999 (f .price) (f .price-form) in
-    fields-all isText refl line (rw (f .parts) (both-pass c (both-pass g (both-pass t (both-pass p refl)))))
+    let t = number-plain 99_999 (f .tonnes) (f .tonnes-form) in
+    let p = number-plain 999_999 (f .price) (f .price-form) in
+    fields-all isPlain refl line (rw (f .parts) (both-pass c (both-pass g (both-pass t (both-pass p refl)))))
+
+-- so none is zero
+pub line-text : (line : List ℕ) → isLine line ≡ true → all isText line ≡ true
+unfolding isPlain isText comma
+line-text line e =
+    all-imply isPlain isText (λ b h. ap not (ne-eqb b 0 (λ z. omega (arith, leb-true 44 b h)))) line (line-plain line e)
 
 -- there is a first field
 abbrev pub firstField : List ℕ → List ℕ
