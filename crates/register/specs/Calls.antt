@@ -61,6 +61,6 @@ putting put output =
     (record { number = 0; left = put ++ drop (length put) output; size = length put })
     (puttingNothing 21 output)
 
--- W4.1 "At the close staff print the register."; 14 first
+-- W4.1 "At the close staff print the register."; D1 "A call gives the lowest number that applies": 14 before 21
 unfoldable pub reportCall : (buffer output : List ℕ) → ReportCalled
 reportCall buffer output = cond (bufferKeeps buffer) (putting (report (registerIn buffer)) output) (puttingNothing 14 output)

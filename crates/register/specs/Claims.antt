@@ -19,7 +19,7 @@ pub data Observed : Type 0 where
   observedReport : (given output : List ℕ) (back : ReportCalled) → Observed
 
 -- each call was given the register that the last one left, the first one b's, and z's is left in the end; what lies behind the first 8,192 bytes
--- doesn't count. Each kept the equation of its promise
+-- doesn't count. Each kept the equation of its promise. A buffer that is lent only to be read is left as it was given
 unfoldable pub Linked : List ℕ → List Observed → List ℕ → Type 0
 Linked b [] z = take registerSize b ≡ take registerSize z
 Linked b (observedOffer given line back ∷ calls) z =
@@ -53,10 +53,10 @@ pub record Agrees (accepted : Register) (put : List ℕ) : Type 0 where
   pub lines : recordsAbove put ≡ accepted
   -- "The three numbers equal those of the records printed above them"
   pub totals : totalsIn (lastRecord put) ≡ totalsOf (recordsAbove put)
-  -- all that was put is these records and the TOTAL line with these numbers, each with byte 10
+  -- all that was put is these records and the TOTAL line: its word, these numbers without leading zeros, and byte 10 behind each, the last too
   pub whole : put ≡ printed (recordsAbove put ++ (totalLine (totalsOf (recordsAbove put)) ∷ []))
 
--- a report, with the lines accepted before it: what comes back is theirs, put or 21; and what was put agrees with itself
+-- a report, with the lines accepted before it: what comes back is theirs, put or 21; and what was put agrees with them and with itself
 pub record ReportClaim (accepted : Register) (output : List ℕ) (back : ReportCalled) : Type 0 where
   pub is : back ≡ putting (report accepted) output
   pub agrees : back .number ≡ 0 → Agrees accepted (take (back .size) (back .left))

@@ -31,8 +31,8 @@ pub record Totals : Type 0 where
   pub value : ℕ
 
 -- W4.2 "the number of lines, the sum of tonnes, and the sum of tonnes × price in cents"
-unfoldable pub totalsOf : List (List ℕ) → Totals
-totalsOf lines = record { count = length lines; tonnes = total tonnesOf lines; value = total valueOf lines }
+unfoldable pub totalsOf : (above : List (List ℕ)) → Totals
+totalsOf above = record { count = length above; tonnes = total tonnesOf above; value = total valueOf above }
 
 -- W4.2 "`TOTAL,count,tonnes,value`, decimal without leading zeros"
 unfoldable pub totalLine : Totals → List ℕ
@@ -40,15 +40,15 @@ totalLine t =
     bytes "TOTAL," ++ (digits (t .count) ++ (bytes "," ++ (digits (t .tonnes) ++ (bytes "," ++ digits (t .value)))))
 
 -- W4.2 "all with byte 10"
-unfoldable pub printed : (records : List (List ℕ)) → List ℕ
+unfoldable pub printed : List (List ℕ) → List ℕ
 printed [] = []
-printed (r ∷ records) = r ++ (newline ∷ printed records)
+printed (r ∷ rs) = r ++ (newline ∷ printed rs)
 
 -- W4.2 "Each line held, in order and byte for byte, then `TOTAL,count,tonnes,value`"
 unfoldable pub report : Register → List ℕ
 report register = printed (register ++ (totalLine (totalsOf register) ∷ []))
 
--- Reading back. The records of what was put: each ends at its byte 10, as a deck's lines do; the last is the TOTAL line, the others stand above it.
+-- Reading back. The records of what was put: each ends at byte 10 or the end, as C1 has it; the last is the TOTAL line, the others stand above it.
 abbrev pub records : (put : List ℕ) → List (List ℕ)
 records put = lines put
 

@@ -20,8 +20,8 @@ use Rattle.values.specs.Laws.{digits-digits, digits-length, digits-read}
 use Rattle.register.specs.Claims.{Agrees}
 use Rattle.register.specs.Line.{fields, isLine, isNumber, isTonnes, isPrice, isDecimal}
 use Rattle.register.specs.LineLaws.{formed, isPlain, fields-all, digit-plain, line-plain, line-size, run-comma, run-whole}
-use Rattle.register.specs.Register.{Register, mostLines}
-use Rattle.register.specs.RegisterLaws.{Sound}
+use Rattle.register.specs.Register.{Register, mostLines, fold}
+use Rattle.register.specs.RegisterLaws.{Sound, fold-is, sound}
 use Rattle.register.specs.Report.{
   Totals,
   numberIn,
@@ -122,6 +122,10 @@ report-agrees register good =
       totals = ap totalsIn last ∙ totals-shown (totalsOf register) ∙ ap totalsOf (sym above);
       whole = ap (λ (l : List (List ℕ)). printed (l ++ (totalLine (totalsOf l) ∷ []))) (sym above);
     }
+
+-- W4.3 in its own words: "for every list of lines offered from an empty register, the declined ones counting nothing"
+pub fold-agrees : (offers : List (List ℕ)) → Agrees (fold [] offers) (report (fold [] offers))
+fold-agrees offers = report-agrees (fold [] offers) (sound (fold [] offers) (fold-is offers) .lines)
 
 -- What a line adds to the sums is at most 99,999 tonnes and 99,999 times 999,999 cents.
 pub record Small (line : List ℕ) : Type 0 where
