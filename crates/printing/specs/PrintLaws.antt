@@ -1,6 +1,6 @@
 -- Bytes put one behind the other. Assumes nothing.
 use mathlib.Core.List.{List, _++_, append-assoc}
-use mathlib.Core.Path.{_≡_, refl, sym, ap, _∙_}
+use mathlib.Core.Path.{_≡_, refl, ap, _∙_}
 use Prim.Native.Nat.{ℕ, _+_, _≤_, _<_, _^_}
 use native.Mathlib.Omega.{arith}
 use lib.ListN.{length, take, length-append}

@@ -5,7 +5,8 @@ use mathlib.Core.Path.{_≡_, refl, sym, ap, _∙_}
 use Prim.Native.Nat.{ℕ, zero, suc, _+_, _*_, _-_, _≤_, _<_}
 use native.Mathlib.Omega.{arith}
 use lib.Dec.{eqb, leb}
-use lib.ListN.{length, take, drop, getD}
+use lib.ListN.{length, take, drop, getD, length-drop}
+use lib.Seq.{drop-drop}
 use borrow.Author.Tests.{eqb-true, eq-eqb, ne-eqb, leb-true, leb-false, le-leb}
 use Rattle.base.specs.Choice.{both-true, both-pass, same-truth, test-cases}
 use Rattle.base.specs.ListLaws.{all-imply}
@@ -56,7 +57,14 @@ decimal-low v (b ∷ s) =
     let more = scale-more (length s) (v * 10) (v * 10 + digitOf b) (omega arith) in
     omega arith
 
-digit-value : (b : ℕ) → isDigit b ≡ true → digitOf b ≡ b - 48
+pub decimal-least : (v : ℕ) (s : List ℕ) → v ≤ decimal v s
+unfolding scale
+decimal-least v s =
+    let low = decimal-low v s in
+    let more = scale-longer 0 (length s) v (omega arith) in
+    omega arith
+
+pub digit-value : (b : ℕ) → isDigit b ≡ true → digitOf b ≡ b - 48
 unfolding digitOf
 digit-value b e =
     let range = digit b e in
@@ -242,9 +250,12 @@ plain b h = le-leb 44 b (omega arith)
 pub digit-plain : (b : ℕ) → isDigit b ≡ true → isPlain b ≡ true
 digit-plain b d = plain b (digit b d .0)
 
-number-plain : (most : ℕ) (f : List ℕ) → isNumber most f ≡ true → all isPlain f ≡ true
+pub number-bytes : (most : ℕ) (f : List ℕ) → isNumber most f ≡ true → all isDigit f ≡ true
 unfolding isNumber isDecimal
-number-plain most f e = all-imply isDigit isPlain digit-plain f (both-true _ _ (both-true (isDecimal f) _ e .0) .0)
+number-bytes most f e = both-true (all isDigit f) _ (both-true (isDecimal f) _ e .0) .0
+
+number-plain : (most : ℕ) (f : List ℕ) → isNumber most f ≡ true → all isPlain f ≡ true
+number-plain most f e = all-imply isDigit isPlain digit-plain f (number-bytes most f e)
 
 pub line-plain : (line : List ℕ) → isLine line ≡ true → all isPlain line ≡ true
 unfolding isContract isGrain isTonnes isPrice all isPlain comma
@@ -268,7 +279,7 @@ line-text line e =
 abbrev pub firstField : List ℕ → List ℕ
 firstField l = getD (fields l) 0 []
 
-put-first : (b : ℕ) (fs : List (List ℕ)) → getD (onFirst b fs) 0 [] ≡ b ∷ getD fs 0 []
+pub put-first : (b : ℕ) (fs : List (List ℕ)) → getD (onFirst b fs) 0 [] ≡ b ∷ getD fs 0 []
 unfolding onFirst
 put-first b [] = refl
 put-first b (f ∷ fs) = refl
@@ -285,6 +296,38 @@ some-field (b ∷ l) =
     test-cases
     (λ t. (let fs = elim t as (λ _. List (List ℕ)) [ true ↦ [] ∷ fields l | false ↦ onFirst b (fields l) ] in fs ≡ getD fs 0 [] ∷ drop 1 fs))
     (eqb b comma) (λ _. refl) (λ _. put-some b (fields l))
+
+-- The fields behind the first one, from the byte behind its comma on.
+put-rest : (b : ℕ) (fs : List (List ℕ)) → drop 1 (onFirst b fs) ≡ drop 1 fs
+unfolding onFirst
+put-rest b [] = refl
+put-rest b (f ∷ fs) = refl
+
+next-more : (l : List ℕ) (f : List ℕ) (fs : List (List ℕ)) → drop 1 (fields l) ≡ f ∷ fs
+    → (fields (drop (suc (length (firstField l))) l) ≡ f ∷ fs) × (suc (length (firstField l)) ≤ length l)
+unfolding fields
+next-more [] f fs e = absurd (omega (arith, ap length e))
+next-more (b ∷ l) f fs e =
+    test-cases
+    (λ t.
+    (let gs = elim t as (λ _. List (List ℕ)) [ true ↦ [] ∷ fields l | false ↦ onFirst b (fields l) ] in
+    drop 1 gs ≡ f ∷ fs → (fields (drop (suc (length (getD gs 0 []))) (b ∷ l)) ≡ f ∷ fs) × (suc (length (getD gs 0 [])) ≤ suc (length l))))
+    (eqb b comma) (λ _ h. (h, omega arith))
+    (λ _ h.
+    let rest = next-more l f fs (sym (put-rest b (fields l)) ∙ h) in
+    let first = put-first b (fields l) in
+    (ap (λ g. fields (drop (suc (length g)) (b ∷ l))) first ∙ rest .0, omega (arith, ap length first, rest .1)))
+    e
+
+pub next-fields : (line : List ℕ) (at : ℕ) (f g : List ℕ) (fs : List (List ℕ)) → fields (drop at line) ≡ f ∷ g ∷ fs
+    → (fields (drop (at + length f + 1) line) ≡ g ∷ fs) × (at + length f + 1 ≤ length line)
+next-fields line at f g fs e =
+    let first : firstField (drop at line) ≡ f = ap (λ gs. getD gs 0 []) e in
+    let more = next-more (drop at line) g fs (ap (drop 1) e) in
+    let place : at + suc (length (firstField (drop at line))) ≡ at + length f + 1 = omega (arith, ap length first) in (
+      ap (λ n. fields (drop n line)) (sym place) ∙ ap fields (sym (drop-drop (suc (length (firstField (drop at line)))) at line)) ∙ more .0,
+      omega (arith, more .1, length-drop at line),
+    )
 
 -- The fields from a place on, found by a run of bytes that pass a test; no comma passes it.
 module _ (p : ℕ → Bool) (c : p comma ≡ false) where

@@ -132,7 +132,7 @@ pub record Small (line : List ℕ) : Type 0 where
   pub tonnes : tonnesOf line ≤ 99_999
   pub price : priceOf line ≤ 999_999
 
-number-small : (most : ℕ) (f : List ℕ) → isNumber most f ≡ true → decimal 0 f ≤ most
+pub number-small : (most : ℕ) (f : List ℕ) → isNumber most f ≡ true → decimal 0 f ≤ most
 unfolding isNumber
 number-small most f e = within 1 most (decimal 0 f) (both-true (isDecimal f) _ e .1) .1
 

@@ -247,14 +247,14 @@ module _ (buffer : List ℕ) (place : ℕ) (p : Placed buffer place) where
         }
 
   module _ (end : ℕ) (s : Stands buffer place end) where
-    here-form : isLine (lineAt (registerIn buffer) place) ≡ true
+    pub here-form : isLine (lineAt (registerIn buffer) place) ≡ true
     unfolding lineAt
     here-form = all-inside isLine (registerIn buffer) [] (read-sound buffer (p .keeps) .lines) place (p .inside)
 
     pub line-lent : length (take (end - at) (drop at buffer)) ≤ 24
     line-lent = omega (arith, ap length (s .bytes), line-size (lineAt (registerIn buffer) place) here-form .1)
 
-    here-size : end - at ≡ length (lineAt (registerIn buffer) place)
+    pub here-size : end - at ≡ length (lineAt (registerIn buffer) place)
     here-size =
         let from = s .from in
         let inside = s .inside in
