@@ -1,7 +1,7 @@
 /* Tries the register's three calls of the static library against the oracle, numbers and every byte between the fences:
 
    scripts    those of tests/vectors/register02 and register04, by the oracle alone and by the library, against their answers
-   example    the register that docs/REGISTER.md prints
+   example    the register that docs/REGISTER.md prints, and its report
    form       all lines of a few signs up to 9 bytes, all lines of fields at their edges, good lines with one byte changed, put in or left out
    reports    of 0 to 256 lines offered to zeros, the longest and the shortest, with output just enough, one byte short, longer and none
    lists      random registers, offered lines, asked for lines and reported one after another, with all places at the edge and output of any length
@@ -229,6 +229,18 @@ static void try_script(const char *stem)
 
 /* The example of the page */
 
+/* The page has the register's report, as a block of its own. */
+static void check_example_report(void)
+{
+    static uint8_t page[SCRIPT_ROOM], block[STRIGOL_REPORT_MOST + 9] = "```\n";
+    uint32_t length;
+    long page_len = file_bytes("docs/REGISTER", ".md", page, sizeof page - 1);
+    fenced_report(script.buffer, STRIGOL_REGISTER_SIZE, block + 4, STRIGOL_REPORT_MOST, &length);
+    memcpy(block + 4 + length, "```\n", 5);
+    page[page_len < 0 ? 0 : page_len] = 0;
+    if (strstr((const char *)page, (const char *)block) == NULL) fail("not the report of docs/REGISTER.md");
+}
+
 static void check_example(void)
 {
     static const char *const lines[] = {"A17,WH,250,19950", "ZZZZZZZZ,ZZ,99999,999999"};
@@ -238,6 +250,7 @@ static void check_example(void)
     reset_script();
     for (int i = 0; i < 2; i++) fenced_offer(script.buffer, STRIGOL_REGISTER_SIZE, (const uint8_t *)lines[i], strlen(lines[i]));
     if (memcmp(script.buffer, right, sizeof right) != 0) fail("not the register of docs/REGISTER.md");
+    check_example_report();
 }
 
 /* The form of a line */
