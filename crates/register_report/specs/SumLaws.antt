@@ -2,21 +2,25 @@
 use mathlib.Core.Bool.{true, false}
 use mathlib.Core.List.{List, [], _∷_, _++_, append-assoc}
 use mathlib.Core.Path.{_≡_, refl, sym, ap, ap₂, _∙_, subst}
-use Prim.Native.Nat.{ℕ, _+_, _*_, _-_, _≤_, _<_}
+use Prim.Native.Nat.{ℕ, suc, _+_, _*_, _-_, _≤_, _<_}
 use native.Mathlib.Nat.{zero-add}
 use native.Mathlib.Numerals.{add-one}
 use native.Mathlib.Omega.{arith}
+use lib.Dec.{eqb}
 use lib.ListN.{length, take, drop, getD, set, drop-of-length-le, length-append, take-append-drop}
 use lib.Seq.{length-take-le, take-all, take-suc}
 use borrow.Author.Tests.{eq-eqb, eqb-true, ne-eqb}
-use Rattle.base.specs.Choice.{both-true}
+use Rattle.base.specs.Choice.{both-true, test-cases}
 use Rattle.base.specs.ListLaws.{drop-next}
 use Rattle.base.specs.Lists.{all, total}
 use Rattle.base.specs.Text.{bytes}
 use Rattle.calls.specs.Splices.{splice, length-splice, set-splice, splice-behind, splice-nil}
 use Rattle.cards.specs.ByteLaws.{digit}
 use Rattle.cards.specs.Bytes.{comma, isDigit, newline}
+use Rattle.cards.specs.Cards.{onFirst}
 use Rattle.printing.specs.Printing.{Put, numbersText}
+use Rattle.search.specs.NextLaws.{next-until}
+use Rattle.search.specs.Passing.{NextByte, until}
 use Rattle.values.specs.Conversion.{decimal, digits}
 use Rattle.register.specs.Buffer.{bufferKeeps, registerIn}
 use Rattle.register.specs.BufferLaws.{read-sound}
@@ -98,6 +102,20 @@ module _ (line : List ℕ) (at value end : ℕ) (r : ReadTo line at value end) w
 -- what is read so far is no more than the number
 pub read-small : (line : List ℕ) (at value end : ℕ) → Numeric line at → ReadTo line at value end → value ≤ 999_999
 read-small line at value end n r = omega (arith, decimal-least value (fieldAt line end), r .left, n .small)
+
+-- the contract ends at the first comma
+first-until : (line : List ℕ) → until 44 line ≡ length (firstField line)
+unfolding until fields comma
+first-until [] = refl
+first-until (b ∷ line) =
+    test-cases
+    (λ t. elim t as (λ _. ℕ) [ true ↦ 0 | false ↦ suc (until 44 line) ] ≡ length {A = ℕ}
+    (getD (elim t as (λ _. List (List ℕ)) [ true ↦ [] ∷ fields line | false ↦ onFirst b (fields line) ]) 0 []))
+    (eqb b 44) (λ _. refl) (λ _. ap suc (first-until line) ∙ sym (ap length (put-first b (fields line))))
+
+pub contract-next : (line : List ℕ) (n : ℕ) → NextByte line 44 0 n → n ≡ length (contractOf line)
+unfolding contractOf
+contract-next line n next = omega (arith, next-until line 44 0 n next, first-until line)
 
 -- The tonnes and the price of a line of good form, by their places.
 module _ (line : List ℕ) (form : isLine line ≡ true) (contract : ℕ) (size : contract ≡ length (contractOf line)) where

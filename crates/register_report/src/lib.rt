@@ -23,7 +23,6 @@ use register::SLOT;
 use register_calls::Held;
 use register_calls::line_end;
 use register_calls::read_register;
-use register_lines::contract_length;
 
 // the longest TOTAL line: its word, and three numbers with a line end
 const LONGEST_TOTAL: usize = 5 + LONGEST_NUMBERS;
@@ -73,7 +72,7 @@ fn worth_of(line: &[u8]) -> Worth
     requires { ⌜ isLine (now line) ≡ true ⌝ }
     ensures { λ r. ⌜ Weighed (now (line .entry)) r ⌝ }
 {
-    let contract = contract_length(line);
+    let contract = search::next_byte(line, b',', 0);
     let tonnes = number_at(line, contract + GRAIN_PASSED);
     let price = number_at(line, tonnes.end + 1);
     Worth {
@@ -151,7 +150,8 @@ fn put_report(buffer: &[u8], n: usize, output: &mut [u8], length: &mut u32) -> u
     let sums = sums_of(buffer, n);
     let mut total = [0; LONGEST_TOTAL];
     let total_end = make_total(n as u64, sums.tonnes, sums.value, &mut total);
-    let size = sums.bytes + total_end;
+    let lines_size = sums.bytes;
+    let size = lines_size + total_end;
     if output.len() < size {
         return OUTPUT_FULL;
     }

@@ -20,9 +20,9 @@ make-total-requires c κs = search needs
 
 add-size : tie.Need-add-size
 add-size c =
-    let s = c .before .before .before .before .before .before .before in
-    let u = c .before .before .before .before .sums-of in
-    let t = c .before .before .make-total in
+    let s = c .before .before .before .before .before .before in
+    let u = c .before .before .before .sums-of in
+    let t = c .before .make-total in
     omega (
       arith,
       report-small (s .args .buffer .now) (s .args .n) (s .pre .0),
@@ -32,12 +32,12 @@ add-size c =
 
 returns : tie.Need-returns
 returns c =
-    let s = c .before .before .before .before .before .before .before .before in
-    let u = c .before .before .before .before .before .sums-of in
-    let t = c .before .before .before .make-total in
+    let s = c .before .before .before .before .before .before .before in
+    let u = c .before .before .before .before .sums-of in
+    let t = c .before .before .make-total in
     ap (λ k. reportBack 21 (s .args .output .now) k) (s .pre .1)
     ∙ report-full (s .args .buffer .now) (s .args .n) (s .pre .0) (u .result .bytes) (u .result .tonnes) (u .result .value) (u .ensures)
-    (t .last .1 .1 .1 .0) (t .result) (t .ensures) (s .args .output .now) (c .if1 .taken)
+    (t .last .1 .1 .1 .0) (t .result) (t .ensures) (s .args .output .now) (omega (arith, c .if1 .taken))
 
 put-lines-requires : tie.Need-put-lines-requires
 put-lines-requires c κs = search needs
@@ -47,23 +47,23 @@ array-share-prefix-total c = search needs
 
 slice-aggregate-write : tie.Need-slice-aggregate-write
 slice-aggregate-write c =
-    let t = c .before .before .before .before .before .before .before .before .before .make-total in
+    let t = c .before .before .before .before .before .before .before .before .make-total in
     sym (length-take-le (t .result) (t .last .1 .1 .1 .0) (t .ensures .within))
 
 write-requires : tie.Need-write-requires
 write-requires c κs =
-    let s = c .before .before .before .before .before .before .before .before .before .before .before .before .before .before in
-    let u = c .before .before .before .before .before .before .before .before .before .before .before .sums-of in
-    let t = c .before .before .before .before .before .before .before .before .before .make-total in
+    let s = c .before .before .before .before .before .before .before .before .before .before .before .before .before in
+    let u = c .before .before .before .before .before .before .before .before .before .before .sums-of in
+    let t = c .before .before .before .before .before .before .before .before .make-total in
     let l = c .before .before .before .before .put-lines in
     total-fits (s .args .buffer .now) (s .args .n) (s .pre .0) (u .result .bytes) (u .result .tonnes) (u .result .value) (u .ensures)
-    (t .last .1 .1 .1 .0) (t .result) (t .ensures) (s .args .output .now) (c .before .before .before .before .before .before .if1 .left) (l .last .1 .1 .0) (l .result) (l .ensures)
+    (t .last .1 .1 .1 .0) (t .result) (t .ensures) (s .args .output .now) (omega (arith, c .before .before .before .before .before .before .if1 .left)) (l .last .1 .1 .0) (l .result) (l .ensures)
 
 cast-length : tie.Need-cast-length
 cast-length c =
-    let s = c .before .before .before .before .before .before .before .before .before .before .before .before .before .before .before .before .before in
-    let u = c .before .before .before .before .before .before .before .before .before .before .before .before .before .before .sums-of in
-    let t = c .before .before .before .before .before .before .before .before .before .before .before .before .make-total in
+    let s = c .before .before .before .before .before .before .before .before .before .before .before .before .before .before .before .before in
+    let u = c .before .before .before .before .before .before .before .before .before .before .before .before .before .sums-of in
+    let t = c .before .before .before .before .before .before .before .before .before .before .before .make-total in
     record {
       fits = omega (
         arith,
@@ -78,12 +78,12 @@ same-length c = search needs
 
 returns-2 : tie.Need-returns-2
 returns-2 c =
-    let s = c .before .before .before .before .before .before .before .before .before .before .before .before .before .before .before .before .before in
-    let u = c .before .before .before .before .before .before .before .before .before .before .before .before .before .before .sums-of in
-    let t = c .before .before .before .before .before .before .before .before .before .before .before .before .make-total in
+    let s = c .before .before .before .before .before .before .before .before .before .before .before .before .before .before .before .before in
+    let u = c .before .before .before .before .before .before .before .before .before .before .before .before .before .sums-of in
+    let t = c .before .before .before .before .before .before .before .before .before .before .before .make-total in
     let l = c .before .before .before .before .before .before .before .put-lines in
     report-done (s .args .buffer .now) (s .args .n) (s .pre .0) (u .result .bytes) (u .result .tonnes) (u .result .value) (u .ensures)
-    (t .last .1 .1 .1 .0) (t .result) (t .ensures) (s .args .output .now) (c .before .before .before .before .before .before .before .before .before .if1 .left) (l .last .1 .1 .0) (l .result) (l .ensures)
+    (t .last .1 .1 .1 .0) (t .result) (t .ensures) (s .args .output .now) (omega (arith, c .before .before .before .before .before .before .before .before .before .if1 .left)) (l .last .1 .1 .0) (l .result) (l .ensures)
     (c .before .before .write .last .0) (c .before .before .write .ensures)
 
 pub put-report-spec : {M : Type 1} → statement M
