@@ -76,8 +76,8 @@ module _ (t : Totals) where
   total-plain : all isPlain (totalLine t) ≡ true
   unfolding bytes all isPlain comma
   total-plain =
-      fields-all isPlain refl (totalLine t)
-      (rw total-fields (both-pass refl (both-pass (digits-plain (t .count)) (both-pass (digits-plain (t .tonnes)) (both-pass (digits-plain (t .value)) refl)))))
+      let sums = both-pass (digits-plain (t .tonnes)) (both-pass (digits-plain (t .value)) refl) in
+      fields-all isPlain refl (totalLine t) (rw total-fields (both-pass refl (both-pass (digits-plain (t .count)) sums)))
 
   number-shown : (field n : ℕ) → getD (fields (totalLine t)) field [] ≡ digits n → numberIn (totalLine t) field ≡ n
   unfolding numberIn
@@ -213,4 +213,9 @@ report-size register s =
     let few = s .few in
     let lines = printed-size register (s .lines) in
     let last = total-size register (sums-bounded register s) in
-    omega (arith, ap length (printed-append register (total ∷ [])), length-append (printed register) (printed (total ∷ [])), length-append total (newline ∷ []))
+    omega (
+      arith,
+      ap length (printed-append register (total ∷ [])),
+      length-append (printed register) (printed (total ∷ [])),
+      length-append total (newline ∷ []),
+    )

@@ -86,7 +86,8 @@ module _ (slot : List ℕ) (n : ℕ) (t : Trimmed slot n) where
       let m = length line in
       let parts = both-true (isLine line) (all isZero (drop m slot)) e in
       let some = line-size line (parts .0) .0 in
-      let end : isZero (getD slot (m - 1) 0) ≡ false = ap (λ l. isZero (getD l (m - 1) 0)) (sym (line-front slot)) ∙ last-some line (drop m slot) (parts .0) in
+      let end : isZero (getD slot (m - 1) 0) ≡ false =
+      ap (λ l. isZero (getD l (m - 1) 0)) (sym (line-front slot)) ∙ last-some line (drop m slot) (parts .0) in
       let high : ¬ (n < m) = λ h. false≢true (sym end ∙ zero-behind slot n (m - 1) (t .zeros) (omega arith)) in
       let low : ¬ (m < n) = λ h. false≢true (sym (t .last (omega arith)) ∙ zero-behind slot m (n - 1) (parts .1) (omega arith)) in
       omega (arith, high, low)

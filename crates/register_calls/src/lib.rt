@@ -9,7 +9,8 @@ ghost use Rattle.register.specs.Buffer.{bufferKeeps, linesIn, registerIn, slotS
 ghost use Rattle.register.specs.Claims.{OfferPromise, LinePromise, offerBack, lineBack};
 ghost use Rattle.register.specs.Calls.{lineSize, offerCall};
 ghost use Rattle.register.specs.Register.{lineAt, lowestOf, mostLines};
-ghost use Rattle.register_calls.specs.Reading.{EndFound, Found, Judged, Marked, Noted, Placed, Puts, Ready, Stands, Trimmed, slotKey, slotsHold};
+ghost use Rattle.register_calls.specs.Reading.{EndFound, Found, Judged, Marked, Noted, Placed, Puts, Ready, Stands, Trimmed};
+ghost use Rattle.register_calls.specs.Reading.{slotKey, slotsHold};
 use cells::spans;
 use packer::keys;
 use register::BAD_BUFFER;

@@ -406,7 +406,8 @@ module _ (buffer : List ℕ) (n : ℕ) (c : Counted buffer n) where
             ∙ sym (report-put buffer output (c .keeps) ∙ put-fits (report register) output (omega (arith, size-is)))
 
 -- What the call makes of what was found.
-pub found-counted : (buffer keys : List ℕ) (r : Held) → Found (bufferKeeps buffer) (registerIn buffer) keys r → (n : ℕ) → r ≡ Lines n → Counted buffer n
+pub found-counted : (buffer keys : List ℕ) (r : Held) → Found (bufferKeeps buffer) (registerIn buffer) keys r → (n : ℕ) → r ≡ Lines n
+    → Counted buffer n
 found-counted buffer keys r found n is =
     let ready = found-ready buffer keys r found n is in
     record { keeps = ready .keeps; count = ready .holds .count }

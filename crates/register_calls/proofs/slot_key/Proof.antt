@@ -51,8 +51,8 @@ returns-2 c =
     let n = c .before .before .before .before .before .before .before .line-length in
     let k = c .before .before .before .before .before .contract-length in
     let form = c .before .before .before .is-line in
-    c .key-of .ensures
-    ∙ slot-keyed slot (n .result) (n .ensures) (sym (form .ensures) ∙ not-false (form .result) (c .before .before .if1 .left)) (k .result) (k .ensures)
+    let good = sym (form .ensures) ∙ not-false (form .result) (c .before .before .if1 .left) in
+    c .key-of .ensures ∙ slot-keyed slot (n .result) (n .ensures) good (k .result) (k .ensures)
 
 pub slot-key-spec : {M : Type 1} → statement M
 slot-key-spec =

@@ -71,8 +71,8 @@ loop-again c =
     let r = c .before .before .put-record in (
       omega arith,
       r .kept .0 ∙ l .inv .1,
-      line-put (s .args .buffer .now) (s .args .n) (s .pre .0) (l .k) (here .loop-test .taken) (e .result) (e .ensures) (s .args .output .now) (l .output)
-          (l .put-to) (l .inv .2) (s .pre .1) (r .last .0) (r .result) (r .ensures),
+      line-put (s .args .buffer .now) (s .args .n) (s .pre .0) (l .k) (here .loop-test .taken) (e .result) (e .ensures)
+          (s .args .output .now) (l .output) (l .put-to) (l .inv .2) (s .pre .1) (r .last .0) (r .result) (r .ensures),
     )
 
 same-length : tie.Need-same-length Inv-loop μ-loop

@@ -56,8 +56,9 @@ write-requires c κs =
     let u = c .before .before .before .before .before .before .before .before .before .before .sums-of in
     let t = c .before .before .before .before .before .before .before .before .make-total in
     let l = c .before .before .before .before .put-lines in
+    let fits = c .before .before .before .before .before .before .if1 .left in
     total-fits (s .args .buffer .now) (s .args .n) (s .pre .0) (u .result .bytes) (u .result .tonnes) (u .result .value) (u .ensures)
-    (t .last .1 .1 .1 .0) (t .result) (t .ensures) (s .args .output .now) (omega (arith, c .before .before .before .before .before .before .if1 .left)) (l .last .1 .1 .0) (l .result) (l .ensures)
+    (t .last .1 .1 .1 .0) (t .result) (t .ensures) (s .args .output .now) (omega (arith, fits)) (l .last .1 .1 .0) (l .result) (l .ensures)
 
 cast-length : tie.Need-cast-length
 cast-length c =
@@ -82,8 +83,9 @@ returns-2 c =
     let u = c .before .before .before .before .before .before .before .before .before .before .before .before .before .sums-of in
     let t = c .before .before .before .before .before .before .before .before .before .before .before .make-total in
     let l = c .before .before .before .before .before .before .before .put-lines in
+    let fits = c .before .before .before .before .before .before .before .before .before .if1 .left in
     report-done (s .args .buffer .now) (s .args .n) (s .pre .0) (u .result .bytes) (u .result .tonnes) (u .result .value) (u .ensures)
-    (t .last .1 .1 .1 .0) (t .result) (t .ensures) (s .args .output .now) (omega (arith, c .before .before .before .before .before .before .before .before .before .if1 .left)) (l .last .1 .1 .0) (l .result) (l .ensures)
+    (t .last .1 .1 .1 .0) (t .result) (t .ensures) (s .args .output .now) (omega (arith, fits)) (l .last .1 .1 .0) (l .result) (l .ensures)
     (c .before .before .write .last .0) (c .before .before .write .ensures)
 
 pub put-report-spec : {M : Type 1} → statement M

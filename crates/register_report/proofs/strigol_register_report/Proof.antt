@@ -21,7 +21,8 @@ put-report-requires : tie.Need-put-report-requires
 put-report-requires c κs =
     let f = c .before .before .before .before .before .read-register in
     let n = c .before .before .before .held .given in
-    (found-counted (c .before .before .before .before .before .before .before .before .before .args .buffer .now) (f .last .1 .0) (f .result) (f .ensures) (n .0 .0) (n .1), refl)
+    let a = c .before .before .before .before .before .before .before .before .before .args in
+    (found-counted (a .buffer .now) (f .last .1 .0) (f .result) (f .ensures) (n .0 .0) (n .1), refl)
 
 returns : tie.Need-returns
 returns c =
