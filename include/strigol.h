@@ -242,8 +242,8 @@ uint32_t strigol_register_line(const uint8_t *buffer, size_t buffer_len, uint64_
 
 /* Puts the closing report of the register to the start of the output: 0; or 14, or 21 if the output can't hold it all, and nothing is put. The
    report is each line held, in order and byte for byte, then TOTAL,count,tonnes,value: how many lines there are, the sum of their tonnes and that
-   of tonnes times price, in cents. Byte 10 ends each of them. `length` is set to how many bytes were put, 0 with 14 and 21; those of the
-   output behind them stay. */
+   of tonnes times price, in cents. Byte 10 ends each of them. `length` is set to how many bytes were put, 0 with 14 and 21; the bytes of the
+   output behind the report stay as they were. */
 uint32_t strigol_register_report(const uint8_t *buffer, size_t buffer_len, uint8_t *output, size_t output_len, uint32_t *length);
 
 /* What stands in the buffers. The place of a string is 0 to 31 in order of first appearance in the deck, that of a number 0 to 31 in order of

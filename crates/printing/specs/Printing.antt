@@ -15,7 +15,7 @@ longestNumber = 21
 abbrev pub longestNumbers : ℕ
 longestNumbers = 64
 
--- bytes were put behind the first ones, which stay; where they end
+-- bytes were put behind the first ones, which stay; where they end. What stands behind them may be any
 pub record Put (before after : List ℕ) (at : ℕ) (xs : List ℕ) (end : ℕ) : Type 0 where
   pub ends : end ≡ at + length xs
   pub within : end ≤ length after

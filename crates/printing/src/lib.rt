@@ -15,7 +15,7 @@ const LONGEST_NUMBER: usize = 21;
 // three of these and a line end
 pub const LONGEST_NUMBERS: usize = 3 * LONGEST_NUMBER + 1;
 
-// bytes, from at on; where they end
+// bytes, from at on; where they end. Here and below, what stands behind them may change
 pub fn put(v: &[u8], at: usize, out: &mut [u8]) -> usize
     requires { ⌜ at + length (now v) ≤ length (now out) ⌝ }
     ensures { λ r. ⌜ Put (now (out .entry)) (now (out .exit)) at (now (v .entry)) r ⌝ }
@@ -33,7 +33,7 @@ fn put_number(v: u64, at: usize, out: &mut [u8]) -> usize
     put_digits(v, from, out)
 }
 
-// three numbers, each behind a comma, and a line end, from at on; where they end
+// three numbers, each behind a comma, and a line end, from at on; where all of it ends
 pub fn put_numbers(first: u64, second: u64, third: u64, at: usize, out: &mut [u8]) -> usize
     requires { ⌜ at + longestNumbers ≤ length (now out) ⌝ }
     ensures { λ r. ⌜ Put (now (out .entry)) (now (out .exit)) at (numbersText first second third) r ⌝ }

@@ -47,7 +47,7 @@ record-back (b ∷ r) rest a =
     let other = ne-eqb b 10 (λ is. omega (arith, leb-true 44 b (parts .0))) in
     rw (lines, other, record-back r rest (parts .1))
 
-pub records-back : (rs : List (List ℕ)) → all (all isPlain) rs ≡ true → records (printed rs) ≡ rs
+records-back : (rs : List (List ℕ)) → all (all isPlain) rs ≡ true → records (printed rs) ≡ rs
 unfolding printed all lines
 records-back [] a = refl
 records-back (r ∷ rs) a =
@@ -83,7 +83,7 @@ module _ (t : Totals) where
   unfolding numberIn
   number-shown field n e = ap (decimal 0) e ∙ digits-read n .value
 
-  pub totals-shown : totalsIn (totalLine t) ≡ t
+  totals-shown : totalsIn (totalLine t) ≡ t
   unfolding totalsIn
   totals-shown =
       let count = number-shown 1 (t .count) (ap (λ fs. getD fs 1 []) total-fields) in
@@ -100,10 +100,10 @@ module _ (rs : List (List ℕ)) (r : List ℕ) where
   last-at [] = refl
   last-at (x ∷ rs) = last-at rs
 
-  pub above-is : take (length (rs ++ (r ∷ [])) - 1) (rs ++ (r ∷ [])) ≡ rs
+  above-is : take (length (rs ++ (r ∷ [])) - 1) (rs ++ (r ∷ [])) ≡ rs
   above-is = ap (λ n. take n (rs ++ (r ∷ []))) above-last ∙ take-at rs (r ∷ []) (length rs) refl
 
-  pub last-is : getD (rs ++ (r ∷ [])) (length (rs ++ (r ∷ [])) - 1) [] ≡ r
+  last-is : getD (rs ++ (r ∷ [])) (length (rs ++ (r ∷ [])) - 1) [] ≡ r
   last-is = ap (λ n. getD (rs ++ (r ∷ [])) n []) above-last ∙ last-at rs
 
 -- W4.3 The report of lines of good form, read back, agrees with itself.
@@ -136,7 +136,7 @@ pub number-small : (most : ℕ) (f : List ℕ) → isNumber most f ≡ true → 
 unfolding isNumber
 number-small most f e = within 1 most (decimal 0 f) (both-true (isDecimal f) _ e .1) .1
 
-pub line-small : (line : List ℕ) → isLine line ≡ true → Small line
+line-small : (line : List ℕ) → isLine line ≡ true → Small line
 unfolding tonnesOf priceOf numberIn isTonnes isPrice
 line-small line e =
     let f = formed line e in
@@ -194,7 +194,7 @@ printed-size (l ∷ ls) a =
     omega (arith, length-append l (newline ∷ printed ls))
 
 -- a TOTAL line has 33 bytes at most: 3 digits, 8 and 14
-pub total-size : (register : Register) → Bounded register → length (totalLine (totalsOf register)) ≤ 33
+total-size : (register : Register) → Bounded register → length (totalLine (totalsOf register)) ≤ 33
 unfolding totalLine totalsOf bytes
 total-size register b =
     let count = digits-length 2 (length register) (omega (arith, b .count)) in

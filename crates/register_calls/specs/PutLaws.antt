@@ -246,11 +246,11 @@ module _ (buffer : List ℕ) (place : ℕ) (p : Placed buffer place) where
               ∙ here .is;
         }
 
-  module _ (end : ℕ) (s : Stands buffer place end) where
-    pub here-form : isLine (lineAt (registerIn buffer) place) ≡ true
-    unfolding lineAt
-    here-form = all-inside isLine (registerIn buffer) [] (read-sound buffer (p .keeps) .lines) place (p .inside)
+  pub here-form : isLine (lineAt (registerIn buffer) place) ≡ true
+  unfolding lineAt
+  here-form = all-inside isLine (registerIn buffer) [] (read-sound buffer (p .keeps) .lines) place (p .inside)
 
+  module _ (end : ℕ) (s : Stands buffer place end) where
     pub line-lent : length (take (end - at) (drop at buffer)) ≤ 24
     line-lent = omega (arith, ap length (s .bytes), line-size (lineAt (registerIn buffer) place) here-form .1)
 

@@ -73,13 +73,13 @@ last-some line rest form =
     ap isZero (List·getD-append line rest 0 (length line - 1) (omega arith))
     ∙ not-true (isZero (getD line (length line - 1) 0)) (all-inside isText line 0 (line-text line form) (length line - 1) (omega arith))
 
-pub kept-form : (slot : List ℕ) → slotKeeps slot ≡ true → isLine (lineIn slot) ≡ true
+kept-form : (slot : List ℕ) → slotKeeps slot ≡ true → isLine (lineIn slot) ≡ true
 unfolding slotKeeps
 kept-form slot e = both-true (isLine (lineIn slot)) (all isZero (drop (length (lineIn slot)) slot)) e .0
 
 module _ (slot : List ℕ) (n : ℕ) (t : Trimmed slot n) where
   -- of a slot that keeps its rule, the line is left
-  pub trim-size : slotKeeps slot ≡ true → n ≡ length (lineIn slot)
+  trim-size : slotKeeps slot ≡ true → n ≡ length (lineIn slot)
   unfolding slotKeeps
   trim-size e =
       let line = lineIn slot in

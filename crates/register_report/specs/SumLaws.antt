@@ -50,7 +50,7 @@ module _ (line : List ℕ) (end : ℕ) where
     unfolding fields comma
     field-comma e = ap firstField (drop-next line end 0 h) ∙ rw (fields, eq-eqb (getD line end 0) 44 e)
 
-    pub field-more : ¬ (getD line end 0 ≡ 44) → fieldAt line end ≡ getD line end 0 ∷ fieldAt line (end + 1)
+    field-more : ¬ (getD line end 0 ≡ 44) → fieldAt line end ≡ getD line end 0 ∷ fieldAt line (end + 1)
     unfolding fields comma
     field-more n =
         ap firstField (drop-next line end 0 h)
@@ -166,7 +166,7 @@ module _ (line : List ℕ) (form : isLine line ≡ true) (contract : ℕ) (size 
           small = omega (arith, ap (decimal 0) price-is, number-small 999_999 (f .price) (f .price-form));
         }
 
-    pub price-shown : decimal 0 (fieldAt line (end + 1)) ≡ priceOf line
+    price-shown : decimal 0 (fieldAt line (end + 1)) ≡ priceOf line
     unfolding priceOf numberIn
     price-shown = ap (decimal 0) (price-is ∙ sym (ap (λ fs. getD fs 3 []) (f .parts)))
 
@@ -200,11 +200,11 @@ module _ (register : Register) (k : ℕ) (h : k < length register) where
   parts = sym (take-append-drop k register) ∙ ap (λ l. before ++ l) (drop-next register k [] h)
 
   -- no sum is above that of all lines
-  pub sum-within : (f : List ℕ → ℕ) → total f before + f line ≤ total f register
+  sum-within : (f : List ℕ → ℕ) → total f before + f line ≤ total f register
   unfolding total
   sum-within f = omega (arith, ap (total f) parts, total-append f before (line ∷ drop (k + 1) register))
 
-  pub size-within : length (printed before) + length line + 1 ≤ length (printed register)
+  size-within : length (printed before) + length line + 1 ≤ length (printed register)
   unfolding printed
   size-within =
       let rest = drop (k + 1) register in
@@ -224,7 +224,7 @@ module _ (register : Register) (k : ℕ) (h : k < length register) where
   unfolding printed newline
   printed-more = sym (ap printed next-lines ∙ printed-append before (line ∷ []))
 
-  pub sums-more : (b t v size tonnes value : ℕ) → Summed before b t v → size ≡ length line → tonnes ≡ tonnesOf line → value ≡ valueOf line
+  sums-more : (b t v size tonnes value : ℕ) → Summed before b t v → size ≡ length line → tonnes ≡ tonnesOf line → value ≡ valueOf line
       → Summed (take (k + 1) register) (b + size + 1) (t + tonnes) (v + value)
   sums-more b t v size tonnes value s long weight cents =
       record {
@@ -305,7 +305,7 @@ module _ (buffer : List ℕ) (n : ℕ) (c : Counted buffer n) where
 
     module _ (end : ℕ) (s : Stands buffer k end) where
       pub line-form : isLine (take (end - slotAt k) (drop (slotAt k) buffer)) ≡ true
-      line-form = ap isLine (s .bytes) ∙ here-form buffer k placed end s
+      line-form = ap isLine (s .bytes) ∙ here-form buffer k placed
 
       line-size : end - slotAt k ≡ length (lineAt register k)
       line-size = here-size buffer k placed end s

@@ -19,7 +19,7 @@ use Rattle.register_report.specs.declared.Worth.{Worth}
 abbrev pub fieldAt : (line : List ℕ) (at : ℕ) → List ℕ
 fieldAt line at = firstField (drop at line)
 
--- it is a number, and none above the largest price
+-- it is digits alone, of a number not above the largest price
 pub record Numeric (line : List ℕ) (at : ℕ) : Type 0 where
   pub inside : at ≤ length line
   pub digits : all isDigit (fieldAt line at) ≡ true
@@ -46,7 +46,7 @@ pub record Summed (lines : Register) (bytes tonnes value : ℕ) : Type 0 where
   pub weight : tonnes ≡ total tonnesOf lines
   pub cents : value ≡ total valueOf lines
 
--- the longest TOTAL line with three numbers of 64 bits
+-- room for a TOTAL line with any three numbers of 64 bits
 abbrev pub longestTotal : ℕ
 longestTotal = 69
 

@@ -1,5 +1,5 @@
-// The register's closing report: its lines, and the TOTAL line with what they add up to. The lines are gone through twice, once for sums and size,
-// once to put them, so that nothing is put that has no room.
+// The register's closing report: its lines, and the TOTAL line with what they add up to. Once the register is read, its lines are gone through twice:
+// for sums and size, and to put them. So nothing is put unless all of it has room.
 // Assumes nothing.
 ghost use mathlib.Core.Bool.{true};
 ghost use mathlib.Core.Path.{_≡_};
@@ -24,11 +24,11 @@ use register_calls::Held;
 use register_calls::line_end;
 use register_calls::read_register;
 
-// the longest TOTAL line: its word, and three numbers with a line end
+// room for a TOTAL line with any three numbers of 64 bits
 const LONGEST_TOTAL: usize = 5 + LONGEST_NUMBERS;
 
 // the bytes from the end of a contract to the tonnes: two commas and the grain
-const GRAIN_PASSED: usize = 4;
+const TO_TONNES: usize = 4;
 
 // a number in a line, and where it ends
 struct Field {
@@ -49,7 +49,7 @@ struct Sums {
     value: u64,
 }
 
-// the number in the field that begins at a place
+// the number in the field that begins at a place: digits alone, up to the largest price
 fn number_at(line: &[u8], at: usize) -> Field
     requires { ⌜ Numeric (now line) at ⌝ }
     ensures { λ r. ⌜ Shows (now (line .entry)) at r ⌝ }
@@ -73,7 +73,7 @@ fn worth_of(line: &[u8]) -> Worth
     ensures { λ r. ⌜ Weighed (now (line .entry)) r ⌝ }
 {
     let contract = search::next_byte(line, b',', 0);
-    let tonnes = number_at(line, contract + GRAIN_PASSED);
+    let tonnes = number_at(line, contract + TO_TONNES);
     let price = number_at(line, tonnes.end + 1);
     Worth {
         tonnes: tonnes.value,
@@ -142,7 +142,7 @@ fn put_lines(buffer: &[u8], n: usize, output: &mut [u8]) -> usize
     put_to
 }
 
-// the report of a register of n lines, if the output can hold it
+// Puts the report of a register of n lines and sets its length: 0; or 21, and nothing is put. The length is 0 before.
 fn put_report(buffer: &[u8], n: usize, output: &mut [u8], length: &mut u32) -> u32
     requires { ⌜ Counted (now buffer) n × (now length ≡ 0) ⌝ }
     ensures { λ r. ⌜ reportBack r (now (output .exit)) (now (length .exit)) ≡ reportCall (now (buffer .entry)) (now (output .entry)) ⌝ }

@@ -1,4 +1,4 @@
--- The text of a number is read back as the number, has no leading zero, and is as long as asked for. Assumes nothing.
+-- The text of a number is digits, is read back as the number, has no leading zero, and is as long as asked for. Assumes nothing.
 use mathlib.Core.Bool.{Bool, true, false, cond, _&&_, true≢false, false≢true, and-eq-true-iff}
 use mathlib.Core.List.{List, [], _∷_, _++_}
 use mathlib.Core.Path.{_≡_, refl, sym, _∙_, ap}
