@@ -1,6 +1,8 @@
 /* The register's calls, each with its check of all rules: a line offered to 255 others, and one handed out of 256, beside one pass over the 8,192
-   bytes. Each figure is the best of several rounds in one run. Then, for the record, beside SQLite: a table in memory that has the contract as its
-   primary key, an index on the place, and prepared statements. Both must hand out the same line. Printed are tables in Markdown. */
+   bytes; the report of 256 lines beside one pass over the report, and beside the same report from SQLite. Each figure is the best of several rounds
+   in one run. Then, for the record, a line offered and one handed out beside SQLite, and two more ways to the report. SQLite has tables in memory and
+   prepared statements, with the contract as primary key and an index on the place; for the report the place is the primary key. Both must give the
+   same bytes. Printed are tables in Markdown. */
 #include "figures.h"
 #include "strigol.h"
 
@@ -9,13 +11,15 @@
 #include <string.h>
 
 enum {
-    ROUNDS = 200, CALLS = 100, TABLES = 100, OFFER_PASSES = 12, LINE_PASSES = 10,
+    ROUNDS = 200, CALLS = 100, TABLES = 100, SELECTS = 20, OFFER_PASSES = 12, LINE_PASSES = 10, REPORT_RATIO = 10,
     LINES = STRIGOL_LINES_MOST, LAST = LINES - 1, SLOT = 28, LAST_AT = STRIGOL_REGISTER_SIZE - SLOT, MOST_CONTRACT = 8, MARKS = 4093
 };
 
-/* The lines of a register, and their contracts. */
-static struct { char contract[MOST_CONTRACT + 1], line[STRIGOL_LINE_SIZE]; int length; } held[LINES];
-static uint8_t buffer[STRIGOL_REGISTER_SIZE];
+/* The lines of a register, and their fields; the grain is always the same. */
+#define GRAIN "WH"
+static struct { char contract[MOST_CONTRACT + 1], line[STRIGOL_LINE_SIZE]; unsigned tonnes, price; int length; } held[LINES];
+static uint8_t buffer[STRIGOL_REGISTER_SIZE], output[STRIGOL_REPORT_MOST];
+static uint32_t output_len;
 static volatile uint32_t sink;
 
 /* A row of random numbers, the same in every run. */
@@ -77,14 +81,15 @@ static const struct { const char *name; void (*contract)(int place); unsigned to
     {"contracts of two signs; lines of 9 bytes", two_signs, 1, 1},
     {"contracts that fall together; lines of 24 bytes", together, 99999, 999999},
 };
+#define REGISTERS (sizeof registers / sizeof registers[0])
 
 static void make_lines(size_t which)
 {
     for (int i = 0; i < LINES; i++) {
-        unsigned tonnes = registers[which].tonnes ? registers[which].tonnes : 1 + draw(99999);
-        unsigned price = registers[which].price ? registers[which].price : 1 + draw(999999);
+        held[i].tonnes = registers[which].tonnes ? registers[which].tonnes : 1 + draw(99999);
+        held[i].price = registers[which].price ? registers[which].price : 1 + draw(999999);
         registers[which].contract(i);
-        held[i].length = snprintf(held[i].line, sizeof held[i].line, "%s,WH,%u,%u", held[i].contract, tonnes, price);
+        held[i].length = snprintf(held[i].line, sizeof held[i].line, "%s," GRAIN ",%u,%u", held[i].contract, held[i].tonnes, held[i].price);
     }
 }
 
@@ -136,6 +141,22 @@ static void vector_pass(void)
     sink = vector_pass_over(buffer, sizeof buffer);
 }
 
+static void report(void)
+{
+    if (strigol_register_report(buffer, sizeof buffer, output, sizeof output, &output_len) != 0) give_up("there is no report");
+    sink = output[0];
+}
+
+static void report_pass(void)
+{
+    sink = pass_over(output, output_len);
+}
+
+static void report_vector_pass(void)
+{
+    sink = vector_pass_over(output, output_len);
+}
+
 /* Microseconds for one. */
 static double time_one(void (*one)(void))
 {
@@ -148,11 +169,24 @@ static double time_one(void (*one)(void))
 static void beside_passes(const char *what, void (*one)(void), int count, int most)
 {
     show_passes_head(what, sizeof buffer, most);
-    for (size_t i = 0; i < sizeof registers / sizeof registers[0]; i++) {
+    for (size_t i = 0; i < REGISTERS; i++) {
         make_lines(i);
         fill(count);
         double ours = time_one(one), plain = time_one(pass), vectors = time_one(vector_pass);
         show_passes(registers[i].name, ours, plain, vectors, most);
+    }
+}
+
+static void report_beside_passes(void)
+{
+    printf("| the report of 256 lines | bytes | us | one pass over them, us | in passes | a pass in vectors, us | in passes |\n");
+    printf("|---|---|---|---|---|---|---|\n");
+    for (size_t i = 0; i < REGISTERS; i++) {
+        make_lines(i);
+        fill(LINES);
+        double ours = time_one(report), plain = time_one(report_pass), vectors = time_one(report_vector_pass);
+        printf("| %s | %s | %s | %s | %.2f | %s | %.2f |\n", registers[i].name, whole(output_len), figure(ours), figure(plain), ours / plain,
+               figure(vectors), ours / vectors);
     }
 }
 
@@ -161,9 +195,14 @@ static void beside_passes(const char *what, void (*one)(void), int count, int mo
 static sqlite3 *database;
 static sqlite3_stmt *inserts[TABLES], *deletes[TABLES], *get_line;
 
+static void open_database(void)
+{
+    if (sqlite3_open(":memory:", &database) != SQLITE_OK) give_up("SQLite doesn't open");
+}
+
 static sqlite3_stmt *prepare(const char *form, int table)
 {
-    char text[128];
+    char text[256];
     sqlite3_stmt *statement;
     snprintf(text, sizeof text, form, table);
     if (sqlite3_prepare_v2(database, text, -1, &statement, NULL) != SQLITE_OK) give_up(sqlite3_errmsg(database));
@@ -174,6 +213,13 @@ static void step(sqlite3_stmt *statement)
 {
     if (sqlite3_step(statement) != SQLITE_DONE) give_up(sqlite3_errmsg(database));
     sqlite3_reset(statement);
+}
+
+static void do_once(const char *form, int table)
+{
+    sqlite3_stmt *statement = prepare(form, table);
+    step(statement);
+    sqlite3_finalize(statement);
 }
 
 static void insert(int table, int i)
@@ -192,12 +238,8 @@ static void delete_last(int table)
 
 static void open_tables(void)
 {
-    if (sqlite3_open(":memory:", &database) != SQLITE_OK) give_up("SQLite doesn't open");
-    for (int table = 0; table < TABLES; table++) {
-        sqlite3_stmt *create = prepare("CREATE TABLE register%d (place INTEGER UNIQUE, contract TEXT PRIMARY KEY, line TEXT NOT NULL)", table);
-        step(create);
-        sqlite3_finalize(create);
-    }
+    for (int table = 0; table < TABLES; table++)
+        do_once("CREATE TABLE register%d (place INTEGER UNIQUE, contract TEXT PRIMARY KEY, line TEXT NOT NULL)", table);
     for (int table = 0; table < TABLES; table++) {
         inserts[table] = prepare("INSERT INTO register%d VALUES (?, ?, ?)", table);
         deletes[table] = prepare("DELETE FROM register%d WHERE place = ?", table);
@@ -236,6 +278,90 @@ static void show_beside(const char *what, double ours, double theirs)
     printf("| %s | %s | %s | %.2f |\n", what, figure(ours), figure(theirs), theirs / ours);
 }
 
+/* Three ways to the report, each with a table of its own: SQLite puts a line together of its fields, it hands the fields over, or it has the line
+   whole beside its numbers. The table's text is the grain, or the line. */
+enum { JOINED, FIELDS, WHOLE, WAYS };
+static const char *const ways[WAYS] = {
+    "SELECT contract || ',' || text || ',' || tonnes || ',' || price FROM report%d ORDER BY place",
+    "SELECT contract, text, tonnes, price FROM report%d ORDER BY place",
+    "SELECT text FROM report%d ORDER BY place",
+};
+static sqlite3_stmt *adds[WAYS], *lines[WAYS], *totals[WAYS];
+
+static void open_reports(void)
+{
+    for (int way = 0; way < WAYS; way++) {
+        do_once("CREATE TABLE report%d (place INTEGER PRIMARY KEY, contract TEXT UNIQUE, text TEXT NOT NULL, tonnes INTEGER NOT NULL, "
+                "price INTEGER NOT NULL)", way);
+        adds[way] = prepare("INSERT INTO report%d VALUES (?, ?, ?, ?, ?)", way);
+        lines[way] = prepare(ways[way], way);
+        totals[way] = prepare("SELECT 'TOTAL', count(*), coalesce(sum(tonnes), 0), coalesce(sum(tonnes * price), 0) FROM report%d", way);
+    }
+}
+
+/* Puts all lines into the way's table, in place of those it has. */
+static void fill_table(int way)
+{
+    do_once("DELETE FROM report%d", way);
+    for (int i = 0; i < LINES; i++) {
+        sqlite3_bind_int(adds[way], 1, i);
+        sqlite3_bind_text(adds[way], 2, held[i].contract, -1, SQLITE_STATIC);
+        sqlite3_bind_text(adds[way], 3, way == WHOLE ? held[i].line : GRAIN, -1, SQLITE_STATIC);
+        sqlite3_bind_int(adds[way], 4, (int)held[i].tonnes);
+        sqlite3_bind_int(adds[way], 5, (int)held[i].price);
+        step(adds[way]);
+    }
+}
+
+static uint8_t selected[STRIGOL_REPORT_MOST];
+static size_t selected_len;
+
+/* Copies the rows: their columns with commas between, and byte 10. */
+static void select_rows(sqlite3_stmt *statement)
+{
+    int columns = sqlite3_column_count(statement);
+    while (sqlite3_step(statement) == SQLITE_ROW)
+        for (int i = 0; i < columns; i++) {
+            const void *text = sqlite3_column_text(statement, i);
+            size_t n = (size_t)sqlite3_column_bytes(statement, i);
+            if (n >= sizeof selected - selected_len) give_up("SQLite's report is too long");
+            memcpy(selected + selected_len, text, n);
+            selected[selected_len + n] = i + 1 < columns ? ',' : '\n';
+            selected_len += n + 1;
+        }
+    sqlite3_reset(statement);
+}
+
+static void select_report(int way)
+{
+    selected_len = 0;
+    select_rows(lines[way]);
+    select_rows(totals[way]);
+    sink = selected[0];
+}
+
+/* Microseconds for one report of SQLite's, which must have the bytes of ours. */
+static double time_selects(int way)
+{
+    double best;
+    fill_table(way);
+    BEST_NS(best, ROUNDS, SELECTS, select_report(way));
+    if (selected_len != output_len || memcmp(selected, output, output_len) != 0) give_up("SQLite has another report");
+    return best / 1e3;
+}
+
+static void report_beside_sqlite(void)
+{
+    open_reports();
+    printf("| the report of 256 lines | call, us | SQLite, us | ratio; demanded: at least %d | |\n|---|---|---|---|---|\n", REPORT_RATIO);
+    for (size_t i = 0; i < REGISTERS; i++) {
+        make_lines(i);
+        fill(LINES);
+        double ours = time_one(report), theirs = time_selects(JOINED);
+        printf("| %s | %s | %s | %.2f | %s |\n", registers[i].name, figure(ours), figure(theirs), theirs / ours, met(theirs >= REPORT_RATIO * ours));
+    }
+}
+
 static void beside_sqlite(void)
 {
     double ours;
@@ -249,6 +375,9 @@ static void beside_sqlite(void)
     insert(0, LAST);
     ours = time_one(hand_out);
     show_beside("a line of 256 is handed out by its place", ours, time_one(select_one));
+    ours = time_one(report);
+    show_beside("the report, where the caller puts SQLite's fields together", ours, time_selects(FIELDS));
+    show_beside("the report, where SQLite has the lines whole, beside their numbers", ours, time_selects(WHOLE));
 }
 
 int main(void)
@@ -256,6 +385,11 @@ int main(void)
     beside_passes("offering a line to 255 others", offer_last, LAST, OFFER_PASSES);
     printf("\n");
     beside_passes("handing out a line of 256", hand_out, LINES, LINE_PASSES);
+    printf("\n");
+    report_beside_passes();
+    printf("\n");
+    open_database();
+    report_beside_sqlite();
     printf("\n");
     beside_sqlite();
     return 0;

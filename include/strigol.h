@@ -7,10 +7,12 @@
        strigol_start(store, sizeof store, state);
        strigol_run(table, sizeof table, store, sizeof store, state, input, input_len, output, sizeof output, 1000000, result);
 
-   The lines that a finished run put can be kept in a register of contracts, one call a line, and handed out again by their places:
+   The lines that a finished run put can be kept in a register of contracts, one call a line, handed out again by their places, and reported with
+   their totals:
 
        uint32_t number = strigol_register_offer(buffer, sizeof buffer, record, record_len);    0, or the line is declined
        strigol_register_line(buffer, sizeof buffer, place, line, &length);
+       strigol_register_report(buffer, sizeof buffer, report, sizeof report, &length);
 
    What the caller must ensure, since no call can find it out:
    - A pointer is not NULL, not even with length 0, and what it points at is as long as the length says. Two buffers lent to one call don't
@@ -52,13 +54,14 @@ extern "C" {
 #endif
 
 /* The numbers that a call gives, and the documents' words for each. 1 to 12 refuse a deck, 13 to 16 (and 2) turn a step down, 17 to 21 stop
-   it, 22 to 24 turn a scan call down, 14 and 25 to 27 a call of the register.
+   it, 22 to 24 turn a scan call down, 14, 21 and 25 to 27 a call of the register.
 
    1, 2           strigol_read leaves the table as it was.
    3 to 12        strigol_read leaves a table of zeros, which every step turns down by 13.
    2, 13 to 16    strigol_step changes nothing. strigol_start gives 14 with a good state if the store is too small, and leaves the store.
    17 to 21       strigol_step sets the state's status to stopped and changes nothing else.
-   14, 25 to 27   strigol_register_offer changes nothing. strigol_register_line gives 14 with the empty line. */
+   14, 25 to 27   strigol_register_offer changes nothing. strigol_register_line gives 14 with the empty line.
+   14, 21         strigol_register_report puts nothing, and sets the length to 0. */
 #define STRIGOL_NUMBER_LIST(X)                                                                                                                 \
     X(STRIGOL_DECK_TOO_LONG, 1, "the deck exceeds 32,768 bytes")                                                                               \
     X(STRIGOL_TABLE_TOO_SMALL, 2, "the table has under 28,672 bytes")                                                                          \
@@ -87,7 +90,7 @@ extern "C" {
     X(STRIGOL_ZERO_DIVISOR, 18, "a divisor is zero")                                                                                           \
     X(STRIGOL_OUT_OF_RANGE, 19, "a number leaves its range")                                                                                   \
     X(STRIGOL_STRING_TOO_LONG, 20, "a string to be stored, or |n| in STRING(n,m), exceeds 1,024 bytes")                                       \
-    X(STRIGOL_OUTPUT_FULL, 21, "a record and its byte 10 exceed the output left")                                                             \
+    X(STRIGOL_OUTPUT_FULL, 21, "a record and its byte 10 exceed the output left; or the output can't hold the register's report")             \
     X(STRIGOL_REFERENCE_TOO_LONG, 22, "in the scan call, the reference exceeds 1,024 bytes")                                                  \
     X(STRIGOL_TOO_MANY_ELEMENTS, 23, "the pattern has over 20 elements")                                                                       \
     X(STRIGOL_BAD_ELEMENT, 24,                                                                                                                 \
@@ -127,6 +130,7 @@ enum strigol_size {
     STRIGOL_REGISTER_SIZE = 8192, /* a smaller buffer for a register gets 14 */
     STRIGOL_LINES_MOST = 256,     /* lines of a register */
     STRIGOL_LINE_SIZE = 32,       /* a line handed out, and zeros behind it */
+    STRIGOL_REPORT_MOST = 6434,   /* no report of a register is longer */
 
     STRIGOL_STRING_MOST = 1024, /* a string, a record, a reference of the scan call */
     STRIGOL_STRINGS = 32,       /* strings of a store */
@@ -235,6 +239,12 @@ uint32_t strigol_register_offer(uint8_t *buffer, size_t buffer_len, const uint8_
    `length` its length. Where no line stands, and with 14, the line is empty and its length 0; no line held is empty. */
 uint32_t strigol_register_line(const uint8_t *buffer, size_t buffer_len, uint64_t place, STRIGOL_LENT(uint8_t, line, STRIGOL_LINE_SIZE),
                                uint32_t *length);
+
+/* Puts the closing report of the register to the start of the output: 0; or 14, or 21 if the output can't hold it all, and nothing is put. The
+   report is each line held, in order and byte for byte, then TOTAL,count,tonnes,value: how many lines there are, the sum of their tonnes and that
+   of tonnes times price, in cents. Byte 10 ends each of them. `length` is set to how many bytes were put, 0 with 14 and 21; the bytes of the
+   output behind the report stay as they were. */
+uint32_t strigol_register_report(const uint8_t *buffer, size_t buffer_len, uint8_t *output, size_t output_len, uint32_t *length);
 
 /* What stands in the buffers. The place of a string is 0 to 31 in order of first appearance in the deck, that of a number 0 to 31 in order of
    declaration. */

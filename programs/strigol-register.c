@@ -1,8 +1,9 @@
-/* strigol-register: a register of contract lines in a file, over the library's two calls. What staff see of it is said in man/strigol-register.1.
+/* strigol-register: a register of contract lines in a file, over the library's calls for it. What staff see of it is said in man/strigol-register.1.
 
        strigol-register FILE add [--run] <LINES
        strigol-register FILE line PLACE
        strigol-register FILE list
+       strigol-register FILE report
 
    FILE is the register's buffer just as the library leaves it; of what stands in it this program knows the size alone. FILE is never written
    into: a new one is written beside it and renamed over it. So whoever opens FILE finds a whole register, and a kill leaves the old or the new. */
@@ -31,6 +32,7 @@ enum { MOST_INPUT = 1 << 16, MOST_SHOWN = 80, MOST_WAIT = 30 };
 static const char usage[] = "usage: strigol-register FILE add [--run] <LINES\n"
                             "       strigol-register FILE line PLACE\n"
                             "       strigol-register FILE list\n"
+                            "       strigol-register FILE report\n"
                             "       strigol-register --help | --version\n";
 
 struct line { const uint8_t *at; size_t length; };
@@ -387,6 +389,18 @@ static int print_list(const char *file)
     return DONE;
 }
 
+/* The buffer is known to be a register, and no report is longer than the text, so no number but 0 is met; another would be told. */
+static int print_report(const char *file)
+{
+    uint8_t buffer[STRIGOL_REGISTER_SIZE], text[STRIGOL_REPORT_MOST];
+    uint32_t length, number;
+    load_held(file, buffer);
+    number = strigol_register_report(buffer, sizeof buffer, text, sizeof text, &length);
+    if (number != STRIGOL_OK) give_up("%s: %s", file, strigol_words(number));
+    print(text, length);
+    return DONE;
+}
+
 /* Where standard input, output or error is closed, opens it on nothing, in the direction in which it can't be used: else the register's file might
    be opened under that number, and be printed into. */
 static void keep_closed(void)
@@ -417,6 +431,7 @@ int main(int argc, char **argv)
         if (argc == 4 && is(argv[2], "add") && is(argv[3], "--run")) return add_lines(argv[1], 1);
         if (argc == 4 && is(argv[2], "line")) return print_line(argv[1], argv[3]);
         if (argc == 3 && is(argv[2], "list")) return print_list(argv[1]);
+        if (argc == 3 && is(argv[2], "report")) return print_report(argv[1]);
     }
     fputs(usage, stderr);
     return FAILED;

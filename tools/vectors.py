@@ -64,15 +64,25 @@ def line_of(data):
     return out
 
 
+def lines_of(data):
+    """The lines of a script or of its answers; the last may lack byte 10."""
+    return data.removesuffix(b"\n").split(b"\n")
+
+
 def entries_of(script, answers):
     """A script's commands with their answers: those that can be said on lists, and how many follow a `size`, up to a `reset`, and are left out."""
     entries, dropped, sized = [], 0, False
-    commands = [c for c in script.split(b"\n")[:-1] if not c.startswith(b"#")]
-    given = answers.split(b"\n")[:-1]
-    assert len(commands) == len(given)
-    for command, answer in zip(commands, given):
+    given = lines_of(answers)
+    for command in lines_of(script):
+        if command.startswith(b"#"):
+            continue
         word, _, rest = command.partition(b" ")
-        number, _, line = answer.partition(b"|")
+        number, _, line = given.pop(0).partition(b"|")
+        put = b""
+        if word == b"report":
+            end = given.index(b"--")
+            put = b"".join(record + b"\n" for record in given[:end])
+            del given[:end + 1]
         sized = word == b"size" or (sized and word != b"reset")
         if sized:
             dropped += 1
@@ -83,21 +93,19 @@ def entries_of(script, answers):
             entries.append(f"(offer {line_of(b'' if rest == b'-' else bytes.fromhex(rest.decode()))}, number {int(number)})")
         elif word == b"get":
             entries.append(f"(get {int(rest)}, handed {int(number)} {line_of(line)})")
+        elif word == b"report":
+            entries.append(f"(report {int(rest)}, reported {int(number)} {f'(bytes {text(put)})' if put else '[]'})")
         else:
             assert word == b"reset"
             entries.append(f"(reset, number {int(number)})")
+    assert not given
     return entries, dropped
 
 
-def register():
-    write("Everything", [
-        "-- A fact about closed values is proved by computing, with every definition unfolded: `unfolding everything`. Assumes nothing.",
-        "",
-        "unfoldable pub everything : Unit {0}",
-        "unfolding",
-    ] + ["    " + n for n in unfoldable(REGISTER_DEFINITIONS)] + ["everything = tt"], REGISTER_SPECS)
+def scripts(module, folder, names):
+    """The scripts of a folder as the facts of a module, with what the module uses of Script."""
     facts, out = [], []
-    for path in sorted(glob.glob(os.path.join(ROOT, "tests/vectors/register02/*.register"))):
+    for path in sorted(glob.glob(os.path.join(ROOT, "tests/vectors", folder, "*.register"))):
         name = os.path.basename(path)[:-9]
         script = open(path, "rb").read()
         entries, dropped = entries_of(script, open(path[:-9] + ".answers", "rb").read())
@@ -110,15 +118,26 @@ def register():
         if dropped:
             facts.append(f"-- without {dropped} commands, from a `size` on")
         facts += [f"{name} : Answered (", "    " + "\n    ∷ ".join(entries + ["[])"]), "unfolding everything answers times", f"{name} = refl"]
-    write("Scripts", [
-        "-- The scripts of tests/vectors/register02 with their answers, on lists. Commands after a `size` are about buffers, so they are left out up to the",
-        f"-- next `reset`. Nothing is left of {', '.join(out)}. Assumes nothing.",
+    write(module, [
+        f"-- The scripts of tests/vectors/{folder} with their answers, on lists. Commands after a `size` are about buffers, so they are left out up to the",
+        f"-- next `reset`.{' Nothing is left of ' + ', '.join(out) + '.' if out else ''} Assumes nothing.",
         "use mathlib.Core.List.{[], _∷_, _++_}",
         "use mathlib.Core.Path.{refl}",
         "use Rattle.base.specs.Text.{bytes}",
         "use Rattle.register_vectors.specs.Everything.{everything}",
-        "use Rattle.register_vectors.specs.Script.{offer, get, reset, number, handed, answers, Answered, times}",
+        f"use Rattle.register_vectors.specs.Script.{{{names}}}",
     ] + facts, REGISTER_SPECS)
+
+
+def register():
+    write("Everything", [
+        "-- A fact about closed values is proved by computing, with every definition unfolded: `unfolding everything`. Assumes nothing.",
+        "",
+        "unfoldable pub everything : Unit {0}",
+        "unfolding",
+    ] + ["    " + n for n in unfoldable(REGISTER_DEFINITIONS)] + ["everything = tt"], REGISTER_SPECS)
+    scripts("Scripts", "register02", "offer, get, reset, number, handed, answers, Answered, times")
+    scripts("Reports", "register04", "offer, get, report, reset, number, handed, reported, answers, Answered, times")
 
 
 def main():

@@ -107,6 +107,7 @@ static void registers(void)
     contracts[0] = 'W';
     show(strigol_register_line(contracts, sizeof contracts, 0, line, &length), "line: a register with a byte in its header");
     contracts[0] = 0;
+    show(strigol_register_report(contracts, sizeof contracts, output, 11, &length), "report: 11 bytes of output, for TOTAL,0,0,0 and byte 10");
     show(offer("W7,WH,120,2150\n"), "offer: a line with its byte 10");
     show(offer("W7,WH,0120,2150"), "offer: tonnes with a leading zero");
     offer("W7,WH,120,2150");

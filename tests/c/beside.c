@@ -79,6 +79,16 @@ static uint32_t right_hand_out(struct lent *l)
     return oracle_register_line(COPY(l, REGISTER), l->place, kept(&l->b[LINE]), COPIED_32(l, LENGTH));
 }
 
+static uint32_t call_report(struct lent *l)
+{
+    return strigol_register_report(LENT(l, REGISTER), LENT(l, OUTPUT), NUMBERS_32(l, LENGTH));
+}
+
+static uint32_t right_report(struct lent *l)
+{
+    return oracle_register_report(COPY(l, REGISTER), COPY(l, OUTPUT), COPIED_32(l, LENGTH));
+}
+
 #define BIT(n) (1u << (n))
 #define FROM_TO(from, to) (BIT((to) + 1) - BIT(from))
 #define STEP_NUMBERS (BIT(0) | BIT(2) | FROM_TO(13, 21))
@@ -92,6 +102,7 @@ struct call_beside calls[CALLS] = {
     {"strigol_scan", call_scan, right_scan, BIT(0) | FROM_TO(22, 24), BIT(REFERENCE) | BIT(VALUES) | BIT(ELEMENTS) | BIT(ANSWER), {0}},
     {"strigol_register_offer", call_offer, right_offer, BIT(0) | BIT(14) | FROM_TO(25, 27), BIT(REGISTER) | BIT(OFFERED), {0}},
     {"strigol_register_line", call_hand_out, right_hand_out, BIT(0) | BIT(14), BIT(REGISTER) | BIT(LINE) | BIT(LENGTH), {0}},
+    {"strigol_register_report", call_report, right_report, BIT(0) | BIT(14) | BIT(21), BIT(REGISTER) | BIT(OUTPUT) | BIT(LENGTH), {0}},
 };
 
 void begin_test(const char *name, struct lent *l)

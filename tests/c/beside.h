@@ -18,7 +18,7 @@
 
 /* A call, by what is lent: the numbers that documents 01 and 02 let it give, as bits, the buffers lent to it, as bits, and how often each number was
    right so far. */
-enum call { READ, START, STEP, RUN, SCAN, OFFER, HAND_OUT, CALLS };
+enum call { READ, START, STEP, RUN, SCAN, OFFER, HAND_OUT, REPORT, CALLS };
 struct call_beside {
     const char *name;
     uint32_t (*call)(struct lent *), (*right)(struct lent *);

@@ -19,9 +19,9 @@ const char *const buffer_name[BUFFERS] = {"deck",   "table",     "card",   "stor
 
 static const size_t room[BUFFERS] = {
     [DECK] = DECK_ROOM, [TABLE] = STRIGOL_TABLE_SIZE + PAGE, [CARD] = sizeof(uint32_t), [STORE] = STRIGOL_STORE_SIZE + PAGE,
-    [STATE] = STRIGOL_STATE_SIZE * sizeof(uint64_t), [INPUT] = INPUT_ROOM, [OUTPUT] = PAGE,
+    [STATE] = STRIGOL_STATE_SIZE * sizeof(uint64_t), [INPUT] = INPUT_ROOM, [OUTPUT] = 3 * PAGE,
     [ANSWER] = STRIGOL_ANSWER_SIZE * sizeof(uint32_t), [RESULT] = STRIGOL_RESULT_SIZE * sizeof(uint64_t), [REFERENCE] = PAGE,
-    [VALUES] = PAGE, [ELEMENTS] = PAGE, [REGISTER] = STRIGOL_REGISTER_SIZE + PAGE, [OFFERED] = 3 * PAGE, [LINE] = STRIGOL_LINE_SIZE,
+    [VALUES] = PAGE, [ELEMENTS] = PAGE, [REGISTER] = 2 * STRIGOL_REGISTER_SIZE, [OFFERED] = 3 * PAGE, [LINE] = STRIGOL_LINE_SIZE,
     [LENGTH] = sizeof(uint32_t)};
 
 const char *test = "a test";

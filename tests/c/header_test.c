@@ -1,5 +1,5 @@
 /* Tries what include/strigol.h says beyond the calls themselves: its sizes and places beside those of the oracle, the words for the numbers, and
-   the functions that read and write the buffers' layouts, on document 01's deck LOTS and line P1; and its example of a register. */
+   the functions that read and write the buffers' layouts, on document 01's deck LOTS and line P1; and its example of a register, with the report. */
 #include "decks.h"
 #include "oracle.h"
 #include "strigol.h"
@@ -17,6 +17,7 @@ SAME(STRIGOL_RESULT_SIZE, RESULT_SIZE);
 SAME(STRIGOL_REGISTER_SIZE, REGISTER_SIZE);
 SAME(STRIGOL_LINE_SIZE, LINE_SIZE);
 SAME(STRIGOL_LINES_MOST, MOST_LINES);
+SAME(STRIGOL_REPORT_MOST, MOST_REPORT);
 SAME(STRIGOL_STRING_MOST, MOST_STRING);
 SAME(STRIGOL_STRINGS, MOST_STRINGS);
 SAME(STRIGOL_CELL_SIZE, CELL_SIZE);
@@ -51,6 +52,7 @@ SAME(STRIGOL_STRING, SCAN_STRING);
 SAME(STRIGOL_FIXED, SCAN_FIXED);
 SAME(STRIGOL_FREE, SCAN_FREE);
 SAME(STRIGOL_BAD_REGISTER, 14);
+SAME(STRIGOL_OUTPUT_FULL, 21);
 SAME(STRIGOL_BAD_LINE, 25);
 SAME(STRIGOL_CONTRACT_HELD, 26);
 SAME(STRIGOL_REGISTER_FULL, 27);
@@ -72,6 +74,7 @@ static void words(void)
     for (uint32_t i = 1; i <= STRIGOL_LAST_NUMBER; i++) expect(strigol_words(i)[0] != 0, "a number without words");
     expect(strcmp(strigol_words(STRIGOL_ZERO_DIVISOR), "a divisor is zero") == 0, "the words of 18");
     expect(strstr(strigol_words(STRIGOL_BAD_REGISTER), "under 8,192 bytes or against its written rules") != NULL, "the words of 14");
+    expect(strstr(strigol_words(STRIGOL_OUTPUT_FULL), "the output can't hold the register's report") != NULL, "the words of 21");
     expect(strcmp(strigol_words(STRIGOL_BAD_LINE), "a line breaks its form") == 0, "the words of 25");
     expect(strcmp(strigol_words(STRIGOL_CONTRACT_HELD), "its contract is held already") == 0, "the words of 26");
     expect(strcmp(strigol_words(STRIGOL_REGISTER_FULL), "256 lines are held") == 0, "the words of 27");
@@ -132,11 +135,11 @@ static void buffers(void)
 
 static void register_calls(void)
 {
-    static const uint8_t offered[] = "A17,WH,250,19950";
-    static uint8_t buffer[STRIGOL_REGISTER_SIZE];
+    static const uint8_t offered[] = "A17,WH,250,19950", report[] = "A17,WH,250,19950\nTOTAL,1,250,4987500\n";
+    static uint8_t buffer[STRIGOL_REGISTER_SIZE], output[STRIGOL_REPORT_MOST];
     uint8_t line[STRIGOL_LINE_SIZE];
     uint32_t length;
-    const size_t n = sizeof offered - 1;
+    const size_t n = sizeof offered - 1, put = sizeof report - 1;
     expect(strigol_register_offer(buffer, sizeof buffer, offered, n) == STRIGOL_OK, "the line is declined");
     expect(strigol_register_offer(buffer, sizeof buffer, offered, n) == STRIGOL_CONTRACT_HELD, "it is taken again");
     expect(strigol_register_offer(buffer, sizeof buffer, offered, n - 6) == STRIGOL_BAD_LINE, "it is taken without a price");
@@ -144,6 +147,10 @@ static void register_calls(void)
     expect(memcmp(line, offered, n) == 0 && line[n] == 0 && line[STRIGOL_LINE_SIZE - 1] == 0, "its bytes");
     expect(strigol_register_line(buffer, sizeof buffer, 1, line, &length) == STRIGOL_OK && length == 0 && line[0] == 0, "there is a second line");
     expect(strigol_register_line(buffer, sizeof buffer - 1, 0, line, &length) == STRIGOL_BAD_REGISTER && length == 0, "a short buffer is taken");
+    expect(strigol_register_report(buffer, sizeof buffer, output, put - 1, &length) == STRIGOL_OUTPUT_FULL && length == 0, "a short output is taken");
+    expect(strigol_register_report(buffer, sizeof buffer, output, sizeof output, &length) == STRIGOL_OK && length == put, "there is no report");
+    expect(memcmp(output, report, put) == 0 && output[put] == 0, "its bytes");
+    expect(strigol_register_report(buffer, 1, output, sizeof output, &length) == STRIGOL_BAD_REGISTER && length == 0, "a short buffer is reported");
 }
 
 int main(void)

@@ -13,7 +13,7 @@ int main()
     uint64_t longer[STRIGOL_STATE_SIZE + 1], result[STRIGOL_RESULT_SIZE];
     uint32_t answer[STRIGOL_ANSWER_SIZE], *lent = answer, length;
     const uint8_t contract[] = {'A', ',', 'W', 'H', ',', '1', ',', '1'};
-    std::vector<uint8_t> kept(STRIGOL_REGISTER_SIZE), handed(STRIGOL_LINE_SIZE, 1);
+    std::vector<uint8_t> kept(STRIGOL_REGISTER_SIZE), handed(STRIGOL_LINE_SIZE, 1), report(STRIGOL_REPORT_MOST);
     uint8_t line[STRIGOL_LINE_SIZE], longer_line[STRIGOL_LINE_SIZE + 1];
     int failures = 0;
     failures += strigol_start(store.data(), store.size(), state.data()) != STRIGOL_OK || store[0] != 0 || strigol_number_in(state.data(), 31) != 0;
@@ -27,6 +27,7 @@ int main()
     failures += strigol_register_line(kept.data(), kept.size(), 0, line, &length) != STRIGOL_OK || length != 8 || line[7] != '1' || line[8] != 0;
     failures += strigol_register_line(kept.data(), kept.size(), 0, longer_line, &length) != STRIGOL_OK || length != 8 || longer_line[31] != 0;
     failures += strigol_register_line(kept.data(), kept.size(), 1, handed.data(), &length) != STRIGOL_OK || length != 0 || handed[31] != 0;
+    failures += strigol_register_report(kept.data(), kept.size(), report.data(), report.size(), &length) != STRIGOL_OK || length != 21;
     std::printf("header test in C++: %d failures\n", failures);
     return failures != 0;
 }

@@ -218,6 +218,8 @@ static void fault_register(struct draws *d, enum side side)
     make_right(&first, OFFER);
     first.place = random_place(d, bytes);
     make_right(&first, HAND_OUT);
+    lay_empty(&first, side, OUTPUT, draw(d, 2) ? draw(d, 100) : a_length(d, STRIGOL_REPORT_MOST, STRIGOL_REPORT_MOST + PAGE));
+    make_right(&first, REPORT);
 }
 
 static void faults_on(enum side side)
@@ -303,7 +305,7 @@ static void far_buffers(uint8_t *long_one)
     if (number != STRIGOL_TOO_MANY_ELEMENTS) fail("number %u, not 23, for rows of over 2^32 bytes", number);
 }
 
-/* A register's buffer and a line that are right but for being so long, and places past 2^32. */
+/* A register's buffer, a line and an output that are right but for being so long, and places past 2^32. */
 static void far_register(uint8_t *long_one)
 {
     static const uint8_t line[] = "A,WH,1,1";
@@ -320,6 +322,13 @@ static void far_register(uint8_t *long_one)
         number = strigol_register_line(long_one, STRIGOL_REGISTER_SIZE, place, handed, &length);
         if (number != 0 || length != 0) fail("number %u and length %u, not 0 and 0, for place %llu", number, length, (unsigned long long)place);
     }
+    doing.call = "strigol_register_report";
+    number = strigol_register_report(long_one, far + 100, far_output, sizeof far_output, &length);
+    if (number != 0 || length != 21) fail("number %u and length %u, not 0 and 21, with a buffer of over 2^32 bytes", number, length);
+    memcpy(far_table, long_one, STRIGOL_REGISTER_SIZE);
+    number = strigol_register_report(far_table, sizeof far_table, long_one, far + 3, &length);
+    if (number != 0 || length != 21) fail("number %u and length %u, not 0 and 21, with an output of over 2^32 bytes", number, length);
+    if (memcmp(long_one, "A,WH,1,1\nTOTAL,1,1,1\n", 21) != 0 || memcmp(far_output, long_one, 21) != 0) fail("not the report");
     doing.call = "strigol_register_offer";
     memset(far_table, 0, STRIGOL_REGISTER_SIZE);
     memcpy(long_one, line, 8);
@@ -459,7 +468,7 @@ static uint64_t run_job(struct lent *l, uint64_t all)
     return mixed_run(all, l, RESULT);
 }
 
-/* Lines offered to a register of the job's own, and one handed out. */
+/* Lines offered to a register of the job's own, one handed out, and the report. */
 static uint64_t register_job(struct lent *l, enum side side, struct draws *d, uint64_t all)
 {
     uint8_t bytes[STRIGOL_REGISTER_SIZE];
@@ -472,8 +481,10 @@ static uint64_t register_job(struct lent *l, enum side side, struct draws *d, ui
         all = all * 31 + make(l, OFFER);
     }
     l->place = random_place(d, bytes);
-    all = all * 31 + make(l, HAND_OUT);
-    return mixed_buffer(mixed_buffer(mixed_buffer(all, l, REGISTER), l, LINE), l, LENGTH);
+    all = mixed_buffer(mixed_buffer(all * 31 + make(l, HAND_OUT), l, LINE), l, LENGTH);
+    lay_empty(l, side, OUTPUT, STRIGOL_REPORT_MOST);
+    all = mixed_buffer(mixed_buffer(all * 31 + make(l, REPORT), l, OUTPUT), l, LENGTH);
+    return mixed_buffer(all, l, REGISTER);
 }
 
 /* All calls: the deck is read into a table of the run's own, then come steps and a run on the table shared, a scan, and a register. Gives what was
@@ -637,6 +648,8 @@ static void probe_register(struct draws *d)
     first.place = random_place(d, bytes);
     probe_stack(OFFER, &first, "a random register");
     probe_stack(HAND_OUT, &first, "a random register");
+    lay_empty(&first, BEHIND, OUTPUT, STRIGOL_REPORT_MOST);
+    probe_stack(REPORT, &first, "a random register");
 }
 
 /* Random decks, their steps and runs, scans and registers. */

@@ -1,20 +1,26 @@
-/* Tries the register's two calls of the static library against the oracle, numbers and every byte between the fences:
+/* Tries the register's three calls of the static library against the oracle, numbers and every byte between the fences:
 
-   scripts    those of tests/vectors/register02, by the oracle alone and by the library, against their answers
-   example    the register that docs/REGISTER.md prints
+   scripts    those of tests/vectors/register02 and register04, by the oracle alone and by the library, against their answers
+   example    the register that docs/REGISTER.md prints, and its report
    form       all lines of a few signs up to 9 bytes, all lines of fields at their edges, good lines with one byte changed, put in or left out
-   lists      random registers, offered lines and asked for lines one after another, with all places at the edge
+   reports    of 0 to 256 lines offered to zeros, the longest and the shortest, with output just enough, one byte short, longer and none
+   lists      random registers, offered lines, asked for lines and reported one after another, with all places at the edge and output of any length
    damaged    registers near sound ones and random ones, of right and wrong size
 
-   A register that the rules let pass is what offering its lines, one by one, leaves of zeros. A first argument is the only seed to try. */
+   A register that the rules let pass is what offering its lines, one by one, leaves of zeros. The numbers of a report's last record are worked out
+   once more from the records that were put. A first argument is the only seed to try. */
 #include "beside.h"
 
 #include <inttypes.h>
+#include <stdarg.h>
 #include <stdio.h>
 #include <stdlib.h>
 #include <string.h>
 
-enum { LISTS = 12000, LIST_CALLS = 16, DAMAGED = 90000, OTHERS = 0x3c, SCRIPT_ROOM = 65536, BUFFER_ROOM = STRIGOL_REGISTER_SIZE + 64 };
+enum {
+    LISTS = 12000, LIST_CALLS = 16, DAMAGED = 90000, OTHERS = 0x3c,
+    SCRIPT_ROOM = 65536, BUFFER_ROOM = 2 * STRIGOL_REGISTER_SIZE, OUTPUT_ROOM = STRIGOL_REPORT_MOST + PAGE
+};
 
 #define SIZE(list) (sizeof(list) / sizeof((list)[0]))
 
@@ -49,6 +55,41 @@ static uint32_t hand_out_right(uint64_t place, enum side side)
     return number;
 }
 
+static long read_back;
+
+/* Whether the last record put has the count, the tonnes and the value of those above it. */
+static void check_totals(const uint8_t *put, uint32_t length)
+{
+    static char text[OUTPUT_ROOM + 1];
+    char total[64], *at = text, *end;
+    uint64_t count = 0, tonnes = 0, value = 0;
+    memcpy(text, put, length);
+    text[length] = 0;
+    for (; (end = strchr(at, '\n')) != NULL && end[1] != 0; at = end + 1) {
+        uint32_t amount = 0, price = 0;
+        if (sscanf(at, "%*8[A-Z0-9],%*2[A-Z],%" SCNu32 ",%" SCNu32, &amount, &price) != 2) fail("record %" PRIu64 " is no line", count);
+        count++;
+        tonnes += amount;
+        value += (uint64_t)amount * price;
+    }
+    snprintf(total, sizeof total, "TOTAL,%" PRIu64 ",%" PRIu64 ",%" PRIu64 "\n", count, tonnes, value);
+    if (strcmp(at, total) != 0) fail("the report ends with %sand its records come to %s", at, total);
+    read_back++;
+}
+
+/* Asks for the report, with so many bytes of output; reads it back. */
+static uint32_t report_right(size_t output_len, enum side side)
+{
+    int before = failures;
+    uint32_t number;
+    lay_empty(&lent, side, OUTPUT, output_len);
+    lay_empty(&lent, side, LENGTH, sizeof(uint32_t));
+    number = make_right(&lent, REPORT);
+    if (number == 0 && failures == before) check_totals(lent.b[OUTPUT].at, *NUMBERS_32(&lent, LENGTH));
+    if (before == 0 && failures > 0) printf("%zu bytes of output\n", output_len);
+    return number;
+}
+
 /* Scripts */
 
 /* A register's calls: the oracle's, or the library's between fences. */
@@ -56,6 +97,7 @@ struct calls_of {
     const char *name;
     uint32_t (*offer)(uint8_t *, size_t, const uint8_t *, size_t);
     uint32_t (*line)(const uint8_t *, size_t, uint64_t, uint8_t *, uint32_t *);
+    uint32_t (*report)(const uint8_t *, size_t, uint8_t *, size_t, uint32_t *);
 };
 
 static uint32_t fenced_offer(uint8_t *buffer, size_t buffer_len, const uint8_t *line, size_t line_len)
@@ -78,8 +120,18 @@ static uint32_t fenced_line(const uint8_t *buffer, size_t buffer_len, uint64_t p
     return number;
 }
 
-static const struct calls_of by_oracle = {"oracle", oracle_register_offer, oracle_register_line};
-static const struct calls_of by_library = {"library", fenced_offer, fenced_line};
+static uint32_t fenced_report(const uint8_t *buffer, size_t buffer_len, uint8_t *output, size_t output_len, uint32_t *length)
+{
+    uint32_t number;
+    lay(&lent.b[REGISTER], BEHIND, buffer, buffer_len, buffer_len);
+    number = report_right(output_len, BEHIND);
+    *length = *NUMBERS_32(&lent, LENGTH);
+    memcpy(output, lent.b[OUTPUT].at, *length < output_len ? *length : output_len);
+    return number;
+}
+
+static const struct calls_of by_oracle = {"oracle", oracle_register_offer, oracle_register_line, oracle_register_report};
+static const struct calls_of by_library = {"library", fenced_offer, fenced_line, fenced_report};
 
 /* A script's buffer, of which so many bytes are lent, and what it has answered so far. */
 static struct { uint8_t buffer[BUFFER_ROOM]; size_t lent, written; char answers[SCRIPT_ROOM]; } script;
@@ -91,14 +143,33 @@ static void reset_script(void)
     script.lent = STRIGOL_REGISTER_SIZE;
 }
 
-static void answer(uint32_t number, const uint8_t *line, uint32_t length)
+__attribute__((format(printf, 1, 2))) static void answer(const char *form, ...)
 {
-    script.written += (size_t)snprintf(script.answers + script.written, SCRIPT_ROOM - script.written, line ? "%u|%.*s\n" : "%u\n", number,
-                                       (int)length, (const char *)line);
+    va_list values;
+    va_start(values, form);
+    script.written += (size_t)vsnprintf(script.answers + script.written, SCRIPT_ROOM - script.written, form, values);
+    va_end(values);
 }
 
-/* Carries out one command; 0 if it isn't known. */
-static int command(const struct calls_of *calls, char *text)
+/* Bytes that must stay as they were laid. */
+static void check_others(const char *what, const uint8_t *bytes, size_t from, size_t to)
+{
+    for (size_t i = from; i < to; i++)
+        if (bytes[i] != OTHERS) fail("byte %zu of the %s is written", i, what);
+}
+
+static void answer_report(const struct calls_of *calls, size_t output_len)
+{
+    static uint8_t output[OUTPUT_ROOM + 1];
+    uint32_t length, number;
+    memset(output, OTHERS, OUTPUT_ROOM);
+    number = calls->report(script.buffer, script.lent, output, output_len, &length);
+    answer("%u\n%.*s--\n", number, (int)length, (const char *)output);
+    check_others("output", output, length, OUTPUT_ROOM);
+}
+
+/* Carries out one command, which has a zero byte at its end; a line offered may have more of them. 0 if it isn't known. */
+static int command(const struct calls_of *calls, char *text, const char *end)
 {
     static uint8_t bytes[SCRIPT_ROOM];
     uint8_t line[STRIGOL_LINE_SIZE];
@@ -106,18 +177,20 @@ static int command(const struct calls_of *calls, char *text)
     char *rest = text + strcspn(text, " ");
     if (*rest != 0) *rest++ = 0;
     if (strcmp(text, "offer") == 0) {
-        answer(calls->offer(script.buffer, script.lent, (const uint8_t *)rest, strlen(rest)), NULL, 0);
+        answer("%u\n", calls->offer(script.buffer, script.lent, (const uint8_t *)rest, (size_t)(end - rest)));
     } else if (strcmp(text, "offerhex") == 0) {
-        answer(calls->offer(script.buffer, script.lent, bytes, (size_t)from_hex(rest, bytes)), NULL, 0);
+        answer("%u\n", calls->offer(script.buffer, script.lent, bytes, (size_t)from_hex(rest, bytes)));
     } else if (strcmp(text, "get") == 0) {
         number = calls->line(script.buffer, script.lent, strtoull(rest, NULL, 10), line, &length);
-        answer(number, line, length);
+        answer("%u|%.*s\n", number, (int)length, (const char *)line);
+    } else if (strcmp(text, "report") == 0 && strtoul(rest, NULL, 10) <= OUTPUT_ROOM) {
+        answer_report(calls, strtoul(rest, NULL, 10));
     } else if (strcmp(text, "size") == 0 && strtoul(rest, NULL, 10) <= BUFFER_ROOM) {
         script.lent = strtoul(rest, NULL, 10);
-        answer(0, NULL, 0);
+        answer("0\n");
     } else if (strcmp(text, "reset") == 0) {
         reset_script();
-        answer(0, NULL, 0);
+        answer("0\n");
     } else {
         return 0;
     }
@@ -135,15 +208,14 @@ static void check_script(const struct calls_of *calls, const char *stem)
         fail("a file is missing");
         return;
     }
-    text[text_len] = 0;
     script.written = 0;
     reset_script();
-    for (char *at = text, *end; *at != 0; at = end) {
-        end = at + strcspn(at, "\n");
-        if (*end != 0) *end++ = 0;
-        if (*at != '#' && !command(calls, at)) fail("a command that isn't known: %s", at);
-        for (size_t i = STRIGOL_REGISTER_SIZE; i < BUFFER_ROOM; i++)
-            if (script.buffer[i] != OTHERS) fail("byte %zu of the buffer is written", i);
+    for (char *at = text, *end; at < text + text_len; at = end + 1) {
+        end = memchr(at, '\n', (size_t)(text + text_len - at));
+        if (end == NULL) end = text + text_len;
+        *end = 0;
+        if (*at != '#' && !command(calls, at, end)) fail("a command that isn't known: %s", at);
+        check_others("buffer", script.buffer, STRIGOL_REGISTER_SIZE, BUFFER_ROOM);
     }
     doing.call = calls->name;
     if (script.written != (size_t)right_len || memcmp(script.answers, right, script.written) != 0) fail("other answers than the script's");
@@ -157,6 +229,18 @@ static void try_script(const char *stem)
 
 /* The example of the page */
 
+/* The page has the register's report, as a block of its own. */
+static void check_example_report(void)
+{
+    static uint8_t page[SCRIPT_ROOM], block[STRIGOL_REPORT_MOST + 9] = "```\n";
+    uint32_t length;
+    long page_len = file_bytes("docs/REGISTER", ".md", page, sizeof page - 1);
+    fenced_report(script.buffer, STRIGOL_REGISTER_SIZE, block + 4, STRIGOL_REPORT_MOST, &length);
+    memcpy(block + 4 + length, "```\n", 5);
+    page[page_len < 0 ? 0 : page_len] = 0;
+    if (strstr((const char *)page, (const char *)block) == NULL) fail("not the report of docs/REGISTER.md");
+}
+
 static void check_example(void)
 {
     static const char *const lines[] = {"A17,WH,250,19950", "ZZZZZZZZ,ZZ,99999,999999"};
@@ -166,6 +250,7 @@ static void check_example(void)
     reset_script();
     for (int i = 0; i < 2; i++) fenced_offer(script.buffer, STRIGOL_REGISTER_SIZE, (const uint8_t *)lines[i], strlen(lines[i]));
     if (memcmp(script.buffer, right, sizeof right) != 0) fail("not the register of docs/REGISTER.md");
+    check_example_report();
 }
 
 /* The form of a line */
@@ -250,6 +335,55 @@ static void try_forms(void)
     printf("register test: form: %ld lines offered to the empty register, %ld taken\n", judged, formed);
 }
 
+/* Reports of every count of lines */
+
+/* How long the report of a register is; where there is none, how long one can be. */
+static uint32_t report_length(const uint8_t *buffer)
+{
+    static uint8_t report[STRIGOL_REPORT_MOST];
+    uint32_t length, number = oracle_register_report(buffer, STRIGOL_REGISTER_SIZE, report, sizeof report, &length);
+    return number == 0 ? length : STRIGOL_REPORT_MOST;
+}
+
+/* The report of the register laid, with output just enough, one byte short, one byte longer and none. */
+static void try_outputs(enum side side)
+{
+    size_t length = report_length(lent.b[REGISTER].at);
+    report_right(length, side);
+    report_right(length - 1, side);
+    report_right(length + 1, side);
+    report_right(0, side);
+}
+
+/* Lines with these numbers and with contracts of so many signs or more, offered one by one to zeros. Each is offered again, and declined. */
+static void try_counts(int signs, const char *tonnes, const char *price)
+{
+    static const uint8_t empty[STRIGOL_REGISTER_SIZE];
+    lay_register(&lent, BEHIND, empty, sizeof empty);
+    try_outputs(BEHIND);
+    for (int i = 0; i <= STRIGOL_LINES_MOST; i++) {
+        enum side side = (enum side)(i % SIDES);
+        struct line line;
+        char contract[16];
+        snprintf(contract, sizeof contract, "%0*X", signs, i);
+        make_line(&line, contract, "ZZ", tonnes, price);
+        lay_again(&lent.b[REGISTER], side, STRIGOL_REGISTER_SIZE);
+        lay_line(&lent, side, &line);
+        offer_right();
+        offer_right();
+        try_outputs(side);
+    }
+}
+
+static void try_reports(void)
+{
+    doing.part = "reports";
+    try_counts(1, "1", "1");
+    try_counts(8, "99999", "999999");
+    if (report_right(STRIGOL_REPORT_MOST, BEHIND) != 0) fail("a report has more than %d bytes", STRIGOL_REPORT_MOST);
+    if (report_right(STRIGOL_REPORT_MOST - 1, BEHIND) == 0) fail("the longest report has less than %d bytes", STRIGOL_REPORT_MOST);
+}
+
 /* Lists and damaged registers */
 
 static long longest, kept_damaged, made_again;
@@ -277,7 +411,20 @@ static size_t random_size(struct draws *d)
     return draw(d, 8) ? RIGHT : sizes[draw(d, SIZE(sizes))];
 }
 
-/* Lines offered and asked for, one after another, to one register. */
+/* Output for the report of this register: just enough, one byte short, none, short or longer. */
+static size_t random_output(struct draws *d, const uint8_t *held)
+{
+    uint32_t length = report_length(held);
+    switch (draw(d, 6)) {
+    case 0: return length - 1;
+    case 1: return 0;
+    case 2: return draw(d, length);
+    case 3: return length + draw(d, OUTPUT_ROOM - length + 1);
+    default: return length;
+    }
+}
+
+/* Lines offered to one register, asked for, and reported, one after another. */
 static void try_list(uint64_t seed)
 {
     static uint8_t bytes[STRIGOL_REGISTER_SIZE];
@@ -291,15 +438,18 @@ static void try_list(uint64_t seed)
     size = random_size(&d);
     lay_register(&lent, side, bytes, size);
     held = size < sizeof bytes ? bytes : lent.b[REGISTER].at;
+    report_right(random_output(&d, held), side);
     for (int i = 0; i < LIST_CALLS; i++) {
         struct line line;
-        if (draw(&d, 3) == 0) {
-            hand_out_right(random_place(&d, held), side);
-            continue;
+        switch (draw(&d, 8)) {
+        case 0: report_right(random_output(&d, held), side); break;
+        case 1: case 2: hand_out_right(random_place(&d, held), side); break;
+        default:
+            random_line(&d, held, &line);
+            lay_line(&lent, side, &line);
+            offer_right();
+            break;
         }
-        random_line(&d, held, &line);
-        lay_line(&lent, side, &line);
-        offer_right();
     }
     if ((long)oracle_register_lines(held) > longest) longest = (long)oracle_register_lines(held);
     if (size >= sizeof bytes && seed % 64 == 0) check_image(held);
@@ -322,9 +472,18 @@ static void try_damaged(uint64_t seed)
         kept_damaged++;
         if (kept_damaged % 64 == 0) check_image(bytes);
     }
+    report_right(draw(&d, 4) ? OUTPUT_ROOM : draw(&d, 40), side);
     random_line(&d, bytes, &line);
     lay_line(&lent, side, &line);
     offer_right();
+}
+
+/* The scripts of a folder. */
+static int try_scripts(const char *pattern)
+{
+    int scripts = each_stem(pattern, try_script);
+    if (scripts == 0) fail("no scripts: %s", pattern);
+    return scripts;
 }
 
 int main(int argc, char **argv)
@@ -332,22 +491,24 @@ int main(int argc, char **argv)
     uint64_t only = argc > 1 ? strtoull(argv[1], NULL, 10) : 0;
     begin_test("register test", &lent);
     if (only == 0) {
-        int scripts = each_stem("tests/vectors/register02/*.register", try_script);
-        if (scripts == 0) fail("no scripts");
+        int scripts = try_scripts("tests/vectors/register02/*.register") + try_scripts("tests/vectors/register04/*.register");
         printf("register test: %d scripts, by the oracle and by the library\n", scripts);
         check_example();
         try_forms();
+        try_reports();
     }
     for (uint64_t seed = only ? only : 1; seed <= (only ? only : LISTS); seed++) try_list(seed);
     for (uint64_t seed = only ? only : 1; seed <= (only ? only : DAMAGED); seed++) try_damaged(seed);
     if (only == 0) {
         doing.part = "lists";
         if (longest < STRIGOL_LINES_MOST) fail("no register of %d lines", STRIGOL_LINES_MOST);
-        printf("register test: %d lists of %d calls; %d damaged registers, %ld of them sound; %ld registers made again of their lines\n", LISTS,
-               LIST_CALLS, DAMAGED, kept_damaged, made_again);
+        printf("register test: %d lists of %d calls; %d damaged registers, %ld of them sound; %ld registers made again of their lines; "
+               "%ld reports read back\n",
+               LISTS, LIST_CALLS, DAMAGED, kept_damaged, made_again, read_back);
     }
     show_met(OFFER, only == 0);
     show_met(HAND_OUT, only == 0);
+    show_met(REPORT, only == 0);
     printf("register test: %d failures\n", failures);
     return failures != 0;
 }

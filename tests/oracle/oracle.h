@@ -15,6 +15,9 @@ enum {
     REGISTER_SIZE = 8192, MOST_LINES = 256, LINE_SIZE = 32
 };
 
+/* The longest line is ZZZZZZZZ,ZZ,99999,999999; the longest report has 256 such lines and TOTAL,256,25599744,25599718400256, each with byte 10. */
+enum { LONGEST_LINE = 24, LONGEST_TOTAL = 33, MOST_REPORT = MOST_LINES * (LONGEST_LINE + 1) + LONGEST_TOTAL + 1 };
+
 /* The layouts of docs/TABLE.md: the table's counts and regions, its rows and cells; places in a state, an answer and a result; a row lent to the
    scan call. That of docs/REGISTER.md: the slots of a register. */
 enum {
@@ -130,5 +133,6 @@ int oracle_register_keeps(const uint8_t buffer[REGISTER_SIZE]);
 uint64_t oracle_register_lines(const uint8_t buffer[REGISTER_SIZE]);
 uint32_t oracle_register_offer(uint8_t *buffer, size_t buffer_len, const uint8_t *line, size_t line_len);
 uint32_t oracle_register_line(const uint8_t *buffer, size_t buffer_len, uint64_t place, uint8_t *line, uint32_t *length);
+uint32_t oracle_register_report(const uint8_t *buffer, size_t buffer_len, uint8_t *output, size_t output_len, uint32_t *length);
 
 #endif

@@ -1,7 +1,9 @@
-/* A second register of contract lines: document 02's wish 2 and the written rules of docs/REGISTER.md, one by one as they stand there. Every two
-   lines held are compared. */
+/* A second register of contract lines: document 02's wishes 2 and 4 and the written rules of docs/REGISTER.md, one by one as they stand there. Every
+   two lines held are compared. */
 #include "oracle.h"
 
+#include <inttypes.h>
+#include <stdio.h>
 #include <string.h>
 
 enum { MOST_CONTRACT = 8, GRAIN = 2, MOST_TONNES = 99999, MOST_PRICE = 999999 };
@@ -55,12 +57,21 @@ static int is_number(struct field f, uint64_t most)
     return value >= 1 && value <= most;
 }
 
-/* W2.2 to W2.4. What is left behind three commas is the price, in which a fourth is no digit. */
+/* The fields of a line. What is left behind three commas is the price, in which a fourth is no digit; 0 if there are fewer. */
+struct fields { struct field contract, grain, tonnes, price; };
+
+static int cut_line(struct field line, struct fields *f)
+{
+    if (!cut(&line, &f->contract) || !cut(&line, &f->grain) || !cut(&line, &f->tonnes)) return 0;
+    f->price = line;
+    return 1;
+}
+
+/* W2.2 to W2.4. */
 static int has_form(struct field line)
 {
-    struct field contract, grain, tonnes;
-    if (!cut(&line, &contract) || !cut(&line, &grain) || !cut(&line, &tonnes)) return 0;
-    return is_contract(contract) && is_grain(grain) && is_number(tonnes, MOST_TONNES) && is_number(line, MOST_PRICE);
+    struct fields f;
+    return cut_line(line, &f) && is_contract(f.contract) && is_grain(f.grain) && is_number(f.tonnes, MOST_TONNES) && is_number(f.price, MOST_PRICE);
 }
 
 static struct field contract_of(struct field line)
@@ -158,5 +169,53 @@ uint32_t oracle_register_line(const uint8_t *buffer, size_t buffer_len, uint64_t
     held = line_in(slot(buffer, place));
     memcpy(line, held.at, held.n);
     *length = (uint32_t)held.n;
+    return 0;
+}
+
+/* The value of a number of good form. */
+static uint64_t value_of(struct field f)
+{
+    uint64_t value = 0;
+    for (size_t i = 0; i < f.n; i++) value = 10 * value + (uint64_t)(f.at[i] - '0');
+    return value;
+}
+
+/* A report, as far as it is made. */
+struct report { size_t length; uint8_t bytes[MOST_REPORT]; };
+
+static void add_record(struct report *r, const void *record, size_t n)
+{
+    memcpy(r->bytes + r->length, record, n);
+    r->bytes[r->length + n] = 10;
+    r->length += n + 1;
+}
+
+/* W4.2. Of no line all three numbers are 0, as W4.4 has it. */
+static void make_report(const uint8_t *buffer, struct report *r)
+{
+    uint64_t count = oracle_register_lines(buffer), tonnes = 0, value = 0;
+    char total[LONGEST_TOTAL + 1];
+    r->length = 0;
+    for (uint64_t i = 0; i < count; i++) {
+        struct field line = line_in(slot(buffer, i));
+        struct fields f = {0};
+        cut_line(line, &f);
+        tonnes += value_of(f.tonnes);
+        value += value_of(f.tonnes) * value_of(f.price);
+        add_record(r, line.at, line.n);
+    }
+    add_record(r, total, (size_t)snprintf(total, sizeof total, "TOTAL,%" PRIu64 ",%" PRIu64 ",%" PRIu64, count, tonnes, value));
+}
+
+/* W4.5. */
+uint32_t oracle_register_report(const uint8_t *buffer, size_t buffer_len, uint8_t *output, size_t output_len, uint32_t *length)
+{
+    struct report r;
+    *length = 0;
+    if (!is_sound(buffer, buffer_len)) return 14;
+    make_report(buffer, &r);
+    if (r.length > output_len) return 21;
+    memcpy(output, r.bytes, r.length);
+    *length = (uint32_t)r.length;
     return 0;
 }

@@ -1,12 +1,12 @@
--- Bytes put one behind the other; what is printed for a deck that is refused, and for one that ran. Assumes nothing.
+-- What is printed for a deck that is refused, and for one that ran. Assumes nothing.
 use mathlib.Core.Bool.{Bool, true, false, cond}
-use mathlib.Core.List.{List, [], _++_, append-assoc}
+use mathlib.Core.List.{List, [], _++_}
 use mathlib.Core.Path.{_≡_, refl, sym, ap, ap₂, _∙_}
-use Prim.Native.Nat.{ℕ, _+_, _≤_, _<_, _^_}
+use Prim.Native.Nat.{ℕ, _≤_}
 use native.Mathlib.Omega.{arith}
 use lib.Dec.{ltb}
-use lib.ListN.{length, take, getD, length-append, length-take}
-use lib.Seq.{take-all, take-append-le, sets-eq}
+use lib.ListN.{length, take, getD, length-take}
+use lib.Seq.{take-all, take-append-le}
 use borrow.Author.Tests.{le-ltb, ne-eqb}
 use Rattle.base.specs.Edition.{edition1}
 use Rattle.base.specs.Text.{bytes}
@@ -15,51 +15,18 @@ use Rattle.calls.specs.Calls.{longestDeck, ReadCalled, readBy, readJudged, read
 use Rattle.calls.specs.Calls.{RunReturned, outcomeNumber, resultNumbers}
 use Rattle.calls.specs.Demands.{observedRun, RunClaim, ListClaim, Linked, History, Demand3}
 use Rattle.calls.specs.Promises.{readBack, RunPromise}
-use Rattle.calls.specs.Splices.{splice, take-written, length-splice}
 use Rattle.calls.specs.StartLaws.{read-short}
 use Rattle.calls.specs.Strigol.{keptDeck, keptInput, lentOutput, mostSteps, outcomeWord, closingLine, printedBy, printedFor, printed}
-use Rattle.convert.specs.Text.{Stored}
 use Rattle.judgement.specs.Deck.{Judgement, accepted, refused, judge}
 use Rattle.language.specs.Program.{Program}
 use Rattle.machine.specs.Run.{Outcome, FINISHED, STOPPED, SPENT, REFUSED, Ran, run}
 use Rattle.machine.specs.State.{State, fresh}
-use Rattle.values.specs.Conversion.{digits}
-use Rattle.values.specs.Laws.{digits-length}
-use Rattle.batch.specs.Printing.{longestWord, Put, PutWithin, outcomeOf, lineOf, Prints}
+use Rattle.printing.specs.Printing.{Put, PutWithin}
+use Rattle.batch.specs.Printing.{longestWord, outcomeOf, lineOf, Prints}
 
 -- the buffers behind a start, with the output lent
 abbrev pub behindStart : StartCalled → List ℕ → Buffers
 behindStart start output = buffers (start .store) (start .state) output
-
--- bytes written from a place on
-pub put-written : (before : List ℕ) (at : ℕ) (xs : List ℕ) → at + length xs ≤ length before
-    → Put before (splice before at xs) at xs (at + length xs)
-put-written before at xs room =
-    let size = length-splice before at xs room in
-    record { ends = refl; within = omega arith; holds = take-written before at xs (omega arith); size = size }
-
--- bytes stored from a place on
-pub put-stored : {before after : List ℕ} {at : ℕ} {xs : List ℕ} {end : ℕ} → at + length xs ≤ length before
-    → Stored before after at xs end → Put before after at xs end
-unfolding splice
-put-stored {before} {after} {at} {xs} {end} room s =
-    let same : after ≡ splice before at xs = s .holds ∙ sets-eq xs before at room ∙ append-assoc (take at before) xs _ in
-    rw (same, s .ends) (put-written before at xs room)
-
--- bytes put behind bytes put
-pub put-behind : {before middle after : List ℕ} {at from : ℕ} {xs ys : List ℕ} {end : ℕ} → Put before middle at xs from
-    → Put middle after from ys end → Put before after at (xs ++ ys) end
-put-behind {before} {middle} {after} {at} {from} {xs} {ys} {end} first second =
-    record {
-      ends = omega (arith, first .ends, second .ends, length-append xs ys);
-      within = second .within;
-      holds = second .holds ∙ ap (λ (l : List ℕ). l ++ ys) (first .holds) ∙ append-assoc (take at before) xs ys;
-      size = second .size ∙ first .size;
-    }
-
--- a number of 64 bits has 20 digits at most
-pub digits-short : (v : ℕ) → v < 2 ^ 64 → length (digits v) ≤ 20
-digits-short v h = digits-length 19 v (omega arith)
 
 -- an outcome by its number
 pub outcome-finished : (n : ℕ) → n ≡ 0 → outcomeOf n ≡ FINISHED

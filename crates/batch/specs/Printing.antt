@@ -1,6 +1,6 @@
 -- What the code asks for, and what it prints. Assumes nothing.
 use mathlib.Core.Bool.{cond}
-use mathlib.Core.List.{List, _++_}
+use mathlib.Core.List.{List}
 use mathlib.Core.Path.{_≡_}
 use Prim.Native.Nat.{ℕ, _+_, _≤_}
 use lib.Dec.{eqb}
@@ -13,25 +13,9 @@ use Rattle.machine.specs.Run.{Outcome, FINISHED, STOPPED, SPENT, REFUSED}
 abbrev pub longestWord : ℕ
 longestWord = 8
 
--- a comma and a number of 64 bits
-abbrev pub longestNumber : ℕ
-longestNumber = 21
-
 -- the longest closing line: a word, three numbers and a line end
 abbrev pub longestLine : ℕ
 longestLine = 72
-
--- bytes were put behind the first ones, which stay; where they end
-pub record Put (before after : List ℕ) (at : ℕ) (xs : List ℕ) (end : ℕ) : Type 0 where
-  pub ends : end ≡ at + length xs
-  pub within : end ≤ length after
-  pub holds : take end after ≡ take at before ++ xs
-  pub size : length after ≡ length before
-
--- and they are so many at most
-pub record PutWithin (most : ℕ) (before after : List ℕ) (at : ℕ) (xs : List ℕ) (end : ℕ) : Type 0 where
-  pub put : Put before after at xs end
-  pub short : end ≤ at + most
 
 -- the outcome that a number stands for
 unfoldable pub outcomeOf : ℕ → Outcome

@@ -1,18 +1,17 @@
 // A whole run: a deck and an input in, all that the program prints out.
 // Assumes nothing.
-ghost use mathlib.Core.List.{_++_};
 ghost use Prim.Native.Nat.{_+_, _≤_};
 ghost use lib.ListN.{length};
-ghost use Rattle.base.specs.Text.{bytes};
 ghost use Rattle.calls.specs.Strigol.{outcomeWord, closingLine};
-ghost use Rattle.values.specs.Conversion.{digits};
-ghost use Rattle.batch.specs.Printing.{longestWord, longestNumber, longestLine, Put, PutWithin, outcomeOf, Lent, Prints};
+ghost use Rattle.printing.specs.Printing.{Put, PutWithin};
+ghost use Rattle.batch.specs.Printing.{longestWord, longestLine, outcomeOf, Lent, Prints};
 use calls::STATE_SIZE;
 use calls::STORE_SIZE;
 use calls::TABLE_SIZE;
 use calls::WRITTEN_AT;
-use cells::spans::write;
-use convert::put_digits;
+use printing::LONGEST_NUMBERS;
+use printing::put;
+use printing::put_numbers;
 use reader::strigol_read;
 use states::strigol_start;
 use steps::run::RUN_FINISHED;
@@ -31,20 +30,11 @@ const LENT_OUTPUT: usize = 16_384;
 
 const MOST_STEPS: u32 = 1_000_000;
 
-// the longest closing line: a word, three numbers of 64 bits with a comma each, a line end
-const LONGEST_LINE: usize = 8 + 3 * 21 + 1;
+// the longest closing line: a word, and three numbers with a line end
+const LONGEST_LINE: usize = 8 + LONGEST_NUMBERS;
 
 // room for all that is printed
 pub const PRINTED: usize = LENT_OUTPUT + LONGEST_LINE;
-
-// bytes, from at on; where they end
-fn put(v: &[u8], at: usize, out: &mut [u8]) -> usize
-    requires { ⌜ at + length (now v) ≤ length (now out) ⌝ }
-    ensures { λ r. ⌜ Put (now (out .entry)) (now (out .exit)) at (now (v .entry)) r ⌝ }
-{
-    write(out, at, v);
-    at + v.len()
-}
 
 // the word for an outcome, from at on; where it ends
 fn put_outcome(outcome: u64, at: usize, out: &mut [u8]) -> usize
@@ -63,25 +53,13 @@ fn put_outcome(outcome: u64, at: usize, out: &mut [u8]) -> usize
     put(b"REFUSED", at, out)
 }
 
-// a comma and the digits of a number, from at on; where they end
-fn put_number(v: u64, at: usize, out: &mut [u8]) -> usize
-    requires { ⌜ at + longestNumber ≤ length (now out) ⌝ }
-    ensures { λ r. ⌜ PutWithin longestNumber (now (out .entry)) (now (out .exit)) at (bytes "," ++ digits v) r ⌝ }
-{
-    let from = put(b",", at, out);
-    put_digits(v, from, out)
-}
-
 // the closing line, with the steps done, or of a refused deck its card, from at on; where it ends
 fn put_line(outcome: u64, number: u64, steps: u64, notes: u64, at: usize, out: &mut [u8]) -> usize
     requires { ⌜ at + longestLine ≤ length (now out) ⌝ }
     ensures { λ r. ⌜ Put (now (out .entry)) (now (out .exit)) at (closingLine (outcomeOf outcome) number steps notes) r ⌝ }
 {
     let word_end = put_outcome(outcome, at, out);
-    let number_end = put_number(number, word_end, out);
-    let steps_end = put_number(steps, number_end, out);
-    let notes_end = put_number(notes, steps_end, out);
-    put(b"\n", notes_end, out)
+    put_numbers(number, steps, notes, word_end, out)
 }
 
 // What `strigol` prints for a deck and an input, at the start of out; how many bytes that is.

@@ -43,7 +43,7 @@ text-some : (b : ℕ) → isText b ≡ true → isZero b ≡ false
 unfolding isText
 text-some b e = not-true (isZero b) e
 
-line-read : (line zeros : List ℕ) → all isText line ≡ true → all isZero zeros ≡ true → lineIn (line ++ zeros) ≡ line
+pub line-read : (line zeros : List ℕ) → all isText line ≡ true → all isZero zeros ≡ true → lineIn (line ++ zeros) ≡ line
 unfolding lineIn all isText
 line-read [] [] t z = refl
 line-read [] (b ∷ zeros) t z = rw (lineIn, both-true (isZero b) (all isZero zeros) z .0)
@@ -256,7 +256,7 @@ module _ (buffer : List ℕ) (e : bufferKeeps buffer ≡ true) where
   unfolding bufferKeeps
   sound-size = leb-true registerSize (length buffer) (both-true (leb registerSize (length buffer)) (keepsRules buffer) e .0)
 
-  kept : (all isZero (take headerSize buffer) ≡ true) × (slotsKeep mostLines (slotsIn buffer) ≡ true) × (differ (registerIn buffer) ≡ true)
+  pub kept : (all isZero (take headerSize buffer) ≡ true) × (slotsKeep mostLines (slotsIn buffer) ≡ true) × (differ (registerIn buffer) ≡ true)
   unfolding bufferKeeps keepsRules
   kept =
       let rules = both-true (leb registerSize (length buffer)) (keepsRules buffer) e .1 in

@@ -2,29 +2,39 @@
 use mathlib.Core.Bool.{true, false, cond}
 use mathlib.Core.List.{List, [], _∷_, _++_}
 use mathlib.Core.Path.{_≡_, refl, sym, ap, _∙_, subst}
-use Prim.Native.Nat.{ℕ, _*_}
+use Prim.Native.Nat.{ℕ, _*_, _≤_, _<_}
 use native.Mathlib.Omega.{arith}
-use lib.Dec.{eqb}
-use lib.ListN.{take, drop, replicate, length-replicate, replicate-append-replicate, take-append-drop}
-use lib.Seq.{take-all}
+use lib.Dec.{eqb, leb}
+use lib.ListN.{length, take, drop, replicate, length-replicate, replicate-append-replicate, take-append-drop}
+use lib.Seq.{take-all, take-at}
+use borrow.Author.Tests.{le-leb, lt-leb, leb-true, leb-false}
 use Rattle.base.specs.Choice.{test-cases}
+use Rattle.base.specs.Lists.{all}
 use Rattle.register.specs.Buffer.{registerSize, headerSize, slotSize, slotsOf, image, registerIn, bufferKeeps}
 use Rattle.register.specs.BufferLaws.{image-read, image-sound, read-sound, read-image}
 use Rattle.register.specs.Calls.{OfferCalled, LineCalled, withRegister, offerCall, handing, lineCall}
+use Rattle.register.specs.Calls.{ReportCalled, puttingNothing, putting, reportCall}
 use Rattle.register.specs.Claims.{
   Observed,
   observedOffer,
   observedLine,
+  observedReport,
   Linked,
   History,
   accepting,
   linesOffered,
+  Agrees,
+  ReportClaim,
   ListClaim,
   OfferPromise,
   LinePromise,
+  ReportPromise,
 }
+use Rattle.register.specs.Line.{isLine}
 use Rattle.register.specs.Register.{Register, mostLines, offerNumber, offered, fold, lineAt}
 use Rattle.register.specs.RegisterLaws.{Sound, empty-sound, is-fold, is-register, offered-sound, offered-taken, offered-declined}
+use Rattle.register.specs.Report.{report}
+use Rattle.register.specs.ReportLaws.{report-agrees}
 
 -- a buffer keeps its rules and holds this register
 pub record Holds (buffer : List ℕ) (register : Register) : Type 0 where
@@ -97,6 +107,71 @@ module _ (buffer : List ℕ) (place : ℕ) where
   unfolding lineCall
   line-refused e = rw e
 
+-- A report likewise
+module _ (buffer output : List ℕ) where
+  pub report-put : bufferKeeps buffer ≡ true → reportCall buffer output ≡ putting (report (registerIn buffer)) output
+  unfolding reportCall
+  report-put e = rw e
+
+  pub report-refused : bufferKeeps buffer ≡ false → reportCall buffer output ≡ puttingNothing 14 output
+  unfolding reportCall
+  report-refused e = rw e
+
+-- what is put where it fits, and where it doesn't; W4.5 "14 and 21 write nothing"
+module _ (put output : List ℕ) where
+  pub put-fits : length put ≤ length output → putting put output ≡ record { number = 0; left = put ++ drop (length put) output; size = length put }
+  unfolding putting
+  put-fits h = rw (le-leb (length put) (length output) h)
+
+  pub put-full : length output < length put → putting put output ≡ puttingNothing 21 output
+  unfolding putting
+  put-full h = rw (lt-leb (length put) (length output) h)
+
+  put-nothing : ¬ (putting put output .number ≡ 0) → putting put output ≡ puttingNothing 21 output
+  put-nothing n =
+      test-cases (λ _. putting put output ≡ puttingNothing 21 output) (leb (length put) (length output))
+      (λ e. absurd (n (ap (λ (x : ReportCalled). x .number) (put-fits (leb-true (length put) (length output) e)))))
+      (λ e. put-full (leb-false (length put) (length output) e))
+
+  -- the bytes that were put
+  put-bytes : putting put output .number ≡ 0 → take (putting put output .size) (putting put output .left) ≡ put
+  unfolding puttingNothing
+  put-bytes z =
+      test-cases (λ _. take (putting put output .size) (putting put output .left) ≡ put) (leb (length put) (length output))
+      (λ e.
+      ap (λ (x : ReportCalled). take (x .size) (x .left)) (put-fits (leb-true (length put) (length output) e))
+      ∙ take-at put (drop (length put) output) (length put) refl)
+      (λ e. absurd (omega (arith, z, ap (λ (x : ReportCalled). x .number) (put-full (leb-false (length put) (length output) e)))))
+
+-- W4.5 "14 and 21 write nothing"
+report-keeps : (buffer output : List ℕ) → ¬ (reportCall buffer output .number ≡ 0)
+    → (reportCall buffer output .left ≡ output) × (reportCall buffer output .size ≡ 0)
+unfolding puttingNothing
+report-keeps buffer output n =
+    test-cases (λ t. bufferKeeps buffer ≡ t → (reportCall buffer output .left ≡ output) × (reportCall buffer output .size ≡ 0)) (bufferKeeps buffer)
+    (λ e _.
+    let is = report-put buffer output e in
+    let none = put-nothing (report (registerIn buffer)) output (λ z. n (ap (λ (x : ReportCalled). x .number) is ∙ z)) in
+    nothing 21 (is ∙ none))
+    (λ e _. nothing 14 (report-refused buffer output e)) refl
+  where
+    nothing : (k : ℕ) → reportCall buffer output ≡ record { number = k; left = output; size = 0 }
+        → (reportCall buffer output .left ≡ output) × (reportCall buffer output .size ≡ 0)
+    nothing k e = (ap (λ (x : ReportCalled). x .left) e, ap (λ (x : ReportCalled). x .size) e)
+
+-- of a buffer that holds these lines the report is theirs, and agrees with itself
+report-claim : (buffer output : List ℕ) (back : ReportCalled) (accepted : Register) → Holds buffer accepted → back ≡ reportCall buffer output
+    → ReportClaim accepted output back
+report-claim buffer output back accepted h does =
+    let is : back ≡ putting (report accepted) output = does ∙ report-put buffer output (h .keeps) ∙ ap (λ r. putting (report r) output) (h .holds) in
+    let good = subst (λ r. all isLine r ≡ true) (h .holds) (read-sound buffer (h .keeps) .lines) in
+    record {
+      is = is;
+      agrees = λ z.
+          let put = put-bytes (report accepted) output (sym (ap (λ (x : ReportCalled). x .number) is) ∙ z) in
+          subst (Agrees accepted) (sym (ap (λ (x : ReportCalled). take (x .size) (x .left)) is ∙ put)) (report-agrees accepted good);
+    }
+
 -- W2.6 "all zeros is the empty one"
 pub zeros-image : image [] ≡ replicate registerSize 0
 unfolding image slotsOf
@@ -142,6 +217,9 @@ list-claim buffer accepted (observedLine b place back ∷ calls) given call h (a
       does ∙ line-handed b place (here .keeps) ∙ ap (λ r. handing 0 (lineAt r place)) (here .holds),
       list-claim b accepted calls given call here linked last,
     )
+list-claim buffer accepted (observedReport b output back ∷ calls) given call h (at, does, linked) last =
+    let here = same-holds buffer b accepted at h in
+    (report-claim b output back accepted here does, list-claim b accepted calls given call here linked last)
 
 -- A call that keeps its equation keeps its whole promise.
 pub offer-promise : (buffer line : List ℕ) (back : OfferCalled) → back ≡ offerCall buffer line → OfferPromise buffer line back
@@ -166,6 +244,19 @@ line-promise buffer place back does =
           (λ register held. (does ∙ line-handed buffer place (held .keeps) ∙ ap (λ r. handing 0 (lineAt r place)) (held .holds), tt));
     }
 
+pub report-promise : (buffer output : List ℕ) (back : ReportCalled) → back ≡ reportCall buffer output → ReportPromise buffer output back
+unfolding ListClaim
+report-promise buffer output back does =
+    record {
+      does = does;
+      keeps = λ n.
+          let kept = report-keeps buffer output (λ z. n (ap (λ (x : ReportCalled). x .number) does ∙ z)) in
+          (ap (λ (x : ReportCalled). x .left) does ∙ kept .0, ap (λ (x : ReportCalled). x .size) does ∙ kept .1);
+      list = λ h.
+          list-claim (h .start) [] (h .calls) buffer (observedReport buffer output back) (zeros-hold (h .start) (h .empty)) (h .linked)
+          (λ register held. (report-claim buffer output back register held does, tt));
+    }
+
 -- The rules hold exactly of what calls can leave. What they leave keeps the rules, and holds the fold of the lines offered;
 linked-holds : (buffer : List ℕ) (register : Register) (calls : List Observed) (left : List ℕ) → Holds buffer register → Linked buffer calls left
     → Holds left (fold register (linesOffered calls))
@@ -176,6 +267,8 @@ linked-holds buffer register (observedOffer b line back ∷ calls) left h (at, d
     linked-holds (back .left) (offered register line) calls left
     (subst (λ (x : OfferCalled). Holds (x .left) (offered register line)) (sym does) next) linked
 linked-holds buffer register (observedLine b place back ∷ calls) left h (at, does, linked) =
+    linked-holds b register calls left (same-holds buffer b register at h) linked
+linked-holds buffer register (observedReport b output back ∷ calls) left h (at, does, linked) =
     linked-holds b register calls left (same-holds buffer b register at h) linked
 
 pub history-holds : (buffer : List ℕ) (h : History buffer) → Holds buffer (fold [] (linesOffered (h .calls)))
@@ -206,6 +299,7 @@ unfolding Linked
 linked-to b [] left other e same = same ∙ e
 linked-to b (observedOffer given line back ∷ calls) left other e (at, does, linked) = (at, does, linked-to (back .left) calls left other e linked)
 linked-to b (observedLine given place back ∷ calls) left other e (at, does, linked) = (at, does, linked-to given calls left other e linked)
+linked-to b (observedReport given output back ∷ calls) left other e (at, does, linked) = (at, does, linked-to given calls left other e linked)
 
 pub keeps-history : (buffer : List ℕ) → bufferKeeps buffer ≡ true → History buffer
 keeps-history buffer e =

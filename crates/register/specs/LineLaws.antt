@@ -5,8 +5,9 @@ use mathlib.Core.Path.{_≡_, refl, sym, ap, _∙_}
 use Prim.Native.Nat.{ℕ, zero, suc, _+_, _*_, _-_, _≤_, _<_}
 use native.Mathlib.Omega.{arith}
 use lib.Dec.{eqb, leb}
-use lib.ListN.{length, take, drop, getD}
-use borrow.Author.Tests.{eqb-true, eq-eqb, ne-eqb, leb-true, leb-false}
+use lib.ListN.{length, take, drop, getD, length-drop}
+use lib.Seq.{drop-drop}
+use borrow.Author.Tests.{eqb-true, eq-eqb, ne-eqb, leb-true, leb-false, le-leb}
 use Rattle.base.specs.Choice.{both-true, both-pass, same-truth, test-cases}
 use Rattle.base.specs.ListLaws.{all-imply}
 use Rattle.base.specs.Lists.{all, begins, same, total}
@@ -56,7 +57,14 @@ decimal-low v (b ∷ s) =
     let more = scale-more (length s) (v * 10) (v * 10 + digitOf b) (omega arith) in
     omega arith
 
-digit-value : (b : ℕ) → isDigit b ≡ true → digitOf b ≡ b - 48
+pub decimal-least : (v : ℕ) (s : List ℕ) → v ≤ decimal v s
+unfolding scale
+decimal-least v s =
+    let low = decimal-low v s in
+    let more = scale-longer 0 (length s) v (omega arith) in
+    omega arith
+
+pub digit-value : (b : ℕ) → isDigit b ≡ true → digitOf b ≡ b - 48
 unfolding digitOf
 digit-value b e =
     let range = digit b e in
@@ -136,7 +144,7 @@ sizes (b ∷ l) =
     longer (f ∷ fs) e = omega arith
 
 -- a test that all bytes of all fields pass, and the comma, is passed by all bytes of the line
-fields-all : (p : ℕ → Bool) → p comma ≡ true → (l : List ℕ) → all (all p) (fields l) ≡ true → all p l ≡ true
+pub fields-all : (p : ℕ → Bool) → p comma ≡ true → (l : List ℕ) → all (all p) (fields l) ≡ true → all p l ≡ true
 unfolding fields onFirst all
 fields-all p c [] a = refl
 fields-all p c (b ∷ l) a =
@@ -231,33 +239,47 @@ line-size line e =
     let whole = sizes line ∙ ap (total (λ x. suc (length x))) (f .parts) in
     (omega arith, omega arith)
 
--- W2.3 no byte of a line is zero
-text : (b : ℕ) → 48 ≤ b → isText b ≡ true
-unfolding isText
-text b h = ap not (ne-eqb b 0 (λ e. omega arith))
+-- W2.3 no byte of a line is below the comma
+unfoldable pub isPlain : ℕ → Bool
+isPlain b = leb comma b
 
-decimal-text : (most : ℕ) (f : List ℕ) → isNumber most f ≡ true → all isText f ≡ true
+plain : (b : ℕ) → 48 ≤ b → isPlain b ≡ true
+unfolding isPlain comma
+plain b h = le-leb 44 b (omega arith)
+
+pub digit-plain : (b : ℕ) → isDigit b ≡ true → isPlain b ≡ true
+digit-plain b d = plain b (digit b d .0)
+
+pub number-bytes : (most : ℕ) (f : List ℕ) → isNumber most f ≡ true → all isDigit f ≡ true
 unfolding isNumber isDecimal
-decimal-text most f e =
-    all-imply isDigit isText (λ b d. text b (digit b d .0)) f (both-true _ _ (both-true (isDecimal f) _ e .0) .0)
+number-bytes most f e = both-true (all isDigit f) _ (both-true (isDecimal f) _ e .0) .0
 
-pub line-text : (line : List ℕ) → isLine line ≡ true → all isText line ≡ true
-unfolding isContract isGrain isTonnes isPrice all isText comma
-line-text line e =
+number-plain : (most : ℕ) (f : List ℕ) → isNumber most f ≡ true → all isPlain f ≡ true
+number-plain most f e = all-imply isDigit isPlain digit-plain f (number-bytes most f e)
+
+pub line-plain : (line : List ℕ) → isLine line ≡ true → all isPlain line ≡ true
+unfolding isContract isGrain isTonnes isPrice all isPlain comma
+line-plain line e =
     let f = formed line e in
-    let c = all-imply isNameByte isText (λ b h. text b (name-byte b h .0)) (f .contract)
+    let c = all-imply isNameByte isPlain (λ b h. plain b (name-byte b h .0)) (f .contract)
     (both-true (between 1 8 (length (f .contract))) _ (f .contract-form) .1) in
-    let g = all-imply isLetter isText (λ b h. let range = letter b h in text b (omega arith)) (f .grain)
+    let g = all-imply isLetter isPlain (λ b h. let range = letter b h in plain b (omega arith)) (f .grain)
     (both-true (eqb (length (f .grain)) 2) _ (f .grain-form) .1) in
-    let t = decimal-text 99_999 (f .tonnes) (f .tonnes-form) in
-    let p = decimal-text 999_999 (f .price) (f .price-form) in
-    fields-all isText refl line (rw (f .parts) (both-pass c (both-pass g (both-pass t (both-pass p refl)))))
+    let t = number-plain 99_999 (f .tonnes) (f .tonnes-form) in
+    let p = number-plain 999_999 (f .price) (f .price-form) in
+    fields-all isPlain refl line (rw (f .parts) (both-pass c (both-pass g (both-pass t (both-pass p refl)))))
+
+-- so none is zero
+pub line-text : (line : List ℕ) → isLine line ≡ true → all isText line ≡ true
+unfolding isPlain isText comma
+line-text line e =
+    all-imply isPlain isText (λ b h. ap not (ne-eqb b 0 (λ z. omega (arith, leb-true 44 b h)))) line (line-plain line e)
 
 -- there is a first field
 abbrev pub firstField : List ℕ → List ℕ
 firstField l = getD (fields l) 0 []
 
-put-first : (b : ℕ) (fs : List (List ℕ)) → getD (onFirst b fs) 0 [] ≡ b ∷ getD fs 0 []
+pub put-first : (b : ℕ) (fs : List (List ℕ)) → getD (onFirst b fs) 0 [] ≡ b ∷ getD fs 0 []
 unfolding onFirst
 put-first b [] = refl
 put-first b (f ∷ fs) = refl
@@ -274,6 +296,38 @@ some-field (b ∷ l) =
     test-cases
     (λ t. (let fs = elim t as (λ _. List (List ℕ)) [ true ↦ [] ∷ fields l | false ↦ onFirst b (fields l) ] in fs ≡ getD fs 0 [] ∷ drop 1 fs))
     (eqb b comma) (λ _. refl) (λ _. put-some b (fields l))
+
+-- The fields behind the first one, from the byte behind its comma on.
+put-rest : (b : ℕ) (fs : List (List ℕ)) → drop 1 (onFirst b fs) ≡ drop 1 fs
+unfolding onFirst
+put-rest b [] = refl
+put-rest b (f ∷ fs) = refl
+
+next-more : (l : List ℕ) (f : List ℕ) (fs : List (List ℕ)) → drop 1 (fields l) ≡ f ∷ fs
+    → (fields (drop (suc (length (firstField l))) l) ≡ f ∷ fs) × (suc (length (firstField l)) ≤ length l)
+unfolding fields
+next-more [] f fs e = absurd (omega (arith, ap length e))
+next-more (b ∷ l) f fs e =
+    test-cases
+    (λ t.
+    (let gs = elim t as (λ _. List (List ℕ)) [ true ↦ [] ∷ fields l | false ↦ onFirst b (fields l) ] in
+    drop 1 gs ≡ f ∷ fs → (fields (drop (suc (length (getD gs 0 []))) (b ∷ l)) ≡ f ∷ fs) × (suc (length (getD gs 0 [])) ≤ suc (length l))))
+    (eqb b comma) (λ _ h. (h, omega arith))
+    (λ _ h.
+    let rest = next-more l f fs (sym (put-rest b (fields l)) ∙ h) in
+    let first = put-first b (fields l) in
+    (ap (λ g. fields (drop (suc (length g)) (b ∷ l))) first ∙ rest .0, omega (arith, ap length first, rest .1)))
+    e
+
+pub next-fields : (line : List ℕ) (at : ℕ) (f g : List ℕ) (fs : List (List ℕ)) → fields (drop at line) ≡ f ∷ g ∷ fs
+    → (fields (drop (at + length f + 1) line) ≡ g ∷ fs) × (at + length f + 1 ≤ length line)
+next-fields line at f g fs e =
+    let first : firstField (drop at line) ≡ f = ap (λ gs. getD gs 0 []) e in
+    let more = next-more (drop at line) g fs (ap (drop 1) e) in
+    let place : at + suc (length (firstField (drop at line))) ≡ at + length f + 1 = omega (arith, ap length first) in (
+      ap (λ n. fields (drop n line)) (sym place) ∙ ap fields (sym (drop-drop (suc (length (firstField (drop at line)))) at line)) ∙ more .0,
+      omega (arith, more .1, length-drop at line),
+    )
 
 -- The fields from a place on, found by a run of bytes that pass a test; no comma passes it.
 module _ (p : ℕ → Bool) (c : p comma ≡ false) where

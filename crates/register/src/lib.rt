@@ -12,8 +12,11 @@ pub const SLOT: usize = 28;
 // the bytes that a line is handed out in
 pub const LINE_SIZE: usize = 32;
 
-// the buffer is too small or against its rules; a line breaks its form; its contract is held already; all places are taken
+// the buffer is too small or against its rules; the output can't hold the report; a line breaks its form; its contract is held already; all places
+// are taken
 pub const BAD_BUFFER: u32 = 14;
+
+pub const OUTPUT_FULL: u32 = 21;
 
 pub const BAD_LINE: u32 = 25;
 

@@ -6,18 +6,20 @@ use Prim.Native.Nat.{ℕ, zero, suc, _+_, _*_, _-_, _≤_, _<_}
 use native.Mathlib.Nat.{zero-add}
 use native.Mathlib.Omega.{arith}
 use lib.Dec.{eqb, leb}
-use lib.ListN.{List·getD-eq-default, length, take, drop, getD, replicate, length-append, length-replicate, replicate-append-replicate, take-append-drop}
-use lib.Seq.{drop-drop, take-take}
+use lib.ListN.{List·getD-eq-default, length, take, drop, getD, replicate}
+use lib.ListN.{length-append, length-drop, length-replicate, replicate-append-replicate, take-append-drop}
+use lib.Seq.{drop-drop, length-take-le, take-take}
 use borrow.Author.Tests.{eq-eqb, eqb-true, le-leb, leb-true, lt-leb}
-use Rattle.base.specs.Choice.{same-truth, test-cases}
-use Rattle.base.specs.ListLaws.{all-inside, drop-zeros, stretch-cut, stretch-few, stretch-front}
+use Rattle.base.specs.Choice.{both-true, same-truth, test-cases}
+use Rattle.base.specs.ListLaws.{all-inside, drop-zeros, stretch-cut, stretch-front}
 use Rattle.base.specs.Lists.{all, among}
 use Rattle.cards.specs.Bytes.{isNameByte}
 use Rattle.cards.specs.Cards.{withoutBlanks}
 use Rattle.packer.specs.Keys.{keyOf}
 use Rattle.calls.specs.Splices.{splice, splice-seam}
-use Rattle.register.specs.Buffer.{headerSize, image, bufferKeeps, isZero, keepsRules, lineIn, linesIn, registerIn, registerSize, slotOf, slotSize, slotsIn, slotsOf}
-use Rattle.register.specs.BufferLaws.{read-image, read-sound, slots-size, sound-size}
+use Rattle.register.specs.Buffer.{headerSize, image, bufferKeeps, isZero, keepsRules, lineIn, linesIn, registerIn, registerSize, slotKeeps, slotOf}
+use Rattle.register.specs.Buffer.{slotSize, slotsIn, slotsKeep, slotsOf}
+use Rattle.register.specs.BufferLaws.{kept, read-image, read-sound, slots-size, sound-size}
 use Rattle.register.specs.CallLaws.{line-handed, line-refused, offer-taken, offer-declined, offer-refused}
 use Rattle.register.specs.Claims.{lineBack, offerBack}
 use Rattle.register.specs.Calls.{LineCalled, OfferCalled, handing, lineCall, lineSize, offerCall, withRegister}
@@ -30,8 +32,8 @@ use Rattle.register_lines.specs.Fields.{Run}
 use Rattle.register_calls.specs.declared.Held.{Held}
 use Rattle.register_calls.specs.declared.Held.the-variants.{Lines, Broken}
 use Rattle.register_calls.specs.KeyLaws.{key-read, keys-hold}
-use Rattle.register_calls.specs.Reading.{Finds, Found, Judged, Keyed, Placed, Puts, Ready, slotsHold}
-use Rattle.register_calls.specs.SlotLaws.{found-broken, line-take}
+use Rattle.register_calls.specs.Reading.{Finds, Found, Judged, Keyed, Placed, Puts, Ready, Stands, Trimmed, slotAt, slotsHold}
+use Rattle.register_calls.specs.SlotLaws.{found-broken, trim-line}
 
 -- Reading: a buffer that is too small, one whose header isn't zero, and one that is judged by its slots
 module _ (buffer keys : List ℕ) (size : length keys ≡ mostLines) where
@@ -167,39 +169,45 @@ module _ (buffer line keys : List ℕ) (n number : ℕ) (ready : Ready buffer n 
         ap₂ {C = OfferCalled} offerBack zero-is (put ∙ at ∙ line-put buffer (ready .keeps) line (takes .form) (takes .room))
         ∙ sym (offer-taken buffer line (ready .keeps) (number-is ∙ zero-is))
 
--- Handing out: the line of a place stands in its slot
-lines-at : (count : ℕ) (slots : List ℕ) (k : ℕ) → k < length (linesIn count slots)
-    → getD (linesIn count slots) k [] ≡ lineIn (take slotSize (drop (slotSize * k) slots))
-unfolding linesIn
-lines-at zero slots k h = absurd (omega arith)
-lines-at (suc n) slots k h =
+-- Handing out: the line of a place stands in its slot, which keeps its rule
+record SlotHolds (slot line : List ℕ) : Type 0 where
+  is : lineIn slot ≡ line
+  keeps : slotKeeps slot ≡ true
+
+abbrev slotOn : (slots : List ℕ) (k : ℕ) → List ℕ
+slotOn slots k = take slotSize (drop (slotSize * k) slots)
+
+slots-at : (count : ℕ) (slots : List ℕ) (k : ℕ) → slotsKeep count slots ≡ true → k < length (linesIn count slots)
+    → SlotHolds (slotOn slots k) (getD (linesIn count slots) k [])
+unfolding linesIn slotsKeep
+slots-at zero slots k e h = absurd (omega arith)
+slots-at (suc n) slots k e h =
     test-cases
     (λ t.
     (let lines = elim t as (λ _. Register) [ true ↦ [] | false ↦ lineIn (take slotSize slots) ∷ linesIn n (drop slotSize slots) ] in
-    k < length lines → getD lines k [] ≡ lineIn (take slotSize (drop (slotSize * k) slots))))
-    (isZero (getD slots 0 0)) (λ _ none. absurd (omega arith)) (λ _. placed k (lines-at n (drop slotSize slots))) h
+    elim t as (λ _. Bool) [ true ↦ all isZero slots | false ↦ slotKeeps (take slotSize slots) && slotsKeep n (drop slotSize slots) ] ≡ true
+    → k < length lines → SlotHolds (slotOn slots k) (getD lines k [])))
+    (isZero (getD slots 0 0)) (λ _ _ none. absurd (omega arith))
+    (λ _ keep. let parts = both-true (slotKeeps (take slotSize slots)) (slotsKeep n (drop slotSize slots)) keep in
+    placed k (parts .0) (λ j. slots-at n (drop slotSize slots) j (parts .1)))
+    e h
   where
-    placed : (k : ℕ) → ((j : ℕ) → j < length (linesIn n (drop slotSize slots)) → getD (linesIn n (drop slotSize slots)) j [] ≡ lineIn (take slotSize (drop (slotSize * j) (drop slotSize slots))))
-        → k < suc (length (linesIn n (drop slotSize slots)))
-        → getD (lineIn (take slotSize slots) ∷ linesIn n (drop slotSize slots)) k [] ≡ lineIn (take slotSize (drop (slotSize * k) slots))
-    placed zero behind inside = refl
-    placed (suc j) behind inside =
-        let at : slotSize + slotSize * j ≡ slotSize * suc j = omega arith in
-        behind j (omega arith) ∙ ap (λ l. lineIn (take slotSize l)) (drop-drop (slotSize * j) slotSize slots ∙ ap (λ n. drop n slots) at)
+    rest : Register
+    rest = linesIn n (drop slotSize slots)
 
-pub line-here : (buffer : List ℕ) (place : ℕ) → Placed buffer place
-    → lineAt (registerIn buffer) place ≡ lineIn (take slotSize (drop (headerSize + slotSize * place) buffer))
-unfolding lineAt registerIn
-line-here buffer place p =
-    let few = read-sound buffer (p .keeps) .few in
-    let inside = p .inside in
-    lines-at mostLines (slotsIn buffer) place (p .inside) ∙ ap lineIn
-    (stretch-front slotSize (slotSize * place) (slotSize * mostLines) (drop headerSize buffer) (omega arith)
-    ∙ ap (take slotSize) (drop-drop (slotSize * place) headerSize buffer))
+    placed : (k : ℕ) → slotKeeps (take slotSize slots) ≡ true
+        → ((j : ℕ) → j < length rest → SlotHolds (slotOn (drop slotSize slots) j) (getD rest j []))
+        → k < suc (length rest)
+        → SlotHolds (slotOn slots k) (getD (lineIn (take slotSize slots) ∷ rest) k [])
+    placed zero keeps behind inside = record { is = refl; keeps = keeps }
+    placed (suc j) keeps behind inside =
+        let at : slotSize + slotSize * j ≡ slotSize * suc j = omega arith in
+        subst (λ l. SlotHolds (take slotSize l) (getD rest j [])) (drop-drop (slotSize * j) slotSize slots ∙ ap (λ n. drop n slots) at)
+        (behind j (omega arith))
 
 module _ (buffer : List ℕ) (place : ℕ) (p : Placed buffer place) where
   abbrev at : ℕ
-  at = headerSize + slotSize * place
+  at = slotAt place
 
   abbrev slot : List ℕ
   slot = take slotSize (drop at buffer)
@@ -210,41 +218,59 @@ module _ (buffer : List ℕ) (place : ℕ) (p : Placed buffer place) where
       let few = read-sound buffer (p .keeps) .few in
       omega (arith, p .inside)
 
-  here-form : isLine (lineAt (registerIn buffer) place) ≡ true
+  here : SlotHolds slot (lineAt (registerIn buffer) place)
+  unfolding lineAt registerIn
+  here =
+      let few = read-sound buffer (p .keeps) .few in
+      let inside = p .inside in
+      subst (λ s. SlotHolds s (getD (linesIn mostLines (slotsIn buffer)) place []))
+      (stretch-front slotSize (slotSize * place) (slotSize * mostLines) (drop headerSize buffer) (omega arith)
+      ∙ ap (take slotSize) (drop-drop (slotSize * place) headerSize buffer))
+      (slots-at mostLines (slotsIn buffer) place (kept buffer (p .keeps) .1) (p .inside))
+
+  module _ (n : ℕ) (t : Trimmed (take (at + slotSize - at) (drop at buffer)) n) where
+    trims : Trimmed slot n
+    trims = subst (λ s. Trimmed s n) (stretch-cut buffer at slotSize) t
+
+    pub line-stands : Stands buffer place (at + n)
+    line-stands =
+        let size = length-take-le slotSize (drop at buffer) (omega (arith, slot-room, length-drop at buffer)) in
+        let short : n ≤ slotSize = omega (arith, trims .inside, size) in
+        record {
+          from = omega arith;
+          inside = omega (arith, slot-room);
+          bytes =
+              stretch-cut buffer at n
+              ∙ sym (take-take n slotSize (drop at buffer) short)
+              ∙ trim-line slot n trims (here .keeps)
+              ∙ here .is;
+        }
+
+  pub here-form : isLine (lineAt (registerIn buffer) place) ≡ true
   unfolding lineAt
   here-form = all-inside isLine (registerIn buffer) [] (read-sound buffer (p .keeps) .lines) place (p .inside)
 
-  module _ (n : ℕ) (size : n ≡ length (lineIn (take (at + slotSize - at) (drop at buffer)))) where
-    here-size : n ≡ length (lineIn slot)
-    here-size = size ∙ ap (λ l. length (lineIn l)) (stretch-cut buffer at slotSize)
+  module _ (end : ℕ) (s : Stands buffer place end) where
+    pub line-lent : length (take (end - at) (drop at buffer)) ≤ 24
+    line-lent = omega (arith, ap length (s .bytes), line-size (lineAt (registerIn buffer) place) here-form .1)
 
-    pub line-short : n ≤ 24
-    line-short =
-        let line = line-here buffer place p in
-        omega (arith, here-size, ap length line, line-size (lineAt (registerIn buffer) place) here-form .1)
+    pub here-size : end - at ≡ length (lineAt (registerIn buffer) place)
+    here-size =
+        let from = s .from in
+        let inside = s .inside in
+        sym (length-take-le (end - at) (drop at buffer) (omega (arith, length-drop at buffer))) ∙ ap length (s .bytes)
 
-    here-bytes : take (at + n - at) (drop at buffer) ≡ lineAt (registerIn buffer) place
-    here-bytes =
-        let short = line-short in
-        stretch-cut buffer at n
-        ∙ sym (take-take n slotSize (drop at buffer) (omega arith))
-        ∙ line-take slot n here-size
-        ∙ sym (line-here buffer place p)
-
-    pub line-lent : length (take (at + n - at) (drop at buffer)) ≤ 24
-    line-lent = let short = line-short in omega (arith, ap length (stretch-cut buffer at n), stretch-few buffer at n)
-
-    pub line-puts : (out left : List ℕ) → out ≡ replicate lineSize 0 → left ≡ splice out 0 (take (at + n - at) (drop at buffer))
-        → Puts (lineAt (registerIn buffer) place) n left
+    pub line-puts : (out left : List ℕ) → out ≡ replicate lineSize 0 → left ≡ splice out 0 (take (end - at) (drop at buffer))
+        → Puts (lineAt (registerIn buffer) place) (end - at) left
     unfolding splice
     line-puts out left zeros put =
         let line = lineAt (registerIn buffer) place in
         record {
-          length-is = here-size ∙ sym (ap length (line-here buffer place p));
-          short = let few = line-short in omega arith;
+          length-is = here-size;
+          short = omega (arith, here-size, line-size line here-form .1);
           bytes =
               put
-              ∙ ap₂ {C = List ℕ} (λ o v. splice o 0 v) zeros here-bytes
+              ∙ ap₂ {C = List ℕ} (λ o v. splice o 0 v) zeros (s .bytes)
               ∙ ap (λ l. line ++ l) (drop-zeros (0 + length line) lineSize ∙ ap (λ k. replicate (lineSize - k) 0) (zero-add (length line)));
         }
 

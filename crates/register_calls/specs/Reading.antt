@@ -6,10 +6,10 @@ use Prim.Native.Nat.{ℕ, _+_, _*_, _-_, _%_, _≤_, _<_}
 use lib.ListN.{length, take, drop, getD, set, replicate}
 use Rattle.base.specs.Lists.{all, among}
 use Rattle.packer.specs.Keys.{keyOf}
-use Rattle.register.specs.Buffer.{isZero, slotSize, lineIn, linesIn, registerIn, slotKeeps, slotsKeep, bufferKeeps}
+use Rattle.register.specs.Buffer.{isZero, headerSize, slotSize, lineIn, linesIn, registerIn, slotKeeps, slotsKeep, bufferKeeps}
 use Rattle.register.specs.Calls.{lineSize}
 use Rattle.register.specs.Line.{contractOf, isLine}
-use Rattle.register.specs.Register.{Register, mostLines, differ, offerNumber}
+use Rattle.register.specs.Register.{Register, mostLines, differ, lineAt, offerNumber}
 use Rattle.register_calls.specs.declared.Held.{Held}
 use Rattle.register_calls.specs.declared.Held.the-variants.{Lines, Broken}
 
@@ -19,6 +19,12 @@ keyIn line = keyOf (contractOf line)
 
 abbrev pub keysOf : Register → List ℕ
 keysOf register = map keyIn register
+
+-- n bytes stand before the zeros at the end of a slot
+pub record Trimmed (slot : List ℕ) (n : ℕ) : Type 0 where
+  pub inside : n ≤ length slot
+  pub zeros : all isZero (drop n slot) ≡ true
+  pub last : 0 < n → isZero (getD slot (n - 1) 0) ≡ false
 
 -- the key of the line in a slot; 0 where the slot breaks its rule
 unfoldable pub slotKey : (slot : List ℕ) → ℕ
@@ -74,6 +80,15 @@ pub record Ready (buffer : List ℕ) (n : ℕ) (keys : List ℕ) : Type 0 where
 pub record Placed (buffer : List ℕ) (place : ℕ) : Type 0 where
   pub keeps : bufferKeeps buffer ≡ true
   pub inside : place < length (registerIn buffer)
+
+-- where its slot begins, and that the line ends at a place of the buffer
+abbrev pub slotAt : (place : ℕ) → ℕ
+slotAt place = headerSize + slotSize * place
+
+pub record Stands (buffer : List ℕ) (place end : ℕ) : Type 0 where
+  pub from : slotAt place ≤ end
+  pub inside : end ≤ length buffer
+  pub bytes : take (end - slotAt place) (drop (slotAt place) buffer) ≡ lineAt (registerIn buffer) place
 
 -- what is found at slot k, which begins with zero: the end of the lines, or a byte that isn't zero behind it
 unfoldable pub EndFinds : (slots : List ℕ) (k : ℕ) → Held → Type 0

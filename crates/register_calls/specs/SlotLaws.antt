@@ -7,20 +7,19 @@ use native.Mathlib.Nat.{add-zero}
 use native.Mathlib.Numerals.{add-one}
 use native.Mathlib.Omega.{arith}
 use lib.Dec.{eqb}
-use lib.ListN.{length, take, drop, getD, length-append, length-set}
-use lib.Seq.{drop-drop, getD-drop, take-at, take-take, take-suc-set}
-use borrow.Author.Tests.{not-true}
+use lib.ListN.{length, take, drop, getD, length-append, length-set, take-append-drop, List·getD-append}
+use lib.Seq.{drop-drop, getD-drop, length-take-le, take-at, take-take, take-suc-set}
+use borrow.Author.Tests.{eq-eqb, not-true}
 use Rattle.base.specs.Choice.{both-true, both-pass, test-cases}
-use Rattle.base.specs.ListLaws.{all-append, stretch-end}
+use Rattle.base.specs.ListLaws.{all-append, all-end, all-inside, all-next, stretch-end}
 use Rattle.base.specs.Lists.{all, among}
 use Rattle.cards.specs.Bytes.{isNameByte}
 use Rattle.cards.specs.Cards.{withoutBlanks}
 use Rattle.packer.specs.Keys.{keyOf}
-use Rattle.search.specs.NextLaws.{next-until}
-use Rattle.search.specs.Passing.{NextByte, until}
 use Rattle.register.specs.Buffer.{isZero, slotSize, lineIn, linesIn, slotKeeps, slotsKeep}
-use Rattle.register.specs.BufferLaws.{line-front}
+use Rattle.register.specs.BufferLaws.{line-front, line-read}
 use Rattle.register.specs.Line.{contractOf, isLine}
+use Rattle.register.specs.LineLaws.{isText, line-size, line-text}
 use Rattle.register.specs.Register.{Register, mostLines, differ, holds}
 use Rattle.register.specs.RegisterLaws.{differ-more, differ-split}
 use Rattle.register_lines.specs.FieldLaws.{contract-size}
@@ -35,6 +34,7 @@ use Rattle.register_calls.specs.Reading.{
   Found,
   Marked,
   Noted,
+  Trimmed,
   keyIn,
   keysOf,
   markCount,
@@ -42,57 +42,95 @@ use Rattle.register_calls.specs.Reading.{
   slotsHold,
 }
 
--- The line of a slot: its bytes up to the first zero.
-line-until : (slot : List ℕ) → until 0 slot ≡ length (lineIn slot)
-unfolding until lineIn
-line-until [] = refl
-line-until (b ∷ slot) =
-    test-cases
-    (λ t. elim t as (λ _. ℕ) [ true ↦ 0 | false ↦ suc (until 0 slot) ] ≡ length {A = ℕ}
-    (elim t as (λ _. List ℕ) [ true ↦ [] | false ↦ b ∷ lineIn slot ]))
-    (isZero b) (λ _. refl) (λ _. ap suc (line-until slot))
+-- A slot without the zeros at its end: they are passed from the last byte on.
+pub trim-none : (slot : List ℕ) → all isZero (drop (length slot) slot) ≡ true
+trim-none slot = all-end isZero slot (length slot) (omega arith)
 
-pub line-next : (slot : List ℕ) (n : ℕ) → NextByte slot 0 0 n → n ≡ length (lineIn slot)
-line-next slot n next = omega (arith, next-until slot 0 0 n next, line-until slot)
+pub trim-more : (slot : List ℕ) (n : ℕ) → 0 < n → n ≤ length slot → all isZero (drop n slot) ≡ true → getD slot (n - 1) 0 ≡ 0
+    → all isZero (drop (n - 1) slot) ≡ true
+trim-more slot n some inside zeros here =
+    let next : n - 1 + 1 ≡ n = omega arith in
+    all-next isZero slot (n - 1) (omega arith)
+    ∙ both-pass (eq-eqb (getD slot (n - 1) 0) 0 here) (ap (λ k. all isZero (drop k slot)) next ∙ zeros)
 
-pub line-take : (slot : List ℕ) (n : ℕ) → n ≡ length (lineIn slot) → take n slot ≡ lineIn slot
-line-take slot n e =
-    ap (take n) (sym (line-front slot)) ∙ take-at (lineIn slot) (drop (length (lineIn slot)) slot) n (sym e)
+-- zeros are zero wherever one looks
+zeros-at : (l : List ℕ) → all isZero l ≡ true → (j : ℕ) → isZero (getD l j 0) ≡ true
+unfolding all
+zeros-at [] a j = refl
+zeros-at (b ∷ l) a zero = both-true (isZero b) (all isZero l) a .0
+zeros-at (b ∷ l) a (suc j) = zeros-at l (both-true (isZero b) (all isZero l) a .1) j
 
-pub line-within : (slot : List ℕ) → length (lineIn slot) ≤ length slot
-line-within slot = omega (arith, ap length (line-front slot), length-append (lineIn slot) (drop (length (lineIn slot)) slot))
+zero-behind : (l : List ℕ) (k i : ℕ) → all isZero (drop k l) ≡ true → k ≤ i → isZero (getD l i 0) ≡ true
+zero-behind l k i a h =
+    let at : k + (i - k) ≡ i = omega arith in
+    ap isZero (ap (λ n. getD l n 0) (sym at) ∙ sym (getD-drop k l (i - k) 0)) ∙ zeros-at (drop k l) a (i - k)
+
+-- the last byte of a line isn't zero
+last-some : (line rest : List ℕ) → isLine line ≡ true → isZero (getD (line ++ rest) (length line - 1) 0) ≡ false
+unfolding isText
+last-some line rest form =
+    let some = line-size line form .0 in
+    ap isZero (List·getD-append line rest 0 (length line - 1) (omega arith))
+    ∙ not-true (isZero (getD line (length line - 1) 0)) (all-inside isText line 0 (line-text line form) (length line - 1) (omega arith))
+
+kept-form : (slot : List ℕ) → slotKeeps slot ≡ true → isLine (lineIn slot) ≡ true
+unfolding slotKeeps
+kept-form slot e = both-true (isLine (lineIn slot)) (all isZero (drop (length (lineIn slot)) slot)) e .0
+
+module _ (slot : List ℕ) (n : ℕ) (t : Trimmed slot n) where
+  -- of a slot that keeps its rule, the line is left
+  trim-size : slotKeeps slot ≡ true → n ≡ length (lineIn slot)
+  unfolding slotKeeps
+  trim-size e =
+      let line = lineIn slot in
+      let m = length line in
+      let parts = both-true (isLine line) (all isZero (drop m slot)) e in
+      let some = line-size line (parts .0) .0 in
+      let end : isZero (getD slot (m - 1) 0) ≡ false =
+      ap (λ l. isZero (getD l (m - 1) 0)) (sym (line-front slot)) ∙ last-some line (drop m slot) (parts .0) in
+      let high : ¬ (n < m) = λ h. false≢true (sym end ∙ zero-behind slot n (m - 1) (t .zeros) (omega arith)) in
+      let low : ¬ (m < n) = λ h. false≢true (sym (t .last (omega arith)) ∙ zero-behind slot m (n - 1) (parts .1) (omega arith)) in
+      omega (arith, high, low)
+
+  pub trim-line : slotKeeps slot ≡ true → take n slot ≡ lineIn slot
+  trim-line e =
+      ap (take n) (sym (line-front slot)) ∙ take-at (lineIn slot) (drop (length (lineIn slot)) slot) n (sym (trim-size e))
+
+  -- and where a line is left, it is the slot's
+  form-line : isLine (take n slot) ≡ true → lineIn slot ≡ take n slot
+  form-line form =
+      ap lineIn (sym (take-append-drop n slot)) ∙ line-read (take n slot) (drop n slot) (line-text (take n slot) form) (t .zeros)
+
+  form-keeps : isLine (take n slot) ≡ true → slotKeeps slot ≡ true
+  unfolding slotKeeps
+  form-keeps form =
+      let is = form-line form in
+      let size : length (take n slot) ≡ n = length-take-le n slot (t .inside) in
+      both-pass (ap isLine is ∙ form) (ap (λ k. all isZero (drop k slot)) (ap length is ∙ size) ∙ t .zeros)
+
+  -- The key of a slot.
+  pub slot-formless : isLine (take n slot) ≡ false → 0 ≡ slotKey slot
+  unfolding slotKey
+  slot-formless e =
+      test-cases (λ k. slotKeeps slot ≡ k → 0 ≡ cond k (keyIn (lineIn slot)) 0) (slotKeeps slot)
+      (λ keeps _. absurd (false≢true (sym e ∙ ap isLine (trim-line keeps) ∙ kept-form slot keeps)))
+      (λ _ _. refl) refl
+
+  pub contract-within : (contract : ℕ) → Run isNameByte (take n slot) 0 contract → contract ≤ n
+  contract-within contract r = omega (arith, r .inside, length-take-le n slot (t .inside))
+
+  pub slot-keyed : isLine (take n slot) ≡ true → (contract : ℕ) → Run isNameByte (take n slot) 0 contract
+      → keyOf (withoutBlanks (take 8 (take contract slot))) ≡ slotKey slot
+  unfolding slotKey
+  slot-keyed form contract r =
+      ap (λ l. keyOf (withoutBlanks (take 8 l))) (sym (take-take contract n slot (contract-within contract r)))
+      ∙ key-read (take n slot) contract form (contract-size (take n slot) contract r form)
+      ∙ ap keyIn (sym (form-line form))
+      ∙ sym (ap (λ b. cond b (keyIn (lineIn slot)) 0) (form-keeps form))
 
 -- the bits of all bytes from a place on tell whether they are zero
 pub zeros-behind : (l : List ℕ) (at bits : ℕ) → eqb bits 0 ≡ all isZero (take (length l - at) (drop at l)) → all isZero (drop at l) ≡ eqb bits 0
 zeros-behind l at bits e = ap (all isZero) (sym (stretch-end l at (length l - at) refl)) ∙ sym e
-
--- The key of a slot.
-module _ (slot : List ℕ) (n : ℕ) (is : n ≡ length (lineIn slot)) where
-  pub slot-broken : all isZero (drop n slot) ≡ false → 0 ≡ slotKey slot
-  unfolding slotKey slotKeeps
-  slot-broken e =
-      let behind : all isZero (drop (length (lineIn slot)) slot) ≡ false = ap (λ k. all isZero (drop k slot)) (sym is) ∙ e in
-      sym (ap (λ b. cond b (keyIn (lineIn slot)) 0) (ap (λ b. isLine (lineIn slot) && b) behind ∙ and-false (isLine (lineIn slot))))
-
-  pub slot-formless : isLine (take n slot) ≡ false → 0 ≡ slotKey slot
-  unfolding slotKey slotKeeps
-  slot-formless e =
-      let line = sym (ap isLine (line-take slot n is)) ∙ e in
-      sym (ap (λ b. cond (b && all isZero (drop (length (lineIn slot)) slot)) (keyIn (lineIn slot)) 0) line)
-
-  pub contract-within : (contract : ℕ) → Run isNameByte (take n slot) 0 contract → contract ≤ n
-  contract-within contract r = omega (arith, r .inside, ap length (line-take slot n is))
-
-  pub slot-keyed : all isZero (drop n slot) ≡ true → isLine (take n slot) ≡ true → (contract : ℕ) → Run isNameByte (take n slot) 0 contract
-      → keyOf (withoutBlanks (take 8 (take contract slot))) ≡ slotKey slot
-  unfolding slotKey slotKeeps
-  slot-keyed e form contract r =
-      let line = line-take slot n is in
-      let behind : all isZero (drop (length (lineIn slot)) slot) ≡ true = ap (λ k. all isZero (drop k slot)) (sym is) ∙ e in
-      ap (λ l. keyOf (withoutBlanks (take 8 l))) (sym (take-take contract n slot (contract-within contract r)))
-      ∙ key-read (take n slot) contract form (contract-size (take n slot) contract r form)
-      ∙ ap keyIn line
-      ∙ sym (ap (λ b. cond b (keyIn (lineIn slot)) 0) (both-pass (sym (ap isLine line) ∙ form) behind))
 
 -- a slot with a key keeps its rule, one without breaks it
 pub key-holds : (slot : List ℕ) → ¬ (slotKey slot ≡ 0) → (slotKeeps slot ≡ true) × (slotKey slot ≡ keyIn (lineIn slot))
@@ -268,8 +306,7 @@ module _ (slots keys marks : List ℕ) (k : ℕ) (r : ReadTo slots keys marks k)
         holds-slot = key-holds slot (λ e. some (is ∙ e))
 
         form : isLine line ≡ true
-        unfolding slotKeeps
-        form = both-true (isLine line) (all isZero (drop (length line) slot)) (holds-slot .0) .0
+        form = kept-form slot (holds-slot .0)
 
         all-lines : linesIn mostLines slots ≡ r .done ++ (line ∷ rest)
         all-lines = r .lines ∙ ap (λ l. r .done ++ l) (lines-more slots k h z)

@@ -1,15 +1,16 @@
-// The register's calls: a line offered to the register in a buffer, and a line handed out by its place. Each reads the buffer first: whether it keeps
-// its rules, how many lines it holds, and the contracts of these lines as keys, numbers of 64 bits.
+// The register in a buffer, and two of its calls: a line offered, and a line handed out by its place. Each call reads the buffer first: whether it
+// keeps its rules, how many lines it holds, and the contracts of these lines as keys, numbers of 64 bits.
 // Assumes nothing.
 ghost use mathlib.Core.Path.{_≡_};
 ghost use Prim.Native.Nat.{_*_, _<_, _≤_};
 ghost use lib.ListN.{length, replicate, take};
 ghost use Rattle.base.specs.Lists.{among};
-ghost use Rattle.register.specs.Buffer.{bufferKeeps, lineIn, linesIn, registerIn, slotSize};
+ghost use Rattle.register.specs.Buffer.{bufferKeeps, linesIn, registerIn, slotSize};
 ghost use Rattle.register.specs.Claims.{OfferPromise, LinePromise, offerBack, lineBack};
 ghost use Rattle.register.specs.Calls.{lineSize, offerCall};
 ghost use Rattle.register.specs.Register.{lineAt, lowestOf, mostLines};
-ghost use Rattle.register_calls.specs.Reading.{EndFound, Found, Judged, Marked, Noted, Placed, Puts, Ready, slotKey, slotsHold};
+ghost use Rattle.register_calls.specs.Reading.{EndFound, Found, Judged, Marked, Noted, Placed, Puts, Ready, Stands, Trimmed};
+ghost use Rattle.register_calls.specs.Reading.{slotKey, slotsHold};
 use cells::spans;
 use packer::keys;
 use register::BAD_BUFFER;
@@ -28,7 +29,7 @@ use register_lines::is_line;
 const MARKS: usize = 4093;
 
 // how many lines a register holds, or that its buffer is too small or against its rules
-enum Held {
+pub enum Held {
     Lines(usize),
     Broken,
 }
@@ -63,11 +64,18 @@ fn note(keys: &mut [u64], marks: &mut [u8], k: usize, key: u64) -> bool
     true
 }
 
-// how many bytes the line in a slot has
+// how many bytes a slot has before the zeros at its end: those of its line, where it keeps its rule
 fn line_length(slot: &[u8]) -> usize
-    ensures { λ r. ⌜ r ≡ length (lineIn (now (slot .entry))) ⌝ }
+    ensures { λ r. ⌜ Trimmed (now (slot .entry)) r ⌝ }
 {
-    search::next_byte(slot, 0, 0)
+    let mut n = slot.len();
+    while 0 < n {
+        if slot[n - 1] != 0 {
+            return n;
+        }
+        n -= 1;
+    }
+    n
 }
 
 // the key of the contract in a slot; 0 where the slot breaks its rule
@@ -75,13 +83,10 @@ fn slot_key(slot: &[u8]) -> u64
     ensures { λ r. ⌜ r ≡ slotKey (now (slot .entry)) ⌝ }
 {
     let n = line_length(slot);
-    if spans::marks(&slot[n..]) != 0 {
-        return 0;
-    }
-    if !is_line(&slot[..n]) {
-        return 0;
-    }
     let contract = contract_length(&slot[..n]);
+    if !is_line(&slot[..n], contract) {
+        return 0;
+    }
     keys::key_of(&slot[..contract])
 }
 
@@ -124,7 +129,7 @@ fn read_slots(slots: &[u8], keys: &mut [u64; LINES]) -> Held
 }
 
 // the register in a buffer
-fn read_register(buffer: &[u8], keys: &mut [u64; LINES]) -> Held
+pub fn read_register(buffer: &[u8], keys: &mut [u64; LINES]) -> Held
     requires { ⌜ length (now keys) ≡ mostLines ⌝ }
     ensures { λ r. ⌜ Found (bufferKeeps (now (buffer .entry))) (registerIn (now (buffer .entry))) (now (keys .exit)) r ⌝ }
 {
@@ -158,8 +163,8 @@ fn offer_number(line: &[u8], n: usize, keys: &[u64]) -> u32
     requires { ⌜ n ≤ length (now keys) ⌝ }
     ensures { λ r. ⌜ Judged (now (line .entry)) n (now (keys .entry)) r ⌝ }
 {
-    let formed = is_line(line);
     let contract = contract_length(line);
+    let formed = is_line(line, contract);
     let held = is_among(keys, n, keys::key_of(&line[..contract]));
     lowest(formed, held, n == LINES)
 }
@@ -189,17 +194,25 @@ pub extern "C" fn strigol_register_offer(buffer: &mut [u8], line: &[u8]) -> u32
     }
 }
 
+// where the line of a place ends, in a register that has one there
+pub fn line_end(buffer: &[u8], place: usize) -> usize
+    requires { ⌜ Placed (now buffer) place ⌝ }
+    ensures { λ r. ⌜ Stands (now (buffer .entry)) place r ⌝ }
+{
+    let at = HEADER + SLOT * place;
+    let end = at + SLOT;
+    at + line_length(&buffer[at..end])
+}
+
 // the line of a place where one stands, put before zeros; how many bytes it has
 fn put_line(buffer: &[u8], place: usize, line: &mut [u8; LINE_SIZE]) -> usize
     requires { ⌜ Placed (now buffer) place × (now line ≡ replicate lineSize 0) ⌝ }
     ensures { λ r. ⌜ Puts (lineAt (registerIn (now (buffer .entry))) place) r (now (line .exit)) ⌝ }
 {
     let at = HEADER + SLOT * place;
-    let end = at + SLOT;
-    let n = line_length(&buffer[at..end]);
-    let to = at + n;
-    spans::write(line, 0, &buffer[at..to]);
-    n
+    let end = line_end(buffer, place);
+    spans::write(line, 0, &buffer[at..end]);
+    end - at
 }
 
 // Hands out the line of a place.

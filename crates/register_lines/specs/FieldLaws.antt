@@ -23,6 +23,7 @@ use Rattle.register.specs.LineLaws.{
   some-field,
   firstField,
   lead,
+  number-bytes,
   tonnes-digits,
   price-digits,
 }
@@ -207,15 +208,13 @@ grain-bytes : (f : List ℕ) → isGrain f ≡ true → all isLetter f ≡ true
 unfolding isGrain
 grain-bytes f e = both-true (eqb (length f) 2) (all isLetter f) e .1
 
-decimal-bytes : (f : List ℕ) → isDecimal f ≡ true → all isDigit f ≡ true
-unfolding isDecimal
-decimal-bytes f e = both-true (all isDigit f) (not (begins (bytes "0") f)) e .0
-
 tonnes-bytes : (f : List ℕ) → isTonnes f ≡ true → all isDigit f ≡ true
-tonnes-bytes f e = decimal-bytes f (both-true (isDecimal f) (between 1 5 (length f)) (sym (tonnes-digits f) ∙ e) .0)
+unfolding isTonnes
+tonnes-bytes = number-bytes 99_999
 
 price-bytes : (f : List ℕ) → isPrice f ≡ true → all isDigit f ≡ true
-price-bytes f e = decimal-bytes f (both-true (isDecimal f) (between 1 6 (length f)) (sym (price-digits f) ∙ e) .0)
+unfolding isPrice
+price-bytes = number-bytes 999_999
 
 -- what stands behind a comma: a field by its run, and what follows
 module _ (line : List ℕ) (at n : ℕ) (is : eqb (getD line at 0) 44 ≡ true) where

@@ -136,13 +136,13 @@ pub fn contract_length(line: &[u8]) -> usize
     run(line, 0, Class::Names)
 }
 
-// whether a line has its form
-pub fn is_line(line: &[u8]) -> bool
+// whether a line that begins with so many letters and digits has its form
+pub fn is_line(line: &[u8], contract: usize) -> bool
+    requires { ⌜ Run isNameByte (now line) 0 contract ⌝ }
     ensures { λ r. ⌜ r ≡ isLine (now (line .entry)) ⌝ }
 {
-    let n = contract_length(line);
-    if (n < 1) | (CONTRACT < n) {
+    if (contract < 1) | (CONTRACT < contract) {
         return false;
     }
-    grain_on(line, n)
+    grain_on(line, contract)
 }

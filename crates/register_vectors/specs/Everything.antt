@@ -82,6 +82,9 @@ unfolding
     Rattle.register.specs.Calls.offerCall
     Rattle.register.specs.Calls.handing
     Rattle.register.specs.Calls.lineCall
+    Rattle.register.specs.Calls.puttingNothing
+    Rattle.register.specs.Calls.putting
+    Rattle.register.specs.Calls.reportCall
     Rattle.register.specs.Claims.Linked
     Rattle.register.specs.Claims.linesOffered
     Rattle.register.specs.Claims.accepting
@@ -97,6 +100,7 @@ unfolding
     Rattle.register.specs.Line.isLine
     Rattle.register.specs.Line.contractOf
     Rattle.register.specs.LineLaws.isText
+    Rattle.register.specs.LineLaws.isPlain
     Rattle.register.specs.Register.holds
     Rattle.register.specs.Register.lowestOf
     Rattle.register.specs.Register.offerNumber
@@ -105,4 +109,15 @@ unfolding
     Rattle.register.specs.Register.lineAt
     Rattle.register.specs.Register.differ
     Rattle.register.specs.Register.isRegister
+    Rattle.register.specs.Report.numberIn
+    Rattle.register.specs.Report.tonnesOf
+    Rattle.register.specs.Report.priceOf
+    Rattle.register.specs.Report.valueOf
+    Rattle.register.specs.Report.totalsOf
+    Rattle.register.specs.Report.totalLine
+    Rattle.register.specs.Report.printed
+    Rattle.register.specs.Report.report
+    Rattle.register.specs.Report.recordsAbove
+    Rattle.register.specs.Report.lastRecord
+    Rattle.register.specs.Report.totalsIn
 everything = tt

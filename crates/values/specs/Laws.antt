@@ -1,5 +1,5 @@
--- The text of a number is read back as the number, has no leading zero, and is as long as asked for. Assumes nothing.
-use mathlib.Core.Bool.{Bool, true, false, cond, true≢false, false≢true, and-eq-true-iff}
+-- The text of a number is digits, is read back as the number, has no leading zero, and is as long as asked for. Assumes nothing.
+use mathlib.Core.Bool.{Bool, true, false, cond, _&&_, true≢false, false≢true, and-eq-true-iff}
 use mathlib.Core.List.{List, [], _∷_, _++_}
 use mathlib.Core.Path.{_≡_, refl, sym, _∙_, ap}
 use Prim.Native.Nat.{ℕ, zero, suc, _+_, _*_, _-_, _/_, _%_, _^_, _≤_, _<_}
@@ -80,6 +80,20 @@ digits-length k n = digits-induction (λ m s. (j : ℕ) → m < 10 ^ suc j → l
     more m s large h (suc j) below =
         let quotient : m / 10 < 10 ^ suc j = omega (arith, rw (pow-suc 10 (suc j)) at below) in
         simp length-append (omega (arith, h j quotient))
+
+-- V9 all of them are digits
+pub digits-digits : (n : ℕ) → all (λ b. leb 48 b && leb b 57) (digits n) ≡ true
+unfolding all
+digits-digits = digits-induction (λ n s. all isOne s ≡ true) (λ d small. one d small) more
+  where
+    isOne : ℕ → Bool
+    isOne b = leb 48 b && leb b 57
+
+    one : (d : ℕ) → d < 10 → all isOne ((48 + d) ∷ []) ≡ true
+    one d small = rw (le-leb 48 (48 + d) (omega arith), le-leb (48 + d) 57 (omega arith))
+
+    more : (n : ℕ) (s : List ℕ) → 10 ≤ n → all isOne s ≡ true → all isOne (s ++ ((48 + n % 10) ∷ [])) ≡ true
+    more n s large h = all-append isOne s ((48 + n % 10) ∷ []) h (one (n % 10) (omega arith))
 
 -- digits and blanks, at least one, that read as the number n
 pub record Reads (s : List ℕ) (n : ℕ) : Type 0 where

@@ -8,15 +8,15 @@ use Rattle.register_calls.specs.PutLaws.{offer-judged}
 use Rattle.register_calls.proofs.offer_number.Statement.{statement}
 use Rattle.register_calls.proofs.offer_number.Tie as tie
 
-is-line-requires : tie.Need-is-line-requires
-is-line-requires c κs = search needs
-
 contract-length-requires : tie.Need-contract-length-requires
 contract-length-requires c κs = search needs
 
+is-line-requires : tie.Need-is-line-requires
+is-line-requires c κs = search needs
+
 slice-aggregate-key-of : tie.Need-slice-aggregate-key-of
 slice-aggregate-key-of c =
-    let n = c .before .contract-length in
+    let n = c .before .before .contract-length in
     sym (length-take-le (n .result) (c .before .before .before .before .before .args .line .now) (omega (arith, n .ensures .inside)))
 
 key-of-requires : tie.Need-key-of-requires
@@ -31,8 +31,8 @@ lowest-requires c κs = search needs
 returns : tie.Need-returns
 returns c =
     let a = c .before .before .before .before .before .before .before .before .args in
-    let form = c .before .before .before .before .before .is-line in
-    let contract = c .before .before .before .before .contract-length in
+    let contract = c .before .before .before .before .before .contract-length in
+    let form = c .before .before .before .before .is-line in
     let key = c .before .before .key-of in
     let held = c .before .is-among in
     offer-judged (a .line .now) (a .keys .now) (a .n) (contract .result) (key .result) (contract .ensures) (key .ensures) (form .result)
@@ -42,8 +42,8 @@ pub offer-number-spec : {M : Type 1} → statement M
 offer-number-spec =
     tie.close
     (tie.spec
-    is-line-requires
     contract-length-requires
+    is-line-requires
     slice-aggregate-key-of
     key-of-requires
     is-among-requires

@@ -1,11 +1,11 @@
--- `batch::put_number` meets its contract.
+-- `printing::put_number` meets its contract.
 -- Assumes nothing.
 use native.Mathlib.Omega.{arith}
 use Rattle.base.specs.Text.{bytes}
-use Rattle.batch.specs.PrintLaws.{digits-short, put-behind, put-stored}
+use Rattle.printing.specs.PrintLaws.{digits-short, put-behind, put-stored}
 use borrow.Author.Needs.{needs}
-use Rattle.batch.proofs.put_number.Statement.{statement}
-use Rattle.batch.proofs.put_number.Tie as tie
+use Rattle.printing.proofs.put_number.Statement.{statement}
+use Rattle.printing.proofs.put_number.Tie as tie
 
 slice-aggregate-put : tie.Need-slice-aggregate-put
 slice-aggregate-put c = search needs

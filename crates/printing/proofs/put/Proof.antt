@@ -1,9 +1,9 @@
--- `batch::put` meets its contract.
+-- `printing::put` meets its contract.
 -- Assumes nothing.
-use Rattle.batch.specs.PrintLaws.{put-written}
+use Rattle.printing.specs.PrintLaws.{put-written}
 use borrow.Author.Needs.{needs}
-use Rattle.batch.proofs.put.Statement.{statement}
-use Rattle.batch.proofs.put.Tie as tie
+use Rattle.printing.proofs.put.Statement.{statement}
+use Rattle.printing.proofs.put.Tie as tie
 
 write-requires : tie.Need-write-requires
 write-requires c κs = search needs
