@@ -1,8 +1,8 @@
-/* The register's calls, each with its check of all rules: a line offered to 255 others, and one handed out of 256, beside one pass over the 8,192
-   bytes; the report of 256 lines beside one pass over the report, and beside the same report from SQLite. Each figure is the best of several rounds
-   in one run. Then, for the record, a line offered and one handed out beside SQLite, and two more ways to the report. SQLite has tables in memory and
-   prepared statements, with the contract as primary key and an index on the place; for the report the place is the primary key. Both must give the
-   same bytes. Printed are tables in Markdown. */
+/* The register's calls, each with its check of all rules: a line of four fields offered to 255 others, and one handed out of 256, beside one pass
+   over the 8,192 bytes; the report of 256 lines, in one currency and in several, beside one pass over the report, and beside the same report from
+   SQLite. Each figure is the best of several rounds in one run. Then, for the record, a line offered and one handed out beside SQLite, and two more
+   ways to the report. SQLite has tables in memory and prepared statements, with the contract as primary key and an index on the place; for the report
+   the place is the primary key, and an index has what the totals need. Both must give the same bytes. Printed are tables in Markdown. */
 #include "figures.h"
 #include "strigol.h"
 
@@ -15,9 +15,14 @@ enum {
     LINES = STRIGOL_LINES_MOST, LAST = LINES - 1, SLOT = 28, LAST_AT = STRIGOL_REGISTER_SIZE - SLOT, MOST_CONTRACT = 8, MARKS = 4093
 };
 
-/* The lines of a register, and their fields; the grain is always the same. */
+/* The lines of a register and their fields; the grain is always the same. Of the `length` bytes that a line is held with, `offered` are offered. */
 #define GRAIN "WH"
-static struct { char contract[MOST_CONTRACT + 1], line[STRIGOL_LINE_SIZE]; unsigned tonnes, price; int length; } held[LINES];
+#define HOUSE "EUR"
+static struct {
+    char contract[MOST_CONTRACT + 1], currency[STRIGOL_CURRENCY_SIZE + 1], line[STRIGOL_LINE_SIZE];
+    unsigned tonnes, price;
+    int offered, length;
+} held[LINES];
 static uint8_t buffer[STRIGOL_REGISTER_SIZE], output[STRIGOL_REPORT_MOST];
 static uint32_t output_len;
 static volatile uint32_t sink;
@@ -75,13 +80,26 @@ static void together(int place)
     } while (key % MARKS != 0 || is_held(place, held[place].contract));
 }
 
-static const struct { const char *name; void (*contract)(int place); unsigned tonnes, price; } registers[] = {
-    {"C0000000, C0000001, ..; lines of 24 bytes", sequence, 99999, 999999},
-    {"random contracts, tonnes and prices", any, 0, 0},
-    {"contracts of two signs; lines of 9 bytes", two_signs, 1, 1},
-    {"contracts that fall together; lines of 24 bytes", together, 99999, 999999},
+/* A register in one currency, the house currency, is offered lines of four fields. */
+static const struct { const char *name; void (*contract)(int place); unsigned tonnes, price, currencies; } registers[] = {
+    {"C0000000, C0000001, ..; lines of 28 bytes", sequence, 99999, 999999, 1},
+    {"random contracts, tonnes and prices", any, 0, 0, 1},
+    {"contracts of two signs; lines of 13 bytes", two_signs, 1, 1, 1},
+    {"contracts that fall together; lines of 28 bytes", together, 99999, 999999, 1},
+    {"the first of these in 3 currencies", sequence, 99999, 999999, 3},
+    {"the first of these in 256 currencies", sequence, 99999, 999999, 256},
 };
-#define REGISTERS (sizeof registers / sizeof registers[0])
+enum { REGISTERS = sizeof registers / sizeof registers[0], IN_ONE_CURRENCY = 4 };
+
+/* One of so many currencies; neighbours differ. */
+static void choose_currency(int place, unsigned currencies)
+{
+    unsigned which = (unsigned)place * 37 % currencies;
+    strcpy(held[place].currency, HOUSE);
+    if (currencies == 1) return;
+    held[place].currency[1] = (char)('Z' - which % 26);
+    held[place].currency[2] = (char)('A' + which / 26);
+}
 
 static void make_lines(size_t which)
 {
@@ -89,19 +107,23 @@ static void make_lines(size_t which)
         held[i].tonnes = registers[which].tonnes ? registers[which].tonnes : 1 + draw(99999);
         held[i].price = registers[which].price ? registers[which].price : 1 + draw(999999);
         registers[which].contract(i);
-        held[i].length = snprintf(held[i].line, sizeof held[i].line, "%s," GRAIN ",%u,%u", held[i].contract, held[i].tonnes, held[i].price);
+        choose_currency(i, registers[which].currencies);
+        held[i].length = snprintf(held[i].line, sizeof held[i].line, "%s," GRAIN ",%u,%u,%s", held[i].contract, held[i].tonnes, held[i].price,
+                                  held[i].currency);
+        held[i].offered = held[i].length - (registers[which].currencies == 1 ? 1 + STRIGOL_CURRENCY_SIZE : 0);
     }
 }
 
 static uint32_t offer(int i)
 {
-    return strigol_register_offer(buffer, sizeof buffer, (const uint8_t *)held[i].line, (size_t)held[i].length);
+    return strigol_register_offer(buffer, sizeof buffer, (const uint8_t *)held[i].line, (size_t)held[i].offered);
 }
 
-/* Offers so many of the lines to a buffer of zeros. */
+/* Opens a buffer of zeros and offers it so many of the lines. */
 static void fill(int count)
 {
     memset(buffer, 0, sizeof buffer);
+    if (strigol_register_open(buffer, sizeof buffer, (const uint8_t *)HOUSE, STRIGOL_CURRENCY_SIZE) != 0) give_up("the register isn't opened");
     for (int i = 0; i < count; i++)
         if (offer(i) != 0) give_up("a line is declined");
 }
@@ -165,11 +187,11 @@ static double time_one(void (*one)(void))
     return best / 1e3;
 }
 
-/* A call on each of the registers, of so many lines. */
+/* A call on each of the registers in one currency, of so many lines. */
 static void beside_passes(const char *what, void (*one)(void), int count, int most)
 {
     show_passes_head(what, sizeof buffer, most);
-    for (size_t i = 0; i < REGISTERS; i++) {
+    for (size_t i = 0; i < IN_ONE_CURRENCY; i++) {
         make_lines(i);
         fill(count);
         double ours = time_one(one), plain = time_one(pass), vectors = time_one(vector_pass);
@@ -279,11 +301,11 @@ static void show_beside(const char *what, double ours, double theirs)
 }
 
 /* Three ways to the report, each with a table of its own: SQLite puts a line together of its fields, it hands the fields over, or it has the line
-   whole beside its numbers. The table's text is the grain, or the line. */
+   whole beside its numbers and its currency. The table's text is the grain, or the line. */
 enum { JOINED, FIELDS, WHOLE, WAYS };
 static const char *const ways[WAYS] = {
-    "SELECT contract || ',' || text || ',' || tonnes || ',' || price FROM report%d ORDER BY place",
-    "SELECT contract, text, tonnes, price FROM report%d ORDER BY place",
+    "SELECT contract || ',' || text || ',' || tonnes || ',' || price || ',' || currency FROM report%d ORDER BY place",
+    "SELECT contract, text, tonnes, price, currency FROM report%d ORDER BY place",
     "SELECT text FROM report%d ORDER BY place",
 };
 static sqlite3_stmt *adds[WAYS], *lines[WAYS], *totals[WAYS];
@@ -292,10 +314,12 @@ static void open_reports(void)
 {
     for (int way = 0; way < WAYS; way++) {
         do_once("CREATE TABLE report%d (place INTEGER PRIMARY KEY, contract TEXT UNIQUE, text TEXT NOT NULL, tonnes INTEGER NOT NULL, "
-                "price INTEGER NOT NULL)", way);
-        adds[way] = prepare("INSERT INTO report%d VALUES (?, ?, ?, ?, ?)", way);
+                "price INTEGER NOT NULL, currency TEXT NOT NULL)", way);
+        do_once("CREATE INDEX totals%1$d ON report%1$d (currency, tonnes, price)", way);
+        adds[way] = prepare("INSERT INTO report%d VALUES (?, ?, ?, ?, ?, ?)", way);
         lines[way] = prepare(ways[way], way);
-        totals[way] = prepare("SELECT 'TOTAL', count(*), coalesce(sum(tonnes), 0), coalesce(sum(tonnes * price), 0) FROM report%d", way);
+        totals[way] = prepare("SELECT 'TOTAL', currency, count(*), sum(tonnes), sum(tonnes * price) FROM report%d GROUP BY currency "
+                              "ORDER BY currency", way);
     }
 }
 
@@ -309,6 +333,7 @@ static void fill_table(int way)
         sqlite3_bind_text(adds[way], 3, way == WHOLE ? held[i].line : GRAIN, -1, SQLITE_STATIC);
         sqlite3_bind_int(adds[way], 4, (int)held[i].tonnes);
         sqlite3_bind_int(adds[way], 5, (int)held[i].price);
+        sqlite3_bind_text(adds[way], 6, held[i].currency, -1, SQLITE_STATIC);
         step(adds[way]);
     }
 }

@@ -7,9 +7,10 @@
        strigol_start(store, sizeof store, state);
        strigol_run(table, sizeof table, store, sizeof store, state, input, input_len, output, sizeof output, 1000000, result);
 
-   The lines that a finished run put can be kept in a register of contracts, one call a line, handed out again by their places, and reported with
-   their totals:
+   The lines that a finished run put can be kept in a register of contracts, one call a line, once it is opened with the house currency. They are
+   handed out again by their places, and reported with the totals of each currency:
 
+       strigol_register_open(buffer, sizeof buffer, (const uint8_t *)"EUR", 3);                all zeros at first, or a register from before
        uint32_t number = strigol_register_offer(buffer, sizeof buffer, record, record_len);    0, or the line is declined
        strigol_register_line(buffer, sizeof buffer, place, line, &length);
        strigol_register_report(buffer, sizeof buffer, report, sizeof report, &length);
@@ -21,7 +22,8 @@
    - There is stack enough: 1.2 MB for strigol_read, 60 KB for the others.
 
    What holds then of every call:
-   - It takes any bytes and numbers, and ends. What it can't use gets a number, the lowest of the list below that applies; 0 is success.
+   - It takes any bytes and numbers, and ends. What it can't use gets a number, the lowest of the list below that applies, but 29 before all others;
+     0 is success.
    - It keeps nothing, allocates nothing, prints nothing. All it knows is lent by the caller; one table may serve many runs at once, each
      with its own store, state and output, in threads of their own.
    - The numbers are those of documents 01 and 02, the layouts those of docs/TABLE.md and docs/REGISTER.md, installed under share/doc/strigol. */
@@ -54,12 +56,13 @@ extern "C" {
 #endif
 
 /* The numbers that a call gives, and the documents' words for each. 1 to 12 refuse a deck, 13 to 16 (and 2) turn a step down, 17 to 21 stop
-   it, 22 to 24 turn a scan call down, 14, 21 and 25 to 27 a call of the register.
+   it, 22 to 24 turn a scan call down, 14, 21, 25 to 27 and 29 a call of the register. 28 is given by none.
 
    1, 2           strigol_read leaves the table as it was.
    3 to 12        strigol_read leaves a table of zeros, which every step turns down by 13.
    2, 13 to 16    strigol_step changes nothing. strigol_start gives 14 with a good state if the store is too small, and leaves the store.
    17 to 21       strigol_step sets the state's status to stopped and changes nothing else.
+   14, 29         strigol_register_open changes nothing. Until it has given 0, the other calls on that register give 14.
    14, 25 to 27   strigol_register_offer changes nothing. strigol_register_line gives 14 with the empty line.
    14, 21         strigol_register_report puts nothing, and sets the length to 0. */
 #define STRIGOL_NUMBER_LIST(X)                                                                                                                 \
@@ -81,7 +84,7 @@ extern "C" {
     X(STRIGOL_BAD_TABLE, 13, "the table breaks its written rules")                                                                             \
     X(STRIGOL_BAD_STORE, 14,                                                                                                                   \
       "the store is under 32,832 bytes, a length exceeds 1,024, or a byte behind it isn't zero; or the register's buffer is under 8,192 "     \
-      "bytes or against its written rules")                                                                                                    \
+      "bytes or against its written rules, or the register isn't opened")                                                                      \
     X(STRIGOL_BAD_STATE, 15,                                                                                                                   \
       "the state's statement, held return or their count, number, input place or output length is out of range; or RETURN or ENDROUTINE "     \
       "comes next with no return held, or EXECUTE with 16 held")                                                                              \
@@ -97,13 +100,13 @@ extern "C" {
       "an element has no known kind, a fixed filler's length is negative, or a string isn't a part of the values lent")                       \
     X(STRIGOL_BAD_LINE, 25, "a line breaks its form")                                                                                          \
     X(STRIGOL_CONTRACT_HELD, 26, "its contract is held already")                                                                               \
-    X(STRIGOL_REGISTER_FULL, 27, "256 lines are held")
+    X(STRIGOL_REGISTER_FULL, 27, "256 lines are held")                                                                                         \
+    X(STRIGOL_BAD_CURRENCY, 29, "the house currency given isn't three letters A-Z")
 
+/* The list is in order: its last number is the greatest. */
 #define STRIGOL_NAMED(name, number, words) name = number,
-#define STRIGOL_COUNTED(name, number, words) + 1
-enum strigol_number { STRIGOL_OK = 0, STRIGOL_NUMBER_LIST(STRIGOL_NAMED) STRIGOL_LAST_NUMBER = 0 STRIGOL_NUMBER_LIST(STRIGOL_COUNTED) };
+enum strigol_number { STRIGOL_OK = 0, STRIGOL_NUMBER_LIST(STRIGOL_NAMED) STRIGOL_NUMBERS_END, STRIGOL_LAST_NUMBER = STRIGOL_NUMBERS_END - 1 };
 #undef STRIGOL_NAMED
-#undef STRIGOL_COUNTED
 #define STRIGOL_BAD_REGISTER STRIGOL_BAD_STORE /* 14, as the register's calls give it */
 
 /* The words for a number of the list; "" for any other. */
@@ -130,7 +133,8 @@ enum strigol_size {
     STRIGOL_REGISTER_SIZE = 8192, /* a smaller buffer for a register gets 14 */
     STRIGOL_LINES_MOST = 256,     /* lines of a register */
     STRIGOL_LINE_SIZE = 32,       /* a line handed out, and zeros behind it */
-    STRIGOL_REPORT_MOST = 6434,   /* no report of a register is longer */
+    STRIGOL_CURRENCY_SIZE = 3,    /* a currency; a house currency of any other size gets 29 */
+    STRIGOL_REPORT_MOST = 17152,  /* no report of a register is longer */
 
     STRIGOL_STRING_MOST = 1024, /* a string, a record, a reference of the scan call */
     STRIGOL_STRINGS = 32,       /* strings of a store */
@@ -228,22 +232,29 @@ uint32_t strigol_run(const uint8_t *table, size_t table_len, uint8_t *store, siz
 uint32_t strigol_scan(const uint8_t *reference, size_t reference_len, const uint8_t *values, size_t values_len, const uint8_t *elements,
                       size_t elements_len, STRIGOL_LENT(uint32_t, answer, STRIGOL_ANSWER_SIZE));
 
-/* The register keeps contract lines, such as A17,WH,250,19950: contract (1 to 8 letters A-Z or digits), grain (two letters A-Z), tonnes (1 to
-   99,999) and price (1 to 999,999 cents per tonne), parted by commas, numbers in decimal without leading zeros. Its lines stand in order of
-   arrival in the first 8,192 bytes of a buffer, which is checked each time; all zeros is the empty register. */
+/* The register keeps contract lines, such as A17,WH,250,19950,EUR: contract (1 to 8 letters A-Z or digits), grain (two letters A-Z), tonnes (1 to
+   99,999), price (1 to 999,999 cents per tonne) and currency (three letters A-Z), parted by commas, numbers in decimal without leading zeros. A line
+   may be offered without its currency; it is then in the house currency. The lines stand in order of arrival in the first 8,192 bytes of a buffer,
+   which is checked each time; all zeros is the register without a line, not opened yet. */
 
-/* Offers a line, without byte 10, to the register: 0, and it is kept behind all others; or 14, 25, 26, 27, and nothing changes. */
+/* Opens the register with the house currency, three letters A-Z: 0; or 29, before all else, or 14, and nothing changes. A register that isn't opened
+   yet may hold lines of four fields, from before there were currencies: the house currency is written behind each, and all else of them stays.
+   Opening a register again changes the house currency alone: lines held keep theirs, lines of four fields offered from now on get the new one. */
+uint32_t strigol_register_open(uint8_t *buffer, size_t buffer_len, const uint8_t *currency, size_t currency_len);
+
+/* Offers a line of four or five fields, without byte 10, to the register: 0, and it is kept behind all others, one of four fields with the house
+   currency written out; or 14, 25, 26, 27, and nothing changes. 26 goes by the contract alone, whatever the currency. */
 uint32_t strigol_register_offer(uint8_t *buffer, size_t buffer_len, const uint8_t *line, size_t line_len);
 
-/* Hands out the line of a place, counted from 0: 0, or 14. `line` gets the bytes of the line, just as it was offered, and zeros behind them,
-   `length` its length. Where no line stands, and with 14, the line is empty and its length 0; no line held is empty. */
+/* Hands out the line of a place, counted from 0: 0, or 14. `line` gets the bytes of the line, five fields, and zeros behind them, `length` its
+   length. Where no line stands, and with 14, the line is empty and its length 0; no line held is empty. */
 uint32_t strigol_register_line(const uint8_t *buffer, size_t buffer_len, uint64_t place, STRIGOL_LENT(uint8_t, line, STRIGOL_LINE_SIZE),
                                uint32_t *length);
 
 /* Puts the closing report of the register to the start of the output: 0; or 14, or 21 if the output can't hold it all, and nothing is put. The
-   report is each line held, in order and byte for byte, then TOTAL,count,tonnes,value: how many lines there are, the sum of their tonnes and that
-   of tonnes times price, in cents. Byte 10 ends each of them. `length` is set to how many bytes were put, 0 with 14 and 21; the bytes of the
-   output behind the report stay as they were. */
+   report is each line held, in order and as it is handed out, then for each currency held, in letter order, TOTAL,currency,count,tonnes,value: how
+   many lines it has, the sum of their tonnes and that of tonnes times price, in cents. Byte 10 ends each of them. A register without a line has the
+   report of 0 bytes. `length` is set to how many bytes were put, 0 with 14 and 21; the bytes of the output behind the report stay as they were. */
 uint32_t strigol_register_report(const uint8_t *buffer, size_t buffer_len, uint8_t *output, size_t output_len, uint32_t *length);
 
 /* What stands in the buffers. The place of a string is 0 to 31 in order of first appearance in the deck, that of a number 0 to 31 in order of

@@ -1,5 +1,6 @@
 /* strigol-register: a register of contract lines in a file, over the library's calls for it. What staff see of it is said in man/strigol-register.1.
 
+       strigol-register FILE open CURRENCY
        strigol-register FILE add [--run] <LINES
        strigol-register FILE line PLACE
        strigol-register FILE list
@@ -26,10 +27,11 @@
 enum { DONE = 0, DECLINED = 1, FAILED = 2 };
 
 /* Bytes of input taken, bytes of a line shown, seconds to wait for another run of this program. The input is four times the records that a run can
-   print, and ten times what a register can hold; more would only be declined, and keep others waiting. */
+   print, and eight times what a register can hold; more would only be declined, and keep others waiting. */
 enum { MOST_INPUT = 1 << 16, MOST_SHOWN = 80, MOST_WAIT = 30 };
 
-static const char usage[] = "usage: strigol-register FILE add [--run] <LINES\n"
+static const char usage[] = "usage: strigol-register FILE open CURRENCY\n"
+                            "       strigol-register FILE add [--run] <LINES\n"
                             "       strigol-register FILE line PLACE\n"
                             "       strigol-register FILE list\n"
                             "       strigol-register FILE report\n"
@@ -41,6 +43,8 @@ static uint8_t input[MOST_INPUT + 1];
 static size_t input_length;
 static uint8_t numbers[MOST_INPUT]; /* what each line of the input got: 0, or the number that declined it */
 STRIGOL_CHECK(STRIGOL_LAST_NUMBER <= UINT8_MAX, "a number fits into a byte");
+
+static const char *spared = "nothing is added"; /* what a command that gives up says of the file */
 
 /* Says what went wrong, and ends. */
 static _Noreturn void give_up(const char *form, ...)
@@ -104,10 +108,10 @@ static char *real_name(const char *file)
     struct stat link;
     char *path = realpath(file, NULL);
     if (path == NULL && errno == ENOENT) {
-        if (lstat(file, &link) == 0) give_up("%s: a link to a file that isn't there: nothing is added", file);
+        if (lstat(file, &link) == 0) give_up("%s: a link to a file that isn't there: %s", file, spared);
         path = strdup(file);
     }
-    if (path == NULL) give_up("%s: %s: nothing is added", file, strerror(errno));
+    if (path == NULL) give_up("%s: %s: %s", file, strerror(errno), spared);
     return path;
 }
 
@@ -132,13 +136,34 @@ static void require_size(const char *file, off_t size)
     refuse(file, why);
 }
 
-/* Reads the register of a file, and how the file stands there: 1; or 0 and the empty register, if there is none. What is no register is refused. */
-static int load(const char *file, uint8_t buffer[STRIGOL_REGISTER_SIZE], struct stat *as)
+/* Whether the buffer is a register that is opened. */
+static int is_open(const uint8_t buffer[STRIGOL_REGISTER_SIZE])
 {
     uint8_t line[STRIGOL_LINE_SIZE];
     uint32_t length;
+    return strigol_register_line(buffer, STRIGOL_REGISTER_SIZE, 0, line, &length) == STRIGOL_OK;
+}
+
+/* Whether the buffer is a register, opened or not: whether a copy of it can be opened. */
+static int is_register(const uint8_t buffer[STRIGOL_REGISTER_SIZE])
+{
+    uint8_t copy[STRIGOL_REGISTER_SIZE];
+    memcpy(copy, buffer, sizeof copy);
+    return strigol_register_open(copy, sizeof copy, (const uint8_t *)"EUR", STRIGOL_CURRENCY_SIZE) == STRIGOL_OK;
+}
+
+static _Noreturn void demand_opening(const char *file, const char *why)
+{
+    give_up("%s: %s; open it first: strigol-register FILE open CURRENCY", file, why);
+}
+
+/* Reads the register of a file, and how the file stands there: 1. What is no register is refused, and so is one that isn't opened, unless it is
+   about to be; a file that isn't there then gives 0 and the register without a line. */
+static int load(const char *file, int opening, uint8_t buffer[STRIGOL_REGISTER_SIZE], struct stat *as)
+{
     int from = open(file, O_RDONLY | O_NONBLOCK | O_NOCTTY | O_CLOEXEC); /* a pipe isn't waited for */
     if (from < 0 && errno == ENOENT) {
+        if (!opening) demand_opening(file, strerror(ENOENT));
         memset(buffer, 0, STRIGOL_REGISTER_SIZE);
         return 0;
     }
@@ -146,7 +171,8 @@ static int load(const char *file, uint8_t buffer[STRIGOL_REGISTER_SIZE], struct 
     if (!S_ISREG(as->st_mode)) refuse(file, "it is no regular file");
     require_size(file, as->st_size);
     if (read_all(from, buffer, STRIGOL_REGISTER_SIZE) != STRIGOL_REGISTER_SIZE) give_up("%s: it can't be read whole", file);
-    if (strigol_register_line(buffer, STRIGOL_REGISTER_SIZE, 0, line, &length) != 0) refuse(file, "its bytes are no register");
+    if (!is_register(buffer)) refuse(file, "its bytes are no register");
+    if (!opening && !is_open(buffer)) demand_opening(file, "it isn't opened: refused by 14");
     close(from);
     return 1;
 }
@@ -161,12 +187,12 @@ static int take_turn(const char *path)
     char *name = beside(path, ".lock");
     int lock = open(name, O_RDWR | O_CREAT | O_NOCTTY | O_CLOEXEC, 0666);
     if (lock < 0 && errno == EACCES && (lock = open(name, O_RDONLY | O_CLOEXEC)) < 0) errno = EACCES; /* someone else's can be locked too */
-    if (lock < 0) give_up("%s: %s: nothing is added", name, strerror(errno));
+    if (lock < 0) give_up("%s: %s: %s", name, strerror(errno), spared);
     sigaction(SIGALRM, &action, NULL);
     alarm(MOST_WAIT);
     if (flock(lock, LOCK_EX) != 0) {
-        if (errno == EINTR) give_up("%s: locked by another program for %d seconds: nothing is added", name, MOST_WAIT);
-        give_up("%s: %s: nothing is added", name, strerror(errno));
+        if (errno == EINTR) give_up("%s: locked by another program for %d seconds: %s", name, MOST_WAIT, spared);
+        give_up("%s: %s: %s", name, strerror(errno), spared);
     }
     alarm(0);
     free(name);
@@ -196,17 +222,41 @@ static int replace(const char *path, const uint8_t buffer[STRIGOL_REGISTER_SIZE]
 {
     char *name = beside(path, ".strigol-new"), *copy = beside(path, "");
     int folder = open(dirname(copy), O_RDONLY | O_DIRECTORY | O_CLOEXEC), why;
-    if (folder < 0) give_up("%s: its folder: %s: nothing is added", path, strerror(errno));
+    if (folder < 0) give_up("%s: its folder: %s: %s", path, strerror(errno), spared);
     unlink(name); /* what a killed run has left */
     if (write_new(name, buffer, as) != 0 || rename(name, path) != 0) {
         why = errno;
         unlink(name);
-        give_up("%s: %s: nothing is added", name, strerror(why));
+        give_up("%s: %s: %s", name, strerror(why), spared);
     }
     why = fsync(folder) != 0 && errno != EINVAL ? errno : 0; /* EINVAL: there is nothing to bring to a disk */
     close(folder);
     free(name);
     free(copy);
+    return why;
+}
+
+/* A change of the file: its own name, whether it is there and how it stands, the turn that is taken. */
+struct change { char *path; struct stat as; int there, lock; };
+
+/* Takes the turn, and reads the register that is to be changed. */
+static struct change begin(const char *file, int opening, uint8_t buffer[STRIGOL_REGISTER_SIZE])
+{
+    struct change change = {.path = real_name(file)};
+    load(file, opening, buffer, &change.as); /* so that no lock file is made beside a file that is refused */
+    change.lock = take_turn(change.path);
+    change.there = load(file, opening, buffer, &change.as);
+    if (change.there && access(change.path, W_OK) != 0) give_up("%s: %s: %s", file, strerror(errno), spared); /* a rename would not ask */
+    return change;
+}
+
+/* Puts the register in the place of the file, if it has changed, and gives the turn up. Gives what `replace` does. */
+static int end(struct change change, const uint8_t buffer[STRIGOL_REGISTER_SIZE], int changed)
+{
+    int why = 0;
+    if (changed || !change.there) why = replace(change.path, buffer, change.there ? &change.as : NULL);
+    close(change.lock);
+    free(change.path);
     return why;
 }
 
@@ -260,8 +310,9 @@ static int outcome_of(struct line line)
 static _Noreturn void refuse_run(size_t at, struct line closing)
 {
     unsigned long number = strtoul((const char *)memchr(closing.at, ',', closing.length) + 1, NULL, 10);
+    const char *words = number <= STRIGOL_LAST_NUMBER ? strigol_words((uint32_t)number) : "";
     fprintf(stderr, "strigol-register: line %zu: a run that didn't finish", at);
-    if (number > 0 && number <= STRIGOL_LAST_NUMBER) fprintf(stderr, " (%s)", strigol_words((uint32_t)number));
+    if (words[0] != 0) fprintf(stderr, " (%s)", words);
     fputs(", nothing is added: ", stderr);
     show(closing);
     exit(FAILED);
@@ -312,31 +363,45 @@ static int tell(size_t taken)
 
 /* The commands. */
 
+/* The currency is judged before all else, on a register of its own. */
+static int open_register(const char *file, struct line currency)
+{
+    uint8_t buffer[STRIGOL_REGISTER_SIZE] = {0}, before[STRIGOL_REGISTER_SIZE];
+    struct change change;
+    uint32_t number = strigol_register_open(buffer, sizeof buffer, currency.at, currency.length);
+    int why;
+    spared = "nothing is changed";
+    if (number != STRIGOL_OK) {
+        fprintf(stderr, "strigol-register: %s: refused by %d: %s: ", file, (int)number, strigol_words(number));
+        show(currency);
+        return FAILED;
+    }
+    change = begin(file, 1, buffer);
+    memcpy(before, buffer, sizeof before);
+    strigol_register_open(buffer, sizeof buffer, currency.at, currency.length); /* 0: both are known to be good */
+    why = end(change, buffer, memcmp(buffer, before, sizeof buffer) != 0);
+    if (why != 0) give_up("%s: it is opened, but that might not outlast a power cut: %s", file, strerror(why));
+    return DONE;
+}
+
 /* The turn is taken only when all input is there, and over before a line is told: neither a slow run nor a stopped terminal keeps others waiting. */
 static int add_lines(const char *file, int whole)
 {
     uint8_t buffer[STRIGOL_REGISTER_SIZE];
-    struct stat as;
-    char *path;
+    struct change change;
     size_t taken;
-    int lock, there, status, why = 0;
+    int status, why;
     take_input();
     require_finished(whole);
-    path = real_name(file);
-    load(file, buffer, &as); /* so that no lock file is made beside a file that is no register */
-    lock = take_turn(path);
-    there = load(file, buffer, &as);
-    if (there && access(path, W_OK) != 0) give_up("%s: %s: nothing is added", file, strerror(errno)); /* a rename would not ask */
+    change = begin(file, 0, buffer);
     taken = offer_all(buffer);
-    if (taken > 0 || !there) why = replace(path, buffer, there ? &as : NULL);
-    close(lock);
-    free(path);
+    why = end(change, buffer, taken > 0);
     status = tell(taken);
     if (why != 0) give_up("%s: the lines are added, but might not outlast a power cut: %s", file, strerror(why));
     return status;
 }
 
-/* The line of a place goes to `text`, with byte 10: its length; 0 where no line stands. The buffer is known to be a register. */
+/* The line of a place goes to `text`, with byte 10: its length; 0 where no line stands. The register is known to be opened. */
 static size_t put_line(const uint8_t buffer[STRIGOL_REGISTER_SIZE], uint64_t place, uint8_t text[STRIGOL_LINE_SIZE + 1])
 {
     uint32_t length;
@@ -344,13 +409,6 @@ static size_t put_line(const uint8_t buffer[STRIGOL_REGISTER_SIZE], uint64_t pla
     if (length == 0) return 0;
     text[length] = '\n';
     return (size_t)length + 1;
-}
-
-/* The register of a file that must be there. */
-static void load_held(const char *file, uint8_t buffer[STRIGOL_REGISTER_SIZE])
-{
-    struct stat as;
-    if (!load(file, buffer, &as)) give_up("%s: %s", file, strerror(ENOENT));
 }
 
 /* The number in an argument, which is digits alone. One beyond 64 bits is as good as the last of them: no line stands there either. */
@@ -368,8 +426,9 @@ static int print_line(const char *file, const char *argument)
 {
     uint8_t buffer[STRIGOL_REGISTER_SIZE], text[STRIGOL_LINE_SIZE + 1];
     uint64_t place = place_in(argument);
+    struct stat as;
     size_t length;
-    load_held(file, buffer);
+    load(file, 0, buffer, &as);
     length = put_line(buffer, place, text);
     print(text, length);
     if (length > 0) return DONE;
@@ -382,19 +441,21 @@ static int print_list(const char *file)
     static uint8_t text[STRIGOL_LINES_MOST * (STRIGOL_LINE_SIZE + 1)];
     uint8_t buffer[STRIGOL_REGISTER_SIZE];
     uint64_t place;
+    struct stat as;
     size_t length = 0, n = 1;
-    load_held(file, buffer);
+    load(file, 0, buffer, &as);
     for (place = 0; place < STRIGOL_LINES_MOST && n > 0; place++) length += n = put_line(buffer, place, text + length);
     print(text, length);
     return DONE;
 }
 
-/* The buffer is known to be a register, and no report is longer than the text, so no number but 0 is met; another would be told. */
+/* The register is known to be opened, and no report is longer than the text, so no number but 0 is met; another would be told. */
 static int print_report(const char *file)
 {
     uint8_t buffer[STRIGOL_REGISTER_SIZE], text[STRIGOL_REPORT_MOST];
     uint32_t length, number;
-    load_held(file, buffer);
+    struct stat as;
+    load(file, 0, buffer, &as);
     number = strigol_register_report(buffer, sizeof buffer, text, sizeof text, &length);
     if (number != STRIGOL_OK) give_up("%s: %s", file, strigol_words(number));
     print(text, length);
@@ -427,6 +488,7 @@ int main(int argc, char **argv)
     if (argc == 2 && is(argv[1], "--help")) return asked_for(usage);
     if (argc == 2 && is(argv[1], "--version")) return asked_for("strigol-register " VERSION "\n");
     if (argc > 2 && argv[1][0] != 0) {
+        if (argc == 4 && is(argv[2], "open")) return open_register(argv[1], (struct line){(const uint8_t *)argv[3], strlen(argv[3])});
         if (argc == 3 && is(argv[2], "add")) return add_lines(argv[1], 0);
         if (argc == 4 && is(argv[2], "add") && is(argv[3], "--run")) return add_lines(argv[1], 1);
         if (argc == 4 && is(argv[2], "line")) return print_line(argv[1], argv[3]);

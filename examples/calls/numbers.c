@@ -1,4 +1,4 @@
-/* The numbers that no deck gets through the program `strigol`, 2, 13 to 16 and 22 to 27, each by a call that a gateway could make by mistake;
+/* The numbers that no deck gets through the program `strigol`, 2, 13 to 16, 22 to 27 and 29, each by a call that a gateway could make by mistake;
    and 1, 4 and 21 by such calls too. Prints a line for each call: its number, the call, what was lent. docs/DECKS.md says what to do. */
 #include "strigol.h"
 
@@ -92,6 +92,11 @@ static void scans(void)
 
 static uint8_t contracts[STRIGOL_REGISTER_SIZE];
 
+static uint32_t open_with(const char *currency)
+{
+    return strigol_register_open(contracts, sizeof contracts, (const uint8_t *)currency, strlen(currency));
+}
+
 static uint32_t offer(const char *line)
 {
     return strigol_register_offer(contracts, sizeof contracts, (const uint8_t *)line, strlen(line));
@@ -103,15 +108,20 @@ static void registers(void)
     uint32_t length;
     char contract[STRIGOL_LINE_SIZE];
     int i;
-    show(strigol_register_offer(contracts, sizeof contracts - 1, (const uint8_t *)"W7,WH,120,2150", 14), "offer: a register of 8,191 bytes");
-    contracts[0] = 'W';
-    show(strigol_register_line(contracts, sizeof contracts, 0, line, &length), "line: a register with a byte in its header");
-    contracts[0] = 0;
-    show(strigol_register_report(contracts, sizeof contracts, output, 11, &length), "report: 11 bytes of output, for TOTAL,0,0,0 and byte 10");
+    show(offer("W7,WH,120,2150"), "offer: a register that isn't opened");
+    show(open_with("eur"), "open: a house currency in lower case");
+    show(strigol_register_open(contracts, sizeof contracts - 1, (const uint8_t *)"EURO", 4), "open: four letters, and a register of 8,191 bytes");
+    show(strigol_register_open(contracts, sizeof contracts - 1, (const uint8_t *)"EUR", 3), "open: a register of 8,191 bytes");
+    open_with("EUR");
+    contracts[3] = 'O';
+    show(strigol_register_line(contracts, sizeof contracts, 0, line, &length), "line: a register with a byte behind its house currency");
+    contracts[3] = 0;
     show(offer("W7,WH,120,2150\n"), "offer: a line with its byte 10");
     show(offer("W7,WH,0120,2150"), "offer: tonnes with a leading zero");
+    show(offer("W7,WH,120,2150,euro"), "offer: a currency that isn't three letters A-Z");
     offer("W7,WH,120,2150");
-    show(offer("W7,BA,35,1875"), "offer: another line of contract W7");
+    show(strigol_register_report(contracts, sizeof contracts, output, 41, &length), "report: 41 bytes of output, for 42 of one line and its total");
+    show(offer("W7,BA,35,1875,CHF"), "offer: another line of contract W7");
     for (i = 1; i < STRIGOL_LINES_MOST; i++) {
         snprintf(contract, sizeof contract, "C%d,WH,1,1", i);
         offer(contract);

@@ -59,6 +59,16 @@ static uint32_t right_scan(struct lent *l)
     return oracle_scan_call(COPY(l, REFERENCE), COPY(l, VALUES), COPY(l, ELEMENTS), COPIED_32(l, ANSWER));
 }
 
+static uint32_t call_open(struct lent *l)
+{
+    return strigol_register_open(LENT(l, REGISTER), LENT(l, HOUSE));
+}
+
+static uint32_t right_open(struct lent *l)
+{
+    return oracle_register_open(COPY(l, REGISTER), COPY(l, HOUSE));
+}
+
 static uint32_t call_offer(struct lent *l)
 {
     return strigol_register_offer(LENT(l, REGISTER), LENT(l, OFFERED));
@@ -100,6 +110,7 @@ struct call_beside calls[CALLS] = {
     {"strigol_step", call_step, right_step, STEP_NUMBERS, STEP_BUFFERS | BIT(ANSWER), {0}},
     {"strigol_run", call_run, right_run, STEP_NUMBERS, STEP_BUFFERS | BIT(RESULT), {0}},
     {"strigol_scan", call_scan, right_scan, BIT(0) | FROM_TO(22, 24), BIT(REFERENCE) | BIT(VALUES) | BIT(ELEMENTS) | BIT(ANSWER), {0}},
+    {"strigol_register_open", call_open, right_open, BIT(0) | BIT(14) | BIT(29), BIT(REGISTER) | BIT(HOUSE), {0}},
     {"strigol_register_offer", call_offer, right_offer, BIT(0) | BIT(14) | FROM_TO(25, 27), BIT(REGISTER) | BIT(OFFERED), {0}},
     {"strigol_register_line", call_hand_out, right_hand_out, BIT(0) | BIT(14), BIT(REGISTER) | BIT(LINE) | BIT(LENGTH), {0}},
     {"strigol_register_report", call_report, right_report, BIT(0) | BIT(14) | BIT(21), BIT(REGISTER) | BIT(OUTPUT) | BIT(LENGTH), {0}},
@@ -202,6 +213,11 @@ void lay_register(struct lent *l, enum side side, const uint8_t bytes[STRIGOL_RE
 {
     doing.deck = NULL;
     lay(&l->b[REGISTER], side, bytes, STRIGOL_REGISTER_SIZE, length);
+}
+
+void lay_house(struct lent *l, enum side side, const struct line *house)
+{
+    lay(&l->b[HOUSE], side, house->bytes, house->length, house->length);
 }
 
 void lay_line(struct lent *l, enum side side, const struct line *line)

@@ -18,7 +18,7 @@
 
 /* A call, by what is lent: the numbers that documents 01 and 02 let it give, as bits, the buffers lent to it, as bits, and how often each number was
    right so far. */
-enum call { READ, START, STEP, RUN, SCAN, OFFER, HAND_OUT, REPORT, CALLS };
+enum call { READ, START, STEP, RUN, SCAN, OPEN, OFFER, HAND_OUT, REPORT, CALLS };
 struct call_beside {
     const char *name;
     uint32_t (*call)(struct lent *), (*right)(struct lent *);
@@ -62,8 +62,9 @@ void lay_random_run(struct lent *l, enum side side, struct draws *d);
 
 void lay_scan(struct lent *l, enum side side, const struct scan *s);
 
-/* A register of this length, its further bytes being others, and a line to offer. */
+/* A register of this length, its further bytes being others; a house currency to open it with, and a line to offer. */
 void lay_register(struct lent *l, enum side side, const uint8_t bytes[STRIGOL_REGISTER_SIZE], size_t length);
+void lay_house(struct lent *l, enum side side, const struct line *house);
 void lay_line(struct lent *l, enum side side, const struct line *line);
 
 /* Lays the bytes of a buffer again, in another length: the bytes that fit, and others behind them. */

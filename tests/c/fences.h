@@ -11,7 +11,9 @@ enum side { BEHIND, BEFORE, SIDES };
 enum { PAGE = 4096 };
 
 /* All that is lent to the calls. */
-enum which { DECK, TABLE, CARD, STORE, STATE, INPUT, OUTPUT, ANSWER, RESULT, REFERENCE, VALUES, ELEMENTS, REGISTER, OFFERED, LINE, LENGTH, BUFFERS };
+enum which {
+    DECK, TABLE, CARD, STORE, STATE, INPUT, OUTPUT, ANSWER, RESULT, REFERENCE, VALUES, ELEMENTS, REGISTER, HOUSE, OFFERED, LINE, LENGTH, BUFFERS
+};
 extern const char *const buffer_name[BUFFERS];
 
 /* The bytes from `from` to `to` may be touched and the pages before and behind them not. The buffer lent is `length` bytes at `at`. A copy of

@@ -17,6 +17,7 @@ SAME(STRIGOL_RESULT_SIZE, RESULT_SIZE);
 SAME(STRIGOL_REGISTER_SIZE, REGISTER_SIZE);
 SAME(STRIGOL_LINE_SIZE, LINE_SIZE);
 SAME(STRIGOL_LINES_MOST, MOST_LINES);
+SAME(STRIGOL_CURRENCY_SIZE, CURRENCY_SIZE);
 SAME(STRIGOL_REPORT_MOST, MOST_REPORT);
 SAME(STRIGOL_STRING_MOST, MOST_STRING);
 SAME(STRIGOL_STRINGS, MOST_STRINGS);
@@ -56,7 +57,8 @@ SAME(STRIGOL_OUTPUT_FULL, 21);
 SAME(STRIGOL_BAD_LINE, 25);
 SAME(STRIGOL_CONTRACT_HELD, 26);
 SAME(STRIGOL_REGISTER_FULL, 27);
-SAME(STRIGOL_LAST_NUMBER, 27);
+SAME(STRIGOL_BAD_CURRENCY, 29);
+SAME(STRIGOL_LAST_NUMBER, 29);
 _Static_assert(STRIGOL_BIAS == (uint64_t)BIAS, "STRIGOL_BIAS is BIAS");
 
 static int failures;
@@ -71,13 +73,14 @@ static void expect(int holds, const char *what)
 static void words(void)
 {
     expect(strigol_words(0)[0] == 0 && strigol_words(STRIGOL_LAST_NUMBER + 1)[0] == 0, "a number that is none has words");
-    for (uint32_t i = 1; i <= STRIGOL_LAST_NUMBER; i++) expect(strigol_words(i)[0] != 0, "a number without words");
+    for (uint32_t i = 1; i <= STRIGOL_LAST_NUMBER; i++) expect((strigol_words(i)[0] != 0) == (i != 28), "a number without words, or words of 28");
     expect(strcmp(strigol_words(STRIGOL_ZERO_DIVISOR), "a divisor is zero") == 0, "the words of 18");
     expect(strstr(strigol_words(STRIGOL_BAD_REGISTER), "under 8,192 bytes or against its written rules") != NULL, "the words of 14");
     expect(strstr(strigol_words(STRIGOL_OUTPUT_FULL), "the output can't hold the register's report") != NULL, "the words of 21");
     expect(strcmp(strigol_words(STRIGOL_BAD_LINE), "a line breaks its form") == 0, "the words of 25");
     expect(strcmp(strigol_words(STRIGOL_CONTRACT_HELD), "its contract is held already") == 0, "the words of 26");
     expect(strcmp(strigol_words(STRIGOL_REGISTER_FULL), "256 lines are held") == 0, "the words of 27");
+    expect(strcmp(strigol_words(STRIGOL_BAD_CURRENCY), "the house currency given isn't three letters A-Z") == 0, "the words of 29");
 }
 
 static void elements(void)
@@ -135,16 +138,22 @@ static void buffers(void)
 
 static void register_calls(void)
 {
-    static const uint8_t offered[] = "A17,WH,250,19950", report[] = "A17,WH,250,19950\nTOTAL,1,250,4987500\n";
+    static const uint8_t house[] = "EUR", offered[] = "A17,WH,250,19950", held[] = "A17,WH,250,19950,EUR";
+    static const uint8_t report[] = "A17,WH,250,19950,EUR\nTOTAL,EUR,1,250,4987500\n";
     static uint8_t buffer[STRIGOL_REGISTER_SIZE], output[STRIGOL_REPORT_MOST];
     uint8_t line[STRIGOL_LINE_SIZE];
     uint32_t length;
-    const size_t n = sizeof offered - 1, put = sizeof report - 1;
+    const size_t n = sizeof offered - 1, handed = sizeof held - 1, put = sizeof report - 1;
+    expect(strigol_register_offer(buffer, sizeof buffer, offered, n) == STRIGOL_BAD_REGISTER, "the register is opened already");
+    expect(strigol_register_open(buffer, sizeof buffer, house, 2) == STRIGOL_BAD_CURRENCY, "it is opened with two letters");
+    expect(strigol_register_open(buffer, sizeof buffer - 1, house, STRIGOL_CURRENCY_SIZE) == STRIGOL_BAD_REGISTER, "a short buffer is opened");
+    expect(strigol_register_open(buffer, sizeof buffer, house, STRIGOL_CURRENCY_SIZE) == STRIGOL_OK, "it isn't opened");
+    expect(strigol_register_report(buffer, sizeof buffer, output, 0, &length) == STRIGOL_OK && length == 0, "a report of no line has bytes");
     expect(strigol_register_offer(buffer, sizeof buffer, offered, n) == STRIGOL_OK, "the line is declined");
-    expect(strigol_register_offer(buffer, sizeof buffer, offered, n) == STRIGOL_CONTRACT_HELD, "it is taken again");
+    expect(strigol_register_offer(buffer, sizeof buffer, held, handed) == STRIGOL_CONTRACT_HELD, "it is taken again");
     expect(strigol_register_offer(buffer, sizeof buffer, offered, n - 6) == STRIGOL_BAD_LINE, "it is taken without a price");
-    expect(strigol_register_line(buffer, sizeof buffer, 0, line, &length) == STRIGOL_OK && length == n, "the line isn't handed out");
-    expect(memcmp(line, offered, n) == 0 && line[n] == 0 && line[STRIGOL_LINE_SIZE - 1] == 0, "its bytes");
+    expect(strigol_register_line(buffer, sizeof buffer, 0, line, &length) == STRIGOL_OK && length == handed, "the line isn't handed out");
+    expect(memcmp(line, held, handed) == 0 && line[handed] == 0 && line[STRIGOL_LINE_SIZE - 1] == 0, "its bytes");
     expect(strigol_register_line(buffer, sizeof buffer, 1, line, &length) == STRIGOL_OK && length == 0 && line[0] == 0, "there is a second line");
     expect(strigol_register_line(buffer, sizeof buffer - 1, 0, line, &length) == STRIGOL_BAD_REGISTER && length == 0, "a short buffer is taken");
     expect(strigol_register_report(buffer, sizeof buffer, output, put - 1, &length) == STRIGOL_OUTPUT_FULL && length == 0, "a short output is taken");

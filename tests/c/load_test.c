@@ -205,16 +205,19 @@ static void fault_scan(struct draws *d, enum side side)
     make_right(&first, SCAN);
 }
 
-/* A register of few lines, full or nearly so, sound or damaged, of any size. */
+/* A register of few lines, full or nearly so, opened or not, sound or damaged, of any size. Every other one is opened first, or again. */
 static void fault_register(struct draws *d, enum side side)
 {
     static uint8_t bytes[STRIGOL_REGISTER_SIZE];
-    struct line line;
-    random_register(d, bytes);
+    struct line line, house;
+    random_register(d, draw(d, 3) > 0, bytes);
     if (draw(d, 3) == 0) damage_register(d, bytes);
     random_line(d, bytes, &line);
+    random_house(d, &house);
     lay_register(&first, side, bytes, draw(d, 4) ? sizeof bytes : a_length(d, sizeof bytes, sizeof bytes + PAGE));
     lay_line(&first, side, &line);
+    lay_house(&first, side, &house);
+    if (draw(d, 2)) make_right(&first, OPEN);
     make_right(&first, OFFER);
     first.place = random_place(d, bytes);
     make_right(&first, HAND_OUT);
@@ -305,35 +308,41 @@ static void far_buffers(uint8_t *long_one)
     if (number != STRIGOL_TOO_MANY_ELEMENTS) fail("number %u, not 23, for rows of over 2^32 bytes", number);
 }
 
-/* A register's buffer, a line and an output that are right but for being so long, and places past 2^32. */
+/* A register's buffer, a house currency, a line and an output that are right but for being so long, and places past 2^32. */
 static void far_register(uint8_t *long_one)
 {
-    static const uint8_t line[] = "A,WH,1,1";
+    static const uint8_t house[] = "EUR", line[] = "A,WH,1,1", held[] = "A,WH,1,1,EUR", report[] = "A,WH,1,1,EUR\nTOTAL,EUR,1,1,1\n";
     uint8_t handed[STRIGOL_LINE_SIZE];
     uint32_t length, number;
-    doing.call = "strigol_register_offer";
+    doing.call = "strigol_register_open";
     memset(long_one, 0, STRIGOL_REGISTER_SIZE);
+    number = strigol_register_open(long_one, far + 100, house, 3);
+    if (number != 0) fail("number %u, not 0, for a buffer of over 2^32 bytes", number);
+    doing.call = "strigol_register_offer";
     number = strigol_register_offer(long_one, far + 100, line, 8);
     if (number != 0) fail("number %u, not 0, for a buffer of over 2^32 bytes", number);
     doing.call = "strigol_register_line";
     number = strigol_register_line(long_one, far + 100, 0, handed, &length);
-    if (number != 0 || length != 8 || memcmp(handed, line, 8) != 0) fail("number %u and length %u, not 0 and 8, with such a buffer", number, length);
+    if (number != 0 || length != 12 || memcmp(handed, held, 12) != 0) fail("number %u and length %u, not 0 and 12, for such a one", number, length);
     for (uint64_t place = far; place != 0; place <<= 1) {
         number = strigol_register_line(long_one, STRIGOL_REGISTER_SIZE, place, handed, &length);
         if (number != 0 || length != 0) fail("number %u and length %u, not 0 and 0, for place %llu", number, length, (unsigned long long)place);
     }
     doing.call = "strigol_register_report";
     number = strigol_register_report(long_one, far + 100, far_output, sizeof far_output, &length);
-    if (number != 0 || length != 21) fail("number %u and length %u, not 0 and 21, with a buffer of over 2^32 bytes", number, length);
+    if (number != 0 || length != 29) fail("number %u and length %u, not 0 and 29, with a buffer of over 2^32 bytes", number, length);
     memcpy(far_table, long_one, STRIGOL_REGISTER_SIZE);
     number = strigol_register_report(far_table, sizeof far_table, long_one, far + 3, &length);
-    if (number != 0 || length != 21) fail("number %u and length %u, not 0 and 21, with an output of over 2^32 bytes", number, length);
-    if (memcmp(long_one, "A,WH,1,1\nTOTAL,1,1,1\n", 21) != 0 || memcmp(far_output, long_one, 21) != 0) fail("not the report");
+    if (number != 0 || length != 29) fail("number %u and length %u, not 0 and 29, with an output of over 2^32 bytes", number, length);
+    if (memcmp(long_one, report, 29) != 0 || memcmp(far_output, long_one, 29) != 0) fail("not the report");
     doing.call = "strigol_register_offer";
-    memset(far_table, 0, STRIGOL_REGISTER_SIZE);
-    memcpy(long_one, line, 8);
+    memcpy(long_one, "B,WH,1,1", 8);
     number = strigol_register_offer(far_table, sizeof far_table, long_one, far + 8);
     if (number != STRIGOL_BAD_LINE) fail("number %u, not 25, for a line of over 2^32 bytes", number);
+    doing.call = "strigol_register_open";
+    memcpy(long_one, house, 3);
+    number = strigol_register_open(far_table, sizeof far_table, long_one, far + 3);
+    if (number != STRIGOL_BAD_CURRENCY) fail("number %u, not 29, for a house currency of over 2^32 bytes", number);
 }
 
 static void far_away(void)
@@ -468,13 +477,16 @@ static uint64_t run_job(struct lent *l, uint64_t all)
     return mixed_run(all, l, RESULT);
 }
 
-/* Lines offered to a register of the job's own, one handed out, and the report. */
+/* A register of the job's own, opened; lines offered to it, one handed out, and the report. */
 static uint64_t register_job(struct lent *l, enum side side, struct draws *d, uint64_t all)
 {
     uint8_t bytes[STRIGOL_REGISTER_SIZE];
     struct line line;
-    random_register(d, bytes);
+    random_register(d, draw(d, 2) > 0, bytes);
     lay_register(l, side, bytes, sizeof bytes);
+    random_house(d, &line);
+    lay_house(l, side, &line);
+    all = all * 31 + make(l, OPEN);
     for (int i = 0; i < 4; i++) {
         random_line(d, bytes, &line);
         lay_line(l, side, &line);
@@ -637,15 +649,19 @@ static void probe_decks(void)
     for (int i = 0; edge_deck(i, &deck); i++) probe_deck(&deck);
 }
 
+/* One that isn't opened is opened first, so that all calls find one to work on. */
 static void probe_register(struct draws *d)
 {
     static uint8_t bytes[STRIGOL_REGISTER_SIZE];
+    static const struct line house = {3, "EUR"};
     struct line line;
-    random_register(d, bytes);
+    random_register(d, draw(d, 2) > 0, bytes);
     random_line(d, bytes, &line);
     lay_register(&first, BEHIND, bytes, sizeof bytes);
     lay_line(&first, BEHIND, &line);
+    lay_house(&first, BEHIND, &house);
     first.place = random_place(d, bytes);
+    probe_stack(OPEN, &first, "a random register");
     probe_stack(OFFER, &first, "a random register");
     probe_stack(HAND_OUT, &first, "a random register");
     lay_empty(&first, BEHIND, OUTPUT, STRIGOL_REPORT_MOST);

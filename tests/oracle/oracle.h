@@ -12,14 +12,18 @@ enum {
     MOST_ROW = 20, MOST_ELEMENTS = 1024, MOST_ITEMS = 1024, MOST_LITERALS = 4096, MOST_DEPTH = 16, MOST_NAME = 8,
     MOST_STRING = 1024, MOST_HELD = 16, MOST_WAITING = 64, LIMIT = 8388607,
     TABLE_SIZE = 28672, STORE_SIZE = 32832, CELL_SIZE = 1026, STATE_SIZE = 64, ANSWER_SIZE = 24, RESULT_SIZE = 4,
-    REGISTER_SIZE = 8192, MOST_LINES = 256, LINE_SIZE = 32
+    REGISTER_SIZE = 8192, MOST_LINES = 256, LINE_SIZE = 32, CURRENCY_SIZE = 3
 };
 
-/* The longest line is ZZZZZZZZ,ZZ,99999,999999; the longest report has 256 such lines and TOTAL,256,25599744,25599718400256, each with byte 10. */
-enum { LONGEST_LINE = 24, LONGEST_TOTAL = 33, MOST_REPORT = MOST_LINES * (LONGEST_LINE + 1) + LONGEST_TOTAL + 1 };
+/* The longest line is ZZZZZZZZ,ZZ,99999,999999,ZZZ, the longest TOTAL line TOTAL,ZZZ,256,25599744,25599718400256, and byte 10 ends each. No report is
+   longer than 256 of both. The longest one has 256 lines and as many currencies; there a TOTAL line is TOTAL,ZZZ,1,99999,99998900001. */
+enum {
+    LONGEST_LINE = 28, LONGEST_TOTAL = 37, LONE_TOTAL = 29,
+    MOST_REPORT = MOST_LINES * (LONGEST_LINE + 1 + LONGEST_TOTAL + 1), LONGEST_REPORT = MOST_LINES * (LONGEST_LINE + 1 + LONE_TOTAL + 1)
+};
 
 /* The layouts of docs/TABLE.md: the table's counts and regions, its rows and cells; places in a state, an answer and a result; a row lent to the
-   scan call. That of docs/REGISTER.md: the slots of a register. */
+   scan call. That of docs/REGISTER.md: the slots of a register, behind its header. */
 enum {
     COUNTS_AT = 2, COUNTS_END = 14, STEPS_AT = 64, ELEMENTS_AT = 6208, ITEMS_AT = 14400, LITERALS_AT = 22592, LITERALS_END = 26688,
     ROW_SIZE = 24, CARD_AT = 2, SUCCESS_AT = 4, FAILURE_AT = 6, CELL = 8,
@@ -128,9 +132,9 @@ uint32_t oracle_scan_call(const uint8_t *reference, size_t reference_len, const 
 void oracle_run_call(const uint8_t *table, size_t table_len, uint8_t *store, size_t store_len, uint64_t *state, const uint8_t *input,
                      size_t input_len, uint8_t *output, size_t output_len, uint32_t count, uint64_t *result);
 
-/* register.c: whether bytes keep the rules of a register, how many slots stand before the first empty one, and the register's calls. */
-int oracle_register_keeps(const uint8_t buffer[REGISTER_SIZE]);
+/* register.c: how many slots stand before the first empty one, whatever is in them, and the register's calls. */
 uint64_t oracle_register_lines(const uint8_t buffer[REGISTER_SIZE]);
+uint32_t oracle_register_open(uint8_t *buffer, size_t buffer_len, const uint8_t *currency, size_t currency_len);
 uint32_t oracle_register_offer(uint8_t *buffer, size_t buffer_len, const uint8_t *line, size_t line_len);
 uint32_t oracle_register_line(const uint8_t *buffer, size_t buffer_len, uint64_t place, uint8_t *line, uint32_t *length);
 uint32_t oracle_register_report(const uint8_t *buffer, size_t buffer_len, uint8_t *output, size_t output_len, uint32_t *length);

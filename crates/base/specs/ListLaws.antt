@@ -1,5 +1,5 @@
 -- What the tests on lists tell of the lists, and stretches of a list. Assumes nothing.
-use mathlib.Core.Bool.{Bool, true, false, _&&_, false≢true, and-eq-true-iff}
+use mathlib.Core.Bool.{Bool, true, false, _&&_, _||_, false≢true, and-eq-true-iff}
 use mathlib.Core.List.{List, [], _∷_, _++_}
 use mathlib.Core.Logic.{_↔_}
 use mathlib.Core.Path.{_≡_, refl, ap₂, subst, sym, _∙_, ap}
@@ -11,8 +11,8 @@ use lib.Dec.{eqb}
 use lib.ListN.{take, length, drop, getD, replicate, length-take, length-drop, drop-of-length-le, take-append-drop}
 use lib.Seq.{length-take-le, take-all, take-take, getD-take, getD-drop, drop-drop, drop-cons}
 use borrow.Author.Tests.{eqb-true, eq-eqb, ne-eqb}
-use Rattle.base.specs.Choice.{both-pass}
-use Rattle.base.specs.Lists.{same, begins, all, isNil}
+use Rattle.base.specs.Choice.{both-pass, test-cases}
+use Rattle.base.specs.Lists.{same, begins, all, among, isNil, keep}
 
 -- lists that pass the test are equal
 pub same-true : (xs ys : List ℕ) → same xs ys ≡ true → xs ≡ ys
@@ -86,6 +86,38 @@ all-imply f g h [] a = refl
 all-imply f g h (x ∷ xs) a =
     let both = and-eq-true-iff (f x) (all f xs) .0 a in
     both-pass (h x (both .0)) (all-imply f g h xs (both .1))
+
+-- what passes as a whole passes in part: the first elements, those from a place on, those kept by another test, and each one among them
+pub all-take : {A : Type 0} (f : A → Bool) (n : ℕ) (xs : List A) → all f xs ≡ true → all f (take n xs) ≡ true
+unfolding all
+all-take f zero xs a = refl
+all-take f (suc n) [] a = refl
+all-take f (suc n) (x ∷ xs) a =
+    let both = and-eq-true-iff (f x) (all f xs) .0 a in
+    both-pass (both .0) (all-take f n xs (both .1))
+
+pub all-drop : {A : Type 0} (f : A → Bool) (n : ℕ) (xs : List A) → all f xs ≡ true → all f (drop n xs) ≡ true
+unfolding all
+all-drop f zero xs a = a
+all-drop f (suc n) [] a = refl
+all-drop f (suc n) (x ∷ xs) a = all-drop f n xs (and-eq-true-iff (f x) (all f xs) .0 a .1)
+
+pub all-keep : {A : Type 0} (f g : A → Bool) (xs : List A) → all f xs ≡ true → all f (keep g xs) ≡ true
+unfolding all keep
+all-keep f g [] a = refl
+all-keep {A} f g (x ∷ xs) a =
+    let both = and-eq-true-iff (f x) (all f xs) .0 a in
+    let rest = all-keep f g xs (both .1) in
+    test-cases (λ t. all f (elim t as (λ _. List A) [ true ↦ x ∷ keep g xs | false ↦ keep g xs ]) ≡ true) (g x) (λ _. both-pass (both .0) rest) (λ _. rest)
+
+pub all-among : (f : ℕ → Bool) (b : ℕ) (xs : List ℕ) → all f xs ≡ true → among b xs ≡ true → f b ≡ true
+unfolding all among
+all-among f b [] a e = absurd (false≢true e)
+all-among f b (x ∷ xs) a e =
+    let both = and-eq-true-iff (f x) (all f xs) .0 a in
+    test-cases (λ t. eqb b x ≡ t → (t || among b xs) ≡ true → f b ≡ true) (eqb b x)
+    (λ is _ _. ap f (eqb-true b x is) ∙ both .0)
+    (λ _ _ rest. all-among f b xs (both .1) rest) refl e
 
 -- where all pass a test, each place inside does; and so does any place where what is read behind the last passes too
 pub all-inside : {A : Type 0} (f : A → Bool) (l : List A) (d : A) → all f l ≡ true → (i : ℕ) → i < length l → f (getD l i d) ≡ true

@@ -1,68 +1,24 @@
 -- Bytes that a key shows: those of names, and those of the label of a sound line. Assumes nothing.
-use mathlib.Core.Bool.{Bool, true, false, cond, not, _&&_, _||_, false≢true, and-eq-true-iff}
+use mathlib.Core.Bool.{Bool, true, false, cond, not, false≢true, and-eq-true-iff}
 use mathlib.Core.List.{List, [], _∷_}
-use mathlib.Core.Path.{_≡_, refl, ap, ap₂, _∙_}
-use Prim.Native.Nat.{ℕ, suc, _≤_}
+use mathlib.Core.Path.{_≡_, refl, ap, _∙_}
+use Prim.Native.Nat.{ℕ, _≤_}
 use native.Mathlib.Omega.{arith}
-use lib.Dec.{eqb, leb}
+use lib.Dec.{leb}
 use lib.ListN.{length, take}
 use borrow.Author.Tests.{eqb-true, ne-eqb}
-use Rattle.base.specs.Choice.{test-cases}
 use Rattle.base.specs.Edition.{edition1}
-use Rattle.base.specs.ListLaws.{all-imply}
+use Rattle.base.specs.ListLaws.{all-among, all-imply, all-keep, all-take}
 use Rattle.base.specs.Lists.{all, among, keep}
 use Rattle.base.specs.Text.{bytes}
 use Rattle.cards.specs.ByteLaws.{in-between, name-byte, within}
-use Rattle.cards.specs.Bytes.{
-  letter,
-  digit,
-  blank,
-  mark,
-  other,
-  refused,
-  between,
-  classOf,
-  isBlank,
-  isDigit,
-  isLetter,
-  isNameByte,
-  isRefused,
-  marks,
-}
+use Rattle.cards.specs.Bytes.{letter, digit, blank, mark, other, refused, between, classOf, isBlank, isDigit, isLetter, isNameByte, isRefused, marks}
 use Rattle.cards.specs.Cards.{labelOf, soundLine, withoutBlanks}
 use Rattle.packer.specs.Keys.{isKeyByte}
 
 key-byte : (b : ℕ) → 1 ≤ b → b ≤ 255 → isKeyByte b ≡ true
 unfolding isKeyByte
 key-byte b = in-between 1 255 b
-
--- what holds of all bytes holds of some of them
-module _ (f : ℕ → Bool) where
-  all-take : (n : ℕ) (xs : List ℕ) → all f xs ≡ true → all f (take n xs) ≡ true
-  unfolding all
-  all-take Prim.Native.Nat.zero xs a = refl
-  all-take (suc n) [] a = refl
-  all-take (suc n) (x ∷ xs) a =
-      let parts = and-eq-true-iff (f x) (all f xs) .0 a in
-      ap₂ {C = Bool} _&&_ (parts .0) (all-take n xs (parts .1))
-
-  all-keep : (g : ℕ → Bool) (xs : List ℕ) → all f xs ≡ true → all f (keep g xs) ≡ true
-  unfolding all keep
-  all-keep g [] a = refl
-  all-keep g (x ∷ xs) a =
-      let parts = and-eq-true-iff (f x) (all f xs) .0 a in
-      let rest = all-keep g xs (parts .1) in
-      test-cases (λ t. all f (elim t [ true ↦ x ∷ keep g xs | false ↦ keep g xs ]) ≡ true) (g x)
-      (λ _. ap₂ {C = Bool} _&&_ (parts .0) rest) (λ _. rest)
-
-  all-among : (b : ℕ) (xs : List ℕ) → all f xs ≡ true → among b xs ≡ true → f b ≡ true
-  unfolding all among
-  all-among b [] a = λ e. absurd (false≢true e)
-  all-among b (x ∷ xs) a =
-      let parts = and-eq-true-iff (f x) (all f xs) .0 a in
-      test-cases (λ t. (t || among b xs) ≡ true → f b ≡ true) (eqb b x)
-      (λ same _. ap f (eqb-true b x same) ∙ parts .0)
-      (λ _ e. all-among b xs (parts .1) e)
 
 -- a name of letters and digits has no blank, and its key shows it
 pub name-bytes : (xs : List ℕ) → all isNameByte xs ≡ true → all isKeyByte xs ≡ true

@@ -1,14 +1,13 @@
--- The register in the first 8,192 bytes of a buffer: 1,024 bytes of header, all zeros, and a slot of 28 bytes for each of 256 lines. A slot has
--- the line's bytes, then zeros; one without a line is all zeros. W2.6 "such a buffer's layout is the team's, with written rules". The same in words:
--- docs/REGISTER.md. Assumes nothing.
+-- The register in the first 8,192 bytes of a buffer: a header of 1,024 bytes with the house currency, and a slot of 28 bytes for each of 256 lines.
+-- Header and slots have their text, then zeros; a slot without a line is all zeros, and so is the header of a register that isn't opened. W2.6 "such
+-- a buffer's layout is the team's, with written rules". The same in words: docs/REGISTER.md. Assumes nothing.
 use mathlib.Core.Bool.{Bool, true, false, _&&_}
 use mathlib.Core.List.{List, [], _∷_, _++_}
 use Prim.Native.Nat.{ℕ, zero, suc, _*_, _-_}
 use lib.Dec.{eqb, leb}
 use lib.ListN.{length, take, drop, getD, replicate}
 use Rattle.base.specs.Lists.{all}
-use Rattle.register.specs.Line.{isLine}
-use Rattle.register.specs.Register.{Register, mostLines, differ}
+use Rattle.register.specs.Register.{Lines, Register, mostLines, differ, formOf, isHouse}
 
 -- W2.5 "in the first 8,192 bytes of a lent buffer"
 abbrev pub registerSize : ℕ
@@ -23,46 +22,57 @@ slotSize = 28
 abbrev pub isZero : ℕ → Bool
 isZero b = eqb b 0
 
--- Writing: the slot of a line, the slots of lines one behind the other, and the register's bytes.
-unfoldable pub slotOf : (line : List ℕ) → List ℕ
-slotOf line = line ++ replicate (slotSize - length line) 0
+-- Writing: text with zeros behind it, the slots of lines one behind the other, and the register's bytes.
+unfoldable pub cellOf : (size : ℕ) (text : List ℕ) → List ℕ
+cellOf size text = text ++ replicate (size - length text) 0
 
-unfoldable pub slotsOf : Register → List ℕ
+unfoldable pub slotsOf : Lines → List ℕ
 slotsOf [] = []
-slotsOf (line ∷ register) = slotOf line ++ slotsOf register
+slotsOf (line ∷ lines) = cellOf slotSize line ++ slotsOf lines
 
 unfoldable pub image : Register → List ℕ
-image register = replicate headerSize 0 ++ (slotsOf register ++ replicate (slotSize * (mostLines - length register)) 0)
+image register =
+    cellOf headerSize (register .house)
+    ++ (slotsOf (register .lines) ++ replicate (slotSize * (mostLines - length (register .lines))) 0)
 
--- Reading: a slot's line is its bytes up to the first zero; the lines in so many slots are those up to the first slot that begins with zero.
-unfoldable pub lineIn : (slot : List ℕ) → List ℕ
-lineIn [] = []
-lineIn (b ∷ bs) = elim (isZero b) [ true ↦ [] | false ↦ b ∷ lineIn bs ]
+-- Reading: the text is the bytes up to the first zero; the lines in so many slots are those up to the first slot that begins with zero.
+unfoldable pub textIn : (cell : List ℕ) → List ℕ
+textIn [] = []
+textIn (b ∷ bs) = elim (isZero b) [ true ↦ [] | false ↦ b ∷ textIn bs ]
 
-unfoldable pub linesIn : (count : ℕ) (slots : List ℕ) → Register
+unfoldable pub linesIn : (count : ℕ) (slots : List ℕ) → Lines
 linesIn zero slots = []
 linesIn (suc n) slots =
-    elim (isZero (getD slots 0 0)) [ true ↦ [] | false ↦ lineIn (take slotSize slots) ∷ linesIn n (drop slotSize slots) ]
+    elim (isZero (getD slots 0 0)) [ true ↦ [] | false ↦ textIn (take slotSize slots) ∷ linesIn n (drop slotSize slots) ]
+
+abbrev pub headerIn : (buffer : List ℕ) → List ℕ
+headerIn buffer = take headerSize buffer
 
 abbrev pub slotsIn : (buffer : List ℕ) → List ℕ
 slotsIn buffer = take (slotSize * mostLines) (drop headerSize buffer)
 
 unfoldable pub registerIn : (buffer : List ℕ) → Register
-registerIn buffer = linesIn mostLines (slotsIn buffer)
+registerIn buffer = record { house = textIn (headerIn buffer); lines = linesIn mostLines (slotsIn buffer) }
 
--- The rules. 2: a slot that doesn't begin with zero has a line of good form, and zeros behind it.
-unfoldable pub slotKeeps : (slot : List ℕ) → Bool
-slotKeeps slot = isLine (lineIn slot) && all isZero (drop (length (lineIn slot)) slot)
+-- The rules. A cell keeps its rule when its text has the form and zeros stand behind it. 1: the header's text is a house currency, or none. 2: that
+-- of a slot that doesn't begin with zero is a line of four fields if the header has no currency, of five if it has one.
+unfoldable pub cellKeeps : (form : List ℕ → Bool) (cell : List ℕ) → Bool
+cellKeeps form cell = form (textIn cell) && all isZero (drop (length (textIn cell)) cell)
 
 -- 3: from the first slot that begins with zero on, all is zero
-unfoldable pub slotsKeep : (count : ℕ) (slots : List ℕ) → Bool
-slotsKeep zero slots = true
-slotsKeep (suc n) slots =
-    elim (isZero (getD slots 0 0)) [ true ↦ all isZero slots | false ↦ slotKeeps (take slotSize slots) && slotsKeep n (drop slotSize slots) ]
+unfoldable pub slotsKeep : (form : List ℕ → Bool) (count : ℕ) (slots : List ℕ) → Bool
+slotsKeep form zero slots = true
+slotsKeep form (suc n) slots =
+    elim (isZero (getD slots 0 0)) [
+      | true ↦ all isZero slots
+      | false ↦ cellKeeps form (take slotSize slots) && slotsKeep form n (drop slotSize slots)
+    ]
 
--- 1: the header is zero; 4: no two lines have the same contract
+-- 4: no two lines have the same contract
 unfoldable pub keepsRules : (buffer : List ℕ) → Bool
-keepsRules buffer = all isZero (take headerSize buffer) && (slotsKeep mostLines (slotsIn buffer) && differ (registerIn buffer))
+keepsRules buffer =
+    cellKeeps isHouse (headerIn buffer)
+    && (slotsKeep (formOf (textIn (headerIn buffer))) mostLines (slotsIn buffer) && differ (registerIn buffer .lines))
 
 -- W2.7 not "14 for a buffer under 8,192 bytes or against its written rules"
 unfoldable pub bufferKeeps : (buffer : List ℕ) → Bool

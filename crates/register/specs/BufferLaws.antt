@@ -11,273 +11,333 @@ use lib.Seq.{take-at, drop-at, length-take-le, take-add}
 use borrow.Author.Tests.{leb-true, le-leb, not-true}
 use Rattle.base.specs.Choice.{both-true, both-pass, test-cases}
 use Rattle.base.specs.ListLaws.{all-zeros, zeros-are}
-use Rattle.base.specs.Lists.{all}
+use Rattle.base.specs.Lists.{all, isNil}
 use Rattle.register.specs.Buffer.{
   registerSize,
   headerSize,
   slotSize,
   isZero,
-  slotOf,
+  cellOf,
   slotsOf,
   image,
-  lineIn,
+  textIn,
   linesIn,
+  headerIn,
   slotsIn,
   registerIn,
-  slotKeeps,
+  cellKeeps,
   slotsKeep,
   keepsRules,
   bufferKeeps,
 }
-use Rattle.register.specs.Line.{isLine}
-use Rattle.register.specs.LineLaws.{isText, line-size, line-text}
-use Rattle.register.specs.Register.{Register, mostLines, differ}
-use Rattle.register.specs.RegisterLaws.{Sound}
+use Rattle.register.specs.Line.{hasForm, isCurrency}
+use Rattle.register.specs.LineLaws.{isText, currency-size, currency-text, line-size, line-text}
+use Rattle.register.specs.Register.{Lines, Register, mostLines, differ, formOf, isHouse}
+use Rattle.register.specs.RegisterLaws.{Sound, all-forms, form-has}
 
--- a line's slot: its size, and the line is read back, with zeros behind it
-pub slot-size : (line : List ℕ) → length line ≤ slotSize → length (slotOf line) ≡ slotSize
-unfolding slotOf
-slot-size line h = simp (length-append, length-replicate) (omega arith)
+-- a cell: its size, and its text is read back, with zeros behind it
+pub cell-size : (size : ℕ) (text : List ℕ) → length text ≤ size → length (cellOf size text) ≡ size
+unfolding cellOf
+cell-size size text h = simp (length-append, length-replicate) (omega arith)
 
 text-some : (b : ℕ) → isText b ≡ true → isZero b ≡ false
 unfolding isText
 text-some b e = not-true (isZero b) e
 
-pub line-read : (line zeros : List ℕ) → all isText line ≡ true → all isZero zeros ≡ true → lineIn (line ++ zeros) ≡ line
-unfolding lineIn all isText
-line-read [] [] t z = refl
-line-read [] (b ∷ zeros) t z = rw (lineIn, both-true (isZero b) (all isZero zeros) z .0)
-line-read (b ∷ line) zeros t z =
-    let parts = both-true (isText b) (all isText line) t in
-    rw (lineIn, text-some b (parts .0), line-read line zeros (parts .1) z)
+pub text-read : (text zeros : List ℕ) → all isText text ≡ true → all isZero zeros ≡ true → textIn (text ++ zeros) ≡ text
+unfolding textIn all isText
+text-read [] [] t z = refl
+text-read [] (b ∷ zeros) t z = rw (textIn, both-true (isZero b) (all isZero zeros) z .0)
+text-read (b ∷ text) zeros t z =
+    let parts = both-true (isText b) (all isText text) t in
+    rw (textIn, text-some b (parts .0), text-read text zeros (parts .1) z)
 
--- a slot is the line read, and what lies behind it
-pub line-front : (slot : List ℕ) → lineIn slot ++ drop (length (lineIn slot)) slot ≡ slot
-unfolding lineIn
-line-front [] = refl
-line-front (b ∷ slot) =
+-- a cell is the text read, and what lies behind it
+pub text-front : (cell : List ℕ) → textIn cell ++ drop (length (textIn cell)) cell ≡ cell
+unfolding textIn
+text-front [] = refl
+text-front (b ∷ cell) =
     test-cases
-    (λ t. (let l = elim t as (λ _. List ℕ) [ true ↦ [] | false ↦ b ∷ lineIn slot ] in l ++ drop (length l) (b ∷ slot) ≡ b ∷ slot))
-    (isZero b) (λ _. refl) (λ _. ap (λ (l : List ℕ). b ∷ l) (line-front slot))
+    (λ t. (let l = elim t as (λ _. List ℕ) [ true ↦ [] | false ↦ b ∷ textIn cell ] in l ++ drop (length l) (b ∷ cell) ≡ b ∷ cell))
+    (isZero b) (λ _. refl) (λ _. ap (λ (l : List ℕ). b ∷ l) (text-front cell))
 
-slot-read : (line : List ℕ) → isLine line ≡ true → lineIn (slotOf line) ≡ line
-unfolding slotOf
-slot-read line e = line-read line (replicate (slotSize - length line) 0) (line-text line e) (all-zeros (slotSize - length line))
+pub cell-read : (size : ℕ) (text : List ℕ) → all isText text ≡ true → textIn (cellOf size text) ≡ text
+unfolding cellOf
+cell-read size text e = text-read text (replicate (size - length text) 0) e (all-zeros (size - length text))
 
-slot-sound : (line : List ℕ) → isLine line ≡ true → slotKeeps (slotOf line) ≡ true
-unfolding slotKeeps slotOf
-slot-sound line e =
-    let zeros : List ℕ = replicate (slotSize - length line) 0 in
-    rw (slot-read line e, e, drop-at line zeros (length line) refl) (all-zeros (slotSize - length line))
+module _ (form : List ℕ → Bool) where
+  pub cell-sound : (size : ℕ) (text : List ℕ) → all isText text ≡ true → form text ≡ true → cellKeeps form (cellOf size text) ≡ true
+  unfolding cellKeeps cellOf
+  cell-sound size text t e =
+      let zeros : List ℕ = replicate (size - length text) 0 in
+      rw (cell-read size text t, e, drop-at text zeros (length text) refl) (all-zeros (size - length text))
 
--- a slot that keeps its rule is that of the line read
-slot-is : (slot : List ℕ) → length slot ≡ slotSize → slotKeeps slot ≡ true → slotOf (lineIn slot) ≡ slot
-unfolding slotKeeps slotOf
-slot-is slot size e =
-    let line = lineIn slot in
-    let parts = both-true (isLine line) (all isZero (drop (length line) slot)) e in
-    let zeros = zeros-are (drop (length line) slot) (parts .1) in
-    let count : length (drop (length line) slot) ≡ slotSize - length line = length-drop (length line) slot ∙ ap (λ n. n - length line) size in
-    ap (λ (z : List ℕ). line ++ z) (sym (zeros ∙ ap (λ n. replicate n 0) count)) ∙ line-front slot
+  -- a cell that keeps its rule is that of the text read
+  cell-is : (size : ℕ) (cell : List ℕ) → length cell ≡ size → cellKeeps form cell ≡ true → cellOf size (textIn cell) ≡ cell
+  unfolding cellKeeps cellOf
+  cell-is size cell is e =
+      let text = textIn cell in
+      let parts = both-true (form text) (all isZero (drop (length text) cell)) e in
+      let zeros = zeros-are (drop (length text) cell) (parts .1) in
+      let count : length (drop (length text) cell) ≡ size - length text = length-drop (length text) cell ∙ ap (λ n. n - length text) is in
+      ap (λ (z : List ℕ). text ++ z) (sym (zeros ∙ ap (λ n. replicate n 0) count)) ∙ text-front cell
 
--- the first byte of a line's slot isn't zero
-text-first : (line rest : List ℕ) → 1 ≤ length line → all isText line ≡ true → isZero (getD (line ++ rest) 0 0) ≡ false
-unfolding all
-text-first [] rest h t = absurd (omega arith)
-text-first (b ∷ line) rest h t = text-some b (both-true (isText b) (all isText line) t .0)
+  pub cell-form : (cell : List ℕ) → cellKeeps form cell ≡ true → form (textIn cell) ≡ true
+  unfolding cellKeeps
+  cell-form cell e = both-true (form (textIn cell)) (all isZero (drop (length (textIn cell)) cell)) e .0
 
-slot-first : (line rest : List ℕ) → isLine line ≡ true → isZero (getD (slotOf line ++ rest) 0 0) ≡ false
-unfolding slotOf
-slot-first line rest e =
-    let zeros : List ℕ = replicate (slotSize - length line) 0 in
-    ap (λ l. isZero (getD l 0 0)) (append-assoc line zeros rest) ∙ text-first line (zeros ++ rest) (line-size line e .0) (line-text line e)
+  pub cell-zeros : (cell : List ℕ) → cellKeeps form cell ≡ true → all isZero (drop (length (textIn cell)) cell) ≡ true
+  unfolding cellKeeps
+  cell-zeros cell e = both-true (form (textIn cell)) (all isZero (drop (length (textIn cell)) cell)) e .1
 
 first-zero : (zeros : List ℕ) → all isZero zeros ≡ true → isZero (getD zeros 0 0) ≡ true
 unfolding all
 first-zero [] z = refl
 first-zero (b ∷ zeros) z = both-true (isZero b) (all isZero zeros) z .0
 
--- Lines in their slots, with zeros behind them: they keep the rules and are read back.
-pub record ReadBack (count : ℕ) (register : Register) (slots : List ℕ) : Type 0 where
-  pub lines : linesIn count slots ≡ register
-  pub keep : slotsKeep count slots ≡ true
-
-none-back : (count : ℕ) (zeros : List ℕ) → all isZero zeros ≡ true → ReadBack count [] zeros
-unfolding linesIn slotsKeep
-none-back zero zeros z = record { lines = refl; keep = refl }
-none-back (suc n) zeros z = record { lines = rw (linesIn, first-zero zeros z); keep = rw (slotsKeep, first-zero zeros z) z }
-
-read-back : (count : ℕ) (register : Register) (zeros : List ℕ) → all isLine register ≡ true → length register ≤ count → all isZero zeros ≡ true
-    → ReadBack count register (slotsOf register ++ zeros)
-unfolding slotsOf linesIn slotsKeep all
-read-back count [] zeros lines few z = none-back count zeros z
-read-back zero (line ∷ register) zeros lines few z = absurd (omega arith)
-read-back (suc n) (line ∷ register) zeros lines few z =
-    let parts = both-true (isLine line) (all isLine register) lines in
-    let rest = read-back n register zeros (parts .1) (omega arith) z in
-    let slots = slotsOf register ++ zeros in
-    let whole : (slotOf line ++ slotsOf register) ++ zeros ≡ slotOf line ++ slots = append-assoc (slotOf line) (slotsOf register) zeros in
-    let size = slot-size line (omega (arith, line-size line (parts .0) .1)) in
-    let first = slot-first line slots (parts .0) in
-    record {
-      lines = ap (linesIn (suc n)) whole ∙ rw (
-        linesIn,
-        first,
-        take-at (slotOf line) slots slotSize size,
-        drop-at (slotOf line) slots slotSize size,
-        slot-read line (parts .0),
-        rest .lines,
-      );
-      keep = ap (slotsKeep (suc n)) whole ∙ rw (
-        slotsKeep,
-        first,
-        take-at (slotOf line) slots slotSize size,
-        drop-at (slotOf line) slots slotSize size,
-        slot-sound line (parts .0),
-        rest .keep,
-      );
-    }
-
--- Slots that keep the rules are those of the lines read, with zeros behind them.
-pub record Written (count : ℕ) (register : Register) (slots : List ℕ) : Type 0 where
-  pub lines : all isLine register ≡ true
-  pub few : length register ≤ count
-  pub is : slotsOf register ++ replicate (slotSize * (count - length register)) 0 ≡ slots
+-- the first byte of a text isn't zero
+text-first : (text rest : List ℕ) → 1 ≤ length text → all isText text ≡ true → isZero (getD (text ++ rest) 0 0) ≡ false
+unfolding all
+text-first [] rest h t = absurd (omega arith)
+text-first (b ∷ text) rest h t = text-some b (both-true (isText b) (all isText text) t .0)
 
 no-bytes : (l : List ℕ) → length l ≡ 0 → l ≡ []
 no-bytes [] e = refl
 no-bytes (b ∷ l) e = absurd (omega arith)
 
-module _ (n : ℕ) (slots : List ℕ) (size : length slots ≡ slotSize * suc n) where
-  written-none : all isZero slots ≡ true → Written (suc n) [] slots
-  unfolding slotsOf all
-  written-none z =
-      let count : slotSize * (suc n - 0) ≡ length slots = omega arith in
-      record { lines = refl; few = omega arith; is = ap (λ k. replicate k 0) count ∙ sym (zeros-are slots z) }
+-- Lines in their slots, with zeros behind them: they keep the rules and are read back.
+pub record ReadBack (form : List ℕ → Bool) (count : ℕ) (held : Lines) (slots : List ℕ) : Type 0 where
+  pub lines : linesIn count slots ≡ held
+  pub keep : slotsKeep form count slots ≡ true
 
-  written-more : (register : Register) → slotKeeps (take slotSize slots) ≡ true → Written n register (drop slotSize slots)
-      → Written (suc n) (lineIn (take slotSize slots) ∷ register) slots
-  unfolding slotsOf all slotKeeps
-  written-more register e w =
-      let slot = take slotSize slots in
-      let line = lineIn slot in
-      let zeros : List ℕ = replicate (slotSize * (n - length register)) 0 in
-      let whole : slotOf line ≡ slot = slot-is slot (length-take-le slotSize slots (omega arith)) e in
-      record {
-        lines = both-pass (both-true (isLine line) _ e .0) (w .lines);
-        few = omega (arith, w .few);
-        is =
-            ap (λ k. (slotOf line ++ slotsOf register) ++ replicate (slotSize * k) 0) (less n (length register))
-            ∙ append-assoc (slotOf line) (slotsOf register) zeros
-            ∙ ap₂ {C = List ℕ} _++_ whole (w .is)
-            ∙ take-append-drop slotSize slots;
-      }
-    where
-      less : (n k : ℕ) → suc n - suc k ≡ n - k
-      less n k = omega arith
+-- Slots that keep the rules are those of the lines read, with zeros behind them.
+pub record Filled (form : List ℕ → Bool) (count : ℕ) (held : Lines) (slots : List ℕ) : Type 0 where
+  pub lines : all form held ≡ true
+  pub few : length held ≤ count
+  pub is : slotsOf held ++ replicate (slotSize * (count - length held)) 0 ≡ slots
 
-written : (count : ℕ) (slots : List ℕ) → length slots ≡ slotSize * count → slotsKeep count slots ≡ true → Written count (linesIn count slots) slots
-unfolding linesIn slotsKeep slotsOf all
-written zero slots size e = record { lines = refl; few = omega arith; is = sym (no-bytes slots (omega arith)) }
-written (suc n) slots size e =
-    let behind : length (drop slotSize slots) ≡ slotSize * n = omega (arith, length-drop slotSize slots) in
-    test-cases
-    (λ t.
-    elim t as (λ _. Bool) [ true ↦ all isZero slots | false ↦ slotKeeps (take slotSize slots) && slotsKeep n (drop slotSize slots) ] ≡ true
-    → Written (suc n) (elim t as (λ _. Register) [ true ↦ [] | false ↦ lineIn (take slotSize slots) ∷ linesIn n (drop slotSize slots) ]) slots)
-    (isZero (getD slots 0 0))
-    (λ _ z. written-none n slots size z)
-    (λ _ h.
-    let parts = both-true (slotKeeps (take slotSize slots)) (slotsKeep n (drop slotSize slots)) h in
-    written-more n slots size (linesIn n (drop slotSize slots)) (parts .0) (written n (drop slotSize slots) behind (parts .1)))
-    e
+-- slots one behind the other, and their size
+pub slots-append : (xs ys : Lines) → slotsOf (xs ++ ys) ≡ slotsOf xs ++ slotsOf ys
+unfolding slotsOf
+slots-append [] ys = refl
+slots-append (x ∷ xs) ys = ap (λ l. cellOf slotSize x ++ l) (slots-append xs ys) ∙ sym (append-assoc (cellOf slotSize x) (slotsOf xs) (slotsOf ys))
 
--- The sizes of a register's parts.
-pub slots-size : (register : Register) → all isLine register ≡ true → length (slotsOf register) ≡ slotSize * length register
+pub slots-size : (held : Lines) → all hasForm held ≡ true → length (slotsOf held) ≡ slotSize * length held
 unfolding slotsOf all
 slots-size [] a = refl
-slots-size (line ∷ register) a =
-    let parts = both-true (isLine line) (all isLine register) a in
-    let slot = slot-size line (omega (arith, line-size line (parts .0) .1)) in
-    let rest = slots-size register (parts .1) in
-    omega (arith, length-append (slotOf line) (slotsOf register))
+slots-size (line ∷ held) a =
+    let parts = both-true (hasForm line) (all hasForm held) a in
+    let slot = cell-size slotSize line (line-size line (parts .0) .1) in
+    let rest = slots-size held (parts .1) in
+    omega (arith, length-append (cellOf slotSize line) (slotsOf held))
 
-pub image-size : (register : Register) → Sound register → length (image register) ≡ registerSize
-unfolding image
-image-size register s =
-    let few = s .few in
-    let slots = slots-size register (s .lines) in
-    simp (length-append, length-replicate, slots) (omega arith)
+-- Both for lines of a form, whichever of the two it is.
+module _ (form : List ℕ → Bool) (has : (line : List ℕ) → form line ≡ true → hasForm line ≡ true) where
+  slot-first : (line rest : List ℕ) → form line ≡ true → isZero (getD (cellOf slotSize line ++ rest) 0 0) ≡ false
+  unfolding cellOf
+  slot-first line rest e =
+      let zeros : List ℕ = replicate (slotSize - length line) 0 in
+      ap (λ l. isZero (getD l 0 0)) (append-assoc line zeros rest)
+      ∙ text-first line (zeros ++ rest) (line-size line (has line e) .0) (line-text line (has line e))
+
+  none-back : (count : ℕ) (zeros : List ℕ) → all isZero zeros ≡ true → ReadBack form count [] zeros
+  unfolding linesIn slotsKeep
+  none-back zero zeros z = record { lines = refl; keep = refl }
+  none-back (suc n) zeros z = record { lines = rw (linesIn, first-zero zeros z); keep = rw (slotsKeep, first-zero zeros z) z }
+
+  read-back : (count : ℕ) (held : Lines) (zeros : List ℕ) → all form held ≡ true → length held ≤ count → all isZero zeros ≡ true
+      → ReadBack form count held (slotsOf held ++ zeros)
+  unfolding slotsOf linesIn slotsKeep all
+  read-back count [] zeros lines few z = none-back count zeros z
+  read-back zero (line ∷ held) zeros lines few z = absurd (omega arith)
+  read-back (suc n) (line ∷ held) zeros lines few z =
+      let parts = both-true (form line) (all form held) lines in
+      let ok = has line (parts .0) in
+      let rest = read-back n held zeros (parts .1) (omega arith) z in
+      let slots = slotsOf held ++ zeros in
+      let size = cell-size slotSize line (line-size line ok .1) in
+      let whole : (cellOf slotSize line ++ slotsOf held) ++ zeros ≡ cellOf slotSize line ++ slots =
+      append-assoc (cellOf slotSize line) (slotsOf held) zeros in
+      let first = slot-first line slots (parts .0) in
+      record {
+        lines = ap (linesIn (suc n)) whole ∙ rw (
+          linesIn,
+          first,
+          take-at (cellOf slotSize line) slots slotSize size,
+          drop-at (cellOf slotSize line) slots slotSize size,
+          cell-read slotSize line (line-text line ok),
+          rest .lines,
+        );
+        keep = ap (slotsKeep form (suc n)) whole ∙ rw (
+          slotsKeep,
+          first,
+          take-at (cellOf slotSize line) slots slotSize size,
+          drop-at (cellOf slotSize line) slots slotSize size,
+          cell-sound form slotSize line (line-text line ok) (parts .0),
+          rest .keep,
+        );
+      }
+
+  module _ (n : ℕ) (slots : List ℕ) (size : length slots ≡ slotSize * suc n) where
+    filled-none : all isZero slots ≡ true → Filled form (suc n) [] slots
+    unfolding slotsOf all
+    filled-none z =
+        let count : slotSize * (suc n - 0) ≡ length slots = omega arith in
+        record { lines = refl; few = omega arith; is = ap (λ k. replicate k 0) count ∙ sym (zeros-are slots z) }
+
+    less : (n k : ℕ) → suc n - suc k ≡ n - k
+    less n k = omega arith
+
+    filled-more : (held : Lines) → cellKeeps form (take slotSize slots) ≡ true → Filled form n held (drop slotSize slots)
+        → Filled form (suc n) (textIn (take slotSize slots) ∷ held) slots
+    unfolding slotsOf all
+    filled-more held e w =
+        let slot = take slotSize slots in
+        let line = textIn slot in
+        let zeros : List ℕ = replicate (slotSize * (n - length held)) 0 in
+        let whole : cellOf slotSize line ≡ slot = cell-is form slotSize slot (length-take-le slotSize slots (omega arith)) e in
+        record {
+          lines = both-pass (cell-form form slot e) (w .lines);
+          few = omega (arith, w .few);
+          is =
+              ap (λ k. (cellOf slotSize line ++ slotsOf held) ++ replicate (slotSize * k) 0) (less n (length held))
+              ∙ append-assoc (cellOf slotSize line) (slotsOf held) zeros
+              ∙ ap₂ {C = List ℕ} _++_ whole (w .is)
+              ∙ take-append-drop slotSize slots;
+        }
+
+  filled : (count : ℕ) (slots : List ℕ) → length slots ≡ slotSize * count → slotsKeep form count slots ≡ true
+      → Filled form count (linesIn count slots) slots
+  unfolding linesIn slotsKeep slotsOf all
+  filled zero slots size e = record { lines = refl; few = omega arith; is = sym (no-bytes slots (omega arith)) }
+  filled (suc n) slots size e =
+      let behind : length (drop slotSize slots) ≡ slotSize * n = omega (arith, length-drop slotSize slots) in
+      test-cases
+      (λ t.
+      elim t as (λ _. Bool) [ true ↦ all isZero slots | false ↦ cellKeeps form (take slotSize slots) && slotsKeep form n (drop slotSize slots) ]
+      ≡ true
+      → Filled form (suc n) (elim t as (λ _. Lines) [ true ↦ [] | false ↦ textIn (take slotSize slots) ∷ linesIn n (drop slotSize slots) ]) slots)
+      (isZero (getD slots 0 0))
+      (λ _ z. filled-none n slots size z)
+      (λ _ h.
+      let parts = both-true (cellKeeps form (take slotSize slots)) (slotsKeep form n (drop slotSize slots)) h in
+      filled-more n slots size (linesIn n (drop slotSize slots)) (parts .0) (filled n (drop slotSize slots) behind (parts .1)))
+      e
+
+-- The house currency in the header: no byte of it is zero, and it fits.
+pub house-cases : {A : Type 0} (house : List ℕ) → isHouse house ≡ true → (house ≡ [] → A) → (isCurrency house ≡ true → A) → A
+unfolding isHouse isNil
+house-cases [] e none some = none refl
+house-cases (b ∷ house) e none some = some e
+
+house-text : (house : List ℕ) → isHouse house ≡ true → all isText house ≡ true
+unfolding all
+house-text house e = house-cases house e (ap (all isText)) (currency-text house)
+
+pub house-size : (house : List ℕ) → isHouse house ≡ true → length house ≤ 3
+house-size house e = house-cases house e (λ none. omega (arith, ap length none)) (λ is. omega (arith, currency-size house is))
+
+-- The sizes of a register's parts.
+abbrev pub header : Register → List ℕ
+header register = cellOf headerSize (register .house)
+
+abbrev pub slotted : Register → List ℕ
+slotted register = slotsOf (register .lines) ++ replicate (slotSize * (mostLines - length (register .lines))) 0
+
+module _ (register : Register) (s : Sound register) where
+  pub header-size : length (header register) ≡ headerSize
+  header-size = cell-size headerSize (register .house) (omega (arith, house-size (register .house) (s .home)))
+
+  pub slotted-size : length (slotted register) ≡ slotSize * mostLines
+  slotted-size =
+      let few = s .few in
+      length-append (slotsOf (register .lines)) (replicate (slotSize * (mostLines - length (register .lines))) 0)
+      ∙ rw (slots-size (register .lines) (all-forms register s), length-replicate) (omega arith)
+
+  pub image-size : length (image register) ≡ registerSize
+  unfolding image
+  image-size = omega (arith, length-append (header register) (slotted register), header-size, slotted-size)
 
 -- The first law of a round trip: the image of a register, whatever lies behind it, keeps the rules and is read as that register.
 module _ (register : Register) (s : Sound register) (rest : List ℕ) where
-  slots-back : slotsIn (image register ++ rest) ≡ slotsOf register ++ replicate (slotSize * (mostLines - length register)) 0
+  whole : image register ++ rest ≡ header register ++ (slotted register ++ rest)
   unfolding image
+  whole = append-assoc (header register) (slotted register) rest
+
+  slots-back : slotsIn (image register ++ rest) ≡ slotted register
   slots-back =
-      let zeros : List ℕ = replicate (slotSize * (mostLines - length register)) 0 in
-      let header : List ℕ = replicate headerSize 0 in
-      let slots = slotsOf register ++ zeros in
-      let few = s .few in
-      let size : length slots ≡ slotSize * mostLines = length-append (slotsOf register) zeros
-      ∙ rw (slots-size register (s .lines), length-replicate) (omega arith) in
-      ap (λ l. take (slotSize * mostLines) (drop headerSize l)) (append-assoc header slots rest)
-      ∙ ap (take (slotSize * mostLines)) (drop-at header (slots ++ rest) headerSize (length-replicate {A = ℕ} headerSize 0))
-      ∙ take-at slots rest (slotSize * mostLines) size
+      ap (λ l. take (slotSize * mostLines) (drop headerSize l)) whole
+      ∙ ap (take (slotSize * mostLines)) (drop-at (header register) (slotted register ++ rest) headerSize (header-size register s))
+      ∙ take-at (slotted register) rest (slotSize * mostLines) (slotted-size register s)
 
-  header-back : all isZero (take headerSize (image register ++ rest)) ≡ true
-  unfolding image
-  header-back =
-      let zeros : List ℕ = replicate (slotSize * (mostLines - length register)) 0 in
-      let header : List ℕ = replicate headerSize 0 in
-      ap (λ l. all isZero (take headerSize l)) (append-assoc header (slotsOf register ++ zeros) rest)
-      ∙ ap (all isZero) (take-at header ((slotsOf register ++ zeros) ++ rest) headerSize (length-replicate {A = ℕ} headerSize 0))
-      ∙ all-zeros headerSize
+  header-back : headerIn (image register ++ rest) ≡ header register
+  header-back = ap (take headerSize) whole ∙ take-at (header register) (slotted register ++ rest) headerSize (header-size register s)
 
-  back : ReadBack mostLines register (slotsIn (image register ++ rest))
+  house-back : textIn (headerIn (image register ++ rest)) ≡ register .house
+  house-back = ap textIn header-back ∙ cell-read headerSize (register .house) (house-text (register .house) (s .home))
+
+  back : ReadBack (formOf (register .house)) mostLines (register .lines) (slotsIn (image register ++ rest))
   back =
-      subst (ReadBack mostLines register) (sym slots-back)
-      (read-back mostLines register (replicate (slotSize * (mostLines - length register)) 0) (s .lines) (s .few)
-      (all-zeros (slotSize * (mostLines - length register))))
+      subst (ReadBack (formOf (register .house)) mostLines (register .lines)) (sym slots-back)
+      (read-back (formOf (register .house)) (form-has (register .house)) mostLines (register .lines)
+      (replicate (slotSize * (mostLines - length (register .lines))) 0) (s .good) (s .few)
+      (all-zeros (slotSize * (mostLines - length (register .lines)))))
 
   pub image-read : registerIn (image register ++ rest) ≡ register
   unfolding registerIn
-  image-read = back .lines
+  image-read = λ i. record { house = house-back i; lines = back .lines i }
 
   pub image-sound : bufferKeeps (image register ++ rest) ≡ true
   unfolding bufferKeeps keepsRules
   image-sound =
       let size = image-size register s in
       both-pass (le-leb registerSize (length (image register ++ rest)) (omega (arith, length-append (image register) rest)))
-      (both-pass header-back (both-pass (back .keep) (ap differ image-read ∙ s .different)))
+      (both-pass (ap (cellKeeps isHouse) header-back
+      ∙ cell-sound isHouse headerSize (register .house) (house-text (register .house) (s .home)) (s .home))
+      (both-pass (ap (λ h. slotsKeep (formOf h) mostLines (slotsIn (image register ++ rest))) house-back ∙ back .keep)
+      (ap (λ (r : Register). differ (r .lines)) image-read ∙ s .different)))
+
+-- what a buffer that keeps the rules keeps
+pub record Kept (buffer : List ℕ) : Type 0 where
+  pub size : registerSize ≤ length buffer
+  pub home : cellKeeps isHouse (headerIn buffer) ≡ true
+  pub slots : slotsKeep (formOf (textIn (headerIn buffer))) mostLines (slotsIn buffer) ≡ true
+  pub different : differ (registerIn buffer .lines) ≡ true
 
 -- The second: a buffer that keeps the rules is the image of the register that is read, and that is one.
 module _ (buffer : List ℕ) (e : bufferKeeps buffer ≡ true) where
-  pub sound-size : registerSize ≤ length buffer
-  unfolding bufferKeeps
-  sound-size = leb-true registerSize (length buffer) (both-true (leb registerSize (length buffer)) (keepsRules buffer) e .0)
-
-  pub kept : (all isZero (take headerSize buffer) ≡ true) × (slotsKeep mostLines (slotsIn buffer) ≡ true) × (differ (registerIn buffer) ≡ true)
+  pub kept : Kept buffer
   unfolding bufferKeeps keepsRules
   kept =
-      let rules = both-true (leb registerSize (length buffer)) (keepsRules buffer) e .1 in
-      let header = both-true (all isZero (take headerSize buffer)) (slotsKeep mostLines (slotsIn buffer) && differ (registerIn buffer)) rules in
-      let slots = both-true (slotsKeep mostLines (slotsIn buffer)) (differ (registerIn buffer)) (header .1) in
-      (header .0, slots .0, slots .1)
+      let first = both-true (leb registerSize (length buffer)) (keepsRules buffer) e in
+      let home = both-true (cellKeeps isHouse (headerIn buffer)) _ (first .1) in
+      let slots = both-true (slotsKeep (formOf (textIn (headerIn buffer))) mostLines (slotsIn buffer)) (differ (registerIn buffer .lines))
+      (home .1) in
+      record { size = leb-true registerSize (length buffer) (first .0); home = home .0; slots = slots .0; different = slots .1 }
 
-  slots-written : Written mostLines (registerIn buffer) (slotsIn buffer)
-  unfolding registerIn
-  slots-written =
+  pub sound-size : registerSize ≤ length buffer
+  sound-size = kept .size
+
+  slots-filled : Filled (formOf (textIn (headerIn buffer))) mostLines (linesIn mostLines (slotsIn buffer)) (slotsIn buffer)
+  slots-filled =
       let size = sound-size in
-      written mostLines (slotsIn buffer)
-      (length-take-le (slotSize * mostLines) (drop headerSize buffer) (omega (arith, length-drop headerSize buffer))) (kept .1)
+      filled (formOf (textIn (headerIn buffer))) (form-has (textIn (headerIn buffer))) mostLines (slotsIn buffer)
+      (length-take-le (slotSize * mostLines) (drop headerSize buffer) (omega (arith, length-drop headerSize buffer))) (kept .slots)
 
   pub read-sound : Sound (registerIn buffer)
-  read-sound = record { few = slots-written .few; lines = slots-written .lines; different = kept .2 }
+  unfolding registerIn
+  read-sound =
+      record {
+        home = cell-form isHouse (headerIn buffer) (kept .home);
+        few = slots-filled .few;
+        good = slots-filled .lines;
+        different = kept .different;
+      }
 
   pub read-image : image (registerIn buffer) ≡ take registerSize buffer
-  unfolding image
+  unfolding image registerIn
   read-image =
       let size = sound-size in
-      let front : length (take headerSize buffer) ≡ headerSize = length-take-le headerSize buffer (omega arith) in
-      ap₂ {C = List ℕ} _++_ (sym (zeros-are (take headerSize buffer) (kept .0) ∙ ap (λ n. replicate n 0) front)) (slots-written .is)
+      let front : length (headerIn buffer) ≡ headerSize = length-take-le headerSize buffer (omega arith) in
+      ap₂ {C = List ℕ} _++_ (cell-is isHouse headerSize (headerIn buffer) front (kept .home)) (slots-filled .is)
       ∙ sym (take-add headerSize (slotSize * mostLines) buffer)

@@ -1,6 +1,6 @@
 -- The calls on a buffer that holds a register: what they answer, and which register is left. Assumes nothing.
-use mathlib.Core.Bool.{true, false, cond}
-use mathlib.Core.List.{List, [], _∷_, _++_}
+use mathlib.Core.Bool.{true, false, cond, not}
+use mathlib.Core.List.{List, [], _∷_, _++_, map}
 use mathlib.Core.Path.{_≡_, refl, sym, ap, _∙_, subst}
 use Prim.Native.Nat.{ℕ, _*_, _≤_, _<_}
 use native.Mathlib.Omega.{arith}
@@ -8,31 +8,50 @@ use lib.Dec.{eqb, leb}
 use lib.ListN.{length, take, drop, replicate, length-replicate, replicate-append-replicate, take-append-drop}
 use lib.Seq.{take-all, take-at}
 use borrow.Author.Tests.{le-leb, lt-leb, leb-true, leb-false}
-use Rattle.base.specs.Choice.{test-cases}
-use Rattle.base.specs.Lists.{all}
-use Rattle.register.specs.Buffer.{registerSize, headerSize, slotSize, slotsOf, image, registerIn, bufferKeeps}
+use Rattle.base.specs.Choice.{both-true, test-cases}
+use Rattle.base.specs.Lists.{all, isNil}
+use Rattle.register.specs.Buffer.{registerSize, headerSize, slotSize, cellOf, slotsOf, image, registerIn, bufferKeeps}
 use Rattle.register.specs.BufferLaws.{image-read, image-sound, read-sound, read-image}
-use Rattle.register.specs.Calls.{OfferCalled, LineCalled, withRegister, offerCall, handing, lineCall}
-use Rattle.register.specs.Calls.{ReportCalled, puttingNothing, putting, reportCall}
+use Rattle.register.specs.Calls.{BufferCalled, turnedDown, withRegister, openCall, bufferOpen, offerCall}
+use Rattle.register.specs.Calls.{LineCalled, handing, lineCall, ReportCalled, puttingNothing, putting, reportCall}
 use Rattle.register.specs.Claims.{
   Observed,
+  observedOpen,
   observedOffer,
   observedLine,
   observedReport,
   Linked,
+  Old,
   History,
-  accepting,
-  linesOffered,
+  madeByOpening,
+  madeByOffer,
   Agrees,
   ReportClaim,
+  IfOpen,
   ListClaim,
+  OpenPromise,
   OfferPromise,
   LinePromise,
   ReportPromise,
 }
-use Rattle.register.specs.Line.{isLine}
-use Rattle.register.specs.Register.{Register, mostLines, offerNumber, offered, fold, lineAt}
-use Rattle.register.specs.RegisterLaws.{Sound, empty-sound, is-fold, is-register, offered-sound, offered-taken, offered-declined}
+use Rattle.register.specs.Line.{isCurrency}
+use Rattle.register.specs.Register.{
+  Register,
+  isOpen,
+  nothing,
+  mostLines,
+  offerNumber,
+  offered,
+  opened,
+  Act,
+  opening,
+  offering,
+  after,
+  fold,
+  lineAt,
+  withLine,
+}
+use Rattle.register.specs.RegisterLaws.{Sound, empty-sound, is-fold, is-register, after-sound, offered-taken, offered-declined, open-records}
 use Rattle.register.specs.Report.{report}
 use Rattle.register.specs.ReportLaws.{report-agrees}
 
@@ -52,68 +71,143 @@ pub with-same : (buffer : List ℕ) → bufferKeeps buffer ≡ true → withRegi
 unfolding withRegister
 with-same buffer e = ap (λ l. l ++ drop registerSize buffer) (read-image buffer e) ∙ take-append-drop registerSize buffer
 
--- An offer to a buffer that holds a register, and to one that is turned down
+-- what a buffer that keeps the rules is: opened or not
+pub open-keeps : (buffer : List ℕ) → bufferKeeps buffer ≡ true → bufferOpen buffer ≡ isOpen (registerIn buffer)
+unfolding bufferOpen
+open-keeps buffer e = rw e
+
+pub open-broken : (buffer : List ℕ) → bufferKeeps buffer ≡ false → bufferOpen buffer ≡ false
+unfolding bufferOpen
+open-broken buffer e = rw e
+
+pub open-both : (buffer : List ℕ) → bufferOpen buffer ≡ true → (bufferKeeps buffer ≡ true) × (isOpen (registerIn buffer) ≡ true)
+unfolding bufferOpen
+open-both buffer e = both-true (bufferKeeps buffer) (isOpen (registerIn buffer)) e
+
+-- An opening: 29 first, then 14, else the register is opened
+module _ (buffer currency : List ℕ) where
+  pub open-bad : isCurrency currency ≡ false → openCall buffer currency ≡ turnedDown 29 buffer
+  unfolding openCall
+  open-bad e = rw e
+
+  pub open-refused : isCurrency currency ≡ true → bufferKeeps buffer ≡ false → openCall buffer currency ≡ turnedDown 14 buffer
+  unfolding openCall
+  open-refused e f = rw (e, f)
+
+  pub open-does : isCurrency currency ≡ true → bufferKeeps buffer ≡ true
+      → openCall buffer currency ≡ record { number = 0; left = withRegister buffer (opened (registerIn buffer) currency) }
+  unfolding openCall
+  open-does e f = rw (e, f)
+
+  -- W2.6 "a call turned down leaves it unchanged"
+  open-same : ¬ (openCall buffer currency .number ≡ 0) → openCall buffer currency .left ≡ buffer
+  unfolding turnedDown
+  open-same n =
+      test-cases (λ t. isCurrency currency ≡ t → openCall buffer currency .left ≡ buffer) (isCurrency currency)
+      (λ c _.
+      test-cases (λ t. bufferKeeps buffer ≡ t → openCall buffer currency .left ≡ buffer) (bufferKeeps buffer)
+      (λ k _. absurd (n (ap (λ (x : BufferCalled). x .number) (open-does c k))))
+      (λ k _. ap (λ (x : BufferCalled). x .left) (open-refused c k)) refl)
+      (λ c _. ap (λ (x : BufferCalled). x .left) (open-bad c)) refl
+
+  -- of a buffer that keeps the rules
+  module _ (keeps : bufferKeeps buffer ≡ true) where
+    open-number : openCall buffer currency .number ≡ cond (isCurrency currency) 0 29
+    unfolding turnedDown
+    open-number =
+        test-cases (λ t. isCurrency currency ≡ t → openCall buffer currency .number ≡ cond t 0 29) (isCurrency currency)
+        (λ c _. ap (λ (x : BufferCalled). x .number) (open-does c keeps)) (λ c _. ap (λ (x : BufferCalled). x .number) (open-bad c)) refl
+
+    open-left : openCall buffer currency .left ≡ withRegister buffer (after (registerIn buffer) (opening currency))
+    unfolding turnedDown after
+    open-left =
+        test-cases
+        (λ t. isCurrency currency ≡ t
+        → openCall buffer currency .left ≡ withRegister buffer (cond t (opened (registerIn buffer) currency) (registerIn buffer)))
+        (isCurrency currency)
+        (λ c _. ap (λ (x : BufferCalled). x .left) (open-does c keeps))
+        (λ c _. ap (λ (x : BufferCalled). x .left) (open-bad c) ∙ sym (with-same buffer keeps)) refl
+
+-- An offer to a buffer that holds an opened register, and to one that is turned down
 module _ (buffer line : List ℕ) where
-  pub offer-number : bufferKeeps buffer ≡ true → offerCall buffer line .number ≡ offerNumber (registerIn buffer) line
+  pub offer-number : bufferOpen buffer ≡ true → offerCall buffer line .number ≡ offerNumber (registerIn buffer .lines) line
   unfolding offerCall
   offer-number e = rw e
 
-  pub offer-left : bufferKeeps buffer ≡ true → offerCall buffer line .left ≡ withRegister buffer (offered (registerIn buffer) line)
+  pub offer-left : bufferOpen buffer ≡ true → offerCall buffer line .left ≡ withRegister buffer (offered (registerIn buffer) line)
   unfolding offerCall
   offer-left e = rw e
 
-  pub offer-refused : bufferKeeps buffer ≡ false → offerCall buffer line ≡ record { number = 14; left = buffer }
+  pub offer-refused : bufferOpen buffer ≡ false → offerCall buffer line ≡ turnedDown 14 buffer
   unfolding offerCall
   offer-refused e = rw e
 
-  pub offer-declined : (k : ℕ) → bufferKeeps buffer ≡ true → offerNumber (registerIn buffer) line ≡ k → ¬ (k ≡ 0)
+  pub offer-declined : (k : ℕ) → bufferOpen buffer ≡ true → offerNumber (registerIn buffer .lines) line ≡ k → ¬ (k ≡ 0)
       → offerCall buffer line ≡ record { number = k; left = buffer }
   offer-declined k e is n =
-      let left = offer-left e ∙ ap (withRegister buffer) (offered-declined (registerIn buffer) line (λ z. n (sym is ∙ z))) ∙ with-same buffer e in
+      let left = offer-left e ∙ ap (withRegister buffer) (offered-declined (registerIn buffer) line (λ z. n (sym is ∙ z)))
+      ∙ with-same buffer (open-both buffer e .0) in
       λ i. record { number = (offer-number e ∙ is) i; left = left i }
 
-  pub offer-taken : bufferKeeps buffer ≡ true → offerNumber (registerIn buffer) line ≡ 0
-      → offerCall buffer line ≡ record { number = 0; left = withRegister buffer (registerIn buffer ++ (line ∷ [])) }
+  pub offer-taken : bufferOpen buffer ≡ true → offerNumber (registerIn buffer .lines) line ≡ 0
+      → offerCall buffer line ≡ record { number = 0; left = withRegister buffer (withLine (registerIn buffer) line) }
   offer-taken e is =
       let left = offer-left e ∙ ap (withRegister buffer) (offered-taken (registerIn buffer) line is) in
       λ i. record { number = (offer-number e ∙ is) i; left = left i }
 
-  offer-holds : (register : Register) → Holds buffer register → Holds (offerCall buffer line .left) (offered register line)
-  offer-holds register h =
-      let s = read-sound buffer (h .keeps) in
-      subst (Holds (offerCall buffer line .left)) (ap (λ r. offered r line) (h .holds))
-      (subst (λ b. Holds b (offered (registerIn buffer) line)) (sym (offer-left (h .keeps)))
-      (with-holds buffer (offered (registerIn buffer) line) (offered-sound (registerIn buffer) line s)))
-
   -- W2.6 "a call turned down leaves it unchanged"
-  offer-keeps : ¬ (offerCall buffer line .number ≡ 0) → offerCall buffer line .left ≡ buffer
-  offer-keeps n =
-      test-cases (λ t. bufferKeeps buffer ≡ t → offerCall buffer line .left ≡ buffer) (bufferKeeps buffer) (λ e _. declined e) (λ e _. refused e) refl
-    where
-      declined : bufferKeeps buffer ≡ true → offerCall buffer line .left ≡ buffer
-      declined e =
-          ap (λ (back : OfferCalled). back .left) (offer-declined (offerNumber (registerIn buffer) line) e refl (λ z. n (offer-number e ∙ z)))
+  offer-same : ¬ (offerCall buffer line .number ≡ 0) → offerCall buffer line .left ≡ buffer
+  unfolding turnedDown
+  offer-same n =
+      test-cases (λ t. bufferOpen buffer ≡ t → offerCall buffer line .left ≡ buffer) (bufferOpen buffer)
+      (λ e _.
+      ap (λ (x : BufferCalled). x .left)
+      (offer-declined (offerNumber (registerIn buffer .lines) line) e refl (λ z. n (offer-number e ∙ z))))
+      (λ e _. ap (λ (x : BufferCalled). x .left) (offer-refused e)) refl
 
-      refused : bufferKeeps buffer ≡ false → offerCall buffer line .left ≡ buffer
-      refused e = ap (λ (back : OfferCalled). back .left) (offer-refused e)
+  -- of a buffer that keeps the rules, opened or not
+  module _ (keeps : bufferKeeps buffer ≡ true) where
+    offer-gets : offerCall buffer line .number ≡ cond (isOpen (registerIn buffer)) (offerNumber (registerIn buffer .lines) line) 14
+    unfolding turnedDown
+    offer-gets =
+        test-cases (λ t. isOpen (registerIn buffer) ≡ t → offerCall buffer line .number ≡ cond t (offerNumber (registerIn buffer .lines) line) 14)
+        (isOpen (registerIn buffer))
+        (λ e _. offer-number (open-keeps buffer keeps ∙ e))
+        (λ e _. ap (λ (x : BufferCalled). x .number) (offer-refused (open-keeps buffer keeps ∙ e))) refl
+
+    offer-leaves : offerCall buffer line .left ≡ withRegister buffer (after (registerIn buffer) (offering line))
+    unfolding turnedDown after
+    offer-leaves =
+        test-cases
+        (λ t. isOpen (registerIn buffer) ≡ t
+        → offerCall buffer line .left ≡ withRegister buffer (cond t (offered (registerIn buffer) line) (registerIn buffer)))
+        (isOpen (registerIn buffer))
+        (λ e _. offer-left (open-keeps buffer keeps ∙ e))
+        (λ e _. ap (λ (x : BufferCalled). x .left) (offer-refused (open-keeps buffer keeps ∙ e)) ∙ sym (with-same buffer keeps)) refl
 
 -- A line asked for likewise
 module _ (buffer : List ℕ) (place : ℕ) where
-  pub line-handed : bufferKeeps buffer ≡ true → lineCall buffer place ≡ handing 0 (lineAt (registerIn buffer) place)
+  pub line-handed : bufferOpen buffer ≡ true → lineCall buffer place ≡ handing 0 (lineAt (registerIn buffer .lines) place)
   unfolding lineCall
   line-handed e = rw e
 
-  pub line-refused : bufferKeeps buffer ≡ false → lineCall buffer place ≡ handing 14 []
+  pub line-refused : bufferOpen buffer ≡ false → lineCall buffer place ≡ handing 14 []
   unfolding lineCall
   line-refused e = rw e
 
+  line-gets : bufferKeeps buffer ≡ true
+      → lineCall buffer place ≡ cond (isOpen (registerIn buffer)) (handing 0 (lineAt (registerIn buffer .lines) place)) (handing 14 [])
+  unfolding lineCall
+  line-gets keeps =
+      ap (λ t. cond t (handing 0 (lineAt (registerIn buffer .lines) place)) (handing 14 [])) (open-keeps buffer keeps)
+
 -- A report likewise
 module _ (buffer output : List ℕ) where
-  pub report-put : bufferKeeps buffer ≡ true → reportCall buffer output ≡ putting (report (registerIn buffer)) output
+  pub report-put : bufferOpen buffer ≡ true → reportCall buffer output ≡ putting (report (registerIn buffer .lines)) output
   unfolding reportCall
   report-put e = rw e
 
-  pub report-refused : bufferKeeps buffer ≡ false → reportCall buffer output ≡ puttingNothing 14 output
+  pub report-refused : bufferOpen buffer ≡ false → reportCall buffer output ≡ puttingNothing 14 output
   unfolding reportCall
   report-refused e = rw e
 
@@ -144,37 +238,51 @@ module _ (put output : List ℕ) where
       (λ e. absurd (omega (arith, z, ap (λ (x : ReportCalled). x .number) (put-full (leb-false (length put) (length output) e)))))
 
 -- W4.5 "14 and 21 write nothing"
-report-keeps : (buffer output : List ℕ) → ¬ (reportCall buffer output .number ≡ 0)
+report-same : (buffer output : List ℕ) → ¬ (reportCall buffer output .number ≡ 0)
     → (reportCall buffer output .left ≡ output) × (reportCall buffer output .size ≡ 0)
 unfolding puttingNothing
-report-keeps buffer output n =
-    test-cases (λ t. bufferKeeps buffer ≡ t → (reportCall buffer output .left ≡ output) × (reportCall buffer output .size ≡ 0)) (bufferKeeps buffer)
+report-same buffer output n =
+    test-cases (λ t. bufferOpen buffer ≡ t → (reportCall buffer output .left ≡ output) × (reportCall buffer output .size ≡ 0)) (bufferOpen buffer)
     (λ e _.
     let is = report-put buffer output e in
-    let none = put-nothing (report (registerIn buffer)) output (λ z. n (ap (λ (x : ReportCalled). x .number) is ∙ z)) in
-    nothing 21 (is ∙ none))
-    (λ e _. nothing 14 (report-refused buffer output e)) refl
+    let none = put-nothing (report (registerIn buffer .lines)) output (λ z. n (ap (λ (x : ReportCalled). x .number) is ∙ z)) in
+    nothing-put 21 (is ∙ none))
+    (λ e _. nothing-put 14 (report-refused buffer output e)) refl
   where
-    nothing : (k : ℕ) → reportCall buffer output ≡ record { number = k; left = output; size = 0 }
+    nothing-put : (k : ℕ) → reportCall buffer output ≡ record { number = k; left = output; size = 0 }
         → (reportCall buffer output .left ≡ output) × (reportCall buffer output .size ≡ 0)
-    nothing k e = (ap (λ (x : ReportCalled). x .left) e, ap (λ (x : ReportCalled). x .size) e)
+    nothing-put k e = (ap (λ (x : ReportCalled). x .left) e, ap (λ (x : ReportCalled). x .size) e)
 
--- of a buffer that holds these lines the report is theirs, and agrees with itself
-report-claim : (buffer output : List ℕ) (back : ReportCalled) (accepted : Register) → Holds buffer accepted → back ≡ reportCall buffer output
-    → ReportClaim accepted output back
-report-claim buffer output back accepted h does =
-    let is : back ≡ putting (report accepted) output = does ∙ report-put buffer output (h .keeps) ∙ ap (λ r. putting (report r) output) (h .holds) in
-    let good = subst (λ r. all isLine r ≡ true) (h .holds) (read-sound buffer (h .keeps) .lines) in
+-- of a buffer that holds an opened register the report is that of its lines, and agrees with itself
+report-claim : (buffer output : List ℕ) (back : ReportCalled) → bufferKeeps buffer ≡ true → isOpen (registerIn buffer) ≡ true
+    → back ≡ reportCall buffer output
+    → ReportClaim (registerIn buffer .lines) output back
+report-claim buffer output back keeps e does =
+    let held = registerIn buffer .lines in
+    let is : back ≡ putting (report held) output = does ∙ report-put buffer output (open-keeps buffer keeps ∙ e) in
     record {
       is = is;
       agrees = λ z.
-          let put = put-bytes (report accepted) output (sym (ap (λ (x : ReportCalled). x .number) is) ∙ z) in
-          subst (Agrees accepted) (sym (ap (λ (x : ReportCalled). take (x .size) (x .left)) is ∙ put)) (report-agrees accepted good);
+          let put = put-bytes (report held) output (sym (ap (λ (x : ReportCalled). x .number) is) ∙ z) in
+          subst (Agrees held) (sym (ap (λ (x : ReportCalled). take (x .size) (x .left)) is ∙ put))
+          (report-agrees held (open-records (registerIn buffer) (read-sound buffer keeps) e));
     }
 
+report-gets : (buffer output : List ℕ) (back : ReportCalled) (made : Register) → Holds buffer made → back ≡ reportCall buffer output
+    → IfOpen (isOpen made) (ReportClaim (made .lines) output back) (back ≡ puttingNothing 14 output)
+unfolding IfOpen
+report-gets buffer output back made h does =
+    subst (λ r. IfOpen (isOpen r) (ReportClaim (r .lines) output back) (back ≡ puttingNothing 14 output)) (h .holds)
+    (test-cases
+    (λ t. isOpen (registerIn buffer) ≡ t
+    → IfOpen t (ReportClaim (registerIn buffer .lines) output back) (back ≡ puttingNothing 14 output))
+    (isOpen (registerIn buffer))
+    (λ e _. report-claim buffer output back (h .keeps) e does)
+    (λ e _. does ∙ report-refused buffer output (open-keeps buffer (h .keeps) ∙ e)) refl)
+
 -- W2.6 "all zeros is the empty one"
-pub zeros-image : image [] ≡ replicate registerSize 0
-unfolding image slotsOf
+pub zeros-image : image nothing ≡ replicate registerSize 0
+unfolding image slotsOf cellOf
 zeros-image = replicate-append-replicate headerSize (slotSize * mostLines) 0
 
 -- a buffer that begins with the same bytes holds the same register
@@ -188,50 +296,126 @@ same-holds b c register e h =
     subst (Holds c) (h .holds)
     (image-holds c (registerIn b) (read-sound b (h .keeps)) (read-image b (h .keeps) ∙ e))
 
-zeros-hold : (buffer : List ℕ) → take registerSize buffer ≡ replicate registerSize 0 → Holds buffer []
-zeros-hold buffer e = image-holds buffer [] empty-sound (zeros-image ∙ sym e)
+pub zeros-hold : (buffer : List ℕ) → take registerSize buffer ≡ replicate registerSize 0 → Holds buffer nothing
+zeros-hold buffer e = image-holds buffer nothing empty-sound (zeros-image ∙ sym e)
 
--- the lines accepted by the numbers that came back are those that the register keeps
-accepting-is : (register : Register) (line : List ℕ) (back : OfferCalled) → back .number ≡ offerNumber register line
-    → accepting register line back ≡ offered register line
-unfolding accepting offered
-accepting-is register line back e = ap (λ n. cond (eqb n 0) (register ++ (line ∷ [])) register) e
+-- so zeros are a register that isn't opened
+pub zeros-old : (buffer : List ℕ) → take registerSize buffer ≡ replicate registerSize 0 → Old buffer
+unfolding isOpen isNil
+zeros-old buffer e =
+    let h = zeros-hold buffer e in
+    record { keeps = h .keeps; unopened = ap isOpen (h .holds) }
 
--- A list of calls from a buffer that holds these lines, and one call more, of which the claim holds whatever lines the buffer holds that it is given.
-list-claim : (buffer : List ℕ) (accepted : Register) (calls : List Observed) (given : List ℕ) (call : Observed) → Holds buffer accepted
+old-holds : (buffer : List ℕ) → Old buffer → Holds buffer (registerIn buffer)
+old-holds buffer o = record { keeps = o .keeps; holds = refl }
+
+-- what a call leaves: the register after the act
+act-holds : (buffer : List ℕ) (made : Register) (act : Act) (left : List ℕ) → Holds buffer made → Sound (after (registerIn buffer) act)
+    → left ≡ withRegister buffer (after (registerIn buffer) act)
+    → Holds left (after made act)
+act-holds buffer made act left h s is =
+    subst (Holds left) (ap (λ r. after r act) (h .holds)) (subst (λ b. Holds b (after (registerIn buffer) act)) (sym is) (with-holds buffer _ s))
+
+module _ (buffer : List ℕ) (made : Register) (h : Holds buffer made) where
+  held-sound : Sound (registerIn buffer)
+  held-sound = read-sound buffer (h .keeps)
+
+  open-holds : (currency : List ℕ) → Holds (openCall buffer currency .left) (after made (opening currency))
+  open-holds currency =
+      act-holds buffer made (opening currency) (openCall buffer currency .left) h (after-sound (registerIn buffer) (opening currency) held-sound)
+      (open-left buffer currency (h .keeps))
+
+  offer-holds : (line : List ℕ) → Holds (offerCall buffer line .left) (after made (offering line))
+  offer-holds line =
+      act-holds buffer made (offering line) (offerCall buffer line .left) h (after-sound (registerIn buffer) (offering line) held-sound)
+      (offer-leaves buffer line (h .keeps))
+
+  -- what an opening and an offer answer
+  opening-gets : (currency : List ℕ) (back : BufferCalled) → back ≡ openCall buffer currency → back .number ≡ cond (isCurrency currency) 0 29
+  opening-gets currency back does = ap (λ (x : BufferCalled). x .number) does ∙ open-number buffer currency (h .keeps)
+
+  offering-gets : (line : List ℕ) (back : BufferCalled) → back ≡ offerCall buffer line
+      → back .number ≡ cond (isOpen made) (offerNumber (made .lines) line) 14
+  offering-gets line back does =
+      ap (λ (x : BufferCalled). x .number) does ∙ offer-gets buffer line (h .keeps)
+      ∙ ap (λ (r : Register). cond (isOpen r) (offerNumber (r .lines) line) 14) (h .holds)
+
+  handing-gets : (place : ℕ) (back : LineCalled) → back ≡ lineCall buffer place
+      → back ≡ cond (isOpen made) (handing 0 (lineAt (made .lines) place)) (handing 14 [])
+  handing-gets place back does =
+      does ∙ line-gets buffer place (h .keeps)
+      ∙ ap (λ (r : Register). cond (isOpen r) (handing 0 (lineAt (r .lines) place)) (handing 14 [])) (h .holds)
+
+-- what was made by the numbers that came back is what the acts make
+opening-is : (made : Register) (currency : List ℕ) (back : BufferCalled) → back .number ≡ cond (isCurrency currency) 0 29
+    → madeByOpening made currency back ≡ after made (opening currency)
+unfolding madeByOpening after
+opening-is made currency back e =
+    ap (λ n. cond (eqb n 0) (opened made currency) made) e
+    ∙ test-cases (λ t. cond (eqb (cond t 0 29) 0) (opened made currency) made ≡ cond t (opened made currency) made) (isCurrency currency)
+    (λ _. refl) (λ _. refl)
+
+offer-is : (made : Register) (line : List ℕ) (back : BufferCalled) → back .number ≡ cond (isOpen made) (offerNumber (made .lines) line) 14
+    → madeByOffer made line back ≡ after made (offering line)
+unfolding madeByOffer after offered
+offer-is made line back e =
+    ap (λ n. cond (eqb n 0) (withLine made line) made) e
+    ∙ test-cases
+    (λ t. cond (eqb (cond t (offerNumber (made .lines) line) 14) 0) (withLine made line) made
+    ≡ cond t (cond (eqb (offerNumber (made .lines) line) 0) (withLine made line) made) made)
+    (isOpen made) (λ _. refl) (λ _. refl)
+
+-- A list of calls from a buffer that holds this register, and one call more, of which the claim holds whatever register the buffer holds that it is
+-- given.
+list-claim : (buffer : List ℕ) (made : Register) (calls : List Observed) (given : List ℕ) (call : Observed) → Holds buffer made
     → Linked buffer calls given
     → ((register : Register) → Holds given register → ListClaim register (call ∷ []))
-    → ListClaim accepted (calls ++ (call ∷ []))
+    → ListClaim made (calls ++ (call ∷ []))
 unfolding Linked ListClaim
-list-claim buffer accepted [] given call h same last = last accepted (same-holds buffer given accepted same h)
-list-claim buffer accepted (observedOffer b line back ∷ calls) given call h (at, does, linked) last =
-    let here = same-holds buffer b accepted at h in
-    let number : back .number ≡ offerNumber accepted line = ap (λ (x : OfferCalled). x .number) does ∙ offer-number b line (here .keeps)
-    ∙ ap (λ r. offerNumber r line) (here .holds) in
-    let left : Holds (back .left) (accepting accepted line back) =
-    subst (Holds (back .left)) (sym (accepting-is accepted line back number))
-    (subst (λ (x : OfferCalled). Holds (x .left) (offered accepted line)) (sym does) (offer-holds b line accepted here)) in
-    (number, list-claim (back .left) (accepting accepted line back) calls given call left linked last)
-list-claim buffer accepted (observedLine b place back ∷ calls) given call h (at, does, linked) last =
-    let here = same-holds buffer b accepted at h in (
-      does ∙ line-handed b place (here .keeps) ∙ ap (λ r. handing 0 (lineAt r place)) (here .holds),
-      list-claim b accepted calls given call here linked last,
-    )
-list-claim buffer accepted (observedReport b output back ∷ calls) given call h (at, does, linked) last =
-    let here = same-holds buffer b accepted at h in
-    (report-claim b output back accepted here does, list-claim b accepted calls given call here linked last)
+list-claim buffer made [] given call h same last = last made (same-holds buffer given made same h)
+list-claim buffer made (observedOpen b currency back ∷ calls) given call h (at, does, linked) last =
+    let here = same-holds buffer b made at h in
+    let number = opening-gets b made here currency back does in
+    let left : Holds (back .left) (madeByOpening made currency back) =
+    subst (Holds (back .left)) (sym (opening-is made currency back number))
+    (subst (λ (x : BufferCalled). Holds (x .left) (after made (opening currency))) (sym does) (open-holds b made here currency)) in
+    (number, list-claim (back .left) (madeByOpening made currency back) calls given call left linked last)
+list-claim buffer made (observedOffer b line back ∷ calls) given call h (at, does, linked) last =
+    let here = same-holds buffer b made at h in
+    let number = offering-gets b made here line back does in
+    let left : Holds (back .left) (madeByOffer made line back) =
+    subst (Holds (back .left)) (sym (offer-is made line back number))
+    (subst (λ (x : BufferCalled). Holds (x .left) (after made (offering line))) (sym does) (offer-holds b made here line)) in
+    (number, list-claim (back .left) (madeByOffer made line back) calls given call left linked last)
+list-claim buffer made (observedLine b place back ∷ calls) given call h (at, does, linked) last =
+    let here = same-holds buffer b made at h in
+    (handing-gets b made here place back does, list-claim b made calls given call here linked last)
+list-claim buffer made (observedReport b output back ∷ calls) given call h (at, does, linked) last =
+    let here = same-holds buffer b made at h in
+    (report-gets b output back made here does, list-claim b made calls given call here linked last)
+
+-- the claim of every history that ends with a call
+carries : (buffer : List ℕ) (call : Observed) → ((register : Register) → Holds buffer register → ListClaim register (call ∷ []))
+    → (h : History buffer) → ListClaim (registerIn (h .start)) (h .calls ++ (call ∷ []))
+carries buffer call last h = list-claim (h .start) (registerIn (h .start)) (h .calls) buffer call (old-holds (h .start) (h .old)) (h .linked) last
 
 -- A call that keeps its equation keeps its whole promise.
-pub offer-promise : (buffer line : List ℕ) (back : OfferCalled) → back ≡ offerCall buffer line → OfferPromise buffer line back
+pub open-promise : (buffer currency : List ℕ) (back : BufferCalled) → back ≡ openCall buffer currency → OpenPromise buffer currency back
+unfolding ListClaim
+open-promise buffer currency back does =
+    record {
+      does = does;
+      keeps = λ n. ap (λ (x : BufferCalled). x .left) does ∙ open-same buffer currency (λ z. n (ap (λ (x : BufferCalled). x .number) does ∙ z));
+      list = carries buffer (observedOpen buffer currency back) (λ register held. (opening-gets buffer register held currency back does, tt));
+    }
+
+pub offer-promise : (buffer line : List ℕ) (back : BufferCalled) → back ≡ offerCall buffer line → OfferPromise buffer line back
 unfolding ListClaim
 offer-promise buffer line back does =
     record {
       does = does;
-      keeps = λ n. ap (λ (x : OfferCalled). x .left) does ∙ offer-keeps buffer line (λ z. n (ap (λ (x : OfferCalled). x .number) does ∙ z));
-      list = λ h.
-          list-claim (h .start) [] (h .calls) buffer (observedOffer buffer line back) (zeros-hold (h .start) (h .empty)) (h .linked)
-          (λ register held.
-          (ap (λ (x : OfferCalled). x .number) does ∙ offer-number buffer line (held .keeps) ∙ ap (λ r. offerNumber r line) (held .holds), tt));
+      keeps = λ n. ap (λ (x : BufferCalled). x .left) does ∙ offer-same buffer line (λ z. n (ap (λ (x : BufferCalled). x .number) does ∙ z));
+      list = carries buffer (observedOffer buffer line back) (λ register held. (offering-gets buffer register held line back does, tt));
     }
 
 pub line-promise : (buffer : List ℕ) (place : ℕ) (back : LineCalled) → back ≡ lineCall buffer place → LinePromise buffer place back
@@ -239,9 +423,7 @@ unfolding ListClaim
 line-promise buffer place back does =
     record {
       does = does;
-      list = λ h.
-          list-claim (h .start) [] (h .calls) buffer (observedLine buffer place back) (zeros-hold (h .start) (h .empty)) (h .linked)
-          (λ register held. (does ∙ line-handed buffer place (held .keeps) ∙ ap (λ r. handing 0 (lineAt r place)) (held .holds), tt));
+      list = carries buffer (observedLine buffer place back) (λ register held. (handing-gets buffer register held place back does, tt));
     }
 
 pub report-promise : (buffer output : List ℕ) (back : ReportCalled) → back ≡ reportCall buffer output → ReportPromise buffer output back
@@ -250,44 +432,65 @@ report-promise buffer output back does =
     record {
       does = does;
       keeps = λ n.
-          let kept = report-keeps buffer output (λ z. n (ap (λ (x : ReportCalled). x .number) does ∙ z)) in
-          (ap (λ (x : ReportCalled). x .left) does ∙ kept .0, ap (λ (x : ReportCalled). x .size) does ∙ kept .1);
-      list = λ h.
-          list-claim (h .start) [] (h .calls) buffer (observedReport buffer output back) (zeros-hold (h .start) (h .empty)) (h .linked)
-          (λ register held. (report-claim buffer output back register held does, tt));
+          let same = report-same buffer output (λ z. n (ap (λ (x : ReportCalled). x .number) does ∙ z)) in
+          (ap (λ (x : ReportCalled). x .left) does ∙ same .0, ap (λ (x : ReportCalled). x .size) does ∙ same .1);
+      list = carries buffer (observedReport buffer output back) (λ register held. (report-gets buffer output back register held does, tt));
     }
 
--- The rules hold exactly of what calls can leave. What they leave keeps the rules, and holds the fold of the lines offered;
+-- The rules hold exactly of the registers that aren't opened, and of what calls make of them. What they leave keeps the rules, and holds what the
+-- acts make of the register there at first;
+unfoldable pub acts : List Observed → List Act
+acts [] = []
+acts (observedOpen given currency back ∷ calls) = opening currency ∷ acts calls
+acts (observedOffer given line back ∷ calls) = offering line ∷ acts calls
+acts (observedLine given place back ∷ calls) = acts calls
+acts (observedReport given output back ∷ calls) = acts calls
+
 linked-holds : (buffer : List ℕ) (register : Register) (calls : List Observed) (left : List ℕ) → Holds buffer register → Linked buffer calls left
-    → Holds left (fold register (linesOffered calls))
-unfolding Linked linesOffered fold
+    → Holds left (fold register (acts calls))
+unfolding Linked acts fold
 linked-holds buffer register [] left h same = same-holds buffer left register same h
+linked-holds buffer register (observedOpen b currency back ∷ calls) left h (at, does, linked) =
+    let next = open-holds b register (same-holds buffer b register at h) currency in
+    linked-holds (back .left) (after register (opening currency)) calls left
+    (subst (λ (x : BufferCalled). Holds (x .left) (after register (opening currency))) (sym does) next) linked
 linked-holds buffer register (observedOffer b line back ∷ calls) left h (at, does, linked) =
-    let next = offer-holds b line register (same-holds buffer b register at h) in
-    linked-holds (back .left) (offered register line) calls left
-    (subst (λ (x : OfferCalled). Holds (x .left) (offered register line)) (sym does) next) linked
+    let next = offer-holds b register (same-holds buffer b register at h) line in
+    linked-holds (back .left) (after register (offering line)) calls left
+    (subst (λ (x : BufferCalled). Holds (x .left) (after register (offering line))) (sym does) next) linked
 linked-holds buffer register (observedLine b place back ∷ calls) left h (at, does, linked) =
     linked-holds b register calls left (same-holds buffer b register at h) linked
 linked-holds buffer register (observedReport b output back ∷ calls) left h (at, does, linked) =
     linked-holds b register calls left (same-holds buffer b register at h) linked
 
-pub history-holds : (buffer : List ℕ) (h : History buffer) → Holds buffer (fold [] (linesOffered (h .calls)))
-history-holds buffer h = linked-holds (h .start) [] (h .calls) buffer (zeros-hold (h .start) (h .empty)) (h .linked)
+pub history-holds : (buffer : List ℕ) (h : History buffer) → Holds buffer (fold (registerIn (h .start)) (acts (h .calls)))
+history-holds buffer h = linked-holds (h .start) (registerIn (h .start)) (h .calls) buffer (old-holds (h .start) (h .old)) (h .linked)
 
--- and each buffer that keeps them is left by calls: the offers of its lines, one after another.
-offers : (buffer : List ℕ) (lines : List (List ℕ)) → List Observed
-offers buffer [] = []
-offers buffer (line ∷ lines) = observedOffer buffer line (offerCall buffer line) ∷ offers (offerCall buffer line .left) lines
+-- and each buffer that keeps them is left by calls: one that isn't opened by none, one that is by an opening with its house currency and offers of
+-- its lines, from zeros on.
+unfoldable observed : (buffer : List ℕ) → Act → Observed
+observed buffer (opening currency) = observedOpen buffer currency (openCall buffer currency)
+observed buffer (offering line) = observedOffer buffer line (offerCall buffer line)
 
-offered-lines : (buffer : List ℕ) (lines : List (List ℕ)) → linesOffered (offers buffer lines) ≡ lines
-unfolding offers linesOffered
-offered-lines buffer [] = refl
-offered-lines buffer (line ∷ lines) = ap (λ l. line ∷ l) (offered-lines (offerCall buffer line .left) lines)
+unfoldable leaves : (buffer : List ℕ) → Act → List ℕ
+leaves buffer (opening currency) = openCall buffer currency .left
+leaves buffer (offering line) = offerCall buffer line .left
 
-offers-linked : (buffer : List ℕ) (lines : List (List ℕ)) → (left : List ℕ) × Linked buffer (offers buffer lines) left
-unfolding offers Linked
-offers-linked buffer [] = (buffer, refl)
-offers-linked buffer (line ∷ lines) = let rest = offers-linked (offerCall buffer line .left) lines in (rest .0, (refl, refl, rest .1))
+unfoldable done : (buffer : List ℕ) (todo : List Act) → List Observed
+done buffer [] = []
+done buffer (act ∷ more) = observed buffer act ∷ done (leaves buffer act) more
+
+done-acts : (buffer : List ℕ) (todo : List Act) → acts (done buffer todo) ≡ todo
+unfolding done observed leaves acts
+done-acts buffer [] = refl
+done-acts buffer (opening currency ∷ more) = ap (λ (l : List Act). opening currency ∷ l) (done-acts (openCall buffer currency .left) more)
+done-acts buffer (offering line ∷ more) = ap (λ (l : List Act). offering line ∷ l) (done-acts (offerCall buffer line .left) more)
+
+done-linked : (buffer : List ℕ) (todo : List Act) → (left : List ℕ) × Linked buffer (done buffer todo) left
+unfolding done observed leaves Linked
+done-linked buffer [] = (buffer, refl)
+done-linked buffer (opening currency ∷ more) = let rest = done-linked (openCall buffer currency .left) more in (rest .0, (refl, refl, rest .1))
+done-linked buffer (offering line ∷ more) = let rest = done-linked (offerCall buffer line .left) more in (rest .0, (refl, refl, rest .1))
 
 same-bytes : (b c : List ℕ) (register : Register) → Holds b register → Holds c register → take registerSize b ≡ take registerSize c
 same-bytes b c register h g =
@@ -297,22 +500,33 @@ linked-to : (b : List ℕ) (calls : List Observed) (left other : List ℕ) → t
     → Linked b calls other
 unfolding Linked
 linked-to b [] left other e same = same ∙ e
+linked-to b (observedOpen given currency back ∷ calls) left other e (at, does, linked) =
+    (at, does, linked-to (back .left) calls left other e linked)
 linked-to b (observedOffer given line back ∷ calls) left other e (at, does, linked) = (at, does, linked-to (back .left) calls left other e linked)
 linked-to b (observedLine given place back ∷ calls) left other e (at, does, linked) = (at, does, linked-to given calls left other e linked)
 linked-to b (observedReport given output back ∷ calls) left other e (at, does, linked) = (at, does, linked-to given calls left other e linked)
 
-pub keeps-history : (buffer : List ℕ) → bufferKeeps buffer ≡ true → History buffer
-keeps-history buffer e =
+opened-history : (buffer : List ℕ) → bufferKeeps buffer ≡ true → isOpen (registerIn buffer) ≡ true → History buffer
+opened-history buffer e is =
     let start : List ℕ = replicate registerSize 0 in
-    let empty : take registerSize start ≡ start = take-all registerSize start (omega (arith, length-replicate {A = ℕ} registerSize 0)) in
+    let zeros : take registerSize start ≡ start = take-all registerSize start (omega (arith, length-replicate {A = ℕ} registerSize 0)) in
     let r = registerIn buffer in
-    let made = offers-linked start r in
-    let held = linked-holds start [] (offers start r) (made .0) (zeros-hold start empty) (made .1) in
-    let same : fold [] (linesOffered (offers start r)) ≡ r = ap (fold []) (offered-lines start r) ∙ is-fold r (is-register r (read-sound buffer e)) in
+    let todo : List Act = opening (r .house) ∷ map offering (r .lines) in
+    let made = done-linked start todo in
+    let held = linked-holds start nothing (done start todo) (made .0) (zeros-hold start zeros) (made .1) in
+    let same : fold nothing (acts (done start todo)) ≡ r = ap (fold nothing) (done-acts start todo) ∙ is-fold r
+    (is-register r (read-sound buffer e)) is in
     let own : Holds buffer r = record { keeps = e; holds = refl } in
     record {
       start = start;
-      empty = empty;
-      calls = offers start r;
-      linked = linked-to start (offers start r) (made .0) buffer (same-bytes (made .0) buffer r (subst (Holds (made .0)) same held) own) (made .1);
+      old = zeros-old start zeros;
+      calls = done start todo;
+      linked = linked-to start (done start todo) (made .0) buffer (same-bytes (made .0) buffer r (subst (Holds (made .0)) same held) own) (made .1);
     }
+
+pub keeps-history : (buffer : List ℕ) → bufferKeeps buffer ≡ true → History buffer
+unfolding Linked
+keeps-history buffer e =
+    test-cases (λ t. isOpen (registerIn buffer) ≡ t → History buffer) (isOpen (registerIn buffer))
+    (λ is _. opened-history buffer e is)
+    (λ is _. record { start = buffer; old = record { keeps = e; unopened = is }; calls = []; linked = refl }) refl

@@ -1,31 +1,47 @@
--- What the register's calls give and leave, for every buffer and line. Assumes nothing.
-use mathlib.Core.Bool.{cond}
+-- What the register's calls give and leave, for every buffer, currency and line. Assumes nothing.
+use mathlib.Core.Bool.{Bool, cond, not, _&&_}
 use mathlib.Core.List.{List, [], _++_}
 use Prim.Native.Nat.{ℕ, _-_}
 use lib.Dec.{leb}
 use lib.ListN.{length, drop, replicate}
 use Rattle.register.specs.Buffer.{registerSize, image, registerIn, bufferKeeps}
-use Rattle.register.specs.Register.{Register, offerNumber, offered, lineAt}
+use Rattle.register.specs.Line.{isCurrency}
+use Rattle.register.specs.Register.{Register, isOpen, offerNumber, offered, opened, lineAt}
 use Rattle.register.specs.Report.{report}
 
--- what comes back of an offer: the number, and the buffer as it is left
-pub record OfferCalled : Type 0 where
+-- what comes back of an opening and of an offer: the number, and the buffer as it is left
+pub record BufferCalled : Type 0 where
   pub number : ℕ
   pub left : List ℕ
+
+-- W2.6 "a call turned down leaves it unchanged"
+unfoldable pub turnedDown : (number : ℕ) (buffer : List ℕ) → BufferCalled
+turnedDown number buffer = record { number = number; left = buffer }
 
 -- W2.5 the buffer with another register "in the first 8,192 bytes"; what stands behind them stays
 unfoldable pub withRegister : (buffer : List ℕ) → Register → List ℕ
 withRegister buffer register = image register ++ drop registerSize buffer
 
--- W2.1 "one a call, without byte 10"; W2.7 14 first, then what the register answers; W2.6 "a call turned down leaves it unchanged"
-unfoldable pub offerCall : (buffer line : List ℕ) → OfferCalled
+-- W10.6 "29 when the house currency given isn't three letters A-Z, checked before all else on opening"; then 14
+unfoldable pub openCall : (buffer currency : List ℕ) → BufferCalled
+openCall buffer currency =
+    cond (not (isCurrency currency)) (turnedDown 29 buffer)
+    (cond (not (bufferKeeps buffer)) (turnedDown 14 buffer)
+    (record { number = 0; left = withRegister buffer (opened (registerIn buffer) currency) }))
+
+-- W10.6 "until it is opened, every other call on a register gets 14"
+unfoldable pub bufferOpen : (buffer : List ℕ) → Bool
+bufferOpen buffer = bufferKeeps buffer && isOpen (registerIn buffer)
+
+-- W2.1 "one a call, without byte 10"; W2.7 14 first, then what the register answers
+unfoldable pub offerCall : (buffer line : List ℕ) → BufferCalled
 offerCall buffer line =
-    cond (bufferKeeps buffer)
+    cond (bufferOpen buffer)
     (record {
-      number = offerNumber (registerIn buffer) line;
+      number = offerNumber (registerIn buffer .lines) line;
       left = withRegister buffer (offered (registerIn buffer) line);
     })
-    (record { number = 14; left = buffer })
+    (turnedDown 14 buffer)
 
 -- the bytes that a line is handed out in
 abbrev pub lineSize : ℕ
@@ -42,7 +58,7 @@ handing number line = record { number = number; line = line ++ replicate (lineSi
 
 -- W2.5 "an empty one where none stands or 14 is given"
 unfoldable pub lineCall : (buffer : List ℕ) (place : ℕ) → LineCalled
-lineCall buffer place = cond (bufferKeeps buffer) (handing 0 (lineAt (registerIn buffer) place)) (handing 14 [])
+lineCall buffer place = cond (bufferOpen buffer) (handing 0 (lineAt (registerIn buffer .lines) place)) (handing 14 [])
 
 -- what comes back of a report: the number, the output as it is left, and how many bytes were put
 pub record ReportCalled : Type 0 where
@@ -63,4 +79,4 @@ putting put output =
 
 -- W4.1 "At the close staff print the register."; D1 "A call gives the lowest number that applies": 14 before 21
 unfoldable pub reportCall : (buffer output : List ℕ) → ReportCalled
-reportCall buffer output = cond (bufferKeeps buffer) (putting (report (registerIn buffer)) output) (puttingNothing 14 output)
+reportCall buffer output = cond (bufferOpen buffer) (putting (report (registerIn buffer .lines)) output) (puttingNothing 14 output)

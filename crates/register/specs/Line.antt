@@ -1,6 +1,6 @@
--- Document 02, wish 2: a contract line and its form. Assumes nothing.
-use mathlib.Core.Bool.{Bool, true, false, not, _&&_}
-use mathlib.Core.List.{List, [], _∷_}
+-- Document 02, wishes 2 and 10: a contract line and its form, without and with a currency. Assumes nothing.
+use mathlib.Core.Bool.{Bool, true, false, cond, not, _&&_, _||_}
+use mathlib.Core.List.{List, [], _∷_, _++_}
 use Prim.Native.Nat.{ℕ}
 use lib.Dec.{eqb}
 use lib.ListN.{length, getD}
@@ -46,10 +46,33 @@ each [] (f ∷ fs) = false
 each (t ∷ ts) [] = false
 each (t ∷ ts) (f ∷ fs) = t f && each ts fs
 
--- W2.2 "A line is contract, grain, tonnes, price, parted by commas."
+-- W2.2 "A line is contract, grain, tonnes, price, parted by commas.": a line of four fields
 unfoldable pub isLine : List ℕ → Bool
 isLine line = each (isContract ∷ isGrain ∷ isTonnes ∷ isPrice ∷ []) (fields line)
 
--- the contract of a line: its first field
+-- W10.2 "three letters A-Z"
+unfoldable pub isCurrency : List ℕ → Bool
+isCurrency f = eqb (length f) 3 && all isLetter f
+
+-- W10.2 "The register record gets a fifth field": a line of five
+unfoldable pub isRecord : List ℕ → Bool
+isRecord line = each (isContract ∷ isGrain ∷ isTonnes ∷ isPrice ∷ isCurrency ∷ []) (fields line)
+
+-- the form of a line offered: four fields or five
+unfoldable pub hasForm : List ℕ → Bool
+hasForm line = isLine line || isRecord line
+
+-- the contract of a line, its first field; and the currency of a record, its fifth
 unfoldable pub contractOf : List ℕ → List ℕ
 contractOf line = getD (fields line) 0 []
+
+unfoldable pub currencyOf : List ℕ → List ℕ
+currencyOf line = getD (fields line) 4 []
+
+-- a line with a currency behind it as one field more
+unfoldable pub written : (currency line : List ℕ) → List ℕ
+written currency line = line ++ (comma ∷ currency)
+
+-- W10.3 "a line of four fields is stored with it written out", one of five as it came
+unfoldable pub stored : (house line : List ℕ) → List ℕ
+stored house line = cond (isLine line) (written house line) line

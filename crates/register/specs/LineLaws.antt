@@ -1,5 +1,6 @@
--- What the form of a line tells of its bytes, and how its fields are found one after the other. Assumes nothing.
-use mathlib.Core.Bool.{Bool, true, false, not, _&&_, false≢true}
+-- What the form of a line tells of its bytes, how its fields are found one after the other, and lines with a currency written behind them. Assumes
+-- nothing.
+use mathlib.Core.Bool.{Bool, true, false, not, _&&_, _||_, false≢true}
 use mathlib.Core.List.{List, [], _∷_, _++_}
 use mathlib.Core.Path.{_≡_, refl, sym, ap, _∙_}
 use Prim.Native.Nat.{ℕ, zero, suc, _+_, _*_, _-_, _≤_, _<_}
@@ -26,7 +27,12 @@ use Rattle.register.specs.Line.{
   isPrice,
   each,
   isLine,
+  isCurrency,
+  isRecord,
+  hasForm,
   contractOf,
+  currencyOf,
+  written,
 }
 
 -- v with so many zeros behind it
@@ -161,17 +167,20 @@ fields-all p c (b ∷ l) a =
         let first = both-true (p b) (all p f) (parts .0) in
         (first .0, both-pass (first .1) (parts .1))
 
--- What a line of good form is: four fields, each with its form.
+-- What a line of good form is: four fields, each with its form, and a currency or none behind them.
 pub record Formed (line : List ℕ) : Type 0 where
   pub contract : List ℕ
   pub grain : List ℕ
   pub tonnes : List ℕ
   pub price : List ℕ
-  pub parts : fields line ≡ contract ∷ grain ∷ tonnes ∷ price ∷ []
+  pub more : List (List ℕ)
+  pub parts : fields line ≡ contract ∷ grain ∷ tonnes ∷ price ∷ more
   pub contract-form : isContract contract ≡ true
   pub grain-form : isGrain grain ≡ true
   pub tonnes-form : isTonnes tonnes ≡ true
   pub price-form : isPrice price ≡ true
+  pub more-form : all isCurrency more ≡ true
+  pub more-few : length more ≤ 1
 
 -- fields that pass their tests: the first passes the first, the others theirs; and without tests there are none
 record First (t : List ℕ → Bool) (ts : List (List ℕ → Bool)) (fs : List (List ℕ)) : Type 0 where
@@ -188,31 +197,74 @@ each-first t ts (f ∷ fs) e =
     let parts = both-true (t f) (each ts fs) e in
     record { field = f; rest = fs; is = refl; passes = parts .0; others = parts .1 }
 
-each-none : (fs : List (List ℕ)) → each [] fs ≡ true → fs ≡ []
+pub each-none : (fs : List (List ℕ)) → each [] fs ≡ true → fs ≡ []
 unfolding each
 each-none [] e = refl
 each-none (f ∷ fs) e = absurd (false≢true e)
 
-pub formed : (line : List ℕ) → isLine line ≡ true → Formed line
-unfolding isLine
-formed line e =
-    let one = each-first isContract (isGrain ∷ isTonnes ∷ isPrice ∷ []) (fields line) e in
-    let two = each-first isGrain (isTonnes ∷ isPrice ∷ []) (one .rest) (one .others) in
-    let three = each-first isTonnes (isPrice ∷ []) (two .rest) (two .others) in
-    let four = each-first isPrice [] (three .rest) (three .others) in
-    let first : List ℕ → List (List ℕ) → List (List ℕ) = λ f fs. f ∷ fs in
-    let last = four .is ∙ ap (first (four .field)) (each-none (four .rest) (four .others)) in
-    record {
-      contract = one .field;
-      grain = two .field;
-      tonnes = three .field;
-      price = four .field;
-      parts = one .is ∙ ap (first (one .field)) (two .is ∙ ap (first (two .field)) (three .is ∙ ap (first (three .field)) last));
-      contract-form = one .passes;
-      grain-form = two .passes;
-      tonnes-form = three .passes;
-      price-form = four .passes;
-    }
+-- a line whose fields pass the tests of the four and of what stands behind them
+module _ (line : List ℕ) (ts : List (List ℕ → Bool))
+    (all-of : (fs : List (List ℕ)) → each ts fs ≡ true → (all isCurrency fs ≡ true) × (length fs ≤ 1)) where
+  formed-by : each (isContract ∷ isGrain ∷ isTonnes ∷ isPrice ∷ ts) (fields line) ≡ true → Formed line
+  formed-by e =
+      let one = each-first isContract (isGrain ∷ isTonnes ∷ isPrice ∷ ts) (fields line) e in
+      let two = each-first isGrain (isTonnes ∷ isPrice ∷ ts) (one .rest) (one .others) in
+      let three = each-first isTonnes (isPrice ∷ ts) (two .rest) (two .others) in
+      let four = each-first isPrice ts (three .rest) (three .others) in
+      let first : List ℕ → List (List ℕ) → List (List ℕ) = λ f fs. f ∷ fs in
+      let behind = all-of (four .rest) (four .others) in
+      record {
+        contract = one .field;
+        grain = two .field;
+        tonnes = three .field;
+        price = four .field;
+        more = four .rest;
+        parts = one .is ∙ ap (first (one .field)) (two .is ∙ ap (first (two .field)) (three .is ∙ ap (first (three .field)) (four .is)));
+        contract-form = one .passes;
+        grain-form = two .passes;
+        tonnes-form = three .passes;
+        price-form = four .passes;
+        more-form = behind .0;
+        more-few = behind .1;
+      }
+
+no-more : (fs : List (List ℕ)) → each [] fs ≡ true → (all isCurrency fs ≡ true) × (length fs ≤ 1)
+unfolding all
+no-more fs e = let none = each-none fs e in (ap (all isCurrency) none, omega (arith, ap length none))
+
+one-more : (fs : List (List ℕ)) → each (isCurrency ∷ []) fs ≡ true → (all isCurrency fs ≡ true) × (length fs ≤ 1)
+unfolding all
+one-more fs e =
+    let one = each-first isCurrency [] fs e in
+    let none = each-none (one .rest) (one .others) in
+    let is : fs ≡ one .field ∷ [] = one .is ∙ ap (λ (l : List (List ℕ)). one .field ∷ l) none in
+    (ap (all isCurrency) is ∙ both-pass (one .passes) refl, omega (arith, ap length is))
+
+-- one of the two forms
+pub form-cases : {A : Type 0} (line : List ℕ) → hasForm line ≡ true → (isLine line ≡ true → A) → (isRecord line ≡ true → A) → A
+unfolding hasForm
+form-cases {A} line e four five =
+    test-cases (λ t. isLine line ≡ t → (t || isRecord line) ≡ true → A) (isLine line) (λ is _ _. four is) (λ _ _ is. five is) refl e
+
+pub line-form : (line : List ℕ) → isLine line ≡ true → hasForm line ≡ true
+unfolding hasForm
+line-form line e = rw e
+
+pub record-form : (line : List ℕ) → isRecord line ≡ true → hasForm line ≡ true
+unfolding hasForm
+record-form line e = test-cases (λ t. (t || isRecord line) ≡ true) (isLine line) (λ _. refl) (λ _. e)
+
+-- as many fields as tests
+pub each-count : (ts : List (List ℕ → Bool)) (fs : List (List ℕ)) → each ts fs ≡ true → length fs ≡ length ts
+unfolding each
+each-count [] [] e = refl
+each-count [] (f ∷ fs) e = absurd (false≢true e)
+each-count (t ∷ ts) [] e = absurd (false≢true e)
+each-count (t ∷ ts) (f ∷ fs) e = ap suc (each-count ts fs (both-true (t f) (each ts fs) e .1))
+
+pub formed : (line : List ℕ) → hasForm line ≡ true → Formed line
+unfolding isLine isRecord
+formed line e = form-cases line e (formed-by line [] no-more) (formed-by line (isCurrency ∷ []) one-more)
 
 -- a byte that isn't zero
 unfoldable pub isText : ℕ → Bool
@@ -227,17 +279,42 @@ module _ {line : List ℕ} (f : Formed line) where
   unfolding contractOf
   contract-is = ap (λ fs. getD fs 0 []) (f .parts)
 
--- W2 the longest line has 24 bytes, and no line is empty
-pub line-size : (line : List ℕ) → isLine line ≡ true → (1 ≤ length line) × (length line ≤ 24)
-unfolding isGrain total
-line-size line e =
-    let f = formed line e in
-    let c = contract-size f in
-    let g = eqb-true (length (f .grain)) 2 (both-true _ _ (f .grain-form) .0) in
-    let t = within 1 5 (length (f .tonnes)) (both-true (isDecimal (f .tonnes)) _ (sym (tonnes-digits (f .tonnes)) ∙ f .tonnes-form) .1) in
-    let p = within 1 6 (length (f .price)) (both-true (isDecimal (f .price)) _ (sym (price-digits (f .price)) ∙ f .price-form) .1) in
-    let whole = sizes line ∙ ap (total (λ x. suc (length x))) (f .parts) in
-    (omega arith, omega arith)
+-- a currency has three bytes, so the fields behind the price have four at most, with their comma
+pub currency-size : (c : List ℕ) → isCurrency c ≡ true → length c ≡ 3
+unfolding isCurrency
+currency-size c e = eqb-true (length c) 3 (both-true (eqb (length c) 3) (all isLetter c) e .0)
+
+more-size : (fs : List (List ℕ)) → all isCurrency fs ≡ true → total (λ f. suc (length f)) fs ≡ 4 * length fs
+unfolding all total
+more-size [] a = refl
+more-size (f ∷ fs) a =
+    let parts = both-true (isCurrency f) (all isCurrency fs) a in
+    let rest = more-size fs (parts .1) in
+    omega (arith, currency-size f (parts .0))
+
+-- how many bytes a line has: 24 at most, and 4 more with a currency; none is empty
+module _ {line : List ℕ} (f : Formed line) where
+  size-by : (1 ≤ length line) × (length line ≤ 24 + 4 * length (f .more))
+  unfolding isGrain total
+  size-by =
+      let c = contract-size f in
+      let g = eqb-true (length (f .grain)) 2 (both-true _ _ (f .grain-form) .0) in
+      let t = within 1 5 (length (f .tonnes)) (both-true (isDecimal (f .tonnes)) _ (sym (tonnes-digits (f .tonnes)) ∙ f .tonnes-form) .1) in
+      let p = within 1 6 (length (f .price)) (both-true (isDecimal (f .price)) _ (sym (price-digits (f .price)) ∙ f .price-form) .1) in
+      let m = more-size (f .more) (f .more-form) in
+      let whole = sizes line ∙ ap (total (λ x. suc (length x))) (f .parts) in
+      (omega arith, omega arith)
+
+-- W2 the longest line has 24 bytes, W10 with its currency 28, and no line is empty
+pub line-size : (line : List ℕ) → hasForm line ≡ true → (1 ≤ length line) × (length line ≤ 28)
+line-size line e = let f = formed line e in let size = size-by f in (size .0, omega (arith, size .1, f .more-few))
+
+pub line-short : (line : List ℕ) → isLine line ≡ true → length line ≤ 24
+unfolding isLine
+line-short line e =
+    let f = formed-by line [] no-more e in
+    let none = each-count (isContract ∷ isGrain ∷ isTonnes ∷ isPrice ∷ []) (fields line) e in
+    omega (arith, size-by f .1, ap length (f .parts), none)
 
 -- W2.3 no byte of a line is below the comma
 unfoldable pub isPlain : ℕ → Bool
@@ -257,7 +334,14 @@ number-bytes most f e = both-true (all isDigit f) _ (both-true (isDecimal f) _ e
 number-plain : (most : ℕ) (f : List ℕ) → isNumber most f ≡ true → all isPlain f ≡ true
 number-plain most f e = all-imply isDigit isPlain digit-plain f (number-bytes most f e)
 
-pub line-plain : (line : List ℕ) → isLine line ≡ true → all isPlain line ≡ true
+pub currency-letters : (c : List ℕ) → isCurrency c ≡ true → all isLetter c ≡ true
+unfolding isCurrency
+currency-letters c e = both-true (eqb (length c) 3) (all isLetter c) e .1
+
+pub currency-plain : (c : List ℕ) → isCurrency c ≡ true → all isPlain c ≡ true
+currency-plain c e = all-imply isLetter isPlain (λ b h. let range = letter b h in plain b (omega arith)) c (currency-letters c e)
+
+pub line-plain : (line : List ℕ) → hasForm line ≡ true → all isPlain line ≡ true
 unfolding isContract isGrain isTonnes isPrice all isPlain comma
 line-plain line e =
     let f = formed line e in
@@ -267,13 +351,19 @@ line-plain line e =
     (both-true (eqb (length (f .grain)) 2) _ (f .grain-form) .1) in
     let t = number-plain 99_999 (f .tonnes) (f .tonnes-form) in
     let p = number-plain 999_999 (f .price) (f .price-form) in
-    fields-all isPlain refl line (rw (f .parts) (both-pass c (both-pass g (both-pass t (both-pass p refl)))))
+    let m = all-imply isCurrency (all isPlain) currency-plain (f .more) (f .more-form) in
+    fields-all isPlain refl line (rw (f .parts) (both-pass c (both-pass g (both-pass t (both-pass p m)))))
 
 -- so none is zero
-pub line-text : (line : List ℕ) → isLine line ≡ true → all isText line ≡ true
+plain-text : (b : ℕ) → isPlain b ≡ true → isText b ≡ true
 unfolding isPlain isText comma
-line-text line e =
-    all-imply isPlain isText (λ b h. ap not (ne-eqb b 0 (λ z. omega (arith, leb-true 44 b h)))) line (line-plain line e)
+plain-text b h = ap not (ne-eqb b 0 (λ z. omega (arith, leb-true 44 b h)))
+
+pub line-text : (line : List ℕ) → hasForm line ≡ true → all isText line ≡ true
+line-text line e = all-imply isPlain isText plain-text line (line-plain line e)
+
+pub currency-text : (c : List ℕ) → isCurrency c ≡ true → all isText c ≡ true
+currency-text c e = all-imply isPlain isText plain-text c (currency-plain c e)
 
 -- there is a first field
 abbrev pub firstField : List ℕ → List ℕ
@@ -298,7 +388,7 @@ some-field (b ∷ l) =
     (eqb b comma) (λ _. refl) (λ _. put-some b (fields l))
 
 -- The fields behind the first one, from the byte behind its comma on.
-put-rest : (b : ℕ) (fs : List (List ℕ)) → drop 1 (onFirst b fs) ≡ drop 1 fs
+pub put-rest : (b : ℕ) (fs : List (List ℕ)) → drop 1 (onFirst b fs) ≡ drop 1 fs
 unfolding onFirst
 put-rest b [] = refl
 put-rest b (f ∷ fs) = refl
@@ -362,6 +452,19 @@ pub first-fails : (t : List ℕ → Bool) (ts : List (List ℕ → Bool)) (l : L
 unfolding each
 first-fails t ts l e = rw (some-field l, e)
 
+-- a field without a comma behind it is all that is left
+pub field-alone : (l : List ℕ) → drop 1 (fields l) ≡ [] → firstField l ≡ l
+unfolding fields onFirst
+field-alone [] e = refl
+field-alone (b ∷ l) e =
+    test-cases
+    (λ t.
+    (let gs = elim t as (λ _. List (List ℕ)) [ true ↦ [] ∷ fields l | false ↦ onFirst b (fields l) ] in
+    drop 1 gs ≡ [] → getD gs 0 [] ≡ b ∷ l))
+    (eqb b comma) (λ _ h. absurd (omega (arith, ap length (sym (some-field l) ∙ h))))
+    (λ _ h. put-first b (fields l) ∙ ap (λ f. b ∷ f) (field-alone l (sym (put-rest b (fields l)) ∙ h)))
+    e
+
 -- a line begins with its contract
 pub contract-front : (line : List ℕ) → take (length (contractOf line)) line ≡ contractOf line
 unfolding contractOf fields
@@ -380,7 +483,7 @@ pub record Contract (line : List ℕ) : Type 0 where
   pub short : length (contractOf line) ≤ 8
   pub names : all isNameByte (contractOf line) ≡ true
 
-pub contract-form : (line : List ℕ) → isLine line ≡ true → Contract line
+pub contract-form : (line : List ℕ) → hasForm line ≡ true → Contract line
 unfolding isContract
 contract-form line e =
     let f = formed line e in
@@ -391,3 +494,93 @@ contract-form line e =
       short = omega (arith, ap length is);
       names = ap (all isNameByte) is ∙ both-true (between 1 8 (length (f .contract))) _ (f .contract-form) .1;
     }
+
+-- A line and a record exclude each other: they have four fields and five.
+pub not-both : (line : List ℕ) → isLine line ≡ true → isRecord line ≡ false
+unfolding isLine isRecord
+not-both line e =
+    test-cases (λ t. isRecord line ≡ t → t ≡ false) (isRecord line)
+    (λ is _. absurd (omega (arith, each-count _ (fields line) e, each-count _ (fields line) is))) (λ _ _. refl) refl
+
+onFirst-append : (b : ℕ) (fs gs : List (List ℕ)) → ¬ (fs ≡ []) → onFirst b (fs ++ gs) ≡ onFirst b fs ++ gs
+unfolding onFirst
+onFirst-append b [] gs n = absurd (n refl)
+onFirst-append b (f ∷ fs) gs n = refl
+
+fields-some : (l : List ℕ) → ¬ (fields l ≡ [])
+fields-some l e = omega (arith, ap length (sym (some-field l) ∙ e))
+
+-- A line with a currency behind it has its fields and that one more.
+module _ (c : List ℕ) (is : isCurrency c ≡ true) where
+  each-behind : (ts : List (List ℕ → Bool)) (fs : List (List ℕ)) → each ts fs ≡ true → each (ts ++ (isCurrency ∷ [])) (fs ++ (c ∷ [])) ≡ true
+  unfolding each
+  each-behind [] [] e = both-pass is refl
+  each-behind [] (f ∷ fs) e = absurd (false≢true e)
+  each-behind (t ∷ ts) [] e = absurd (false≢true e)
+  each-behind (t ∷ ts) (f ∷ fs) e =
+      let parts = both-true (t f) (each ts fs) e in
+      both-pass (parts .0) (each-behind ts fs (parts .1))
+
+  pub written-fields : (line : List ℕ) → fields (written c line) ≡ fields line ++ (c ∷ [])
+  unfolding written fields comma isLetter between
+  written-fields [] = ap (λ fs. [] ∷ fs) (run-whole isLetter refl c (currency-letters c is))
+  written-fields (b ∷ line) =
+      test-cases
+      (λ t. elim t as (λ _. List (List ℕ)) [ true ↦ [] ∷ fields (line ++ (44 ∷ c)) | false ↦ onFirst b (fields (line ++ (44 ∷ c))) ]
+      ≡ elim t as (λ _. List (List ℕ)) [ true ↦ [] ∷ fields line | false ↦ onFirst b (fields line) ] ++ (c ∷ []))
+      (eqb b 44)
+      (λ _. ap (λ (fs : List (List ℕ)). [] ∷ fs) (written-fields line))
+      (λ _. ap (onFirst b) (written-fields line) ∙ onFirst-append b (fields line) (c ∷ []) (fields-some line))
+
+  pub written-contract : (line : List ℕ) → contractOf (written c line) ≡ contractOf line
+  unfolding contractOf
+  written-contract line =
+      let first : List (List ℕ) → List ℕ = λ fs. getD fs 0 [] in
+      ap first (written-fields line ∙ ap (λ fs. fs ++ (c ∷ [])) (some-field line)) ∙ sym (ap first (some-field line))
+
+  pub written-record : (line : List ℕ) → isLine line ≡ true → isRecord (written c line) ≡ true
+  unfolding isLine isRecord
+  written-record line e =
+      ap (each (isContract ∷ isGrain ∷ isTonnes ∷ isPrice ∷ isCurrency ∷ [])) (written-fields line)
+      ∙ each-behind (isContract ∷ isGrain ∷ isTonnes ∷ isPrice ∷ []) (fields line) e
+
+-- A register record: five fields, each with its form.
+pub record Recorded (line : List ℕ) : Type 0 where
+  pub contract : List ℕ
+  pub grain : List ℕ
+  pub tonnes : List ℕ
+  pub price : List ℕ
+  pub currency : List ℕ
+  pub parts : fields line ≡ contract ∷ grain ∷ tonnes ∷ price ∷ currency ∷ []
+  pub grain-form : isGrain grain ≡ true
+  pub tonnes-form : isTonnes tonnes ≡ true
+  pub price-form : isPrice price ≡ true
+  pub currency-form : isCurrency currency ≡ true
+
+only : (fs : List (List ℕ)) → length fs ≡ 1 → fs ≡ getD fs 0 [] ∷ []
+only [] e = absurd (omega (arith, e))
+only (f ∷ []) e = refl
+only (f ∷ g ∷ fs) e = absurd (omega (arith, e))
+
+pub recorded : (line : List ℕ) → isRecord line ≡ true → Recorded line
+unfolding isRecord all
+recorded line e =
+    let f = formed line (record-form line e) in
+    let five = each-count (isContract ∷ isGrain ∷ isTonnes ∷ isPrice ∷ isCurrency ∷ []) (fields line) e in
+    let last : f .more ≡ getD (f .more) 0 [] ∷ [] = only (f .more) (omega (arith, five, ap length (f .parts))) in
+    record {
+      contract = f .contract;
+      grain = f .grain;
+      tonnes = f .tonnes;
+      price = f .price;
+      currency = getD (f .more) 0 [];
+      parts = f .parts ∙ ap (λ (fs : List (List ℕ)). f .contract ∷ f .grain ∷ f .tonnes ∷ f .price ∷ fs) last;
+      grain-form = f .grain-form;
+      tonnes-form = f .tonnes-form;
+      price-form = f .price-form;
+      currency-form = both-true (isCurrency (getD (f .more) 0 [])) true (sym (ap (all isCurrency) last) ∙ f .more-form) .0;
+    }
+
+pub currency-is : {line : List ℕ} (r : Recorded line) → currencyOf line ≡ r .currency
+unfolding currencyOf
+currency-is r = ap (λ fs. getD fs 4 []) (r .parts)

@@ -1,50 +1,95 @@
--- Document 02, wish 2: the register as a list of lines, what offering answers and leaves, and what is handed out. Assumes nothing.
-use mathlib.Core.Bool.{Bool, true, cond, not, _&&_}
-use mathlib.Core.List.{List, [], _∷_, _++_}
+-- Document 02, wishes 2 and 10: the register as its house currency and its lines, what opening and offering answer and leave, and what is handed
+-- out. Assumes nothing.
+use mathlib.Core.Bool.{Bool, true, cond, not, _&&_, _||_}
+use mathlib.Core.List.{List, [], _∷_, _++_, map}
 use Prim.Native.Nat.{ℕ}
 use lib.Dec.{eqb, leb}
 use lib.ListN.{length, getD}
-use Rattle.base.specs.Lists.{all, any, same}
-use Rattle.register.specs.Line.{contractOf, isLine}
+use Rattle.base.specs.Lists.{all, any, same, isNil}
+use Rattle.register.specs.Line.{contractOf, hasForm, isCurrency, isLine, isRecord, stored, written}
 
--- W2.5 "Lines are kept in order of arrival": the lines held, the first that came first
-abbrev pub Register : Type 0
-Register = List (List ℕ)
+-- W2.5 "Lines are kept in order of arrival": the first that came first
+abbrev pub Lines : Type 0
+Lines = List (List ℕ)
+
+-- W10.3 the house currency that the register was told on opening, none until then; and its lines
+pub record Register : Type 0 where
+  pub house : List ℕ
+  pub lines : Lines
+
+-- W10.6 "until it is opened"
+unfoldable pub isOpen : Register → Bool
+isOpen register = not (isNil (register .house))
+
+-- the empty register, not opened
+abbrev pub nothing : Register
+nothing = record { house = []; lines = [] }
 
 -- W2.7 "256 lines are held"
 abbrev pub mostLines : ℕ
 mostLines = 256
 
 -- W2.7 "its contract is held already"
-unfoldable pub holds : Register → (contract : List ℕ) → Bool
-holds register contract = any (λ line. same (contractOf line) contract) register
+unfoldable pub holds : Lines → (contract : List ℕ) → Bool
+holds lines contract = any (λ line. same (contractOf line) contract) lines
 
 -- W2.7 "25 when a line breaks its form, 26 when its contract is held already, 27 when 256 lines are held": the lowest that applies, else 0
 unfoldable pub lowestOf : (formed held full : Bool) → ℕ
 lowestOf formed held full = cond (not formed) 25 (cond held 26 (cond full 27 0))
 
 -- the number for a line offered
-unfoldable pub offerNumber : Register → (line : List ℕ) → ℕ
-offerNumber register line = lowestOf (isLine line) (holds register (contractOf line)) (leb mostLines (length register))
+unfoldable pub offerNumber : Lines → (line : List ℕ) → ℕ
+offerNumber lines line = lowestOf (hasForm line) (holds lines (contractOf line)) (leb mostLines (length lines))
 
--- W2.5 a line that is taken stands behind all others; W2.6 "a call turned down leaves it unchanged"
+-- a register with a line behind the others, W10.3 with its currency
+abbrev pub withLine : Register → (line : List ℕ) → Register
+withLine register line = record { house = register .house; lines = register .lines ++ (stored (register .house) line ∷ []) }
+
+-- Of an opened register (`after` and Calls: bufferOpen see to that): W2.5 a line that is taken stands behind all others, W10.3 with its currency;
+-- W2.6 "a call turned down leaves it unchanged"
 unfoldable pub offered : Register → (line : List ℕ) → Register
-offered register line = cond (eqb (offerNumber register line) 0) (register ++ (line ∷ [])) register
+offered register line = cond (eqb (offerNumber (register .lines) line) 0) (withLine register line) register
 
--- the register after a list of lines offered, one after another
-unfoldable pub fold : Register → (lines : List (List ℕ)) → Register
+-- W10.3 "On opening, the register is told the house currency", "a held register of old lines is rewritten so, with order and other fields kept;
+-- opening again changes only the house currency"
+unfoldable pub opened : Register → (currency : List ℕ) → Register
+opened register currency =
+    record { house = currency; lines = cond (isOpen register) (register .lines) (map (written currency) (register .lines)) }
+
+-- what is done to a register, and what it is then: W10.6 an opening with what isn't a currency is turned down, and so is an offer before the
+-- register is opened
+pub data Act : Type 0 where
+  opening : (currency : List ℕ) → Act
+  offering : (line : List ℕ) → Act
+
+unfoldable pub after : Register → Act → Register
+after register (opening currency) = cond (isCurrency currency) (opened register currency) register
+after register (offering line) = cond (isOpen register) (offered register line) register
+
+unfoldable pub fold : Register → (acts : List Act) → Register
 fold register [] = register
-fold register (line ∷ lines) = fold (offered register line) lines
+fold register (act ∷ acts) = fold (after register act) acts
 
--- W2.5 "the register hands out any line by its place from 0, byte for byte as it came, an empty one where none stands"
-unfoldable pub lineAt : Register → (place : ℕ) → List ℕ
-lineAt register place = getD register place []
+-- W2.5 "the register hands out any line by its place from 0", "an empty one where none stands"; W10.5 "Handing out gives five fields, which replaces
+-- the byte-for-byte wish for lines of four"
+unfoldable pub lineAt : Lines → (place : ℕ) → List ℕ
+lineAt lines place = getD lines place []
 
 -- no two lines have the same contract
-unfoldable pub differ : Register → Bool
+unfoldable pub differ : Lines → Bool
 differ [] = true
-differ (line ∷ register) = not (holds register (contractOf line)) && differ register
+differ (line ∷ lines) = not (holds lines (contractOf line)) && differ lines
 
--- The registers that a list of offers can leave: up to 256 lines of good form with different contracts (RegisterLaws: fold-is, is-fold).
+-- The form of the lines held: four fields in a register that isn't opened, as wishes 2 and 4 left it; five in one that is.
+unfoldable pub formOf : (house : List ℕ) → (line : List ℕ) → Bool
+formOf house line = cond (isNil house) (isLine line) (isRecord line)
+
+-- a house currency, or none yet
+unfoldable pub isHouse : List ℕ → Bool
+isHouse house = isNil house || isCurrency house
+
+-- The registers: up to 256 lines of this form with different contracts, and a house currency or none yet.
 unfoldable pub isRegister : Register → Bool
-isRegister register = leb (length register) mostLines && (all isLine register && differ register)
+isRegister register =
+    isHouse (register .house)
+    && (leb (length (register .lines)) mostLines && (all (formOf (register .house)) (register .lines) && differ (register .lines)))

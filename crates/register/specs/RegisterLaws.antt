@@ -1,45 +1,124 @@
--- Registers: which a list of offers can leave. Assumes nothing.
-use mathlib.Core.Bool.{Bool, true, false, cond, not, _&&_, _||_}
-use mathlib.Core.List.{List, [], _∷_, _++_, append-assoc, append-nil}
-use mathlib.Core.Path.{_≡_, refl, sym, ap, _∙_, subst}
+-- Registers: what opening and offering leave of one is one, and each that is opened is left by an opening and offers. Assumes nothing.
+use mathlib.Core.Bool.{Bool, true, false, cond, not, _&&_, _||_, false≢true}
+use mathlib.Core.List.{List, [], _∷_, _++_, append-assoc, append-nil, map, map-append, map-id}
+use mathlib.Core.Path.{_≡_, refl, sym, ap, ap₂, _∙_, subst}
 use Prim.Native.Nat.{ℕ, zero, _≤_, _<_}
 use native.Mathlib.Omega.{arith}
 use lib.Dec.{eqb, leb}
-use lib.ListN.{length, length-append}
+use lib.ListN.{length, length-append, length-map}
 use borrow.Author.Tests.{eqb-true, eqb-false, eq-eqb, ne-eqb, leb-true, leb-false, le-leb, lt-leb, not-true}
 use Rattle.base.specs.Choice.{both-true, both-pass, test-cases, neither-true, same-truth}
-use Rattle.base.specs.ListLaws.{all-append, same-true, same-iff}
-use Rattle.base.specs.Lists.{all, any, same}
-use Rattle.register.specs.Line.{contractOf, isLine}
-use Rattle.register.specs.Register.{Register, mostLines, holds, lowestOf, offerNumber, offered, fold, differ, isRegister}
+use Rattle.base.specs.ListLaws.{all-append, all-imply, same-true, same-iff}
+use Rattle.base.specs.Lists.{all, any, isNil, same}
+use Rattle.register.specs.Line.{contractOf, fields, hasForm, isCurrency, isLine, isRecord, stored, written}
+use Rattle.register.specs.LineLaws.{form-cases, line-form, not-both, record-form, written-contract, written-fields, written-record}
+use Rattle.register.specs.MapLaws.{all-map, map-agree}
+use Rattle.register.specs.Register.{
+  Lines,
+  Register,
+  isOpen,
+  nothing,
+  withLine,
+  mostLines,
+  holds,
+  lowestOf,
+  offerNumber,
+  offered,
+  opened,
+  Act,
+  opening,
+  offering,
+  after,
+  fold,
+  differ,
+  formOf,
+  isHouse,
+  isRegister,
+}
 
 -- what a register keeps
 pub record Sound (register : Register) : Type 0 where
-  pub few : length register ≤ mostLines
-  pub lines : all isLine register ≡ true
-  pub different : differ register ≡ true
+  pub home : isHouse (register .house) ≡ true
+  pub few : length (register .lines) ≤ mostLines
+  pub good : all (formOf (register .house)) (register .lines) ≡ true
+  pub different : differ (register .lines) ≡ true
 
 pub sound : (register : Register) → isRegister register ≡ true → Sound register
 unfolding isRegister
 sound register e =
-    let parts = both-true (leb (length register) mostLines) (all isLine register && differ register) e in
-    let rest = both-true (all isLine register) (differ register) (parts .1) in
-    record { few = leb-true (length register) mostLines (parts .0); lines = rest .0; different = rest .1 }
+    let first = both-true (isHouse (register .house)) _ e in
+    let parts = both-true (leb (length (register .lines)) mostLines) _ (first .1) in
+    let rest = both-true (all (formOf (register .house)) (register .lines)) (differ (register .lines)) (parts .1) in
+    record { home = first .0; few = leb-true (length (register .lines)) mostLines (parts .0); good = rest .0; different = rest .1 }
 
 pub is-register : (register : Register) → Sound register → isRegister register ≡ true
 unfolding isRegister
-is-register register s = both-pass (le-leb (length register) mostLines (s .few)) (both-pass (s .lines) (s .different))
+is-register register s =
+    both-pass (s .home) (both-pass (le-leb (length (register .lines)) mostLines (s .few)) (both-pass (s .good) (s .different)))
 
 -- the empty register
-pub empty-sound : Sound []
-unfolding all differ
-empty-sound = record { few = omega arith; lines = refl; different = refl }
+pub empty-sound : Sound nothing
+unfolding all differ isHouse isNil
+empty-sound = record { home = refl; few = omega arith; good = refl; different = refl }
+
+-- The house currency: one where the register is opened, none where it isn't; and the form of its lines.
+pub house-open : (register : Register) → isHouse (register .house) ≡ true → isOpen register ≡ true → isCurrency (register .house) ≡ true
+unfolding isHouse isOpen
+house-open register home is =
+    test-cases (λ t. (t || isCurrency (register .house)) ≡ true → not t ≡ true → isCurrency (register .house) ≡ true) (isNil (register .house))
+    (λ _ _ h. absurd (false≢true h)) (λ _ h _. h) home is
+
+pub currency-some : (house : List ℕ) → isCurrency house ≡ true → isNil house ≡ false
+unfolding isCurrency isNil
+currency-some [] e = absurd (false≢true e)
+currency-some (b ∷ house) e = refl
+
+pub currency-open : (register : Register) → isCurrency (register .house) ≡ true → isOpen register ≡ true
+unfolding isOpen
+currency-open register e = ap not (currency-some (register .house) e)
+
+pub form-open : (house line : List ℕ) → isNil house ≡ false → formOf house line ≡ isRecord line
+unfolding formOf
+form-open house line e = rw e
+
+pub form-old : (house line : List ℕ) → isNil house ≡ true → formOf house line ≡ isLine line
+unfolding formOf
+form-old house line e = rw e
+
+pub form-has : (house line : List ℕ) → formOf house line ≡ true → hasForm line ≡ true
+unfolding formOf
+form-has house line e =
+    test-cases (λ t. cond t (isLine line) (isRecord line) ≡ true → hasForm line ≡ true) (isNil house)
+    (λ _. line-form line) (λ _. record-form line) e
+
+-- A line as it is stored: it has five fields, and its contract.
+module _ (house : List ℕ) (is : isCurrency house ≡ true) where
+  stored-line : (line : List ℕ) → isLine line ≡ true → stored house line ≡ written house line
+  unfolding stored
+  stored-line line e = rw e
+
+  stored-same : (line : List ℕ) → isRecord line ≡ true → stored house line ≡ line
+  unfolding stored
+  stored-same line e =
+      test-cases (λ t. isLine line ≡ t → cond t (written house line) line ≡ line) (isLine line)
+      (λ four _. absurd (false≢true (sym (not-both line four) ∙ e))) (λ _ _. refl) refl
+
+  pub stored-record : (line : List ℕ) → hasForm line ≡ true → isRecord (stored house line) ≡ true
+  stored-record line e =
+      form-cases line e (λ four. ap isRecord (stored-line line four) ∙ written-record house is line four)
+      (λ five. ap isRecord (stored-same line five) ∙ five)
+
+  pub stored-contract : (line : List ℕ) → contractOf (stored house line) ≡ contractOf line
+  unfolding stored
+  stored-contract line =
+      test-cases (λ t. contractOf (cond t (written house line) line) ≡ contractOf line) (isLine line)
+      (λ _. written-contract house is line) (λ _. refl)
 
 -- An offer that gets 0: the line has its form, its contract isn't held, and there is room.
-pub record Taken (register : Register) (line : List ℕ) : Type 0 where
-  pub form : isLine line ≡ true
-  pub fresh : holds register (contractOf line) ≡ false
-  pub room : length register < mostLines
+pub record Taken (held : Lines) (line : List ℕ) : Type 0 where
+  pub form : hasForm line ≡ true
+  pub fresh : holds held (contractOf line) ≡ false
+  pub room : length held < mostLines
 
 chosen : (form held full : Bool) → _≡_ {A = ℕ} (cond (not form) 25 (cond held 26 (cond full 27 0))) 0
     → (form ≡ true) × (held ≡ false) × (full ≡ false)
@@ -48,24 +127,25 @@ chosen true false true e = absurd (omega arith)
 chosen true true full e = absurd (omega arith)
 chosen false held full e = absurd (omega arith)
 
-pub taken : (register : Register) (line : List ℕ) → offerNumber register line ≡ 0 → Taken register line
+pub taken : (held : Lines) (line : List ℕ) → offerNumber held line ≡ 0 → Taken held line
 unfolding offerNumber lowestOf
-taken register line e =
-    let tests = chosen (isLine line) (holds register (contractOf line)) (leb mostLines (length register)) e in
-    record { form = tests .0; fresh = tests .1; room = leb-false mostLines (length register) (tests .2) }
+taken held line e =
+    let tests = chosen (hasForm line) (holds held (contractOf line)) (leb mostLines (length held)) e in
+    record { form = tests .0; fresh = tests .1; room = leb-false mostLines (length held) (tests .2) }
 
-pub taken-zero : (register : Register) (line : List ℕ) → Taken register line → offerNumber register line ≡ 0
+pub taken-zero : (held : Lines) (line : List ℕ) → Taken held line → offerNumber held line ≡ 0
 unfolding offerNumber lowestOf
-taken-zero register line t = rw (t .form, t .fresh, lt-leb mostLines (length register) (t .room))
+taken-zero held line t = rw (t .form, t .fresh, lt-leb mostLines (length held) (t .room))
 
 -- a line that is taken stands behind the others, and one that isn't leaves all as it was
-pub offered-taken : (register : Register) (line : List ℕ) → offerNumber register line ≡ 0 → offered register line ≡ register ++ (line ∷ [])
-unfolding offered
-offered-taken register line e = rw (eq-eqb (offerNumber register line) 0 e)
+module _ (register : Register) (line : List ℕ) where
+  pub offered-taken : offerNumber (register .lines) line ≡ 0 → offered register line ≡ withLine register line
+  unfolding offered
+  offered-taken e = rw (eq-eqb (offerNumber (register .lines) line) 0 e)
 
-pub offered-declined : (register : Register) (line : List ℕ) → ¬ (offerNumber register line ≡ 0) → offered register line ≡ register
-unfolding offered
-offered-declined register line n = rw (ne-eqb (offerNumber register line) 0 n)
+  pub offered-declined : ¬ (offerNumber (register .lines) line ≡ 0) → offered register line ≡ register
+  unfolding offered
+  offered-declined n = rw (ne-eqb (offerNumber (register .lines) line) 0 n)
 
 same-sym : (xs ys : List ℕ) → same xs ys ≡ same ys xs
 same-sym xs ys = same-truth (same xs ys) (same ys xs) (turn xs ys) (turn ys xs)
@@ -74,7 +154,7 @@ same-sym xs ys = same-truth (same xs ys) (same ys xs) (turn xs ys) (turn ys xs)
     turn xs ys e = same-iff ys xs .1 (sym (same-true xs ys e))
 
 -- a contract among the lines of two registers
-holds-append : (r q : Register) (c : List ℕ) → holds (r ++ q) c ≡ (holds r c || holds q c)
+holds-append : (r q : Lines) (c : List ℕ) → holds (r ++ q) c ≡ (holds r c || holds q c)
 unfolding holds any
 holds-append [] q c = refl
 holds-append (l ∷ r) q c = ap (λ b. same (contractOf l) c || b) (holds-append r q c) ∙ or-assoc (same (contractOf l) c) (holds r c) (holds q c)
@@ -84,7 +164,7 @@ holds-append (l ∷ r) q c = ap (λ b. same (contractOf l) c || b) (holds-append
     or-assoc false b d = refl
 
 -- contracts differ still with one more line exactly when its contract isn't held
-pub differ-more : (r : Register) (line : List ℕ) → differ r ≡ true → holds r (contractOf line) ≡ false → differ (r ++ (line ∷ [])) ≡ true
+pub differ-more : (r : Lines) (line : List ℕ) → differ r ≡ true → holds r (contractOf line) ≡ false → differ (r ++ (line ∷ [])) ≡ true
 unfolding differ holds any
 differ-more [] line d h = refl
 differ-more (l ∷ r) line d h =
@@ -95,7 +175,7 @@ differ-more (l ∷ r) line d h =
     ∙ rw (not-true (holds r (contractOf l)) (parts .0), same-sym (contractOf line) (contractOf l), other .0) in
     both-pass (ap not apart) (differ-more r line (parts .1) (other .1))
 
-pub differ-split : (r : Register) (line : List ℕ) (q : Register) → differ (r ++ (line ∷ q)) ≡ true → holds r (contractOf line) ≡ false
+pub differ-split : (r : Lines) (line : List ℕ) (q : Lines) → differ (r ++ (line ∷ q)) ≡ true → holds r (contractOf line) ≡ false
 unfolding differ holds any
 differ-split [] line q d = refl
 differ-split (l ∷ r) line q d =
@@ -104,61 +184,218 @@ differ-split (l ∷ r) line q d =
     let apart = neither-true (same (contractOf line) (contractOf l)) (holds q (contractOf l)) (neither-true (holds r (contractOf l)) _ none .1) in
     rw (same-sym (contractOf l) (contractOf line), apart .0) (differ-split r line q (parts .1))
 
-differ-front : (r q : Register) → differ (r ++ q) ≡ true → differ r ≡ true
-unfolding differ
-differ-front [] q d = refl
-differ-front (l ∷ r) q d =
-    let parts = both-true (not (holds (r ++ q) (contractOf l))) (differ (r ++ q)) d in
-    let none = sym (holds-append r q (contractOf l)) ∙ not-true (holds (r ++ q) (contractOf l)) (parts .0) in
-    both-pass (ap not (neither-true (holds r (contractOf l)) (holds q (contractOf l)) none .0)) (differ-front r q (parts .1))
-
-all-split : (r : Register) (line : List ℕ) (q : Register) → all isLine (r ++ (line ∷ q)) ≡ true → (all isLine r ≡ true) × (isLine line ≡ true)
+all-middle : (p : List ℕ → Bool) (r : Lines) (line : List ℕ) (q : Lines) → all p (r ++ (line ∷ q)) ≡ true → p line ≡ true
 unfolding all
-all-split [] line q a = (refl, both-true (isLine line) (all isLine q) a .0)
-all-split (l ∷ r) line q a =
-    let parts = both-true (isLine l) (all isLine (r ++ (line ∷ q))) a in
-    let rest = all-split r line q (parts .1) in
-    (both-pass (parts .0) (rest .0), rest .1)
+all-middle p [] line q a = both-true (p line) (all p q) a .0
+all-middle p (l ∷ r) line q a = all-middle p r line q (both-true (p l) (all p (r ++ (line ∷ q))) a .1)
 
--- A register stays one with a line that is taken.
-pub taken-sound : (register : Register) (line : List ℕ) → Sound register → Taken register line → Sound (register ++ (line ∷ []))
-unfolding all
-taken-sound register line s t =
-    record {
-      few = simp length-append (omega (arith, t .room));
-      lines = all-append isLine register (line ∷ []) (s .lines) (both-pass (t .form) refl);
-      different = differ-more register line (s .different) (t .fresh);
-    }
+-- Lines changed so that contracts stay: the same contracts are held, and differ as before.
+module _ (change : List ℕ → List ℕ) (same-contract : (line : List ℕ) → contractOf (change line) ≡ contractOf line) where
+  map-holds : (r : Lines) (c : List ℕ) → holds (map change r) c ≡ holds r c
+  unfolding holds any
+  map-holds [] c = refl
+  map-holds (l ∷ r) c = ap₂ {C = Bool} (λ x t. same x c || t) (same-contract l) (map-holds r c)
 
-pub offered-sound : (register : Register) (line : List ℕ) → Sound register → Sound (offered register line)
-offered-sound register line s =
-    test-cases (λ _. Sound (offered register line)) (eqb (offerNumber register line) 0)
-    (λ e.
-    let zero = eqb-true (offerNumber register line) 0 e in
-    subst Sound (sym (offered-taken register line zero)) (taken-sound register line s (taken register line zero)))
-    (λ e. subst Sound (sym (offered-declined register line (eqb-false (offerNumber register line) 0 e))) s)
+  map-differ : (r : Lines) → differ (map change r) ≡ differ r
+  unfolding differ
+  map-differ [] = refl
+  map-differ (l ∷ r) =
+      ap₂ {C = Bool} (λ t u. not t && u) (ap (holds (map change r)) (same-contract l) ∙ map-holds r (contractOf l)) (map-differ r)
 
-fold-sound : (register : Register) (lines : List (List ℕ)) → Sound register → Sound (fold register lines)
+pub map-all : (p q : List ℕ → Bool) (change : List ℕ → List ℕ) → ((line : List ℕ) → p line ≡ true → q (change line) ≡ true) → (r : Lines)
+    → all p r ≡ true → all q (map change r) ≡ true
+map-all p q change f r a = all-map change q r ∙ all-imply p (λ line. q (change line)) f r a
+
+-- The lines of a register that is opened are records; those of one that isn't are lines of four fields.
+pub open-records : (register : Register) → Sound register → isOpen register ≡ true → all isRecord (register .lines) ≡ true
+unfolding isOpen
+open-records register s is =
+    all-imply (formOf (register .house)) isRecord (λ l e. sym (form-open (register .house) l (not-true (isNil (register .house)) is)) ∙ e)
+    (register .lines) (s .good)
+
+nil-closed : (register : Register) → isOpen register ≡ false → isNil (register .house) ≡ true
+unfolding isOpen
+nil-closed register e = test-cases (λ t. not t ≡ false → t ≡ true) (isNil (register .house)) (λ _ _. refl) (λ _ h. absurd (false≢true (sym h))) e
+
+pub old-lines : (register : Register) → Sound register → isOpen register ≡ false → all isLine (register .lines) ≡ true
+old-lines register s e =
+    all-imply (formOf (register .house)) isLine (λ l h. sym (form-old (register .house) l (nil-closed register e)) ∙ h) (register .lines) (s .good)
+
+pub all-forms : (register : Register) → Sound register → all hasForm (register .lines) ≡ true
+all-forms register s = all-imply (formOf (register .house)) hasForm (form-has (register .house)) (register .lines) (s .good)
+
+-- records are of the form of a register that has a currency
+good-records : (house : List ℕ) (ls : Lines) → isCurrency house ≡ true → all isRecord ls ≡ true → all (formOf house) ls ≡ true
+good-records house ls is = all-imply isRecord (formOf house) (λ l e. form-open house l (currency-some house is) ∙ e) ls
+
+pub home-currency : (house : List ℕ) → isCurrency house ≡ true → isHouse house ≡ true
+unfolding isHouse
+home-currency house e = test-cases (λ t. (t || isCurrency house) ≡ true) (isNil house) (λ _. refl) (λ _. e)
+
+-- A register that is opened stays one with a line that is taken.
+module _ (register : Register) (line : List ℕ) (s : Sound register) (is : isOpen register ≡ true) where
+  currency-is : isCurrency (register .house) ≡ true
+  currency-is = house-open register (s .home) is
+
+  pub taken-sound : Taken (register .lines) line → Sound (withLine register line)
+  unfolding all
+  taken-sound t =
+      let kept = stored (register .house) line in
+      let five = stored-record (register .house) currency-is line (t .form) in
+      let form = form-open (register .house) kept (currency-some (register .house) currency-is) ∙ five in
+      let fresh = ap (holds (register .lines)) (stored-contract (register .house) currency-is line) ∙ t .fresh in
+      record {
+        home = s .home;
+        few = omega (arith, t .room, length-append (register .lines) (kept ∷ []));
+        good = all-append (formOf (register .house)) (register .lines) (kept ∷ []) (s .good) (both-pass form refl);
+        different = differ-more (register .lines) kept (s .different) fresh;
+      }
+
+  pub offered-sound : Sound (offered register line)
+  offered-sound =
+      test-cases (λ _. Sound (offered register line)) (eqb (offerNumber (register .lines) line) 0)
+      (λ e.
+      let zero = eqb-true (offerNumber (register .lines) line) 0 e in
+      subst Sound (sym (offered-taken register line zero)) (taken-sound (taken (register .lines) line zero)))
+      (λ e. subst Sound (sym (offered-declined register line (eqb-false (offerNumber (register .lines) line) 0 e))) s)
+
+-- Opening. The lines that are there then; W10.3 "opening again changes only the house currency"
+module _ (register : Register) (c : List ℕ) where
+  pub opened-again : isOpen register ≡ true → opened register c ≡ record { house = c; lines = register .lines }
+  unfolding opened
+  opened-again e = rw e
+
+  pub opened-old : isOpen register ≡ false → opened register c ≡ record { house = c; lines = map (written c) (register .lines) }
+  unfolding opened
+  opened-old e = rw e
+
+-- W10.3 "with order and other fields kept": each line in its place, with its fields and the currency behind them
+pub opened-fields : (register : Register) (c : List ℕ) → isCurrency c ≡ true → isOpen register ≡ false
+    → map fields (opened register c .lines) ≡ map (λ line. fields line ++ (c ∷ [])) (register .lines)
+opened-fields register c is e = ap (λ (r : Register). map fields (r .lines)) (opened-old register c e) ∙ each-line (register .lines)
+  where
+    each-line : (ls : Lines) → map fields (map (written c) ls) ≡ map (λ line. fields line ++ (c ∷ [])) ls
+    each-line [] = refl
+    each-line (l ∷ ls) = ap₂ {C = List Lines} _∷_ (written-fields c is l) (each-line ls)
+
+pub opened-sound : (register : Register) (c : List ℕ) → Sound register → isCurrency c ≡ true → Sound (opened register c)
+opened-sound register c s is =
+    test-cases (λ t. isOpen register ≡ t → Sound (opened register c)) (isOpen register)
+    (λ e _. subst Sound (sym (opened-again register c e)) (record {
+      home = home-currency c is;
+      few = s .few;
+      good = good-records c (register .lines) is (open-records register s e);
+      different = s .different;
+    }))
+    (λ e _. subst Sound (sym (opened-old register c e)) (record {
+      home = home-currency c is;
+      few = omega (arith, s .few, length-map (register .lines) (written c));
+      good = good-records c _ is (map-all isLine isRecord (written c) (written-record c is) (register .lines) (old-lines register s e));
+      different = map-differ (written c) (written-contract c is) (register .lines) ∙ s .different;
+    })) refl
+
+-- What acts leave of a register is one.
+pub after-sound : (register : Register) (act : Act) → Sound register → Sound (after register act)
+unfolding after
+after-sound register (opening c) s =
+    test-cases (λ t. isCurrency c ≡ t → Sound (cond t (opened register c) register)) (isCurrency c) (λ e _. opened-sound register c s e)
+    (λ _ _. s) refl
+after-sound register (offering line) s =
+    test-cases (λ t. isOpen register ≡ t → Sound (cond t (offered register line) register)) (isOpen register)
+    (λ e _. offered-sound register line s e) (λ _ _. s) refl
+
+fold-sound : (register : Register) (acts : List Act) → Sound register → Sound (fold register acts)
 unfolding fold
 fold-sound register [] s = s
-fold-sound register (line ∷ lines) s = fold-sound (offered register line) lines (offered-sound register line s)
+fold-sound register (act ∷ acts) s = fold-sound (after register act) acts (after-sound register act s)
 
--- What a list of offers leaves is a register,
-pub fold-is : (lines : List (List ℕ)) → isRegister (fold [] lines) ≡ true
-fold-is lines = is-register (fold [] lines) (fold-sound [] lines empty-sound)
+pub fold-is : (register : Register) (acts : List Act) → isRegister register ≡ true → isRegister (fold register acts) ≡ true
+fold-is register acts e = is-register (fold register acts) (fold-sound register acts (sound register e))
 
--- and each register is left by a list of offers: that of its lines.
-fold-all : (done rest : Register) → Sound (done ++ rest) → fold done rest ≡ done ++ rest
+after-opening : (register : Register) (c : List ℕ) → isCurrency c ≡ true → after register (opening c) ≡ opened register c
+unfolding after
+after-opening register c e = rw e
+
+after-offering : (register : Register) (line : List ℕ) → isOpen register ≡ true → after register (offering line) ≡ offered register line
+unfolding after
+after-offering register line e = rw e
+
+none-open : isOpen nothing ≡ false
+unfolding isOpen isNil
+none-open = refl
+
+-- Lines of good form with different contracts, offered one after another to a register that is opened and has none of them, are all taken.
+module _ (c : List ℕ) (is : isCurrency c ≡ true) where
+  abbrev holding : Lines → Register
+  holding ls = record { house = c; lines = map (stored c) ls }
+
+  offered-next : (done rest : Lines) (line : List ℕ) → length (done ++ (line ∷ rest)) ≤ mostLines → all hasForm (done ++ (line ∷ rest)) ≡ true
+      → differ (done ++ (line ∷ rest)) ≡ true
+      → after (holding done) (offering line) ≡ holding (done ++ (line ∷ []))
+  offered-next done rest line few forms different =
+      let fresh = map-holds (stored c) (stored-contract c is) done (contractOf line) ∙ differ-split done line rest different in
+      let room : length (map (stored c) done) < mostLines = omega (arith, few, length-map done (stored c), length-append done (line ∷ rest)) in
+      let zero = taken-zero (map (stored c) done) line (record { form = all-middle hasForm done line rest forms; fresh = fresh; room = room }) in
+      after-offering (holding done) line (currency-open (holding done) is)
+      ∙ offered-taken (holding done) line zero
+      ∙ (λ i. record { house = c; lines = sym (map-append (stored c) done (line ∷ [])) i })
+
+  fold-all : (done rest : Lines) → length (done ++ rest) ≤ mostLines → all hasForm (done ++ rest) ≡ true → differ (done ++ rest) ≡ true
+      → fold (holding done) (map offering rest) ≡ holding (done ++ rest)
+  unfolding fold
+  fold-all done [] few forms different = ap holding (sym (append-nil done))
+  fold-all done (line ∷ rest) few forms different =
+      let next : (done ++ (line ∷ [])) ++ rest ≡ done ++ (line ∷ rest) = append-assoc done (line ∷ []) rest in
+      ap (λ r. fold r (map offering rest)) (offered-next done rest line few forms different)
+      ∙ fold-all (done ++ (line ∷ [])) rest (subst (λ l. length l ≤ mostLines) (sym next) few)
+      (subst (λ l. all hasForm l ≡ true) (sym next) forms) (subst (λ l. differ l ≡ true) (sym next) different)
+      ∙ ap holding next
+
+  opened-first : opened nothing c ≡ holding []
+  opened-first = opened-old nothing c none-open
+
+  -- opened at first, and then given these lines
+  given : (ls : Lines) → length ls ≤ mostLines → all hasForm ls ≡ true → differ ls ≡ true
+      → fold nothing (opening c ∷ map offering ls) ≡ holding ls
+  unfolding fold
+  given ls few forms different =
+      ap (λ r. fold r (map offering ls)) (after-opening nothing c is ∙ opened-first) ∙ fold-all [] ls few forms different
+
+-- Each register that is opened is left by an opening with its house currency and offers of its lines.
+pub is-fold : (register : Register) → isRegister register ≡ true → isOpen register ≡ true
+    → fold nothing (opening (register .house) ∷ map offering (register .lines)) ≡ register
+is-fold register good e =
+    let s = sound register good in
+    let c = register .house in
+    let is = house-open register (s .home) e in
+    let same-lines = map-agree (stored c) (λ line. line) isRecord (stored-same c is) (register .lines) (open-records register s e)
+    ∙ map-id (register .lines) in
+    given c is (register .lines) (s .few) (all-forms register s) (s .different) ∙ (λ i. record { house = c; lines = same-lines i })
+
+-- W10.3 "a held register of old lines is rewritten so": as its lines would be stored if they were offered to it opened. So an old register that is
+-- opened holds what one holds that was opened at first and then given the same lines;
+pub old-as-new : (register : Register) (c : List ℕ) → isRegister register ≡ true → isOpen register ≡ false → isCurrency c ≡ true
+    → opened register c ≡ fold nothing (opening c ∷ map offering (register .lines))
+old-as-new register c good e is =
+    let s = sound register good in
+    let same-lines = map-agree (written c) (stored c) isLine (λ l four. sym (stored-line c is l four)) (register .lines) (old-lines register s e) in
+    opened-old register c e
+    ∙ (λ i. record { house = c; lines = same-lines i })
+    ∙ sym (given c is (register .lines) (s .few) (all-forms register s) (s .different))
+
+fold-append : (register : Register) (xs ys : List Act) → fold register (xs ++ ys) ≡ fold (fold register xs) ys
 unfolding fold
-fold-all done [] s = sym (append-nil done)
-fold-all done (line ∷ rest) s =
-    let lines = all-split done line rest (s .lines) in
-    let room : length done < mostLines = omega (arith, s .few, simp length-append at (s .few)) in
-    let zero = taken-zero done line (record { form = lines .1; fresh = differ-split done line rest (s .different); room = room }) in
-    let next : (done ++ (line ∷ [])) ++ rest ≡ done ++ (line ∷ rest) = append-assoc done (line ∷ []) rest in
-    ap (λ r. fold r rest) (offered-taken done line zero)
-    ∙ fold-all (done ++ (line ∷ [])) rest (subst Sound (sym next) s)
-    ∙ next
+fold-append register [] ys = refl
+fold-append register (x ∷ xs) ys = fold-append (after register x) xs ys
 
-pub is-fold : (register : Register) → isRegister register ≡ true → fold [] register ≡ register
-is-fold register e = fold-all [] register (sound register e)
+-- and two registers that differ only in what was done before their first line, each opened with the same currency before it, hold the same.
+pub opened-when : (first : List Act) (c : List ℕ) (acts : List Act) → isCurrency c ≡ true → fold nothing first .lines ≡ []
+    → fold nothing (first ++ (opening c ∷ acts)) ≡ fold nothing (opening c ∷ acts)
+unfolding fold opened
+opened-when first c acts is none =
+    let r = fold nothing first in
+    let lines-are : cond (isOpen r) (r .lines) (map (written c) (r .lines)) ≡ [] =
+    test-cases (λ t. cond t (r .lines) (map (written c) (r .lines)) ≡ []) (isOpen r) (λ _. none) (λ _. ap (map (written c)) none) in
+    fold-append nothing first (opening c ∷ acts)
+    ∙ ap (λ x. fold x acts) (after-opening r c is ∙ (λ i. record { house = c; lines = lines-are i })
+    ∙ sym (opened-first c is) ∙ sym (after-opening nothing c is))

@@ -1,14 +1,16 @@
--- Document 02, wish 4: the closing report of a register as bytes, and the same bytes read back. Assumes nothing.
-use mathlib.Core.List.{List, [], _∷_, _++_}
-use Prim.Native.Nat.{ℕ, _*_, _-_}
-use lib.ListN.{length, take, getD}
-use Rattle.base.specs.Lists.{total}
+-- Document 02, wishes 4 and 10: the closing report of a register as bytes, and the same bytes read back. Assumes nothing.
+use mathlib.Core.Bool.{Bool, true, false, cond, not, _&&_, _||_}
+use mathlib.Core.List.{List, [], _∷_, _++_, map}
+use Prim.Native.Nat.{ℕ, _*_}
+use lib.Dec.{eqb, ltb}
+use lib.ListN.{length, getD}
+use Rattle.base.specs.Lists.{all, any, keep, same, total}
 use Rattle.base.specs.Text.{bytes}
 use Rattle.cards.specs.Bytes.{newline}
 use Rattle.cards.specs.Cards.{lines}
 use Rattle.values.specs.Conversion.{decimal, digits}
-use Rattle.register.specs.Line.{fields}
-use Rattle.register.specs.Register.{Register}
+use Rattle.register.specs.Line.{currencyOf, each, fields, isCurrency, isRecord}
+use Rattle.register.specs.Register.{Lines}
 
 -- the number in a field of a line, the fields counted from 0
 unfoldable pub numberIn : (line : List ℕ) (field : ℕ) → ℕ
@@ -24,40 +26,83 @@ priceOf line = numberIn line 3
 unfoldable pub valueOf : (line : List ℕ) → ℕ
 valueOf line = tonnesOf line * priceOf line
 
--- the three numbers of the TOTAL line
+-- the three numbers of a TOTAL line
 pub record Totals : Type 0 where
   pub count : ℕ
   pub tonnes : ℕ
   pub value : ℕ
 
 -- W4.2 "the number of lines, the sum of tonnes, and the sum of tonnes × price in cents"
-unfoldable pub totalsOf : (above : List (List ℕ)) → Totals
+unfoldable pub totalsOf : (above : Lines) → Totals
 totalsOf above = record { count = length above; tonnes = total tonnesOf above; value = total valueOf above }
 
--- W4.2 "`TOTAL,count,tonnes,value`, decimal without leading zeros"
-unfoldable pub totalLine : Totals → List ℕ
-totalLine t =
-    bytes "TOTAL," ++ (digits (t .count) ++ (bytes "," ++ (digits (t .tonnes) ++ (bytes "," ++ digits (t .value)))))
+-- W10.4 "in letter order": the first differing letter is the lower one, or there is none and the word is shorter
+unfoldable pub before : List ℕ → List ℕ → Bool
+before [] [] = false
+before [] (b ∷ v) = true
+before (a ∷ u) [] = false
+before (a ∷ u) (b ∷ v) = ltb a b || (eqb a b && before u v)
+
+-- a word put in its place among words in order, unless it is there already
+unfoldable pub entered : (word : List ℕ) → List (List ℕ) → List (List ℕ)
+entered word [] = word ∷ []
+entered word (w ∷ ws) = cond (same word w) (w ∷ ws) (cond (before word w) (word ∷ w ∷ ws) (w ∷ entered word ws))
+
+-- W10.4 "each currency held, in letter order"
+unfoldable pub currencies : Lines → List (List ℕ)
+currencies [] = []
+currencies (line ∷ rest) = entered (currencyOf line) (currencies rest)
+
+-- W10.4 "that currency's lines"
+unfoldable pub linesOf : (currency : List ℕ) → Lines → Lines
+linesOf currency = keep (λ line. same (currencyOf line) currency)
+
+-- W4.2 "`TOTAL,count,tonnes,value`, decimal without leading zeros", W10.4 "with the currency as its second field"
+unfoldable pub totalLine : (currency : List ℕ) → Totals → List ℕ
+totalLine currency t =
+    bytes "TOTAL," ++ (currency
+    ++ (bytes "," ++ (digits (t .count) ++ (bytes "," ++ (digits (t .tonnes) ++ (bytes "," ++ digits (t .value)))))))
+
+-- W10.4 "one TOTAL line for each currency held", with "the numbers of that currency's lines; an empty register prints none", in place of W4.4
+unfoldable pub totalLines : Lines → List (List ℕ)
+totalLines held = map (λ currency. totalLine currency (totalsOf (linesOf currency held))) (currencies held)
 
 -- W4.2 "all with byte 10"
 unfoldable pub printed : List (List ℕ) → List ℕ
 printed [] = []
 printed (r ∷ rs) = r ++ (newline ∷ printed rs)
 
--- W4.2 "Each line held, in order and byte for byte, then `TOTAL,count,tonnes,value`"
-unfoldable pub report : Register → List ℕ
-report register = printed (register ++ (totalLine (totalsOf register) ∷ []))
+-- W4.2 "Each line held, in order and byte for byte, then" the TOTAL lines
+unfoldable pub report : Lines → List ℕ
+report held = printed (held ++ totalLines held)
 
--- Reading back. The records of what was put: each ends at byte 10 or the end, as C1 has it; the last is the TOTAL line, the others stand above it.
-abbrev pub records : (put : List ℕ) → List (List ℕ)
-records put = lines put
+-- Reading back. The bytes put, cut at byte 10, as C1 has it: lines with the form of a register record are the records printed, all others count as
+-- TOTAL lines. No TOTAL line has that form, for its second field is no grain.
+unfoldable pub recordsIn : (put : List ℕ) → Lines
+recordsIn put = keep isRecord (lines put)
 
-unfoldable pub recordsAbove : (put : List ℕ) → List (List ℕ)
-recordsAbove put = take (length (records put) - 1) (records put)
+unfoldable pub totalLinesIn : (put : List ℕ) → List (List ℕ)
+totalLinesIn put = keep (λ line. not (isRecord line)) (lines put)
 
-unfoldable pub lastRecord : (put : List ℕ) → List ℕ
-lastRecord put = getD (records put) (length (records put) - 1) []
+-- W4.2 "decimal without leading zeros": as the digits of its value are
+unfoldable pub isNumeral : (field : List ℕ) → Bool
+isNumeral field = same (digits (decimal 0 field)) field
 
--- the three numbers that a TOTAL line shows
-unfoldable pub totalsIn : (line : List ℕ) → Totals
-totalsIn line = record { count = numberIn line 1; tonnes = numberIn line 2; value = numberIn line 3 }
+-- the form of a TOTAL line: the word, a currency and three numbers
+unfoldable pub isTotalLine : (line : List ℕ) → Bool
+isTotalLine line = each (same (bytes "TOTAL") ∷ isCurrency ∷ isNumeral ∷ isNumeral ∷ isNumeral ∷ []) (fields line)
+
+-- the currency and the three numbers that it shows
+unfoldable pub currencyShown : (line : List ℕ) → List ℕ
+currencyShown line = getD (fields line) 1 []
+
+unfoldable pub totalsShown : (line : List ℕ) → Totals
+totalsShown line = record { count = numberIn line 2; tonnes = numberIn line 3; value = numberIn line 4 }
+
+-- a word among others; and words of which each stands before all behind it
+unfoldable pub isAmong : (word : List ℕ) → List (List ℕ) → Bool
+isAmong word = any (λ w. same w word)
+
+unfoldable pub inOrder : List (List ℕ) → Bool
+inOrder [] = true
+inOrder (w ∷ ws) = all (before w) ws && inOrder ws

@@ -9,11 +9,18 @@ pub const HEADER: usize = 1024;
 
 pub const SLOT: usize = 28;
 
+// the bytes of a currency, and the fields of a line: of one held before the register is opened, and of one held then
+pub const CURRENCY: usize = 3;
+
+pub const OLD_FIELDS: usize = 4;
+
+pub const FIELDS: usize = 5;
+
 // the bytes that a line is handed out in
 pub const LINE_SIZE: usize = 32;
 
-// the buffer is too small or against its rules; the output can't hold the report; a line breaks its form; its contract is held already; all places
-// are taken
+// the buffer is too small, against its rules or not opened; the output can't hold the report; a line breaks its form; its contract is held already;
+// all places are taken; the house currency breaks its form
 pub const BAD_BUFFER: u32 = 14;
 
 pub const OUTPUT_FULL: u32 = 21;
@@ -23,3 +30,5 @@ pub const BAD_LINE: u32 = 25;
 pub const CONTRACT_HELD: u32 = 26;
 
 pub const FULL: u32 = 27;
+
+pub const BAD_CURRENCY: u32 = 29;

@@ -1,6 +1,5 @@
--- What the code says that reads a register, takes a line and hands one out (Reading), and the laws behind it: contracts as keys (KeyLaws), slots read one after the other
--- (SlotLaws), a line put into its slot and a line handed out (PutLaws).
-pub mod KeyLaws
+-- What the code says that opens a register, takes a line and hands one out (Putting), and the laws behind it: a line stored and handed out (PutLaws),
+-- lines written out and the house currency told (OpenLaws).
+pub mod OpenLaws
 pub mod PutLaws
-pub mod Reading
-pub mod SlotLaws
+pub mod Putting

@@ -1,5 +1,6 @@
--- Fields found by runs of bytes: each field's form by the length of its run, and the fields one after the other. Assumes nothing.
-use mathlib.Core.Bool.{Bool, true, false, not, _&&_, _||_, false≢true, and-comm, and-false, and-true}
+-- Fields found by runs of bytes: each field's form by the length of its run, the fields one after the other, and how many there are.
+-- Assumes nothing.
+use mathlib.Core.Bool.{Bool, true, false, cond, not, _&&_, _||_, false≢true, and-comm, and-false, and-true}
 use mathlib.Core.List.{List, [], _∷_, _++_}
 use mathlib.Core.Path.{_≡_, refl, sym, ap, ap₂, _∙_}
 use Prim.Native.Nat.{ℕ, zero, suc, _+_, _-_, _≤_, _<_}
@@ -9,13 +10,17 @@ use lib.Dec.{eqb, leb, ltb}
 use lib.ListN.{length, take, drop, getD, length-drop, List·getD-eq-default}
 use lib.Seq.{take-suc, drop-cons, getD-drop}
 use borrow.Author.Tests.{eqb-true, eq-eqb, ne-eqb, ltb-true, ltb-false, le-leb, lt-leb}
-use Rattle.base.specs.Choice.{both-pass, both-true, neither-true, test-cases}
+use Rattle.base.specs.Choice.{both-pass, both-true, neither-true, same-truth, test-cases}
 use Rattle.base.specs.ListLaws.{all-append, drop-next, length-stretch, stretch-behind, stretch-end}
 use Rattle.base.specs.Lists.{all, begins}
 use Rattle.base.specs.Text.{bytes}
 use Rattle.cards.specs.Bytes.{between, comma, isDigit, isLetter, isNameByte}
-use Rattle.register.specs.Line.{fields, isContract, isGrain, isDecimal, isTonnes, isPrice, each, isLine, contractOf}
+use Rattle.register.specs.Line.{fields, isContract, isGrain, isDecimal, isTonnes, isPrice, each, isLine, isCurrency, isRecord, hasForm, contractOf}
 use Rattle.register.specs.LineLaws.{
+  currency-letters,
+  each-none,
+  field-alone,
+  not-both,
   run-whole,
   run-comma,
   run-other,
@@ -27,7 +32,7 @@ use Rattle.register.specs.LineLaws.{
   tonnes-digits,
   price-digits,
 }
-use Rattle.register_lines.specs.Fields.{Run, behind}
+use Rattle.register_lines.specs.Fields.{Run, behind, countOf, fieldCount, counted, ended}
 
 -- a run goes on by a byte that passes, and ends where none is left or one doesn't
 module _ (p : ℕ → Bool) (line : List ℕ) (at : ℕ) where
@@ -176,6 +181,10 @@ module _ (line : List ℕ) (at : ℕ) where
   unfolding behind comma
   no-comma tests e = rw e
 
+  pub no-count : (tests : List (List ℕ → Bool)) → eqb (getD line at 0) 44 ≡ false → 0 ≡ counted tests line at
+  unfolding counted
+  no-count tests e = ap₂ countOf (no-comma tests e) (no-comma (tests ++ (isCurrency ∷ [])) e)
+
   pub comma-inside : eqb (getD line at 0) 44 ≡ true → at < length line
   comma-inside e =
       either (ltb at (length line)) (ltb-true at (length line))
@@ -216,42 +225,156 @@ price-bytes : (f : List ℕ) → isPrice f ≡ true → all isDigit f ≡ true
 unfolding isPrice
 price-bytes = number-bytes 999_999
 
+-- a test that four fields and five begin with
+count-then : (t four five : Bool) → countOf (t && four) (t && five) ≡ cond t (countOf four five) 0
+count-then true four five = refl
+count-then false four five = refl
+
 -- what stands behind a comma: a field by its run, and what follows
 module _ (line : List ℕ) (at n : ℕ) (is : eqb (getD line at 0) 44 ≡ true) where
-  pub price-behind : Run isDigit line (at + 1) n
-      → behind (isPrice ∷ []) line at ≡ (numberRun line (at + 1) n 6 && eqb (at + 1 + n) (length line))
-  price-behind r =
-      behind-comma line at (isPrice ∷ []) is
-      ∙ field-last isDigit comma-digit line (at + 1) n r isPrice price-bytes
-      ∙ ap (λ t. t && eqb (at + 1 + n) (length line)) (price-run line (at + 1) n r)
+  counted-then : (p : ℕ → Bool) → p comma ≡ false → Run p line (at + 1) n
+      → (t : List ℕ → Bool) → ((f : List ℕ) → t f ≡ true → all p f ≡ true)
+      → (u : List ℕ → Bool) (us : List (List ℕ → Bool))
+      → counted (t ∷ u ∷ us) line at ≡ cond (t (take n (drop (at + 1) line))) (counted (u ∷ us) line (at + 1 + n)) 0
+  unfolding counted
+  counted-then p c r t of u us =
+      let here = t (take n (drop (at + 1) line)) in
+      let next : (vs : List (List ℕ → Bool)) → behind (t ∷ u ∷ vs) line at ≡ (here && behind (u ∷ vs) line (at + 1 + n)) =
+      λ vs. behind-comma line at (t ∷ u ∷ vs) is ∙ field-then p c line (at + 1) n r t of u vs in
+      let more = us ++ (isCurrency ∷ []) in
+      ap₂ countOf (next us) (next more) ∙ count-then here (behind (u ∷ us) line (at + 1 + n)) (behind (u ∷ more) line (at + 1 + n))
 
-  pub tonnes-behind : Run isDigit line (at + 1) n
-      → behind (isTonnes ∷ isPrice ∷ []) line at ≡ (numberRun line (at + 1) n 5 && behind (isPrice ∷ []) line (at + 1 + n))
-  tonnes-behind r =
-      behind-comma line at (isTonnes ∷ isPrice ∷ []) is
-      ∙ field-then isDigit comma-digit line (at + 1) n r isTonnes tonnes-bytes isPrice []
-      ∙ ap (λ t. t && behind (isPrice ∷ []) line (at + 1 + n)) (tonnes-run line (at + 1) n r)
+  pub price-counted : Run isDigit line (at + 1) n
+      → counted (isPrice ∷ []) line at ≡ cond (numberRun line (at + 1) n 6) (ended line (at + 1 + n)) 0
+  unfolding counted ended
+  price-counted r =
+      let here = isPrice (take n (drop (at + 1) line)) in
+      let last : behind (isPrice ∷ []) line at ≡ (here && eqb (at + 1 + n) (length line)) =
+      behind-comma line at (isPrice ∷ []) is ∙ field-last isDigit comma-digit line (at + 1) n r isPrice price-bytes in
+      let more : behind (isPrice ∷ isCurrency ∷ []) line at ≡ (here && behind (isCurrency ∷ []) line (at + 1 + n)) =
+      behind-comma line at (isPrice ∷ isCurrency ∷ []) is
+      ∙ field-then isDigit comma-digit line (at + 1) n r isPrice price-bytes isCurrency [] in
+      ap₂ countOf last more ∙ count-then here (eqb (at + 1 + n) (length line)) (behind (isCurrency ∷ []) line (at + 1 + n))
+      ∙ ap (λ t. cond t (ended line (at + 1 + n)) 0) (price-run line (at + 1) n r)
 
-  pub grain-behind : Run isLetter line (at + 1) n
-      → behind (isGrain ∷ isTonnes ∷ isPrice ∷ []) line at ≡ (eqb n 2 && behind (isTonnes ∷ isPrice ∷ []) line (at + 1 + n))
-  grain-behind r =
-      behind-comma line at (isGrain ∷ isTonnes ∷ isPrice ∷ []) is
-      ∙ field-then isLetter comma-letter line (at + 1) n r isGrain grain-bytes isTonnes (isPrice ∷ [])
-      ∙ ap (λ t. t && behind (isTonnes ∷ isPrice ∷ []) line (at + 1 + n)) (grain-run line (at + 1) n r)
+  pub tonnes-counted : Run isDigit line (at + 1) n
+      → counted (isTonnes ∷ isPrice ∷ []) line at ≡ cond (numberRun line (at + 1) n 5) (counted (isPrice ∷ []) line (at + 1 + n)) 0
+  tonnes-counted r =
+      counted-then isDigit comma-digit r isTonnes tonnes-bytes isPrice []
+      ∙ ap (λ t. cond t (counted (isPrice ∷ []) line (at + 1 + n)) 0) (tonnes-run line (at + 1) n r)
+
+  pub grain-counted : Run isLetter line (at + 1) n
+      → counted (isGrain ∷ isTonnes ∷ isPrice ∷ []) line at ≡ cond (eqb n 2) (counted (isTonnes ∷ isPrice ∷ []) line (at + 1 + n)) 0
+  grain-counted r =
+      counted-then isLetter comma-letter r isGrain grain-bytes isTonnes (isPrice ∷ [])
+      ∙ ap (λ t. cond t (counted (isTonnes ∷ isPrice ∷ []) line (at + 1 + n)) 0) (grain-run line (at + 1) n r)
+
+-- the currency ends the line: it is all that stands behind its comma
+currency-alone : (l : List ℕ) → each (isCurrency ∷ []) (fields l) ≡ isCurrency l
+unfolding each
+currency-alone l =
+    same-truth (each (isCurrency ∷ []) (fields l)) (isCurrency l)
+    (λ e. let parts : (isCurrency (firstField l) ≡ true) × (each [] (drop 1 (fields l)) ≡ true) =
+    both-true (isCurrency (firstField l)) (each [] (drop 1 (fields l))) (sym (ap (each (isCurrency ∷ [])) (some-field l)) ∙ e) in
+    ap isCurrency (sym (field-alone l (each-none (drop 1 (fields l)) (parts .1)))) ∙ parts .0)
+    (λ e. rw (run-whole isLetter comma-letter l (currency-letters l e)) (both-pass e refl))
+
+pub currency-behind : (line : List ℕ) (at : ℕ) → eqb (getD line at 0) 44 ≡ true
+    → behind (isCurrency ∷ []) line at ≡ isCurrency (drop (at + 1) line)
+currency-behind line at is = behind-comma line at (isCurrency ∷ []) is ∙ currency-alone (drop (at + 1) line)
+
+-- three bytes are a currency where each is a letter
+pub currency-three : (v : List ℕ) → length v ≡ 3
+    → isCurrency v ≡ ((isLetter (getD v 0 0) && isLetter (getD v 1 0)) && isLetter (getD v 2 0))
+unfolding isCurrency all
+currency-three [] h = absurd (omega arith)
+currency-three (a ∷ []) h = absurd (omega arith)
+currency-three (a ∷ b ∷ []) h = absurd (omega arith)
+currency-three (a ∷ b ∷ c ∷ []) h = three (isLetter a) (isLetter b) (isLetter c)
+  where
+    three : (x y z : Bool) → (x && (y && (z && true))) ≡ ((x && y) && z)
+    three false y z = refl
+    three true false z = refl
+    three true true z = and-true z
+currency-three (a ∷ b ∷ c ∷ d ∷ v) h = absurd (omega arith)
 
 -- the line by its first run
 module _ (line : List ℕ) (n : ℕ) (r : Run isNameByte line 0 n) where
-  pub line-run : isLine line ≡ (between 1 8 n && behind (isGrain ∷ isTonnes ∷ isPrice ∷ []) line n)
-  unfolding isLine
-  line-run =
-      field-then isNameByte comma-name line 0 n r isContract contract-bytes isGrain (isTonnes ∷ isPrice ∷ [])
-      ∙ ap₂ (λ t k. t && behind (isGrain ∷ isTonnes ∷ isPrice ∷ []) line k) (contract-run line 0 n r) (zero-add n)
+  contract-then : (us : List (List ℕ → Bool))
+      → each (isContract ∷ isGrain ∷ us) (fields line) ≡ (between 1 8 n && behind (isGrain ∷ us) line n)
+  contract-then us =
+      field-then isNameByte comma-name line 0 n r isContract contract-bytes isGrain us
+      ∙ ap₂ (λ t k. t && behind (isGrain ∷ us) line k) (contract-run line 0 n r) (zero-add n)
+
+  pub line-counted : fieldCount line ≡ cond (between 1 8 n) (counted (isGrain ∷ isTonnes ∷ isPrice ∷ []) line n) 0
+  unfolding fieldCount counted isLine isRecord
+  line-counted =
+      let four = isTonnes ∷ isPrice ∷ [] in
+      let five = isTonnes ∷ isPrice ∷ isCurrency ∷ [] in
+      ap₂ countOf (contract-then four) (contract-then five)
+      ∙ count-then (between 1 8 n) (behind (isGrain ∷ four) line n) (behind (isGrain ∷ five) line n)
 
   -- of a line that has its form, the run is its contract
-  pub contract-size : isLine line ≡ true → n ≡ length (contractOf line)
+  first-size : (us : List (List ℕ → Bool)) → each (isContract ∷ isGrain ∷ us) (fields line) ≡ true → n ≡ length (contractOf line)
   unfolding contractOf behind comma
-  contract-size e =
-      let others = both-true (between 1 8 n) _ (sym line-run ∙ e) .1 in
+  first-size us e =
+      let others = both-true (between 1 8 n) _ (sym (contract-then us) ∙ e) .1 in
       let here = both-true (eqb (getD line n 0) comma) _ others .0 in
       let first = goes-on isNameByte comma-name line 0 n r (omega (arith, comma-inside line n here)) (rw zero-add here) in
       rw first (sym (length-stretch line 0 n (r .inside)))
+
+  pub contract-size : hasForm line ≡ true → n ≡ length (contractOf line)
+  unfolding hasForm isLine isRecord
+  contract-size e =
+      either (isLine line) (first-size (isTonnes ∷ isPrice ∷ []))
+      (λ f. first-size (isTonnes ∷ isPrice ∷ isCurrency ∷ []) (sym (ap (λ t. t || isRecord line) f) ∙ e))
+
+-- the number of fields tells a line's form, and the form tells the number
+module _ (line : List ℕ) where
+  count-line : fieldCount line ≡ 4 → isLine line ≡ true
+  unfolding fieldCount
+  count-line = four (isLine line) (isRecord line)
+    where
+      four : (a b : Bool) → countOf a b ≡ 4 → a ≡ true
+      four true b e = refl
+      four false true e = absurd (omega arith)
+      four false false e = absurd (omega arith)
+
+  line-count : isLine line ≡ true → fieldCount line ≡ 4
+  unfolding fieldCount
+  line-count e = rw e
+
+  count-record : fieldCount line ≡ 5 → isRecord line ≡ true
+  unfolding fieldCount
+  count-record = five (isLine line) (isRecord line)
+    where
+      five : (a b : Bool) → countOf a b ≡ 5 → b ≡ true
+      five true b e = absurd (omega arith)
+      five false true e = refl
+      five false false e = absurd (omega arith)
+
+  record-count : isRecord line ≡ true → fieldCount line ≡ 5
+  unfolding fieldCount
+  record-count e =
+      test-cases (λ t. isLine line ≡ t → countOf t (isRecord line) ≡ 5) (isLine line)
+      (λ is _. absurd (false≢true (sym (not-both line is) ∙ e))) (λ _ _. ap (countOf false) e) refl
+
+  pub count-form : not (eqb (fieldCount line) 0) ≡ hasForm line
+  unfolding fieldCount hasForm
+  count-form = some (isLine line) (isRecord line)
+    where
+      some : (a b : Bool) → not (eqb (countOf a b) 0) ≡ (a || b)
+      some true b = refl
+      some false true = refl
+      some false false = refl
+
+  -- the two as tests
+  pub four-fields : eqb (fieldCount line) 4 ≡ isLine line
+  four-fields =
+      same-truth (eqb (fieldCount line) 4) (isLine line) (λ e. count-line (eqb-true (fieldCount line) 4 e))
+      (λ e. eq-eqb (fieldCount line) 4 (line-count e))
+
+  pub five-fields : eqb (fieldCount line) 5 ≡ isRecord line
+  five-fields =
+      same-truth (eqb (fieldCount line) 5) (isRecord line) (λ e. count-record (eqb-true (fieldCount line) 5 e))
+      (λ e. eq-eqb (fieldCount line) 5 (record-count e))

@@ -1,13 +1,13 @@
 -- What the code says of the fields of a line, from a place on. Assumes nothing.
-use mathlib.Core.Bool.{Bool, true, false, _&&_}
-use mathlib.Core.List.{List}
+use mathlib.Core.Bool.{Bool, true, false, cond, _&&_}
+use mathlib.Core.List.{List, [], _∷_, _++_}
 use mathlib.Core.Path.{_≡_}
 use Prim.Native.Nat.{ℕ, _+_, _≤_, _<_}
 use lib.Dec.{eqb}
 use lib.ListN.{length, take, drop, getD}
 use Rattle.base.specs.Lists.{all}
 use Rattle.cards.specs.Bytes.{comma, isDigit, isLetter, isNameByte}
-use Rattle.register.specs.Line.{fields, each}
+use Rattle.register.specs.Line.{fields, each, isLine, isCurrency, isRecord}
 use Rattle.register_lines.specs.declared.Class.{Class}
 use Rattle.register_lines.specs.declared.Class.the-variants.{Names, Letters, Digits}
 
@@ -26,3 +26,19 @@ pub record Run (p : ℕ → Bool) (line : List ℕ) (at n : ℕ) : Type 0 where
 -- a comma stands at a place, and behind it fields that pass these tests
 unfoldable pub behind : List (List ℕ → Bool) → (line : List ℕ) (at : ℕ) → Bool
 behind tests line at = eqb (getD line at 0) comma && each tests (fields (drop (at + 1) line))
+
+-- how many fields there are where the tests of four pass, or those of five; 0 where neither do
+abbrev pub countOf : (four five : Bool) → ℕ
+countOf four five = cond four 4 (cond five 5 0)
+
+-- how many fields a line of good form has: 4, 5, or 0 for a line of no good form
+unfoldable pub fieldCount : (line : List ℕ) → ℕ
+fieldCount line = countOf (isLine line) (isRecord line)
+
+-- likewise by the fields behind a comma at a place: those that pass these tests, without or with a currency behind them
+unfoldable pub counted : List (List ℕ → Bool) → (line : List ℕ) (at : ℕ) → ℕ
+counted tests line at = countOf (behind tests line at) (behind (tests ++ (isCurrency ∷ [])) line at)
+
+-- likewise where the price ends at a place
+unfoldable pub ended : (line : List ℕ) (at : ℕ) → ℕ
+ended line at = countOf (eqb at (length line)) (behind (isCurrency ∷ []) line at)

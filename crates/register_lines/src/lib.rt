@@ -1,5 +1,5 @@
-// A contract line, field by field: whether it has its form, and how long its contract is. Its bytes are compared, not looked up in the class
-// table: a register's check asks of each byte of 256 lines.
+// A contract line, field by field: whether it has its form, without or with a currency, and how long its contract is. Its bytes are compared,
+// not looked up in the class table: a register's check asks of each byte of 256 lines.
 // Assumes nothing.
 ghost use mathlib.Core.List.{[], _∷_};
 ghost use mathlib.Core.Path.{_≡_};
@@ -7,9 +7,12 @@ ghost use Prim.Native.Nat.{_+_, _≤_};
 ghost use lib.Dec.{eqb};
 ghost use lib.ListN.{length, getD};
 ghost use Rattle.cards.specs.Bytes.{isDigit, isLetter, isNameByte};
-ghost use Rattle.register.specs.Line.{isGrain, isLine, isTonnes, isPrice};
-ghost use Rattle.register_lines.specs.Fields.{Run, behind, isOf};
+ghost use Rattle.register.specs.Line.{isCurrency, isGrain, isTonnes, isPrice};
+ghost use Rattle.register_lines.specs.Fields.{Run, behind, counted, ended, fieldCount, isOf};
 ghost use Rattle.register_lines.specs.FieldLaws.{numberRun};
+use register::CURRENCY;
+use register::FIELDS;
+use register::OLD_FIELDS;
 
 // the most bytes of a contract, the bytes of a grain, the most digits of tonnes and price
 const CONTRACT: usize = 8;
@@ -84,47 +87,80 @@ fn has_comma(line: &[u8], at: usize) -> bool
     line[at] == b','
 }
 
-// a comma at a place, and behind it the price
-fn price_on(line: &[u8], at: usize) -> bool
-    ensures { λ r. ⌜ r ≡ behind (isPrice ∷ []) (now (line .entry)) at ⌝ }
+// whether the bytes are three letters
+pub fn is_currency(v: &[u8]) -> bool
+    ensures { λ r. ⌜ r ≡ isCurrency (now (v .entry)) ⌝ }
+{
+    if v.len() != CURRENCY {
+        return false;
+    }
+    is_letter(v[0]) & is_letter(v[1]) & is_letter(v[2])
+}
+
+// a comma at a place, and behind it a currency, with which the line ends
+fn currency_on(line: &[u8], at: usize) -> bool
+    ensures { λ r. ⌜ r ≡ behind (isCurrency ∷ []) (now (line .entry)) at ⌝ }
 {
     if !has_comma(line, at) {
         return false;
+    }
+    is_currency(&line[at + 1..])
+}
+
+// how many fields a line has whose price ends at a place: 4 where the line ends there, 5 where a comma and a currency end it, otherwise 0
+fn ending_on(line: &[u8], at: usize) -> usize
+    ensures { λ r. ⌜ r ≡ ended (now (line .entry)) at ⌝ }
+{
+    if at == line.len() {
+        return OLD_FIELDS;
+    }
+    if currency_on(line, at) {
+        return FIELDS;
+    }
+    0
+}
+
+// a comma at a place, and behind it the price and what follows: how many fields the line then has, or 0
+fn price_on(line: &[u8], at: usize) -> usize
+    ensures { λ r. ⌜ r ≡ counted (isPrice ∷ []) (now (line .entry)) at ⌝ }
+{
+    if !has_comma(line, at) {
+        return 0;
     }
     let from = at + 1;
     let n = run(line, from, Class::Digits);
     if !is_number(line, from, n, PRICE) {
-        return false;
+        return 0;
     }
-    from + n == line.len()
+    ending_on(line, from + n)
 }
 
 // likewise the tonnes and what follows
-fn tonnes_on(line: &[u8], at: usize) -> bool
-    ensures { λ r. ⌜ r ≡ behind (isTonnes ∷ isPrice ∷ []) (now (line .entry)) at ⌝ }
+fn tonnes_on(line: &[u8], at: usize) -> usize
+    ensures { λ r. ⌜ r ≡ counted (isTonnes ∷ isPrice ∷ []) (now (line .entry)) at ⌝ }
 {
     if !has_comma(line, at) {
-        return false;
+        return 0;
     }
     let from = at + 1;
     let n = run(line, from, Class::Digits);
     if !is_number(line, from, n, TONNES) {
-        return false;
+        return 0;
     }
     price_on(line, from + n)
 }
 
 // likewise the grain and what follows
-fn grain_on(line: &[u8], at: usize) -> bool
-    ensures { λ r. ⌜ r ≡ behind (isGrain ∷ isTonnes ∷ isPrice ∷ []) (now (line .entry)) at ⌝ }
+fn grain_on(line: &[u8], at: usize) -> usize
+    ensures { λ r. ⌜ r ≡ counted (isGrain ∷ isTonnes ∷ isPrice ∷ []) (now (line .entry)) at ⌝ }
 {
     if !has_comma(line, at) {
-        return false;
+        return 0;
     }
     let from = at + 1;
     let n = run(line, from, Class::Letters);
     if n != GRAIN {
-        return false;
+        return 0;
     }
     tonnes_on(line, from + n)
 }
@@ -136,13 +172,13 @@ pub fn contract_length(line: &[u8]) -> usize
     run(line, 0, Class::Names)
 }
 
-// whether a line that begins with so many letters and digits has its form
-pub fn is_line(line: &[u8], contract: usize) -> bool
+// how many fields a line has that begins with so many letters and digits: 4, or 5 with a currency, or 0 where it has no good form
+pub fn field_count(line: &[u8], contract: usize) -> usize
     requires { ⌜ Run isNameByte (now line) 0 contract ⌝ }
-    ensures { λ r. ⌜ r ≡ isLine (now (line .entry)) ⌝ }
+    ensures { λ r. ⌜ r ≡ fieldCount (now (line .entry)) ⌝ }
 {
     if (contract < 1) | (CONTRACT < contract) {
-        return false;
+        return 0;
     }
     grain_on(line, contract)
 }

@@ -1,266 +1,106 @@
--- What the lines of a register add up to, and how their report is put. Assumes nothing.
+-- The sums of a code, a record and a TOTAL line put, and the TOTAL lines of all currencies. Assumes nothing.
 use mathlib.Core.Bool.{true, false}
-use mathlib.Core.List.{List, [], _∷_, _++_, append-assoc}
+use mathlib.Core.List.{List, [], _∷_, _++_, append-assoc, map, map-append}
 use mathlib.Core.Path.{_≡_, refl, sym, ap, ap₂, _∙_, subst}
-use Prim.Native.Nat.{ℕ, suc, _+_, _*_, _-_, _≤_, _<_}
+use Prim.Native.Nat.{ℕ, zero, suc, _+_, _*_, _≤_, _<_}
 use native.Mathlib.Nat.{zero-add}
 use native.Mathlib.Numerals.{add-one}
 use native.Mathlib.Omega.{arith}
-use lib.Dec.{eqb}
-use lib.ListN.{length, take, drop, getD, set, drop-of-length-le, length-append, take-append-drop}
-use lib.Seq.{length-take-le, take-all, take-suc}
-use borrow.Author.Tests.{eq-eqb, eqb-true, ne-eqb}
-use Rattle.base.specs.Choice.{both-true, test-cases}
-use Rattle.base.specs.ListLaws.{drop-next}
-use Rattle.base.specs.Lists.{all, total}
+use lib.Dec.{leb}
+use lib.ListN.{List·getD-eq-default, length, take, drop, getD, set, drop-of-length-le, length-append, length-map}
+use lib.Seq.{take-all, take-suc}
+use borrow.Author.Tests.{eq-eqb, leb-false, leb-true, ne-eqb}
+use Rattle.base.specs.Choice.{test-cases}
+use Rattle.base.specs.ListLaws.{all-inside}
+use Rattle.base.specs.Lists.{total}
 use Rattle.base.specs.Text.{bytes}
-use Rattle.calls.specs.Splices.{splice, length-splice, set-splice, splice-behind, splice-nil}
-use Rattle.cards.specs.ByteLaws.{digit}
-use Rattle.cards.specs.Bytes.{comma, isDigit, newline}
-use Rattle.cards.specs.Cards.{onFirst}
+use Rattle.calls.specs.Splices.{splice, length-splice, set-splice, splice-behind}
+use Rattle.cards.specs.Bytes.{newline}
 use Rattle.printing.specs.Printing.{Put, numbersText}
-use Rattle.search.specs.NextLaws.{next-until}
-use Rattle.search.specs.Passing.{NextByte, until}
-use Rattle.values.specs.Conversion.{decimal, digits}
-use Rattle.register.specs.Buffer.{bufferKeeps, registerIn}
-use Rattle.register.specs.BufferLaws.{read-sound}
-use Rattle.register.specs.CallLaws.{put-fits, put-full, report-put, report-refused}
-use Rattle.register.specs.Calls.{ReportCalled, puttingNothing, reportCall}
-use Rattle.register.specs.Claims.{reportBack}
-use Rattle.register.specs.Line.{contractOf, fields, isGrain, isLine, isPrice, isTonnes}
-use Rattle.register.specs.LineLaws.{Formed, contract-is, decimal-least, digit-value, firstField, formed, next-fields, number-bytes, put-first}
-use Rattle.register.specs.Register.{Register, lineAt, mostLines}
-use Rattle.register.specs.Report.{numberIn, priceOf, printed, report, tonnesOf, totalLine, totalsOf, valueOf}
-use Rattle.register.specs.ReportLaws.{mostReport, mostValue, number-small, printed-append, report-size, sums-bounded}
-use Rattle.register_calls.specs.declared.Held.{Held}
-use Rattle.register_calls.specs.declared.Held.the-variants.{Lines}
-use Rattle.register_calls.specs.PutLaws.{found-ready, here-form, here-size}
-use Rattle.register_calls.specs.Reading.{Found, Placed, Stands, slotAt}
-use Rattle.register_report.specs.declared.Worth.{Worth}
-use Rattle.register_report.specs.Sums.{Counted, LinesPut, Numeric, RecordPut, Summed, TotalPut, Weighed, fieldAt}
+use Rattle.printing.specs.PrintLaws.{put-behind}
+use Rattle.values.specs.Laws.{digits-length}
+use Rattle.register.specs.Line.{isCurrency}
+use Rattle.register.specs.OrderLaws.{currencies-few}
+use Rattle.register.specs.Register.{Lines, mostLines}
+use Rattle.register.specs.Report.{currencies, linesOf, printed, tonnesOf, totalLine, totalLines, totalsOf, valueOf}
+use Rattle.register.specs.ReportLaws.{currencies-form, mostValue, printed-append, totalOf}
+use Rattle.register_report.specs.CodeLaws.{code-range, code-word, codesOf, count-lines, count-next, count-small}
+use Rattle.register_report.specs.CodeLaws.{first-code, lowest-within, next-code, sum-lines, sum-next, sum-small}
+use Rattle.register_report.specs.Codes.{codeIn, codeOf, countOf, lowest, noCode, sumOf, wordOf}
+use Rattle.register_report.specs.declared.Sums.{Sums}
+use Rattle.register_report.specs.Sums.{Columns, Fits, RecordPut, Summed, TotalsPut, mostTotal, totalText, totalsFrom}
 
--- The field at a place: it is empty where the line ends or a comma stands, else the byte there is its first.
-module _ (line : List ℕ) (end : ℕ) where
-  pub field-end : length line ≤ end → fieldAt line end ≡ []
-  unfolding fields
-  field-end h = ap firstField (drop-of-length-le line h)
+-- The sums of a code over the first places: with those of the places left they are the sums of all.
+pub record SummedTo (code : ℕ) (codes tonnes values : List ℕ) (count weight value k : ℕ) : Type 0 where
+  pub inside : k ≤ length codes
+  pub number-left : count + countOf code (drop k codes) ≡ countOf code codes
+  pub weight-left : weight + sumOf code (drop k codes) (drop k tonnes) ≡ sumOf code codes tonnes
+  pub cents-left : value + sumOf code (drop k codes) (drop k values) ≡ sumOf code codes values
 
-  module _ (h : end < length line) where
-    pub field-comma : getD line end 0 ≡ 44 → fieldAt line end ≡ []
-    unfolding fields comma
-    field-comma e = ap firstField (drop-next line end 0 h) ∙ rw (fields, eq-eqb (getD line end 0) 44 e)
+pub summed-none : (code : ℕ) (codes tonnes values : List ℕ) → SummedTo code codes tonnes values 0 0 0 0
+summed-none code codes tonnes values =
+    record { inside = omega arith; number-left = zero-add _; weight-left = zero-add _; cents-left = zero-add _ }
 
-    field-more : ¬ (getD line end 0 ≡ 44) → fieldAt line end ≡ getD line end 0 ∷ fieldAt line (end + 1)
-    unfolding fields comma
-    field-more n =
-        ap firstField (drop-next line end 0 h)
-        ∙ rw (fields, ne-eqb (getD line end 0) 44 n) (put-first (getD line end 0) (fields (drop (end + 1) line)))
+-- no sum of a code is large
+module _ (code : ℕ) (codes tonnes values : List ℕ) (f : Fits codes tonnes values) where
+  pub number-bound : countOf code codes ≤ mostLines
+  number-bound = omega (arith, count-small code codes, f .few)
 
--- A number read up to a place: its value so far, and the digits that are left.
-pub record ReadTo (line : List ℕ) (at value end : ℕ) : Type 0 where
-  pub inside : end ≤ length line
-  pub left : decimal value (fieldAt line end) ≡ decimal 0 (fieldAt line at)
-  pub rest : all isDigit (fieldAt line end) ≡ true
-  pub place : end + length (fieldAt line end) ≡ at + length (fieldAt line at)
+  pub weight-bound : sumOf code codes tonnes ≤ 99_999 * mostLines
+  weight-bound = omega (arith, sum-small code 99_999 codes tonnes (f .light), f .few)
 
-pub read-none : (line : List ℕ) (at : ℕ) → Numeric line at → ReadTo line at 0 at
-read-none line at n = record { inside = n .inside; left = refl; rest = n .digits; place = refl }
+  pub cents-bound : sumOf code codes values ≤ mostValue * mostLines
+  cents-bound = omega (arith, sum-small code mostValue codes values (f .cheap), f .few)
 
-module _ (line : List ℕ) (at value end : ℕ) (r : ReadTo line at value end) where
-  -- no digit is left
-  pub read-all : fieldAt line end ≡ [] → (value ≡ decimal 0 (fieldAt line at)) × (end ≡ at + length (fieldAt line at))
-  unfolding decimal
-  read-all none =
-      (sym (ap (decimal value) none) ∙ r .left, omega (arith, r .place, ap length none))
-
-  -- a digit is
-  module _ (h : end < length line) (n : ¬ (getD line end 0 ≡ 44)) where
-    abbrev byte : ℕ
-    byte = getD line end 0
-
-    one-more : (isDigit byte ≡ true) × (all isDigit (fieldAt line (end + 1)) ≡ true)
-    unfolding all
-    one-more = both-true (isDigit byte) (all isDigit (fieldAt line (end + 1))) (ap (all isDigit) (sym (field-more line end h n)) ∙ r .rest)
-
-    pub digit-here : (48 ≤ byte) × (byte ≤ 57)
-    digit-here = digit byte (one-more .0)
-
-    pub read-more : ReadTo line at (value * 10 + (byte - 48)) (end + 1)
-    unfolding decimal
-    read-more =
-        let next = field-more line end h n in
+  module _ (count weight value k : ℕ) (s : SummedTo code codes tonnes values count weight value k) where
+    -- no place is left
+    pub summed-all : length codes ≤ k → Summed code codes tonnes values (record { count = count; tonnes = weight; value = value })
+    unfolding countOf sumOf total
+    summed-all h =
+        let none : drop k codes ≡ [] = drop-of-length-le codes h in
         record {
-          inside = omega arith;
-          left =
-              ap (λ d. decimal (value * 10 + d) (fieldAt line (end + 1))) (sym (digit-value byte (one-more .0)))
-              ∙ ap (decimal value) (sym next)
-              ∙ r .left;
-          rest = one-more .1;
-          place = omega (arith, r .place, ap length next);
+          number = omega (arith, s .number-left, ap (countOf code) none);
+          weight = omega (arith, s .weight-left, ap (λ l. sumOf code l (drop k tonnes)) none);
+          cents = omega (arith, s .cents-left, ap (λ l. sumOf code l (drop k values)) none);
         }
 
--- what is read so far is no more than the number
-pub read-small : (line : List ℕ) (at value end : ℕ) → Numeric line at → ReadTo line at value end → value ≤ 999_999
-read-small line at value end n r = omega (arith, decimal-least value (fieldAt line end), r .left, n .small)
+    -- one more place: it has the code, or another
+    module _ (h : k < length codes) where
+      module _ (is : getD codes k 0 ≡ code) where
+        number-here : countOf code (drop k codes) ≡ 1 + countOf code (drop (k + 1) codes)
+        number-here = count-next code codes k h true (eq-eqb (getD codes k 0) code is)
 
--- the contract ends at the first comma
-first-until : (line : List ℕ) → until 44 line ≡ length (firstField line)
-unfolding until fields comma
-first-until [] = refl
-first-until (b ∷ line) =
-    test-cases
-    (λ t. elim t as (λ _. ℕ) [ true ↦ 0 | false ↦ suc (until 44 line) ] ≡ length {A = ℕ}
-    (getD (elim t as (λ _. List (List ℕ)) [ true ↦ [] ∷ fields line | false ↦ onFirst b (fields line) ]) 0 []))
-    (eqb b 44) (λ _. refl) (λ _. ap suc (first-until line) ∙ sym (ap length (put-first b (fields line))))
+        sum-here : (xs : List ℕ) → length xs ≡ length codes
+            → sumOf code (drop k codes) (drop k xs) ≡ getD xs k 0 + sumOf code (drop (k + 1) codes) (drop (k + 1) xs)
+        sum-here = sum-next code codes k h true (eq-eqb (getD codes k 0) code is)
 
-pub contract-next : (line : List ℕ) (n : ℕ) → NextByte line 44 0 n → n ≡ length (contractOf line)
-unfolding contractOf
-contract-next line n next = omega (arith, next-until line 44 0 n next, first-until line)
+        pub count-fits : count + 1 ≤ mostLines
+        count-fits = omega (arith, s .number-left, number-here, number-bound)
 
--- The tonnes and the price of a line of good form, by their places.
-module _ (line : List ℕ) (form : isLine line ≡ true) (contract : ℕ) (size : contract ≡ length (contractOf line)) where
-  abbrev f : Formed line
-  f = formed line form
+        pub weight-fits : weight + getD tonnes k 0 ≤ 99_999 * mostLines
+        weight-fits = omega (arith, s .weight-left, sum-here tonnes (f .weights), weight-bound)
 
-  tonnes-fields : (fields (drop (contract + 4) line) ≡ f .tonnes ∷ f .price ∷ []) × (contract + 4 ≤ length line)
-  unfolding isGrain
-  tonnes-fields =
-      let grain = next-fields line 0 (f .contract) (f .grain) (f .tonnes ∷ f .price ∷ []) (f .parts) in
-      let tonnes = next-fields line (0 + length (f .contract) + 1) (f .grain) (f .tonnes) (f .price ∷ []) (grain .0) in
-      let two = eqb-true (length (f .grain)) 2 (both-true _ _ (f .grain-form) .0) in
-      let place : 0 + length (f .contract) + 1 + length (f .grain) + 1 ≡ contract + 4 = omega (arith, two, size, ap length (contract-is f)) in
-      (subst (λ n. fields (drop n line) ≡ f .tonnes ∷ f .price ∷ []) place (tonnes .0), omega (arith, tonnes .1))
+        pub value-fits : value + getD values k 0 ≤ mostValue * mostLines
+        value-fits = omega (arith, s .cents-left, sum-here values (f .cents), cents-bound)
 
-  tonnes-is : fieldAt line (contract + 4) ≡ f .tonnes
-  tonnes-is = ap (λ fs. getD fs 0 []) (tonnes-fields .0)
+        pub summed-here : SummedTo code codes tonnes values (count + 1) (weight + getD tonnes k 0) (value + getD values k 0) (k + 1)
+        summed-here =
+            record {
+              inside = omega arith;
+              number-left = omega (arith, s .number-left, number-here);
+              weight-left = omega (arith, s .weight-left, sum-here tonnes (f .weights));
+              cents-left = omega (arith, s .cents-left, sum-here values (f .cents));
+            }
 
-  pub tonnes-numeric : Numeric line (contract + 4)
-  unfolding isTonnes
-  tonnes-numeric =
-      record {
-        inside = tonnes-fields .1;
-        digits = ap (all isDigit) tonnes-is ∙ number-bytes 99_999 (f .tonnes) (f .tonnes-form);
-        small = omega (arith, ap (decimal 0) tonnes-is, number-small 99_999 (f .tonnes) (f .tonnes-form));
-      }
-
-  pub tonnes-shown : decimal 0 (fieldAt line (contract + 4)) ≡ tonnesOf line
-  unfolding tonnesOf numberIn
-  tonnes-shown = ap (decimal 0) (tonnes-is ∙ sym (ap (λ fs. getD fs 2 []) (f .parts)))
-
-  module _ (end : ℕ) (e : end ≡ contract + 4 + length (fieldAt line (contract + 4))) where
-    price-fields : (fields (drop (end + 1) line) ≡ f .price ∷ []) × (end + 1 ≤ length line)
-    price-fields =
-        let price = next-fields line (contract + 4) (f .tonnes) (f .price) [] (tonnes-fields .0) in
-        let place : contract + 4 + length (f .tonnes) + 1 ≡ end + 1 = omega (arith, e, ap length tonnes-is) in
-        (subst (λ n. fields (drop n line) ≡ f .price ∷ []) place (price .0), omega (arith, price .1))
-
-    price-is : fieldAt line (end + 1) ≡ f .price
-    price-is = ap (λ fs. getD fs 0 []) (price-fields .0)
-
-    pub price-numeric : Numeric line (end + 1)
-    unfolding isPrice
-    price-numeric =
-        record {
-          inside = price-fields .1;
-          digits = ap (all isDigit) price-is ∙ number-bytes 999_999 (f .price) (f .price-form);
-          small = omega (arith, ap (decimal 0) price-is, number-small 999_999 (f .price) (f .price-form));
-        }
-
-    price-shown : decimal 0 (fieldAt line (end + 1)) ≡ priceOf line
-    unfolding priceOf numberIn
-    price-shown = ap (decimal 0) (price-is ∙ sym (ap (λ fs. getD fs 3 []) (f .parts)))
-
-    pub worth-is : (t p : ℕ) → t ≡ decimal 0 (fieldAt line (contract + 4)) → p ≡ decimal 0 (fieldAt line (end + 1)) → t * p ≡ valueOf line
-    unfolding valueOf
-    worth-is t p is at = ap₂ {C = ℕ} _*_ (is ∙ tonnes-shown) (at ∙ price-shown)
-
--- Sums over the first lines of a register, and over one more.
-pub sums-none : Summed [] 0 0 0
-unfolding printed total
-sums-none = record { size = refl; weight = refl; cents = refl }
-
-total-append : (f : List ℕ → ℕ) (xs ys : List (List ℕ)) → total f (xs ++ ys) ≡ total f xs + total f ys
-unfolding total
-total-append f [] ys = sym (zero-add (total f ys))
-total-append f (x ∷ xs) ys = let rest = total-append f xs ys in omega arith
-
-module _ (register : Register) (k : ℕ) (h : k < length register) where
-  abbrev line : List ℕ
-  line = lineAt register k
-
-  abbrev before : Register
-  before = take k register
-
-  next-lines : take (k + 1) register ≡ before ++ (line ∷ [])
-  unfolding lineAt
-  next-lines = ap (λ n. take n register) (add-one k) ∙ take-suc register k [] h
-
-  parts : register ≡ before ++ (line ∷ drop (k + 1) register)
-  unfolding lineAt
-  parts = sym (take-append-drop k register) ∙ ap (λ l. before ++ l) (drop-next register k [] h)
-
-  -- no sum is above that of all lines
-  sum-within : (f : List ℕ → ℕ) → total f before + f line ≤ total f register
-  unfolding total
-  sum-within f = omega (arith, ap (total f) parts, total-append f before (line ∷ drop (k + 1) register))
-
-  size-within : length (printed before) + length line + 1 ≤ length (printed register)
-  unfolding printed
-  size-within =
-      let rest = drop (k + 1) register in
-      omega (
-        arith,
-        ap (λ l. length (printed l)) parts,
-        ap length (printed-append before (line ∷ rest)),
-        length-append (printed before) (printed (line ∷ rest)),
-        length-append line (newline ∷ printed rest),
-      )
-
-  sum-more : (f : List ℕ → ℕ) → total f before + f line ≡ total f (take (k + 1) register)
-  unfolding total
-  sum-more f = omega (arith, ap (total f) next-lines, total-append f before (line ∷ []))
-
-  printed-more : printed before ++ (line ++ (10 ∷ [])) ≡ printed (take (k + 1) register)
-  unfolding printed newline
-  printed-more = sym (ap printed next-lines ∙ printed-append before (line ∷ []))
-
-  sums-more : (b t v size tonnes value : ℕ) → Summed before b t v → size ≡ length line → tonnes ≡ tonnesOf line → value ≡ valueOf line
-      → Summed (take (k + 1) register) (b + size + 1) (t + tonnes) (v + value)
-  sums-more b t v size tonnes value s long weight cents =
-      record {
-        size =
-            omega (arith, s .size, ap length printed-more, length-append (printed before) (line ++ (10 ∷ [])), length-append line (10 ∷ []));
-        weight = ap₂ {C = ℕ} _+_ (s .weight) weight ∙ sum-more tonnesOf;
-        cents = ap₂ {C = ℕ} _+_ (s .cents) cents ∙ sum-more valueOf;
-      }
-
-  -- a line put behind those before it
-  pub lines-more : (output middle after : List ℕ) (put-to end : ℕ) → LinesPut before output middle put-to → RecordPut middle after put-to line end
-      → LinesPut (take (k + 1) register) output after end
-  lines-more output middle after put-to end p r =
-      let at : put-to ≡ 0 + length (printed before) = omega (arith, p .ends) in
-      record {
-        ends = omega (
-          arith,
-          r .ends,
-          p .ends,
-          ap length printed-more,
-          length-append (printed before) (line ++ (10 ∷ [])),
-          length-append line (10 ∷ []),
-        );
-        bytes =
-            r .bytes
-            ∙ ap₂ {C = List ℕ} (λ l n. splice l n (line ++ (10 ∷ []))) (p .bytes) at
-            ∙ splice-behind output 0 (printed before) (line ++ (10 ∷ [])) (omega arith)
-            ∙ ap (splice output 0) printed-more;
-      }
-
-pub lines-none : (output : List ℕ) → LinesPut [] output output 0
-unfolding printed
-lines-none output = record { ends = refl; bytes = sym (splice-nil output 0) }
-
-pub all-lines : (register : Register) (k : ℕ) → k ≡ length register → take k register ≡ register
-all-lines register k e = take-all k register (omega arith)
+      pub summed-past : ¬ (getD codes k 0 ≡ code) → SummedTo code codes tonnes values count weight value (k + 1)
+      summed-past n =
+          let other = ne-eqb (getD codes k 0) code n in
+          record {
+            inside = omega arith;
+            number-left = omega (arith, s .number-left, count-next code codes k h false other);
+            weight-left = omega (arith, s .weight-left, sum-next code codes k h false other tonnes (f .weights));
+            cents-left = omega (arith, s .cents-left, sum-next code codes k h false other values (f .cents));
+          }
 
 -- a record, and byte 10 behind it
 pub record-put : (output : List ℕ) (at : ℕ) (v : List ℕ) → at + length v < length output
@@ -273,145 +113,153 @@ record-put output at v h =
           ∙ splice-behind output at v (10 ∷ []) (omega arith);
     }
 
--- the TOTAL line
-pub total-put : (count tonnes value : ℕ) (before after : List ℕ) (end : ℕ) → Put before after 0 (bytes "TOTAL" ++ numbersText count tonnes value) end
-    → TotalPut count tonnes value after end
-unfolding bytes numbersText printed totalLine newline
-total-put count tonnes value before after end p = record { within = p .within; bytes = p .holds ∙ simp append-assoc }
+-- the TOTAL line of a code
+pub total-put : (code : ℕ) (s : Sums) (before after : List ℕ) (at end : ℕ)
+    → Put before after at ((bytes "TOTAL," ++ wordOf code) ++ numbersText (s .count) (s .tonnes) (s .value)) end
+    → Put before after at (totalText code s) end
+unfolding numbersText totalText printed totalLine newline
+total-put code s before after at end p =
+    let same : (bytes "TOTAL," ++ wordOf code) ++ numbersText (s .count) (s .tonnes) (s .value) ≡ totalText code s = simp append-assoc in
+    subst (λ l. Put before after at l end) same p
 
--- A register of n lines, and its line of a place.
-module _ (buffer : List ℕ) (n : ℕ) (c : Counted buffer n) where
-  abbrev register : Register
-  register = registerIn buffer
+-- it is short, as the sums of columns are
+total-short : (code : ℕ) (codes tonnes values : List ℕ) → Fits codes tonnes values → (s : Sums) → Summed code codes tonnes values s
+    → length (totalText code s) ≤ mostTotal
+unfolding totalText printed totalLine bytes wordOf
+total-short code codes tonnes values f s m =
+    let count = digits-length 2 (s .count) (omega (arith, m .number, number-bound code codes tonnes values f)) in
+    let weight = digits-length 7 (s .tonnes) (omega (arith, m .weight, weight-bound code codes tonnes values f)) in
+    let value = digits-length 13 (s .value) (omega (arith, m .cents, cents-bound code codes tonnes values f)) in
+    simp length-append (omega arith)
 
-  -- no report is large
-  pub report-small : length (report register) ≤ mostReport
-  report-small = report-size register (read-sound buffer (c .keeps))
+-- The TOTAL lines of j codes are put: they have room, whatever lines the columns are of.
+pub record RoomTo (codes before after : List ℕ) (code at j : ℕ) : Type 0 where
+  pub inside : j ≤ length codes
+  pub size : length after ≡ length before
+  pub short : at ≤ mostTotal * j
+  pub range : code ≤ noCode
 
-  -- the report is the lines, and the TOTAL line with its byte 10
-  abbrev total-line : List ℕ
-  total-line = printed (totalLine (totalsOf register) ∷ [])
+pub going-none : (codes out : List ℕ) (code : ℕ) → code ≡ lowest 0 noCode codes → RoomTo codes out out code 0 0
+going-none codes out code e =
+    record { inside = omega arith; size = refl; short = omega arith; range = omega (arith, e, lowest-within 0 noCode codes) }
 
-  report-is : report register ≡ printed register ++ total-line
-  unfolding report
-  report-is = printed-append register (totalLine (totalsOf register) ∷ [])
+pub going-more : (codes tonnes values before middle after : List ℕ) (code at j : ℕ) → Fits codes tonnes values → RoomTo codes before middle code at j
+    → j < length codes → (s : Sums) → Summed code codes tonnes values s → (end : ℕ) → Put middle after at (totalText code s) end
+    → (new : ℕ) → new ≡ lowest code noCode codes → RoomTo codes before after new end (j + 1)
+going-more codes tonnes values before middle after code at j f g h s m end p new e =
+    record {
+      inside = omega arith;
+      size = p .size ∙ g .size;
+      short = omega (arith, p .ends, g .short, total-short code codes tonnes values f s m);
+      range = omega (arith, e, lowest-within code noCode codes);
+    }
 
-  module _ (k : ℕ) (h : k < n) where
-    inside : k < length register
-    inside = omega (arith, c .count)
+-- Of lines: what was put is the TOTAL lines of the first j currencies, and the code is the next one's.
+pub record TotalsTo (lines : Lines) (before after : List ℕ) (code at j : ℕ) : Type 0 where
+  pub next : code ≡ getD (codesOf lines) j noCode
+  pub put : Put before after 0 (printed (map (totalOf lines) (take j (currencies lines)))) at
 
-    pub placed : Placed buffer k
-    placed = record { keeps = c .keeps; inside = inside }
+module _ (lines : Lines) (codes tonnes values : List ℕ) (c : Columns lines codes tonnes values) where
+  abbrev words : List (List ℕ)
+  words = currencies lines
 
-    module _ (end : ℕ) (s : Stands buffer k end) where
-      pub line-form : isLine (take (end - slotAt k) (drop (slotAt k) buffer)) ≡ true
-      line-form = ap isLine (s .bytes) ∙ here-form buffer k placed
+  lowest-is : (last : ℕ) → lowest last noCode codes ≡ lowest last noCode (map codeIn lines)
+  lowest-is last = ap (lowest last noCode) (c .currency)
 
-      line-size : end - slotAt k ≡ length (lineAt register k)
-      line-size = here-size buffer k placed end s
+  pub listed-none : (out : List ℕ) (code : ℕ) → code ≡ lowest 0 noCode codes → TotalsTo lines out out code 0 0
+  unfolding printed
+  listed-none out code e =
+      record {
+        next = e ∙ lowest-is 0 ∙ first-code lines (c .good);
+        put = record { ends = refl; within = omega arith; holds = refl; size = refl };
+      }
 
-      -- the line added to the sums of those before it: no sum leaves its bounds
-      module _ (b t v : ℕ) (sum : Summed (take k register) b t v) (w : Worth) (m : Weighed (take (end - slotAt k) (drop (slotAt k) buffer)) w) where
-        weight : w .tonnes ≡ tonnesOf (lineAt register k)
-        weight = m .weight ∙ ap tonnesOf (s .bytes)
+  module _ (before middle : List ℕ) (code at j : ℕ) (t : TotalsTo lines before middle code at j) where
+    -- no currency is left
+    listed-all : length words ≤ j → TotalsPut lines middle at
+    unfolding totalLines
+    listed-all h =
+        record {
+          within = t .put .within;
+          bytes = t .put .holds ∙ ap (λ ws. printed (map (totalOf lines) ws)) (take-all j words h);
+        }
 
-        cents : w .value ≡ valueOf (lineAt register k)
-        cents = m .cents ∙ ap valueOf (s .bytes)
+    pub listed-end : length codes ≤ j → TotalsPut lines middle at
+    listed-end h =
+        listed-all (omega (arith, currencies-few lines, ap length (c .currency), length-map lines codeIn))
 
-        pub bytes-fit : b + (end - slotAt k) + 1 ≤ mostReport
-        bytes-fit =
-            omega (
-              arith,
-              line-size,
-              sum .size,
-              size-within register k inside,
-              report-small,
-              ap length report-is,
-              length-append (printed register) total-line,
-            )
+    -- one is
+    module _ (h : j < length words) where
+      abbrev word : List ℕ
+      word = getD words j []
 
-        pub tonnes-fit : t + w .tonnes ≤ 99_999 * mostLines
-        tonnes-fit =
-            omega (arith, weight, sum .weight, sum-within register k inside tonnesOf, sums-bounded register (read-sound buffer (c .keeps)) .tonnes)
+      word-form : isCurrency word ≡ true
+      word-form = all-inside isCurrency words [] (currencies-form lines (c .good)) j h
 
-        pub value-fit : v + w .value ≤ mostValue * mostLines
-        value-fit =
-            omega (arith, cents, sum .cents, sum-within register k inside valueOf, sums-bounded register (read-sound buffer (c .keeps)) .value)
+      code-here : code ≡ codeOf word
+      unfolding codesOf
+      code-here = t .next ∙ mapped words j h
+        where
+          mapped : (ws : List (List ℕ)) (j : ℕ) → j < length ws → getD (map codeOf ws) j noCode ≡ codeOf (getD ws j [])
+          mapped [] j h = absurd (omega arith)
+          mapped (w ∷ ws) zero h = refl
+          mapped (w ∷ ws) (suc j) h = mapped ws j (omega arith)
 
-        pub line-added : Summed (take (k + 1) register) (b + (end - slotAt k) + 1) (t + w .tonnes) (v + w .value)
-        line-added = sums-more register k inside b t v (end - slotAt k) (w .tonnes) (w .value) sum line-size weight cents
+    pub listed-last : code ≡ noCode → TotalsPut lines middle at
+    listed-last e =
+        test-cases (λ _. TotalsPut lines middle at) (leb (length words) j) (λ f. listed-all (leb-true (length words) j f))
+        (λ f. let h = leb-false (length words) j f in
+        absurd (omega (arith, e, code-here h, code-range (word h) (word-form h) .1)))
 
-      -- the line put behind those before it: there is room
-      module _ (output middle : List ℕ) (put-to : ℕ) (p : LinesPut (take k register) output middle put-to)
-          (room : length (printed register) ≤ length output) where
-        pub line-room : put-to + length (take (end - slotAt k) (drop (slotAt k) buffer)) < length middle
-        line-room =
-            let within = size-within register k inside in
-            omega (
-              arith,
-              p .ends,
-              ap length (s .bytes),
-              ap length (p .bytes),
-              length-splice output 0 (printed (take k register)) (omega arith),
-            )
+    some-left : code < noCode → j < length words
+    unfolding codesOf
+    some-left small =
+        test-cases (λ _. j < length words) (leb (length words) j)
+        (λ f. let none = List·getD-eq-default (codesOf lines) noCode {n = j} (omega (arith, leb-true (length words) j f, length-map words codeOf)) in
+        absurd (omega (arith, t .next, none)))
+        (λ f. leb-false (length words) j f)
 
-        pub line-put : (after : List ℕ) (to : ℕ) → RecordPut middle after put-to (take (end - slotAt k) (drop (slotAt k) buffer)) to
-            → LinesPut (take (k + 1) register) output after to
-        line-put after to r =
-            lines-more register k inside output middle after put-to to p (subst (λ l. RecordPut middle after put-to l to) (s .bytes) r)
+    module _ (small : code < noCode) (s : Sums) (m : Summed code codes tonnes values s) where
+      abbrev here : j < length words
+      here = some-left small
 
-  -- The report put together: its size, where it doesn't fit, and what is left where it does.
-  module _ (b t v : ℕ) (s : Summed register b t v) (total : List ℕ) (end : ℕ) (p : TotalPut n t v total end) where
-    total-is : take end total ≡ total-line
-    unfolding totalsOf
-    total-is =
-        p .bytes
-        ∙ (λ i. printed (totalLine (record { count = c .count i; tonnes = s .weight i; value = s .cents i }) ∷ []))
+      abbrev its : Lines
+      its = linesOf (word here) lines
 
-    pub size-is : b + end ≡ length (report register)
-    size-is =
-        let size = length-take-le end total (p .within) in
-        omega (arith, s .size, ap length total-is, ap length report-is, length-append (printed register) total-line)
+      -- the sums are those of the currency's lines
+      sums-are : totalsFrom s ≡ totalsOf its
+      unfolding totalsOf
+      sums-are =
+          let number : s .count ≡ length its =
+          m .number ∙ ap₂ {C = ℕ} countOf (code-here here) (c .currency) ∙ count-lines (word here) (word-form here) lines (c .good) in
+          let weight : s .tonnes ≡ total tonnesOf its =
+          m .weight ∙ ap₂ {C = ℕ} (λ k l. sumOf k l tonnes) (code-here here) (c .currency)
+          ∙ ap (sumOf (codeOf (word here)) (map codeIn lines)) (c .weight) ∙ sum-lines (word here) (word-form here) tonnesOf lines (c .good) in
+          let value : s .value ≡ total valueOf its =
+          m .cents ∙ ap₂ {C = ℕ} (λ k l. sumOf k l values) (code-here here) (c .currency)
+          ∙ ap (sumOf (codeOf (word here)) (map codeIn lines)) (c .cents) ∙ sum-lines (word here) (word-form here) valueOf lines (c .good) in
+          λ i. record { count = number i; tonnes = weight i; value = value i }
 
-    module _ (output : List ℕ) where
-      pub report-full : length output < b + end → reportBack 21 output 0 ≡ reportCall buffer output
-      unfolding puttingNothing
-      report-full h = sym (report-put buffer output (c .keeps) ∙ put-full (report register) output (omega (arith, size-is)))
+      text-is : totalText code s ≡ printed (totalOf lines (word here) ∷ [])
+      unfolding totalText
+      text-is =
+          ap₂ {C = List ℕ} (λ w u. printed (totalLine w u ∷ [])) (ap wordOf (code-here here) ∙ code-word (word here) (word-form here)) sums-are
 
-      module _ (h : b + end ≤ length output) (middle : List ℕ) (at : ℕ) (l : LinesPut register output middle at) where
-        pub total-fits : at + length (take end total) ≤ length middle
-        total-fits =
-            let size = length-take-le end total (p .within) in
-            omega (
-              arith,
-              l .ends,
-              s .size,
-              ap length (l .bytes),
-              length-splice output 0 (printed register) (omega (arith, s .size)),
-            )
+      more-text : printed (map (totalOf lines) (take j words)) ++ totalText code s ≡ printed (map (totalOf lines) (take (j + 1) words))
+      more-text =
+          let f = totalOf lines in
+          ap (λ l. printed (map f (take j words)) ++ l) text-is
+          ∙ sym (printed-append (map f (take j words)) (f (word here) ∷ []))
+          ∙ ap printed (sym (map-append f (take j words) (word here ∷ [])))
+          ∙ ap (λ ws. printed (map f ws)) (sym (ap (λ n. take n words) (add-one j) ∙ take-suc words j [] here))
 
-        pub report-done : (after : List ℕ) → after ≡ splice middle at (take end total) → reportBack 0 after (b + end) ≡ reportCall buffer output
-        unfolding splice
-        report-done after put =
-            let place : at ≡ 0 + length (printed register) = omega (arith, l .ends) in
-            let whole : after ≡ splice output 0 (report register) =
-            put
-            ∙ ap₂ {C = List ℕ} (λ o x. splice o at x) (l .bytes) total-is
-            ∙ ap (λ k. splice (splice output 0 (printed register)) k total-line) place
-            ∙ splice-behind output 0 (printed register) total-line (omega arith)
-            ∙ ap (splice output 0) (sym report-is) in
-            let front : splice output 0 (report register) ≡ report register ++ drop (length (report register)) output =
-            ap (λ k. report register ++ drop k output) (zero-add (length (report register))) in
-            ap₂ {C = ReportCalled} (reportBack 0) (whole ∙ front) size-is
-            ∙ sym (report-put buffer output (c .keeps) ∙ put-fits (report register) output (omega (arith, size-is)))
-
--- What the call makes of what was found.
-pub found-counted : (buffer keys : List ℕ) (r : Held) → Found (bufferKeeps buffer) (registerIn buffer) keys r → (n : ℕ) → r ≡ Lines n
-    → Counted buffer n
-found-counted buffer keys r found n is =
-    let ready = found-ready buffer keys r found n is in
-    record { keeps = ready .keeps; count = ready .holds .count }
-
-pub report-refuses : (buffer output : List ℕ) → bufferKeeps buffer ≡ false → reportBack 14 output 0 ≡ reportCall buffer output
-unfolding puttingNothing
-report-refuses buffer output e = sym (report-refused buffer output e)
+      pub listed-more : (after : List ℕ) (end : ℕ) → Put middle after at (totalText code s) end → (new : ℕ) → new ≡ lowest code noCode codes
+          → TotalsTo lines before after new end (j + 1)
+      unfolding codesOf
+      listed-more after end p new e =
+          let size = length-map words codeOf in
+          record {
+            next =
+                e ∙ lowest-is code ∙ ap (λ k. lowest k noCode (map codeIn lines)) (t .next) ∙ next-code lines (c .good) j (omega (arith, here, size));
+            put = subst (λ l. Put before after 0 l end) more-text (put-behind (t .put) p);
+          }

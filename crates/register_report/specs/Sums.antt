@@ -1,18 +1,24 @@
 -- What the code says of a report's parts. Assumes nothing.
 use mathlib.Core.Bool.{true}
-use mathlib.Core.List.{List, [], _∷_, _++_}
+use mathlib.Core.List.{List, [], _∷_, _++_, map}
 use mathlib.Core.Path.{_≡_}
-use Prim.Native.Nat.{ℕ, _+_, _≤_}
+use Prim.Native.Nat.{ℕ, _+_, _*_, _≤_}
+use lib.Dec.{leb}
 use lib.ListN.{length, take, drop}
-use Rattle.base.specs.Lists.{all, total}
+use Rattle.base.specs.Lists.{all}
 use Rattle.calls.specs.Splices.{splice}
 use Rattle.cards.specs.Bytes.{isDigit}
 use Rattle.values.specs.Conversion.{decimal}
 use Rattle.register.specs.Buffer.{bufferKeeps, registerIn}
+use Rattle.register.specs.Line.{isRecord}
 use Rattle.register.specs.LineLaws.{firstField}
-use Rattle.register.specs.Register.{Register}
-use Rattle.register.specs.Report.{tonnesOf, valueOf, totalLine, printed}
+use Rattle.register.specs.Register.{Lines, isOpen, mostLines}
+use Rattle.register.specs.Report.{Totals, tonnesOf, valueOf, totalLine, totalLines, printed}
+use Rattle.register.specs.ReportLaws.{mostValue}
+use Rattle.register_report.specs.Codes.{codeIn, countOf, sumOf, wordOf}
 use Rattle.register_report.specs.declared.Field.{Field}
+use Rattle.register_report.specs.declared.Sizes.{Sizes}
+use Rattle.register_report.specs.declared.Sums.{Sums}
 use Rattle.register_report.specs.declared.Worth.{Worth}
 
 -- the field that begins at a place of a line
@@ -30,30 +36,82 @@ pub record Shows (line : List ℕ) (at : ℕ) (r : Field) : Type 0 where
   pub number : r .value ≡ decimal 0 (fieldAt line at)
   pub ends : r .end ≡ at + length (fieldAt line at)
 
--- what a line adds to the sums
+-- what a line adds to its currency's sums
 pub record Weighed (line : List ℕ) (r : Worth) : Type 0 where
+  pub currency : r .code ≡ codeIn line
   pub weight : r .tonnes ≡ tonnesOf line
   pub cents : r .value ≡ valueOf line
 
--- a buffer that keeps the rules, with n lines
+-- Columns of numbers: as many of each as there are lines, and small enough for sums in 64 bits.
+pub record Fits (codes tonnes values : List ℕ) : Type 0 where
+  pub few : length codes ≤ mostLines
+  pub weights : length tonnes ≡ length codes
+  pub cents : length values ≡ length codes
+  pub light : all (λ t. leb t 99_999) tonnes ≡ true
+  pub cheap : all (λ v. leb v mostValue) values ≡ true
+
+-- They are those of lines.
+pub record Columns (lines : Lines) (codes tonnes values : List ℕ) : Type 0 where
+  pub few : length lines ≤ mostLines
+  pub good : all isRecord lines ≡ true
+  pub currency : codes ≡ map codeIn lines
+  pub weight : tonnes ≡ map tonnesOf lines
+  pub cents : values ≡ map valueOf lines
+
+-- columns with room for 256 lines
+pub record Roomy (codes tonnes values : List ℕ) : Type 0 where
+  pub code-room : length codes ≡ mostLines
+  pub tonnes-room : length tonnes ≡ mostLines
+  pub value-room : length values ≡ mostLines
+
+-- a buffer that keeps the rules, with a register that is opened and has n lines
 pub record Counted (buffer : List ℕ) (n : ℕ) : Type 0 where
   pub keeps : bufferKeeps buffer ≡ true
-  pub count : n ≡ length (registerIn buffer)
+  pub is-open : isOpen (registerIn buffer) ≡ true
+  pub count : n ≡ length (registerIn buffer .lines)
 
--- what lines add up to, with the bytes that they are printed in
-pub record Summed (lines : Register) (bytes tonnes value : ℕ) : Type 0 where
+-- the columns of n lines, and the bytes that they are printed in
+pub record Filled (lines : Lines) (n : ℕ) (codes tonnes values : List ℕ) (bytes : ℕ) : Type 0 where
+  pub columns : Columns lines (take n codes) (take n tonnes) (take n values)
   pub size : bytes ≡ length (printed lines)
-  pub weight : tonnes ≡ total tonnesOf lines
-  pub cents : value ≡ total valueOf lines
+
+-- the sums of a code
+pub record Summed (code : ℕ) (codes tonnes values : List ℕ) (r : Sums) : Type 0 where
+  pub number : r .count ≡ countOf code codes
+  pub weight : r .tonnes ≡ sumOf code codes tonnes
+  pub cents : r .value ≡ sumOf code codes values
+
+abbrev pub totalsFrom : Sums → Totals
+totalsFrom s = record { count = s .count; tonnes = s .tonnes; value = s .value }
 
 -- room for a TOTAL line with any three numbers of 64 bits
 abbrev pub longestTotal : ℕ
-longestTotal = 69
+longestTotal = 73
 
--- the TOTAL line with its byte 10 stands at the start
-pub record TotalPut (count tonnes value : ℕ) (out : List ℕ) (end : ℕ) : Type 0 where
+-- a code's TOTAL line with its byte 10
+unfoldable pub totalText : (code : ℕ) → Sums → List ℕ
+totalText code s = printed (totalLine (wordOf code) (totalsFrom s) ∷ [])
+
+-- the most bytes of a TOTAL line of a register with its byte 10; room for all of them, and for one more of any numbers
+abbrev pub mostTotal : ℕ
+mostTotal = 38
+
+abbrev pub totalsRoom : ℕ
+totalsRoom = mostTotal * mostLines + longestTotal
+
+-- the TOTAL lines of some lines stand at the start
+pub record TotalsPut (lines : Lines) (out : List ℕ) (end : ℕ) : Type 0 where
   pub within : end ≤ length out
-  pub bytes : take end out ≡ printed (totalLine (record { count = count; tonnes = tonnes; value = value }) ∷ [])
+  pub bytes : take end out ≡ printed (totalLines lines)
+
+-- whatever lines have these columns
+abbrev pub TotalsFor : (codes tonnes values out : List ℕ) (end : ℕ) → Type 0
+TotalsFor codes tonnes values out end = (lines : Lines) → Columns lines codes tonnes values → TotalsPut lines out end
+
+-- and the bytes that the lines and they are printed in
+pub record TotalsMade (lines : Lines) (out : List ℕ) (r : Sizes) : Type 0 where
+  pub size : r .lines ≡ length (printed lines)
+  pub put : TotalsPut lines out (r .totals)
 
 -- a record with its byte 10 was put from a place on
 pub record RecordPut (before after : List ℕ) (at : ℕ) (line : List ℕ) (end : ℕ) : Type 0 where
@@ -61,6 +119,6 @@ pub record RecordPut (before after : List ℕ) (at : ℕ) (line : List ℕ) (end
   pub bytes : after ≡ splice before at (line ++ (10 ∷ []))
 
 -- lines were printed at the start
-pub record LinesPut (lines : Register) (before after : List ℕ) (end : ℕ) : Type 0 where
+pub record LinesPut (lines : Lines) (before after : List ℕ) (end : ℕ) : Type 0 where
   pub ends : end ≡ length (printed lines)
   pub bytes : after ≡ splice before 0 (printed lines)

@@ -68,17 +68,21 @@ unfolding
     Rattle.values.specs.Work.noting
     Rattle.values.specs.Work.quietly
     Rattle.values.specs.Work._>>=_
-    Rattle.register.specs.Buffer.slotOf
+    Rattle.register.specs.Buffer.cellOf
     Rattle.register.specs.Buffer.slotsOf
     Rattle.register.specs.Buffer.image
-    Rattle.register.specs.Buffer.lineIn
+    Rattle.register.specs.Buffer.textIn
     Rattle.register.specs.Buffer.linesIn
     Rattle.register.specs.Buffer.registerIn
-    Rattle.register.specs.Buffer.slotKeeps
+    Rattle.register.specs.Buffer.cellKeeps
     Rattle.register.specs.Buffer.slotsKeep
     Rattle.register.specs.Buffer.keepsRules
     Rattle.register.specs.Buffer.bufferKeeps
+    Rattle.register.specs.CallLaws.acts
+    Rattle.register.specs.Calls.turnedDown
     Rattle.register.specs.Calls.withRegister
+    Rattle.register.specs.Calls.openCall
+    Rattle.register.specs.Calls.bufferOpen
     Rattle.register.specs.Calls.offerCall
     Rattle.register.specs.Calls.handing
     Rattle.register.specs.Calls.lineCall
@@ -86,8 +90,9 @@ unfolding
     Rattle.register.specs.Calls.putting
     Rattle.register.specs.Calls.reportCall
     Rattle.register.specs.Claims.Linked
-    Rattle.register.specs.Claims.linesOffered
-    Rattle.register.specs.Claims.accepting
+    Rattle.register.specs.Claims.madeByOpening
+    Rattle.register.specs.Claims.madeByOffer
+    Rattle.register.specs.Claims.IfOpen
     Rattle.register.specs.Claims.ListClaim
     Rattle.register.specs.Line.fields
     Rattle.register.specs.Line.isContract
@@ -98,26 +103,47 @@ unfolding
     Rattle.register.specs.Line.isPrice
     Rattle.register.specs.Line.each
     Rattle.register.specs.Line.isLine
+    Rattle.register.specs.Line.isCurrency
+    Rattle.register.specs.Line.isRecord
+    Rattle.register.specs.Line.hasForm
     Rattle.register.specs.Line.contractOf
+    Rattle.register.specs.Line.currencyOf
+    Rattle.register.specs.Line.written
+    Rattle.register.specs.Line.stored
     Rattle.register.specs.LineLaws.isText
     Rattle.register.specs.LineLaws.isPlain
+    Rattle.register.specs.Register.isOpen
     Rattle.register.specs.Register.holds
     Rattle.register.specs.Register.lowestOf
     Rattle.register.specs.Register.offerNumber
     Rattle.register.specs.Register.offered
+    Rattle.register.specs.Register.opened
+    Rattle.register.specs.Register.after
     Rattle.register.specs.Register.fold
     Rattle.register.specs.Register.lineAt
     Rattle.register.specs.Register.differ
+    Rattle.register.specs.Register.formOf
+    Rattle.register.specs.Register.isHouse
     Rattle.register.specs.Register.isRegister
     Rattle.register.specs.Report.numberIn
     Rattle.register.specs.Report.tonnesOf
     Rattle.register.specs.Report.priceOf
     Rattle.register.specs.Report.valueOf
     Rattle.register.specs.Report.totalsOf
+    Rattle.register.specs.Report.before
+    Rattle.register.specs.Report.entered
+    Rattle.register.specs.Report.currencies
+    Rattle.register.specs.Report.linesOf
     Rattle.register.specs.Report.totalLine
+    Rattle.register.specs.Report.totalLines
     Rattle.register.specs.Report.printed
     Rattle.register.specs.Report.report
-    Rattle.register.specs.Report.recordsAbove
-    Rattle.register.specs.Report.lastRecord
-    Rattle.register.specs.Report.totalsIn
+    Rattle.register.specs.Report.recordsIn
+    Rattle.register.specs.Report.totalLinesIn
+    Rattle.register.specs.Report.isNumeral
+    Rattle.register.specs.Report.isTotalLine
+    Rattle.register.specs.Report.currencyShown
+    Rattle.register.specs.Report.totalsShown
+    Rattle.register.specs.Report.isAmong
+    Rattle.register.specs.Report.inOrder
 everything = tt

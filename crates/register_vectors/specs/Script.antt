@@ -1,17 +1,24 @@
 -- A script of the register as a list of commands, and what it answers, by the definitions on lists. Assumes nothing.
+use mathlib.Core.Bool.{cond}
 use mathlib.Core.List.{List, [], _∷_, _++_, map}
 use mathlib.Core.Path.{_≡_}
 use Prim.Native.Nat.{ℕ, zero, suc}
-use lib.ListN.{take, replicate}
-use Rattle.register.specs.Calls.{ReportCalled, putting}
-use Rattle.register.specs.Register.{Register, offerNumber, offered, lineAt}
+use lib.Dec.{eqb, leb}
+use lib.ListN.{length, take, replicate}
+use Rattle.register.specs.Calls.{ReportCalled, putting, puttingNothing}
+use Rattle.register.specs.Claims.{bufferBack, madeByOffer, madeByOpening}
+use Rattle.register.specs.Line.{contractOf, isCurrency, isLine}
+use Rattle.register.specs.Register.{Lines, Register, nothing, isOpen, holds, lowestOf, lineAt, mostLines, offerNumber}
 use Rattle.register.specs.Report as Report
 
--- a line offered, a line asked for by its place, a report asked for with so many bytes of output, and a new start with the empty register
+-- the register opened with a currency, a line offered, a line asked for by its place, a report asked for with so many bytes of output; and two new
+-- starts: with the register that was left of lines offered by wishes 2 to 9, and with the empty one
 pub data Command : Type 0 where
+  opening : (currency : List ℕ) → Command
   offer : (line : List ℕ) → Command
   get : (place : ℕ) → Command
   report : (size : ℕ) → Command
+  old : (lines : List (List ℕ)) → Command
   reset : Command
 
 -- a number, a number with the line handed out, or a number with the bytes put
@@ -24,16 +31,36 @@ pub data Answer : Type 0 where
 abbrev pub reportedBy : ReportCalled → Answer
 reportedBy back = reported (back .number) (take (back .size) (back .left))
 
+-- The offers of wishes 2 to 9: lines of four fields, kept as they came.
+unfoldable pub oldOffered : Lines → (line : List ℕ) → Lines
+oldOffered lines line =
+    cond (eqb (lowestOf (isLine line) (holds lines (contractOf line)) (leb mostLines (length lines))) 0) (lines ++ (line ∷ [])) lines
+
+unfoldable pub oldLines : Lines → (offers : List (List ℕ)) → Lines
+oldLines lines [] = lines
+oldLines lines (line ∷ rest) = oldLines (oldOffered lines line) rest
+
+-- The answers, with the register that the commands before made by their numbers, as in Claims: ListClaim. It is the register after them by CallLaws:
+-- opening-is and offer-is; here it spares working out a number twice. W10.6 29 first on opening, and 14 for every other call until then.
 unfoldable pub answers : Register → List Command → List Answer
 answers register [] = []
-answers register (offer line ∷ rest) = number (offerNumber register line) ∷ answers (offered register line) rest
-answers register (get place ∷ rest) = handed 0 (lineAt register place) ∷ answers register rest
-answers register (report size ∷ rest) = reportedBy (putting (Report.report register) (replicate size 0)) ∷ answers register rest
-answers register (reset ∷ rest) = number 0 ∷ answers [] rest
+answers register (opening currency ∷ rest) =
+    let got : ℕ = cond (isCurrency currency) 0 29 in
+    number got ∷ answers (madeByOpening register currency (bufferBack got [])) rest
+answers register (offer line ∷ rest) =
+    let got : ℕ = cond (isOpen register) (offerNumber (register .lines) line) 14 in
+    number got ∷ answers (madeByOffer register line (bufferBack got [])) rest
+answers register (get place ∷ rest) = cond (isOpen register) (handed 0 (lineAt (register .lines) place)) (handed 14 []) ∷ answers register rest
+answers register (report size ∷ rest) =
+    reportedBy
+    (cond (isOpen register) (putting (Report.report (register .lines)) (replicate size 0)) (puttingNothing 14 (replicate size 0)))
+    ∷ answers register rest
+answers register (old offers ∷ rest) = number 0 ∷ answers (record { house = []; lines = oldLines [] offers }) rest
+answers register (reset ∷ rest) = number 0 ∷ answers nothing rest
 
 -- Commands with answers: from the empty register the commands answer just those.
 abbrev pub Answered : List (Command × Answer) → Type 0
-Answered script = answers [] (map (λ entry. entry .0) script) ≡ map (λ entry. entry .1) script
+Answered script = answers nothing (map (λ entry. entry .0) script) ≡ map (λ entry. entry .1) script
 
 -- so many times the same bytes
 unfoldable pub times : (count : ℕ) → List ℕ → List ℕ

@@ -1,17 +1,20 @@
--- The scripts of tests/vectors/register02 with their answers, on lists. Commands after a `size` are about buffers, so they are left out up to the
--- next `reset`. Nothing is left of m01. Assumes nothing.
+-- The scripts of tests/vectors/register02 with their answers, on lists. They are from before wish 10, and so is what is said of each. Here the
+-- register is opened with EUR at every start, so a line handed out has its currency behind it, and an offer of five fields of good form is left out.
+-- `size`, and commands while fewer than 8,192 bytes are lent, are about buffers and left out. Assumes nothing.
 use mathlib.Core.List.{[], _∷_, _++_}
 use mathlib.Core.Path.{refl}
 use Rattle.base.specs.Text.{bytes}
 use Rattle.register_vectors.specs.Everything.{everything}
-use Rattle.register_vectors.specs.Script.{offer, get, reset, number, handed, answers, Answered, times}
+use Rattle.register_vectors.specs.Script.{opening, offer, get, reset, number, handed}
+use Rattle.register_vectors.specs.Script.{Answered, answers, times}
 
 -- two lines are taken, handed out by their places as they came, and nothing stands behind them
 h01-first : Answered (
-    (offer (bytes "W7,WH,120,2150"), number 0)
+    (opening (bytes "EUR"), number 0)
+    ∷ (offer (bytes "W7,WH,120,2150"), number 0)
     ∷ (offer (bytes "B2,BA,35,1875"), number 0)
-    ∷ (get 0, handed 0 (bytes "W7,WH,120,2150"))
-    ∷ (get 1, handed 0 (bytes "B2,BA,35,1875"))
+    ∷ (get 0, handed 0 (bytes "W7,WH,120,2150,EUR"))
+    ∷ (get 1, handed 0 (bytes "B2,BA,35,1875,EUR"))
     ∷ (get 2, handed 0 [])
     ∷ [])
 unfolding everything answers times
@@ -19,12 +22,13 @@ h01-first = refl
 
 -- a contract has 1 to 8 bytes
 h02-contract-length : Answered (
-    (offer (bytes "A,WH,1,1"), number 0)
+    (opening (bytes "EUR"), number 0)
+    ∷ (offer (bytes "A,WH,1,1"), number 0)
     ∷ (offer (bytes "ABCDEFGH,WH,1,1"), number 0)
     ∷ (offer (bytes "ABCDEFGHI,WH,1,1"), number 25)
     ∷ (offer (bytes ",WH,1,1"), number 25)
-    ∷ (get 0, handed 0 (bytes "A,WH,1,1"))
-    ∷ (get 1, handed 0 (bytes "ABCDEFGH,WH,1,1"))
+    ∷ (get 0, handed 0 (bytes "A,WH,1,1,EUR"))
+    ∷ (get 1, handed 0 (bytes "ABCDEFGH,WH,1,1,EUR"))
     ∷ (get 2, handed 0 [])
     ∷ [])
 unfolding everything answers times
@@ -32,7 +36,8 @@ h02-contract-length = refl
 
 -- letters A-Z and digits alone; the bytes about them are refused
 h03-contract-bytes : Answered (
-    (offer (bytes "AZ09,WH,1,1"), number 0)
+    (opening (bytes "EUR"), number 0)
+    ∷ (offer (bytes "AZ09,WH,1,1"), number 0)
     ∷ (offer (bytes "0,WH,1,1"), number 0)
     ∷ (offer (bytes "00000000,WH,1,1"), number 0)
     ∷ (offer (bytes "99999999,WH,1,1"), number 0)
@@ -48,7 +53,7 @@ h03-contract-bytes : Answered (
     ∷ (offer (bytes "A ,WH,1,1"), number 25)
     ∷ (offer (bytes "A_,WH,1,1"), number 25)
     ∷ (offer (bytes "A.B,WH,1,1"), number 25)
-    ∷ (get 3, handed 0 (bytes "99999999,WH,1,1"))
+    ∷ (get 3, handed 0 (bytes "99999999,WH,1,1,EUR"))
     ∷ (get 4, handed 0 [])
     ∷ [])
 unfolding everything answers times
@@ -56,7 +61,8 @@ h03-contract-bytes = refl
 
 -- two letters A-Z
 h04-grain : Answered (
-    (offer (bytes "G0,AA,1,1"), number 0)
+    (opening (bytes "EUR"), number 0)
+    ∷ (offer (bytes "G0,AA,1,1"), number 0)
     ∷ (offer (bytes "G1,ZZ,1,1"), number 0)
     ∷ (offer (bytes "G2,WH,1,1"), number 0)
     ∷ (offer (bytes "G3,A,1,1"), number 25)
@@ -70,7 +76,7 @@ h04-grain : Answered (
     ∷ (offer (bytes "G11,[A,1,1"), number 25)
     ∷ (offer (bytes "G12,A ,1,1"), number 25)
     ∷ (offer (bytes "G13, A,1,1"), number 25)
-    ∷ (get 2, handed 0 (bytes "G2,WH,1,1"))
+    ∷ (get 2, handed 0 (bytes "G2,WH,1,1,EUR"))
     ∷ (get 3, handed 0 [])
     ∷ [])
 unfolding everything answers times
@@ -78,7 +84,8 @@ h04-grain = refl
 
 -- 1 to 99,999, no leading zeros, no signs, the value counts
 h05-tonnes : Answered (
-    (offer (bytes "T0,WH,1,1"), number 0)
+    (opening (bytes "EUR"), number 0)
+    ∷ (offer (bytes "T0,WH,1,1"), number 0)
     ∷ (offer (bytes "T1,WH,99999,1"), number 0)
     ∷ (offer (bytes "T2,WH,9,1"), number 0)
     ∷ (offer (bytes "T3,WH,10,1"), number 0)
@@ -99,7 +106,7 @@ h05-tonnes : Answered (
     ∷ (offer (bytes "T18,WH,65537,1"), number 0)
     ∷ (offer (bytes "T19,WH,4294967297,1"), number 25)
     ∷ (offer (bytes "T20,WH,18446744073709551617,1"), number 25)
-    ∷ (get 4, handed 0 (bytes "T18,WH,65537,1"))
+    ∷ (get 4, handed 0 (bytes "T18,WH,65537,1,EUR"))
     ∷ (get 5, handed 0 [])
     ∷ [])
 unfolding everything answers times
@@ -107,7 +114,8 @@ h05-tonnes = refl
 
 -- 1 to 999,999
 h06-price : Answered (
-    (offer (bytes "P0,WH,1,1"), number 0)
+    (opening (bytes "EUR"), number 0)
+    ∷ (offer (bytes "P0,WH,1,1"), number 0)
     ∷ (offer (bytes "P1,WH,1,999999"), number 0)
     ∷ (offer (bytes "P2,WH,1,100000"), number 0)
     ∷ (offer (bytes "P3,WH,1,0"), number 25)
@@ -123,7 +131,7 @@ h06-price : Answered (
     ∷ (offer (bytes "P13,WH,1,4294967297"), number 25)
     ∷ (offer (bytes "P14,WH,1,18446744073709551617"), number 25)
     ∷ (offer (bytes "P15,WH,1,1111111111111111111111111111111111111111"), number 25)
-    ∷ (get 2, handed 0 (bytes "P2,WH,1,100000"))
+    ∷ (get 2, handed 0 (bytes "P2,WH,1,100000,EUR"))
     ∷ (get 3, handed 0 [])
     ∷ [])
 unfolding everything answers times
@@ -131,11 +139,11 @@ h06-price = refl
 
 -- exactly three commas and no empty field
 h07-commas : Answered (
-    (offer (bytes "A,WH,1"), number 25)
+    (opening (bytes "EUR"), number 0)
+    ∷ (offer (bytes "A,WH,1"), number 25)
     ∷ (offer (bytes "A,WH,1,"), number 25)
     ∷ (offer (bytes ",A,WH,1,1"), number 25)
     ∷ (offer (bytes "A,WH,1,1,"), number 25)
-    ∷ (offer (bytes "A,WH,1,1,EUR"), number 25)
     ∷ (offer (bytes "A,,1,1"), number 25)
     ∷ (offer (bytes "A,WH,,1"), number 25)
     ∷ (offer (bytes "A,WH,,"), number 25)
@@ -148,14 +156,15 @@ h07-commas : Answered (
     ∷ (offer [], number 25)
     ∷ (get 0, handed 0 [])
     ∷ (offer (bytes "A,WH,1,1"), number 0)
-    ∷ (get 0, handed 0 (bytes "A,WH,1,1"))
+    ∷ (get 0, handed 0 (bytes "A,WH,1,1,EUR"))
     ∷ [])
 unfolding everything answers times
 h07-commas = refl
 
 -- a held contract is 26 whatever the other fields; one that was refused isn't held
 h08-held : Answered (
-    (offer (bytes "A1,WH,0,1"), number 25)
+    (opening (bytes "EUR"), number 0)
+    ∷ (offer (bytes "A1,WH,0,1"), number 25)
     ∷ (offer (bytes "A1,WH,5,1"), number 0)
     ∷ (offer (bytes "A1,WH,5,1"), number 26)
     ∷ (offer (bytes "A1,BA,6,2"), number 26)
@@ -163,10 +172,10 @@ h08-held : Answered (
     ∷ (offer (bytes "A11,BA,6,2"), number 0)
     ∷ (offer (bytes "1A,BA,6,2"), number 0)
     ∷ (offer (bytes "a1,BA,6,2"), number 25)
-    ∷ (get 0, handed 0 (bytes "A1,WH,5,1"))
-    ∷ (get 1, handed 0 (bytes "A,BA,6,2"))
-    ∷ (get 2, handed 0 (bytes "A11,BA,6,2"))
-    ∷ (get 3, handed 0 (bytes "1A,BA,6,2"))
+    ∷ (get 0, handed 0 (bytes "A1,WH,5,1,EUR"))
+    ∷ (get 1, handed 0 (bytes "A,BA,6,2,EUR"))
+    ∷ (get 2, handed 0 (bytes "A11,BA,6,2,EUR"))
+    ∷ (get 3, handed 0 (bytes "1A,BA,6,2,EUR"))
     ∷ (get 4, handed 0 [])
     ∷ [])
 unfolding everything answers times
@@ -174,7 +183,8 @@ h08-held = refl
 
 -- the lowest number: a held contract in a line of bad form is 25
 h09-lowest : Answered (
-    (offer (bytes "A,WH,1,1"), number 0)
+    (opening (bytes "EUR"), number 0)
+    ∷ (offer (bytes "A,WH,1,1"), number 0)
     ∷ (offer (bytes "A,WH,1,0"), number 25)
     ∷ (offer (bytes "A,wh,1,1"), number 25)
     ∷ (offer (bytes "A,WH,1,1,"), number 25)
@@ -185,7 +195,8 @@ h09-lowest = refl
 
 -- 256 lines; then 27, but 26 for a held contract and 25 for bad form
 h10-full : Answered (
-    (offer (bytes "C0000000,WH,99999,999999"), number 0)
+    (opening (bytes "EUR"), number 0)
+    ∷ (offer (bytes "C0000000,WH,99999,999999"), number 0)
     ∷ (offer (bytes "C0000001,WH,99999,999999"), number 0)
     ∷ (offer (bytes "C0000002,WH,99999,999999"), number 0)
     ∷ (offer (bytes "C0000003,WH,99999,999999"), number 0)
@@ -448,8 +459,8 @@ h10-full : Answered (
     ∷ (offer (bytes "NEW,WH,1,1"), number 27)
     ∷ (offer (bytes "NEW,WH,1,0"), number 25)
     ∷ (offer (bytes ",WH,1,1"), number 25)
-    ∷ (get 0, handed 0 (bytes "C0000000,WH,99999,999999"))
-    ∷ (get 255, handed 0 (bytes "C0000255,WH,99999,999999"))
+    ∷ (get 0, handed 0 (bytes "C0000000,WH,99999,999999,EUR"))
+    ∷ (get 255, handed 0 (bytes "C0000255,WH,99999,999999,EUR"))
     ∷ (get 256, handed 0 [])
     ∷ [])
 unfolding everything answers times
@@ -457,10 +468,11 @@ h10-full = refl
 
 -- a place is never cut to fewer bits
 h11-places : Answered (
-    (offer (bytes "A,WH,1,1"), number 0)
+    (opening (bytes "EUR"), number 0)
+    ∷ (offer (bytes "A,WH,1,1"), number 0)
     ∷ (offer (bytes "B,WH,2,2"), number 0)
-    ∷ (get 0, handed 0 (bytes "A,WH,1,1"))
-    ∷ (get 1, handed 0 (bytes "B,WH,2,2"))
+    ∷ (get 0, handed 0 (bytes "A,WH,1,1,EUR"))
+    ∷ (get 1, handed 0 (bytes "B,WH,2,2,EUR"))
     ∷ (get 2, handed 0 [])
     ∷ (get 255, handed 0 [])
     ∷ (get 256, handed 0 [])
@@ -481,7 +493,8 @@ h11-places = refl
 
 -- bytes 10, 13, 0, 9 and 255 before, in and behind a line
 h12-bytes : Answered (
-    (offer (bytes "A,WH,1,1\n"), number 25)
+    (opening (bytes "EUR"), number 0)
+    ∷ (offer (bytes "A,WH,1,1\n"), number 25)
     ∷ (offer (bytes "\nA,WH,1,1"), number 25)
     ∷ (offer (bytes "A,WH,1,1\r"), number 25)
     ∷ (offer (bytes "A,WH,1,1\0"), number 25)
@@ -504,27 +517,32 @@ h12-bytes : Answered (
     ∷ (offer (bytes "\0"), number 25)
     ∷ (get 0, handed 0 [])
     ∷ (offer (bytes "A,WH,1,1"), number 0)
-    ∷ (get 0, handed 0 (bytes "A,WH,1,1"))
+    ∷ (get 0, handed 0 (bytes "A,WH,1,1,EUR"))
     ∷ [])
 unfolding everything answers times
 h12-bytes = refl
 
 -- 14 for a buffer under 8,192 bytes, before every other number; a longer one is fine
--- without 14 commands, from a `size` on
+-- commands about buffers, left out: 11
 h13-size : Answered (
-    (offer (bytes "A,WH,1,1"), number 0)
+    (opening (bytes "EUR"), number 0)
+    ∷ (offer (bytes "A,WH,1,1"), number 0)
+    ∷ (get 0, handed 0 (bytes "A,WH,1,1,EUR"))
+    ∷ (offer (bytes "B,WH,1,1"), number 0)
+    ∷ (get 1, handed 0 (bytes "B,WH,1,1,EUR"))
     ∷ [])
 unfolding everything answers times
 h13-size = refl
 
 -- a line turned down takes no place
 h14-no-place : Answered (
-    (offer (bytes "A,WH,1,1"), number 0)
+    (opening (bytes "EUR"), number 0)
+    ∷ (offer (bytes "A,WH,1,1"), number 0)
     ∷ (offer (bytes "bad"), number 25)
     ∷ (offer (bytes "A,WH,2,2"), number 26)
     ∷ (offer (bytes "B,WH,1,1"), number 0)
-    ∷ (get 0, handed 0 (bytes "A,WH,1,1"))
-    ∷ (get 1, handed 0 (bytes "B,WH,1,1"))
+    ∷ (get 0, handed 0 (bytes "A,WH,1,1,EUR"))
+    ∷ (get 1, handed 0 (bytes "B,WH,1,1,EUR"))
     ∷ (get 2, handed 0 [])
     ∷ [])
 unfolding everything answers times
@@ -532,10 +550,11 @@ h14-no-place = refl
 
 -- the longest lines, byte for byte
 h15-longest : Answered (
-    (offer (bytes "ZZZZZZZZ,ZZ,99999,999999"), number 0)
+    (opening (bytes "EUR"), number 0)
+    ∷ (offer (bytes "ZZZZZZZZ,ZZ,99999,999999"), number 0)
     ∷ (offer (bytes "00000000,AA,10000,100000"), number 0)
-    ∷ (get 0, handed 0 (bytes "ZZZZZZZZ,ZZ,99999,999999"))
-    ∷ (get 1, handed 0 (bytes "00000000,AA,10000,100000"))
+    ∷ (get 0, handed 0 (bytes "ZZZZZZZZ,ZZ,99999,999999,EUR"))
+    ∷ (get 1, handed 0 (bytes "00000000,AA,10000,100000,EUR"))
     ∷ (offer (bytes "ZZZZZZZZ,ZZ,99999,9999990"), number 25)
     ∷ (offer (bytes "ZZZZZZZZZ,ZZ,99999,999999"), number 25)
     ∷ [])
@@ -544,19 +563,38 @@ h15-longest = refl
 
 -- the empty register, and one made empty again
 h16-empty : Answered (
-    (get 0, handed 0 [])
-    ∷ (offer (bytes "TOTAL,WH,1,1"), number 0)
-    ∷ (get 0, handed 0 (bytes "TOTAL,WH,1,1"))
-    ∷ (reset, number 0)
+    (opening (bytes "EUR"), number 0)
     ∷ (get 0, handed 0 [])
     ∷ (offer (bytes "TOTAL,WH,1,1"), number 0)
-    ∷ (get 0, handed 0 (bytes "TOTAL,WH,1,1"))
+    ∷ (get 0, handed 0 (bytes "TOTAL,WH,1,1,EUR"))
+    ∷ (reset, number 0)
+    ∷ (opening (bytes "EUR"), number 0)
+    ∷ (get 0, handed 0 [])
+    ∷ (offer (bytes "TOTAL,WH,1,1"), number 0)
+    ∷ (get 0, handed 0 (bytes "TOTAL,WH,1,1,EUR"))
     ∷ [])
 unfolding everything answers times
 h16-empty = refl
 
+-- commands about buffers, left out: 1
+m01 : Answered (
+    (opening (bytes "EUR"), number 0)
+    ∷ (offer (bytes "Z,WH,99999,8"), number 0)
+    ∷ (offer (bytes "AZZAZAZ,RS,86,97"), number 0)
+    ∷ (offer (bytes "ZAZZZA,ZZ,76321,994167"), number 0)
+    ∷ (get 4294967296, handed 0 [])
+    ∷ (offer (bytes "AZZZZAAZ,PL,10000,4294967296"), number 25)
+    ∷ (get 18446744073709551360, handed 0 [])
+    ∷ (get 0, handed 0 (bytes "Z,WH,99999,8,EUR"))
+    ∷ (get 2, handed 0 (bytes "ZAZZZA,ZZ,76321,994167,EUR"))
+    ∷ (get 3, handed 0 [])
+    ∷ [])
+unfolding everything answers times
+m01 = refl
+
 m02 : Answered (
-    (offer (bytes "BBBBBBAA,HW,99999,999999"), number 0)
+    (opening (bytes "EUR"), number 0)
+    ∷ (offer (bytes "BBBBBBAA,HW,99999,999999"), number 0)
     ∷ (offer (bytes "BBBABAAB,WH,99999,999999"), number 0)
     ∷ (offer (bytes "ABBBABBB,ZZ,99999,999999"), number 0)
     ∷ (offer (bytes "BABBBBBA,RT,99999,999999"), number 0)
@@ -1099,15 +1137,16 @@ m02 : Answered (
     ∷ (offer (bytes "ABAABBBB,ZZ,99999,999999"), number 26)
     ∷ (offer (bytes "BBAAAAAB,AZ,99999,999999"), number 26)
     ∷ (offer (bytes "BBABBB,MC,99999,999999"), number 0)
-    ∷ (get 0, handed 0 (bytes "BBBBBBAA,HW,99999,999999"))
+    ∷ (get 0, handed 0 (bytes "BBBBBBAA,HW,99999,999999,EUR"))
     ∷ (get 256, handed 0 [])
-    ∷ (get 255, handed 0 (bytes "BBABBB,MC,99999,999999"))
+    ∷ (get 255, handed 0 (bytes "BBABBB,MC,99999,999999,EUR"))
     ∷ [])
 unfolding everything answers times
 m02 = refl
 
 m03 : Answered (
-    (offer (bytes "1NY0U97,AA"), number 25)
+    (opening (bytes "EUR"), number 0)
+    ∷ (offer (bytes "1NY0U97,AA"), number 25)
     ∷ (offer (bytes "4RC1,A2,10,5"), number 25)
     ∷ (offer (bytes "7LB0S4S,WH ,106,8"), number 25)
     ∷ (offer (bytes "X3,ZA,8,3107\r"), number 25)
@@ -1131,7 +1170,6 @@ m03 : Answered (
     ∷ (offer (bytes "\nSV555UI,TH,99999,84056"), number 25)
     ∷ (offer (208 ∷ (bytes "5,GS,99999,3")), number 25)
     ∷ (offer (bytes "6K,TT,100000,5702"), number 25)
-    ∷ (offer (bytes "Z9Y7,AA,99998,9,EUR"), number 25)
     ∷ (offer (bytes "foft,fu,10000,999996"), number 25)
     ∷ (offer (bytes "8R0, ZA,89867,9"), number 25)
     ∷ (offer (bytes "Y,II,10000,255"), number 0)
@@ -1167,16 +1205,17 @@ m03 : Answered (
     ∷ (offer (bytes "K," ++ (times 150 (bytes "ZA") ++ bytes ",7,999998")), number 25)
     ∷ (offer (bytes "HE,KF,99998,32462 "), number 25)
     ∷ (offer (bytes "7MYP0W56,AA,100000,100000"), number 25)
-    ∷ (get 0, handed 0 (bytes "ZUSOPGQD,AZ,99996,1"))
-    ∷ (get 9, handed 0 (bytes "T145,WH,186,65537"))
+    ∷ (get 0, handed 0 (bytes "ZUSOPGQD,AZ,99996,1,EUR"))
+    ∷ (get 9, handed 0 (bytes "T145,WH,186,65537,EUR"))
     ∷ (get 10, handed 0 [])
     ∷ [])
 unfolding everything answers times
 m03 = refl
 
--- without 11 commands, from a `size` on
+-- commands about buffers, left out: 11
 m04 : Answered (
-    (offer (bytes "BF4A7D3L,LM,3921,999998"), number 0)
+    (opening (bytes "EUR"), number 0)
+    ∷ (offer (bytes "BF4A7D3L,LM,3921,999998"), number 0)
     ∷ (offer (bytes "8WNFT3JI,AZ,340,999997"), number 0)
     ∷ (offer (bytes "CG41LO6N,KD,142,509100"), number 0)
     ∷ (offer (bytes "9S1EOPCL,WH,3467,8"), number 0)
@@ -1431,7 +1470,7 @@ m04 : Answered (
     ∷ (offer (bytes "U7FVJMYJ,AA,2,999997"), number 0)
     ∷ (offer (bytes "0Z5S3ZUU,KS,9759,7"), number 0)
     ∷ (offer (bytes "VJER1ANP,AZ,10,1"), number 0)
-    ∷ (get 104, handed 0 (bytes "6L9NN0PF,ZZ,725,9"))
+    ∷ (get 104, handed 0 (bytes "6L9NN0PF,ZZ,725,9,EUR"))
     ∷ (get 65535, handed 0 [])
     ∷ (offer (bytes "\n"), number 25)
     ∷ (offer (bytes "OJH5S8Y0,XC,4,561100"), number 0)
@@ -1440,7 +1479,8 @@ unfolding everything answers times
 m04 = refl
 
 m05 : Answered (
-    (offer (bytes "ABGU6MEH,AZ,43,0"), number 25)
+    (opening (bytes "EUR"), number 0)
+    ∷ (offer (bytes "ABGU6MEH,AZ,43,0"), number 25)
     ∷ (offer (bytes "X," ++ (152 ∷ (bytes "A,64998,100000"))), number 25)
     ∷ (offer (bytes "4,BU," ++ (195 ∷ (bytes "0,100000"))), number 25)
     ∷ (offer (bytes " 1H4H,ZA,10,99999"), number 25)
@@ -1460,15 +1500,16 @@ m05 : Answered (
     ∷ (offer (bytes "EBJKH7K,WH" ++ (207 ∷ (bytes "9,317"))), number 25)
     ∷ (offer (bytes "RM5DP9T,FH ,6943,999996"), number 25)
     ∷ (offer (bytes "MO0ZGEB,ZZ,9999,1\r"), number 25)
-    ∷ (get 0, handed 0 (bytes "R6,ZZ,3,590"))
-    ∷ (get 2, handed 0 (bytes "RIGURLZA,WH,436,33"))
+    ∷ (get 0, handed 0 (bytes "R6,ZZ,3,590,EUR"))
+    ∷ (get 2, handed 0 (bytes "RIGURLZA,WH,436,33,EUR"))
     ∷ (get 3, handed 0 [])
     ∷ [])
 unfolding everything answers times
 m05 = refl
 
 m06 : Answered (
-    (offer (bytes "DM,QN,89708,26134"), number 0)
+    (opening (bytes "EUR"), number 0)
+    ∷ (offer (bytes "DM,QN,89708,26134"), number 0)
     ∷ (offer (bytes "7,HI,99996,99999"), number 0)
     ∷ (get 4294967296, handed 0 [])
     ∷ (offer (bytes "8S"), number 25)
@@ -1479,20 +1520,21 @@ m06 : Answered (
     ∷ (offer (bytes "ZKSIGZ3D,ZA,298,100000"), number 0)
     ∷ (offer (bytes "X,TF,99996,99999"), number 0)
     ∷ (offer (bytes "L5,WH,6,726966"), number 0)
-    ∷ (get 5, handed 0 (bytes "ZKSIGZ3D,ZA,298,100000"))
+    ∷ (get 5, handed 0 (bytes "ZKSIGZ3D,ZA,298,100000,EUR"))
     ∷ (offer (bytes "7U,WR,10,99999"), number 0)
     ∷ (get 10, handed 0 [])
     ∷ (get 256, handed 0 [])
     ∷ (offer (bytes ","), number 25)
-    ∷ (get 0, handed 0 (bytes "DM,QN,89708,26134"))
-    ∷ (get 8, handed 0 (bytes "7U,WR,10,99999"))
+    ∷ (get 0, handed 0 (bytes "DM,QN,89708,26134,EUR"))
+    ∷ (get 8, handed 0 (bytes "7U,WR,10,99999,EUR"))
     ∷ (get 9, handed 0 [])
     ∷ [])
 unfolding everything answers times
 m06 = refl
 
 m07 : Answered (
-    (offer (bytes "0,AZ,99999,999999"), number 0)
+    (opening (bytes "EUR"), number 0)
+    ∷ (offer (bytes "0,AZ,99999,999999"), number 0)
     ∷ (offer (bytes "1,AA,99999,999999"), number 0)
     ∷ (offer (bytes "2,ZZ,99999,999999"), number 0)
     ∷ (offer (bytes "3,ZZ,99999,999999"), number 0)
@@ -1748,42 +1790,49 @@ m07 : Answered (
     ∷ (offer (bytes "253,ZZ,99999,999999"), number 0)
     ∷ (offer (bytes "254,AA,99999,999999"), number 0)
     ∷ (offer (bytes "255,AA,99999,999999"), number 0)
-    ∷ (get 0, handed 0 (bytes "0,AZ,99999,999999"))
+    ∷ (get 0, handed 0 (bytes "0,AZ,99999,999999,EUR"))
     ∷ (get 256, handed 0 [])
-    ∷ (get 255, handed 0 (bytes "255,AA,99999,999999"))
+    ∷ (get 255, handed 0 (bytes "255,AA,99999,999999,EUR"))
     ∷ [])
 unfolding everything answers times
 m07 = refl
 
--- without 5 commands, from a `size` on
+-- commands about buffers, left out: 1
 m08 : Answered (
-    (offer (bytes "MMM0000Z,WH ,677,94"), number 25)
+    (opening (bytes "EUR"), number 0)
+    ∷ (offer (bytes "MMM0000Z,WH ,677,94"), number 25)
     ∷ (offer (bytes "B00,ZZ,10,102"), number 0)
     ∷ (offer (bytes "0M,BM,12,9"), number 0)
     ∷ (offer (bytes "ZZZZZZZZ,AZ,99998,00100000"), number 25)
     ∷ (offer (bytes ":,ZA,1662,9"), number 25)
     ∷ (offer (bytes "Z,AA,9,9"), number 0)
+    ∷ (offer (bytes "ZZ,AA,5,4130"), number 0)
+    ∷ (get 0, handed 0 (bytes "B00,ZZ,10,102,EUR"))
+    ∷ (get 3, handed 0 (bytes "ZZ,AA,5,4130,EUR"))
+    ∷ (get 4, handed 0 [])
     ∷ [])
 unfolding everything answers times
 m08 = refl
 
 m09 : Answered (
-    (offer (bytes "70S9,,4,999996"), number 25)
+    (opening (bytes "EUR"), number 0)
+    ∷ (offer (bytes "70S9,,4,999996"), number 25)
     ∷ (offer (bytes "70S970S9,MA,74222,769246"), number 0)
     ∷ (get 65536, handed 0 [])
     ∷ (offer (bytes "5KEHJB1W,DK,9,16790"), number 0)
     ∷ (offer (bytes "K7JSY9O,WH,99998,1\n7CCJ2TX4,QA,7914,1"), number 25)
     ∷ (offer (bytes "LCZDUK8,WH,36,9"), number 0)
-    ∷ (get 0, handed 0 (bytes "70S970S9,MA,74222,769246"))
-    ∷ (get 2, handed 0 (bytes "LCZDUK8,WH,36,9"))
+    ∷ (get 0, handed 0 (bytes "70S970S9,MA,74222,769246,EUR"))
+    ∷ (get 2, handed 0 (bytes "LCZDUK8,WH,36,9,EUR"))
     ∷ (get 3, handed 0 [])
     ∷ [])
 unfolding everything answers times
 m09 = refl
 
--- without 11 commands, from a `size` on
+-- commands about buffers, left out: 11
 m10 : Answered (
-    (offer (bytes "990,ZX,9999,99999"), number 0)
+    (opening (bytes "EUR"), number 0)
+    ∷ (offer (bytes "990,ZX,9999,99999"), number 0)
     ∷ (offer (bytes "0M,AA,99997,87"), number 0)
     ∷ (offer (bytes "AM,ZZ,99998,999999\r\n"), number 25)
     ∷ (offer (bytes "0,ZZ,1,417"), number 0)
@@ -1794,19 +1843,47 @@ m10 : Answered (
 unfolding everything answers times
 m10 = refl
 
--- without 47 commands, from a `size` on
+-- commands about buffers, left out: 22
 m11 : Answered (
-    (offer (bytes "M7,KV,2,1"), number 0)
-    ∷ (get 0, handed 0 (bytes "M7,KV,2,1"))
+    (opening (bytes "EUR"), number 0)
+    ∷ (offer (bytes "M7,KV,2,1"), number 0)
+    ∷ (get 0, handed 0 (bytes "M7,KV,2,1,EUR"))
     ∷ (offer (bytes "C,KL,9,10"), number 0)
     ∷ (offer (bytes "D3,OZ,63233,9"), number 0)
+    ∷ (offer (bytes "C4T2EMKY,ZZ,1" ++ (215 ∷ (bytes "0000,999998"))), number 25)
+    ∷ (offer (bytes "3M473FR,TS,5588,6586"), number 0)
+    ∷ (offer (bytes "I1OB,WO,99996,485"), number 0)
+    ∷ (offer (bytes "0U82UC6N,VT,99998,8"), number 0)
+    ∷ (offer (bytes "5,WH,10000,10"), number 0)
+    ∷ (offer (bytes "XJJ3,ZZ,10000,999997"), number 0)
+    ∷ (get 4294967296, handed 0 [])
+    ∷ (get 257, handed 0 [])
+    ∷ (offer (bytes "Y,ZZ\u{7f}99998,999997"), number 25)
+    ∷ (offer (bytes "5A,IP,99999,1"), number 0)
+    ∷ (get 10, handed 0 [])
+    ∷ (offer (bytes "LE32IYNL,AZ,9,2"), number 0)
+    ∷ (get 18446744073709551360, handed 0 [])
+    ∷ (offer (bytes "3M473F,AA,27,98"), number 0)
+    ∷ (offer (bytes "E,ZA,1,99999"), number 0)
+    ∷ (offer (bytes "C6X8,XB,80727,999998"), number 0)
+    ∷ (get 12, handed 0 (bytes "C6X8,XB,80727,999998,EUR"))
+    ∷ (offer (bytes "49Q8PK8J,,ZA,7,3949"), number 25)
+    ∷ (get 2147483648, handed 0 [])
+    ∷ (get 257, handed 0 [])
+    ∷ (offer (bytes "ZCEO,AZ,8093,99999"), number 0)
+    ∷ (offer (bytes "02ND,WB,80,122"), number 0)
+    ∷ (get 0, handed 0 (bytes "M7,KV,2,1,EUR"))
+    ∷ (get 14, handed 0 (bytes "02ND,WB,80,122,EUR"))
+    ∷ (get 15, handed 0 [])
     ∷ [])
 unfolding everything answers times
 m11 = refl
 
--- without 18 commands, from a `size` on
+-- commands about buffers, left out: 15
 m12 : Answered (
-    (reset, number 0)
+    (opening (bytes "EUR"), number 0)
+    ∷ (reset, number 0)
+    ∷ (opening (bytes "EUR"), number 0)
     ∷ (offer (bytes "IA,VG,3,949294"), number 0)
     ∷ (offer (bytes "UP,ZA,9,1111111"), number 25)
     ∷ (offer (bytes "802H,AA,3,801"), number 0)
@@ -1818,7 +1895,7 @@ m12 : Answered (
     ∷ (offer (bytes "47TSSHTP,DP,99997,10"), number 0)
     ∷ (offer (bytes "1,ZZ,10,371"), number 0)
     ∷ (offer (bytes "D,SH,8,808957"), number 0)
-    ∷ (get 7, handed 0 (bytes "D,SH,8,808957"))
+    ∷ (get 7, handed 0 (bytes "D,SH,8,808957,EUR"))
     ∷ (get 255, handed 0 [])
     ∷ (get 4294967296, handed 0 [])
     ∷ (offer (bytes "51NPILWF,AA,1,,5797"), number 25)
@@ -1827,13 +1904,17 @@ m12 : Answered (
     ∷ (offer (bytes "GQBK3HX1,AZ,99996,999998"), number 0)
     ∷ (offer (bytes "QLE0,WH,9,47"), number 0)
     ∷ (offer (bytes "O41CD8QI,AZ,413,999996"), number 0)
+    ∷ (get 0, handed 0 (bytes "IA,VG,3,949294,EUR"))
+    ∷ (get 12, handed 0 (bytes "O41CD8QI,AZ,413,999996,EUR"))
+    ∷ (get 13, handed 0 [])
     ∷ [])
 unfolding everything answers times
 m12 = refl
 
--- without 20 commands, from a `size` on
+-- commands about buffers, left out: 11
 m13 : Answered (
-    (offer (bytes "000,ZZ,23,8660"), number 0)
+    (opening (bytes "EUR"), number 0)
+    ∷ (offer (bytes "000,ZZ,23,8660"), number 0)
     ∷ (offer (bytes "00000000," ++ (210 ∷ (bytes "N,25,100000"))), number 25)
     ∷ (get 65536, handed 0 [])
     ∷ (get 256, handed 0 [])
@@ -1850,26 +1931,38 @@ m13 : Answered (
     ∷ (offer (bytes "ZZZZZZZZ,ZQ,5163,294"), number 0)
     ∷ (offer (bytes "00000000,HP,701,100000"), number 0)
     ∷ (reset, number 0)
+    ∷ (opening (bytes "EUR"), number 0)
+    ∷ (offer (bytes "00,ZZ,2602,\00"), number 25)
+    ∷ (offer (bytes "0,FD,89288,1"), number 0)
+    ∷ (offer (bytes "0,ZZ,99999,17342"), number 26)
+    ∷ (get 18446744073709551360, handed 0 [])
+    ∷ (offer (bytes "000,MG,853,999999"), number 0)
+    ∷ (offer (bytes "0,ZA,51,999999"), number 26)
+    ∷ (get 0, handed 0 (bytes "0,FD,89288,1,EUR"))
+    ∷ (get 1, handed 0 (bytes "000,MG,853,999999,EUR"))
+    ∷ (get 2, handed 0 [])
     ∷ [])
 unfolding everything answers times
 m13 = refl
 
 m14 : Answered (
-    (get 9223372036854775807, handed 0 [])
+    (opening (bytes "EUR"), number 0)
+    ∷ (get 9223372036854775807, handed 0 [])
     ∷ (offer (bytes "99,SH,5,10"), number 0)
     ∷ (offer (bytes "9ZBZ,WH,99999,546"), number 0)
     ∷ (offer (bytes "0B,WH,387,8405"), number 0)
     ∷ (offer (bytes "0B,ZE,39237,6793"), number 26)
     ∷ (offer (bytes "A,OC,170,995"), number 0)
-    ∷ (get 0, handed 0 (bytes "99,SH,5,10"))
-    ∷ (get 3, handed 0 (bytes "A,OC,170,995"))
+    ∷ (get 0, handed 0 (bytes "99,SH,5,10,EUR"))
+    ∷ (get 3, handed 0 (bytes "A,OC,170,995,EUR"))
     ∷ (get 4, handed 0 [])
     ∷ [])
 unfolding everything answers times
 m14 = refl
 
 m15 : Answered (
-    (offer (bytes "Z9AZMM99,AA,4,2"), number 0)
+    (opening (bytes "EUR"), number 0)
+    ∷ (offer (bytes "Z9AZMM99,AA,4,2"), number 0)
     ∷ (offer (bytes "ZZZZZZZZ,ZZZ,99997,78"), number 25)
     ∷ (offer (bytes "MM,EP,99999,4294967297"), number 25)
     ∷ (offer (bytes "9,UQ,99998,4294980646"), number 25)
@@ -1889,7 +1982,7 @@ m15 : Answered (
     ∷ (offer (bytes "Z99A9M9Z,AZ,21250,1/"), number 25)
     ∷ (offer (bytes "ZM9A,KT,10,6@908"), number 25)
     ∷ (offer (bytes "  ,AZ,99129,685724"), number 25)
-    ∷ (get 0, handed 0 (bytes "Z9AZMM99,AA,4,2"))
+    ∷ (get 0, handed 0 (bytes "Z9AZMM99,AA,4,2,EUR"))
     ∷ (get 1, handed 0 [])
     ∷ [])
 unfolding everything answers times

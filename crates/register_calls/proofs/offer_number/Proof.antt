@@ -8,16 +8,10 @@ use Rattle.register_calls.specs.PutLaws.{offer-judged}
 use Rattle.register_calls.proofs.offer_number.Statement.{statement}
 use Rattle.register_calls.proofs.offer_number.Tie as tie
 
-contract-length-requires : tie.Need-contract-length-requires
-contract-length-requires c κs = search needs
-
-is-line-requires : tie.Need-is-line-requires
-is-line-requires c κs = search needs
-
 slice-aggregate-key-of : tie.Need-slice-aggregate-key-of
 slice-aggregate-key-of c =
-    let n = c .before .before .contract-length in
-    sym (length-take-le (n .result) (c .before .before .before .before .before .args .line .now) (omega (arith, n .ensures .inside)))
+    let s = c .before .before .before in
+    sym (length-take-le (s .args .contract) (s .args .line .now) (omega (arith, s .pre .0 .inside)))
 
 key-of-requires : tie.Need-key-of-requires
 key-of-requires c κs = search needs
@@ -30,22 +24,14 @@ lowest-requires c κs = search needs
 
 returns : tie.Need-returns
 returns c =
-    let a = c .before .before .before .before .before .before .before .before .args in
-    let contract = c .before .before .before .before .before .contract-length in
-    let form = c .before .before .before .before .is-line in
+    let s = c .before .before .before .before .before .before in
+    let a = s .args in
     let key = c .before .before .key-of in
     let held = c .before .is-among in
-    offer-judged (a .line .now) (a .keys .now) (a .n) (contract .result) (key .result) (contract .ensures) (key .ensures) (form .result)
-    (held .result) (c .lowest .result) (form .ensures) (held .ensures) (c .lowest .ensures)
+    offer-judged (a .line .now) (a .keys .now) (a .n) (a .contract) (key .result) (s .pre .0) (key .ensures) (a .fields) (held .result)
+    (c .lowest .result) (s .pre .1) (held .ensures) (c .lowest .ensures)
 
 pub offer-number-spec : {M : Type 1} → statement M
 offer-number-spec =
     tie.close
-    (tie.spec
-    contract-length-requires
-    is-line-requires
-    slice-aggregate-key-of
-    key-of-requires
-    is-among-requires
-    lowest-requires
-    returns)
+    (tie.spec slice-aggregate-key-of key-of-requires is-among-requires lowest-requires returns)

@@ -4,7 +4,8 @@ use borrow.Author.Needs.{needs}
 use native.Mathlib.Omega.{arith}
 use mathlib.Core.Path.{ap}
 use lib.ListN.{length}
-use Rattle.register_calls.specs.PutLaws.{line-lent, line-puts, slot-room}
+use Rattle.register_calls.specs.PutLaws.{line-lent, line-puts}
+use Rattle.register_reading.specs.ReadLaws.{slot-room}
 use Rattle.register_calls.proofs.put_line.Statement.{statement}
 use Rattle.register_calls.proofs.put_line.Tie as tie
 

@@ -1,8 +1,11 @@
 -- `register_calls::strigol_register_offer` keeps its promise.
 -- Assumes nothing.
 use borrow.Author.Needs.{needs}
-use Rattle.register.specs.CallLaws.{offer-promise}
-use Rattle.register_calls.specs.PutLaws.{found-ready, found-refuses, offer-refuses}
+use native.Mathlib.Omega.{arith}
+use Rattle.register.specs.BufferLaws.{read-sound}
+use Rattle.register.specs.CallLaws.{offer-promise, open-broken}
+use Rattle.register_reading.specs.ReadLaws.{is-broken, is-old, is-opened}
+use Rattle.register_calls.specs.PutLaws.{offer-refuses, refused-old}
 use Rattle.register_calls.proofs.strigol_register_offer.Statement.{statement}
 use Rattle.register_calls.proofs.strigol_register_offer.Tie as tie
 
@@ -12,18 +15,22 @@ read-register-requires c κs = search needs
 enum-told : tie.Need-enum-told
 enum-told c = search needs
 
-enum-known-held : tie.Need-enum-known-held
-enum-known-held c = search needs
+enum-told-2 : tie.Need-enum-told-2
+enum-told-2 c = search needs
+
+enum-known-state : tie.Need-enum-known-state
+enum-known-state c = search needs
 
 slice-aggregate-offer-to : tie.Need-slice-aggregate-offer-to
 slice-aggregate-offer-to c = search needs
 
 offer-to-requires : tie.Need-offer-to-requires
 offer-to-requires c κs =
+    let buffer = c .before .before .before .before .before .before .before .before .before .before .args .buffer .now in
     let f = c .before .before .before .before .before .read-register in
-    let n = c .before .before .before .held .given in
-    found-ready (c .before .before .before .before .before .before .before .before .before .before .args .buffer .now) (f .last .1 .0) (f .result)
-    (f .ensures) (n .0 .0) (n .1)
+    let n = c .before .before .before .state .given in
+    let ready = is-opened buffer (f .last .1 .0) (f .result) (f .ensures) (n .0 .0) (n .1) in
+    (ready, omega (arith, f .ensures .size, ready .count, read-sound buffer (ready .keeps) .few))
 
 same-length : tie.Need-same-length
 same-length c = search needs
@@ -33,13 +40,26 @@ returns c =
     let a = c .before .before .before .before .before .before .before .args in
     let f = c .before .before .read-register in
     offer-promise (a .buffer .now) (a .line .now) _
-    (offer-refuses (a .buffer .now) (a .line .now) (found-refuses (a .buffer .now) (f .last .1 .0) (f .result) (f .ensures) (c .enum-told .given .1)))
+    (offer-refuses (a .buffer .now) (a .line .now)
+    (open-broken (a .buffer .now) (is-broken (a .buffer .now) (f .last .1 .0) (f .result) (f .ensures) (c .enum-told .given .1))))
 
 same-length-2 : tie.Need-same-length-2
 same-length-2 c = search needs
 
 returns-2 : tie.Need-returns-2
 returns-2 c =
+    let a = c .before .before .before .before .before .before .before .args in
+    let f = c .before .before .read-register in
+    let n = c .enum-told2 .given in
+    offer-promise (a .buffer .now) (a .line .now) _
+    (offer-refuses (a .buffer .now) (a .line .now)
+    (refused-old (a .buffer .now) (n .0 .0) (is-old (a .buffer .now) (f .last .1 .0) (f .result) (f .ensures) (n .0 .0) (n .1))))
+
+same-length-3 : tie.Need-same-length-3
+same-length-3 c = search needs
+
+returns-3 : tie.Need-returns-3
+returns-3 c =
     let a = c .before .before .before .before .before .before .before .before .before .before .before .before .before .args in
     offer-promise (a .buffer .now) (a .line .now) _ (c .before .before .offer-to .ensures)
 
@@ -49,10 +69,13 @@ strigol-register-offer-spec =
     (tie.spec
     read-register-requires
     enum-told
-    enum-known-held
+    enum-told-2
+    enum-known-state
     slice-aggregate-offer-to
     offer-to-requires
     same-length
     returns
     same-length-2
-    returns-2)
+    returns-2
+    same-length-3
+    returns-3)

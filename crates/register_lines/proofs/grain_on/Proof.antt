@@ -1,4 +1,4 @@
--- `register_lines::grain_on` answers whether a comma stands at a place, and behind it the grain and what follows.
+-- `register_lines::grain_on` counts the fields where a comma stands at a place, and behind it the grain and what follows.
 -- Assumes nothing.
 use borrow.Author.Needs.{needs}
 use borrow.Author.Tests.{not-true, not-false, eq-eqb, ne-eqb}
@@ -9,7 +9,7 @@ use native.Mathlib.Omega.{arith}
 use lib.Dec.{eqb}
 use lib.ListN.{getD}
 use Rattle.register.specs.Line.{isGrain, isTonnes, isPrice}
-use Rattle.register_lines.specs.FieldLaws.{no-comma, comma-inside, grain-behind}
+use Rattle.register_lines.specs.FieldLaws.{no-count, comma-inside, grain-counted}
 use Rattle.register_lines.proofs.grain_on.Statement.{statement}
 use Rattle.register_lines.proofs.grain_on.Tie as tie
 
@@ -19,7 +19,7 @@ has-comma-requires c κs = search needs
 returns : tie.Need-returns
 returns c =
     let a = c .before .before .before .args in
-    no-comma (a .line .now) (a .at) (isGrain ∷ isTonnes ∷ isPrice ∷ [])
+    no-count (a .line .now) (a .at) (isGrain ∷ isTonnes ∷ isPrice ∷ [])
     (sym (c .before .has-comma .ensures) ∙ not-true (c .before .has-comma .result) (c .if1 .taken))
 
 here : (c : tie.Else1) → (let a = c .before .before .before .args in eqb (getD (a .line .now) (a .at) 0) 44 ≡ true)
@@ -36,7 +36,7 @@ returns-2 c =
     let a = c .before .before .before .before .before .args in
     let run = c .before .run in
     rw (
-      grain-behind (a .line .now) (a .at) (run .result) (here (c .before .before)) (run .ensures),
+      grain-counted (a .line .now) (a .at) (run .result) (here (c .before .before)) (run .ensures),
       ne-eqb (run .result) 2 (c .if2 .taken),
     )
 
@@ -51,7 +51,7 @@ returns-3 c =
     let a = c .before .before .before .before .before .before .args in
     let run = c .before .before .run in
     rw (
-      grain-behind (a .line .now) (a .at) (run .result) (here (c .before .before .before)) (run .ensures),
+      grain-counted (a .line .now) (a .at) (run .result) (here (c .before .before .before)) (run .ensures),
       eq-eqb (run .result) 2 (c .before .if2 .left),
     ) (c .tonnes-on .ensures)
 

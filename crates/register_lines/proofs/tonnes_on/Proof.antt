@@ -1,4 +1,4 @@
--- `register_lines::tonnes_on` answers whether a comma stands at a place, and behind it the tonnes and what follows.
+-- `register_lines::tonnes_on` counts the fields where a comma stands at a place, and behind it the tonnes and what follows.
 -- Assumes nothing.
 use borrow.Author.Needs.{needs}
 use borrow.Author.Tests.{not-true, not-false}
@@ -9,7 +9,7 @@ use native.Mathlib.Omega.{arith}
 use lib.Dec.{eqb}
 use lib.ListN.{getD}
 use Rattle.register.specs.Line.{isTonnes, isPrice}
-use Rattle.register_lines.specs.FieldLaws.{no-comma, comma-inside, tonnes-behind}
+use Rattle.register_lines.specs.FieldLaws.{no-count, comma-inside, tonnes-counted}
 use Rattle.register_lines.proofs.tonnes_on.Statement.{statement}
 use Rattle.register_lines.proofs.tonnes_on.Tie as tie
 
@@ -19,7 +19,7 @@ has-comma-requires c κs = search needs
 returns : tie.Need-returns
 returns c =
     let a = c .before .before .before .args in
-    no-comma (a .line .now) (a .at) (isTonnes ∷ isPrice ∷ [])
+    no-count (a .line .now) (a .at) (isTonnes ∷ isPrice ∷ [])
     (sym (c .before .has-comma .ensures) ∙ not-true (c .before .has-comma .result) (c .if1 .taken))
 
 here : (c : tie.Else1) → (let a = c .before .before .before .args in eqb (getD (a .line .now) (a .at) 0) 44 ≡ true)
@@ -39,7 +39,7 @@ returns-2 c =
     let a = c .before .before .before .before .before .before .args in
     let run = c .before .before .run in
     rw (
-      tonnes-behind (a .line .now) (a .at) (run .result) (here (c .before .before .before)) (run .ensures),
+      tonnes-counted (a .line .now) (a .at) (run .result) (here (c .before .before .before)) (run .ensures),
       sym (c .before .is-number .ensures) ∙ not-true (c .before .is-number .result) (c .if2 .taken),
     )
 
@@ -54,7 +54,7 @@ returns-3 c =
     let a = c .before .before .before .before .before .before .before .args in
     let run = c .before .before .before .run in
     rw (
-      tonnes-behind (a .line .now) (a .at) (run .result) (here (c .before .before .before .before)) (run .ensures),
+      tonnes-counted (a .line .now) (a .at) (run .result) (here (c .before .before .before .before)) (run .ensures),
       sym (c .before .before .is-number .ensures) ∙ not-false (c .before .before .is-number .result) (c .before .if2 .left),
     ) (c .price-on .ensures)
 

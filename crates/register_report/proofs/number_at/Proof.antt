@@ -4,7 +4,7 @@ use borrow.Author.Needs.{needs}
 use native.Mathlib.Omega.{arith}
 use Prim.Native.Nat.{_-_}
 use lib.ListN.{length}
-use Rattle.register_report.specs.SumLaws.{ReadTo, digit-here, field-comma, field-end, read-all, read-more, read-none, read-small}
+use Rattle.register_report.specs.FieldLaws.{ReadTo, digit-here, field-comma, field-end, read-all, read-more, read-none, read-small}
 use Rattle.register_report.proofs.number_at.Statement.{statement}
 use Rattle.register_report.proofs.number_at.Tie as tie
 

@@ -6,15 +6,15 @@ use native.Mathlib.Omega.{arith}
 use Prim.Native.Nat.{_-_, _≤_}
 use lib.ListN.{length, take}
 use Rattle.register.specs.Buffer.{registerIn}
-use Rattle.register_calls.specs.PutLaws.{slot-room}
-use Rattle.register_report.specs.SumLaws.{all-lines, line-put, line-room, lines-none, placed}
+use Rattle.register_reading.specs.ReadLaws.{slot-room}
+use Rattle.register_report.specs.PutLaws.{all-lines, line-put, line-room, lines-none, placed}
 use Rattle.register_report.specs.Sums.{LinesPut}
 use Rattle.register_report.proofs.put_lines.Statement.{statement}
 use Rattle.register_report.proofs.put_lines.Tie as tie
 
 abbrev Inv-loop : tie.InvT-loop
 Inv-loop buffer n output₀ put-to₀ k₀ output put-to k =
-    (k ≤ n) × (length output ≡ length output₀) × LinesPut (take k (registerIn buffer)) output₀ output put-to
+    (k ≤ n) × (length output ≡ length output₀) × LinesPut (take k (registerIn buffer .lines)) output₀ output put-to
 
 abbrev μ-loop : tie.MeasureT-loop
 μ-loop buffer n output₀ put-to₀ k₀ output put-to k = n - k
@@ -83,7 +83,7 @@ returns c =
     let s = c .before .before .before .before in
     let l = c .before .loop in
     subst (λ r. LinesPut r (s .args .output .now) (l .output) (l .put-to))
-    (all-lines (registerIn (s .args .buffer .now)) (l .k) (omega (arith, l .inv .0, s .pre .0 .count))) (l .inv .2)
+    (all-lines (registerIn (s .args .buffer .now) .lines) (l .k) (omega (arith, l .inv .0, s .pre .0 .count))) (l .inv .2)
 
 pub put-lines-spec : {M : Type 1} → statement M
 put-lines-spec =

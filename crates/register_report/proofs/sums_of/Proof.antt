@@ -1,108 +1,72 @@
--- `register_report::sums_of` meets its contract. The loop's invariant: the sums of the lines before line k.
+-- `register_report::sums_of` meets its contract. The loop's invariant: with the sums of the places left they are the sums of all.
 -- Assumes nothing.
 use borrow.Author.Needs.{needs}
-use mathlib.Core.Path.{subst}
+use mathlib.Core.Logic.{⊎-elim}
 use native.Mathlib.Omega.{arith}
-use Prim.Native.Nat.{_-_, _≤_}
-use lib.ListN.{take}
-use Rattle.register.specs.Buffer.{registerIn}
-use Rattle.register_calls.specs.PutLaws.{slot-room}
-use Rattle.register_report.specs.SumLaws.{all-lines, bytes-fit, line-added, line-form, placed, sums-none, tonnes-fit, value-fit}
-use Rattle.register_report.specs.Sums.{Summed}
+use Prim.Native.Nat.{_-_}
+use lib.ListN.{length}
+use Rattle.register_report.specs.SumLaws.{SummedTo, count-fits, summed-all, summed-here, summed-none, summed-past, value-fits, weight-fits}
 use Rattle.register_report.proofs.sums_of.Statement.{statement}
 use Rattle.register_report.proofs.sums_of.Tie as tie
 
 abbrev Inv-loop : tie.InvT-loop
-Inv-loop buffer n bytes₀ tonnes₀ value₀ k₀ bytes tonnes value k = (k ≤ n) × Summed (take k (registerIn buffer)) bytes tonnes value
+Inv-loop codes tonnes values code count₀ weight₀ value₀ k₀ count weight value k = SummedTo code codes tonnes values count weight value k
 
 abbrev μ-loop : tie.MeasureT-loop
-μ-loop buffer n bytes₀ tonnes₀ value₀ k₀ bytes tonnes value k = n - k
+μ-loop codes tonnes values code count₀ weight₀ value₀ k₀ count weight value k = length codes - k
 
 loop-holds : tie.Need-loop-holds Inv-loop μ-loop
-loop-holds c = (omega arith, sums-none)
+loop-holds c = summed-none (c .args .code) (c .args .codes .now) (c .args .tonnes .now) (c .args .values .now)
 
-mul-at : tie.Need-mul-at Inv-loop μ-loop
-mul-at c =
-    let s = c .before .before .before in
-    let l = c .before .loop in
-    omega (arith, slot-room (s .args .buffer .now) (l .k) (placed (s .args .buffer .now) (s .args .n) (s .pre) (l .k) (c .loop-test .taken)))
+mul-if1 : tie.Need-mul-if1 Inv-loop μ-loop
+mul-if1 c = search needs
 
-add-at : tie.Need-add-at Inv-loop μ-loop
-add-at c =
-    let s = c .before .before .before in
-    let l = c .before .loop in
-    omega (arith, slot-room (s .args .buffer .now) (l .k) (placed (s .args .buffer .now) (s .args .n) (s .pre) (l .k) (c .loop-test .taken)))
+shared-slice-read-if1 : tie.Need-shared-slice-read-if1 Inv-loop μ-loop
+shared-slice-read-if1 c = search needs
 
-line-end-requires : tie.Need-line-end-requires Inv-loop μ-loop
-line-end-requires c κs =
-    let s = c .before .before .before in
-    placed (s .args .buffer .now) (s .args .n) (s .pre) (c .before .loop .k) (c .loop-test .taken)
+add-count : tie.Need-add-count Inv-loop μ-loop
+add-count c =
+    let l = c .before .before .before .loop in
+    let s = c .before .before .before .before in
+    let a = s .args in
+    omega (
+      arith,
+      count-fits (a .code) (a .codes .now) (a .tonnes .now) (a .values .now) (s .pre) (l .count) (l .weight) (l .value) (l .k) (l .inv)
+          (c .before .before .loop-test .taken) (c .if1 .taken),
+    )
 
-sub-worth-of : tie.Need-sub-worth-of Inv-loop μ-loop
-sub-worth-of c = search needs
+mul-weight : tie.Need-mul-weight Inv-loop μ-loop
+mul-weight c = search needs
 
-part-worth-of-start : tie.Need-part-worth-of-start Inv-loop μ-loop
-part-worth-of-start c = search needs
+shared-slice-read-weight : tie.Need-shared-slice-read-weight Inv-loop μ-loop
+shared-slice-read-weight c = search needs
 
-part-worth-of-end : tie.Need-part-worth-of-end Inv-loop μ-loop
-part-worth-of-end c = search needs
-
-worth-of-requires : tie.Need-worth-of-requires Inv-loop μ-loop
-worth-of-requires c κs =
+add-weight : tie.Need-add-weight Inv-loop μ-loop
+add-weight c =
+    let l = c .before .before .before .before .loop in
     let s = c .before .before .before .before .before in
-    let e = c .before .line-end in
-    line-form (s .args .buffer .now) (s .args .n) (s .pre) (c .before .before .before .loop .k) (c .before .before .loop-test .taken) (e .result)
-    (e .ensures)
-
-sub-bytes : tie.Need-sub-bytes Inv-loop μ-loop
-sub-bytes c = search needs
-
-add-bytes : tie.Need-add-bytes Inv-loop μ-loop
-add-bytes c =
-    let s = c .before .before .before .before .before .before in
-    let l = c .before .before .before .before .loop in
-    let e = c .before .before .line-end in
-    let w = c .worth-of in
+    let a = s .args in
     omega (
       arith,
-      bytes-fit (s .args .buffer .now) (s .args .n) (s .pre) (l .k) (c .before .before .before .loop-test .taken) (e .result)
-          (e .ensures) (l .bytes) (l .tonnes) (l .value) (l .inv .1) (w .result) (w .ensures),
+      weight-fits (a .code) (a .codes .now) (a .tonnes .now) (a .values .now) (s .pre) (l .count) (l .weight) (l .value) (l .k) (l .inv)
+          (c .before .before .before .loop-test .taken) (c .before .if1 .taken),
     )
 
-add-bytes-2 : tie.Need-add-bytes-2 Inv-loop μ-loop
-add-bytes-2 c =
-    let s = c .before .before .before .before .before .before in
-    let l = c .before .before .before .before .loop in
-    let e = c .before .before .line-end in
-    let w = c .worth-of in
-    omega (
-      arith,
-      bytes-fit (s .args .buffer .now) (s .args .n) (s .pre) (l .k) (c .before .before .before .loop-test .taken) (e .result)
-          (e .ensures) (l .bytes) (l .tonnes) (l .value) (l .inv .1) (w .result) (w .ensures),
-    )
+mul-value : tie.Need-mul-value Inv-loop μ-loop
+mul-value c = search needs
 
-add-tonnes : tie.Need-add-tonnes Inv-loop μ-loop
-add-tonnes c =
-    let s = c .before .before .before .before .before .before .before in
-    let l = c .before .before .before .before .before .loop in
-    let e = c .before .before .before .line-end in
-    let w = c .before .worth-of in
-    omega (
-      arith,
-      tonnes-fit (s .args .buffer .now) (s .args .n) (s .pre) (l .k) (c .before .before .before .before .loop-test .taken) (e .result)
-          (e .ensures) (l .bytes) (l .tonnes) (l .value) (l .inv .1) (w .result) (w .ensures),
-    )
+shared-slice-read-value : tie.Need-shared-slice-read-value Inv-loop μ-loop
+shared-slice-read-value c = search needs
 
 add-value : tie.Need-add-value Inv-loop μ-loop
 add-value c =
-    let s = c .before .before .before .before .before .before .before .before in
-    let l = c .before .before .before .before .before .before .loop in
-    let e = c .before .before .before .before .line-end in
-    let w = c .before .before .worth-of in
+    let l = c .before .before .before .before .before .loop in
+    let s = c .before .before .before .before .before .before in
+    let a = s .args in
     omega (
       arith,
-      value-fit (s .args .buffer .now) (s .args .n) (s .pre) (l .k) (c .before .before .before .before .before .loop-test .taken) (e .result)
-          (e .ensures) (l .bytes) (l .tonnes) (l .value) (l .inv .1) (w .result) (w .ensures),
+      value-fits (a .code) (a .codes .now) (a .tonnes .now) (a .values .now) (s .pre) (l .count) (l .weight) (l .value) (l .k) (l .inv)
+          (c .before .before .before .before .loop-test .taken) (c .before .before .if1 .taken),
     )
 
 add-k : tie.Need-add-k Inv-loop μ-loop
@@ -113,22 +77,23 @@ loop-less c = search needs
 
 loop-again : tie.Need-loop-again Inv-loop μ-loop
 loop-again c =
-    let s = c .before .before .before .before .before .before .before .before in
-    let l = c .before .before .before .before .before .before .loop in
-    let e = c .before .before .before .before .line-end in
-    let w = c .before .before .worth-of in
-    let here = c .before .before .before .before .before .loop-test .taken in (
-      omega arith,
-      line-added (s .args .buffer .now) (s .args .n) (s .pre) (l .k) here (e .result) (e .ensures) (l .bytes) (l .tonnes) (l .value) (l .inv .1)
-          (w .result) (w .ensures),
-    )
+    let l = c .before .before .before .loop in
+    let s = c .before .before .before .before in
+    let a = s .args in
+    let here = c .before .before .loop-test .taken in
+    ⊎-elim
+    (λ w. rw (w .3, w .4, w .5) (summed-here (a .code) (a .codes .now) (a .tonnes .now) (a .values .now) (s .pre) (l .count) (l .weight) (l .value)
+    (l .k) (l .inv) here (w .0 .taken)))
+    (λ w. rw (w .1, w .2, w .3) (summed-past (a .code) (a .codes .now) (a .tonnes .now) (a .values .now) (s .pre) (l .count) (l .weight) (l .value)
+    (l .k) (l .inv) here (w .0 .left)))
+    (c .if1 .came)
 
 returns : tie.Need-returns Inv-loop μ-loop
 returns c =
-    let s = c .before .before .before in
     let l = c .before .loop in
-    subst (λ r. Summed r (l .bytes) (l .tonnes) (l .value))
-    (all-lines (registerIn (s .args .buffer .now)) (l .k) (omega (arith, l .inv .0, s .pre .count))) (l .inv .1)
+    let s = c .before .before in
+    let a = s .args in
+    summed-all (a .code) (a .codes .now) (a .tonnes .now) (a .values .now) (s .pre) (l .count) (l .weight) (l .value) (l .k) (l .inv) (omega arith)
 
 pub sums-of-spec : {M : Type 1} → statement M
 sums-of-spec =
@@ -137,17 +102,14 @@ sums-of-spec =
     Inv-loop
     μ-loop
     loop-holds
-    mul-at
-    add-at
-    line-end-requires
-    sub-worth-of
-    part-worth-of-start
-    part-worth-of-end
-    worth-of-requires
-    sub-bytes
-    add-bytes
-    add-bytes-2
-    add-tonnes
+    mul-if1
+    shared-slice-read-if1
+    add-count
+    mul-weight
+    shared-slice-read-weight
+    add-weight
+    mul-value
+    shared-slice-read-value
     add-value
     add-k
     loop-less

@@ -1,10 +1,10 @@
--- `register_report::worth_of` meets its contract: tonnes and price stand behind contract and grain.
+-- `register_report::worth_of` meets its contract: tonnes and price stand behind contract and grain, the currency behind them.
 -- Assumes nothing.
 use borrow.Author.Needs.{needs}
 use mathlib.Core.Path.{_∙_}
 use native.Mathlib.Omega.{arith}
 use Rattle.register.specs.ReportLaws.{value-small}
-use Rattle.register_report.specs.SumLaws.{contract-next, price-numeric, tonnes-numeric, tonnes-shown, worth-is}
+use Rattle.register_report.specs.FieldLaws.{code-is, contract-next, currency-inside, price-numeric, tonnes-numeric, tonnes-shown, worth-is}
 use Rattle.register_report.proofs.worth_of.Statement.{statement}
 use Rattle.register_report.proofs.worth_of.Tie as tie
 
@@ -36,28 +36,52 @@ number-at-requires-2 c κs =
     let size = contract-next (s .args .line .now) (k .result) (k .ensures) in
     price-numeric (s .args .line .now) (s .pre) (k .result) size (t .result .end) (t .ensures .ends)
 
-mul-t6 : tie.Need-mul-t6
-mul-t6 c =
-    let s = c .before .before .before .before .before .before .before in
-    let k = c .before .before .before .before .before .next-byte in
-    let t = c .before .before .before .before .number-at in
-    let p = c .before .before .number-at2 in
+add-code-at : tie.Need-add-code-at
+add-code-at c =
+    let s = c .before .before .before .before .before .before in
+    let k = c .before .before .before .before .next-byte in
+    let t = c .before .before .before .number-at in
+    let p = c .before .number-at2 in
+    let size = contract-next (s .args .line .now) (k .result) (k .ensures) in
+    omega (
+      arith,
+      currency-inside (s .args .line .now) (s .pre) (k .result) size (t .result .end) (t .ensures .ends) (p .result .end) (p .ensures .ends),
+    )
+
+code-at-requires : tie.Need-code-at-requires
+code-at-requires c κs =
+    let s = c .before .before .before .before .before .before in
+    let k = c .before .before .before .before .next-byte in
+    let t = c .before .before .before .number-at in
+    let p = c .before .number-at2 in
+    let size = contract-next (s .args .line .now) (k .result) (k .ensures) in
+    currency-inside (s .args .line .now) (s .pre) (k .result) size (t .result .end) (t .ensures .ends) (p .result .end) (p .ensures .ends)
+
+mul-t7 : tie.Need-mul-t7
+mul-t7 c =
+    let s = c .before .before .before .before .before .before .before .before .before in
+    let k = c .before .before .before .before .before .before .before .next-byte in
+    let t = c .before .before .before .before .before .before .number-at in
+    let p = c .before .before .before .before .number-at2 in
     let size = contract-next (s .args .line .now) (k .result) (k .ensures) in
     omega (
       arith,
       value-small (s .args .line .now) (s .pre),
-      worth-is (s .args .line .now) (s .pre) (k .result) size (t .result .end) (t .ensures .ends) (t .result .value) (p .result .value) (t .ensures .number)
-          (p .ensures .number),
+      worth-is (s .args .line .now) (s .pre) (k .result) size (t .result .end) (t .ensures .ends) (t .result .value) (p .result .value)
+          (t .ensures .number) (p .ensures .number),
     )
 
 returns : tie.Need-returns
 returns c =
-    let s = c .before .before .before .before .before .before .before in
-    let k = c .before .before .before .before .before .next-byte in
-    let t = c .before .before .before .before .number-at in
-    let p = c .before .before .number-at2 in
+    let s = c .before .before .before .before .before .before .before .before .before in
+    let k = c .before .before .before .before .before .before .before .next-byte in
+    let t = c .before .before .before .before .before .before .number-at in
+    let p = c .before .before .before .before .number-at2 in
     let size = contract-next (s .args .line .now) (k .result) (k .ensures) in
     record {
+      currency =
+          c .before .before .code-at .ensures
+          ∙ code-is (s .args .line .now) (s .pre) (k .result) size (t .result .end) (t .ensures .ends) (p .result .end) (p .ensures .ends);
       weight = t .ensures .number ∙ tonnes-shown (s .args .line .now) (s .pre) (k .result) size;
       cents =
           worth-is (s .args .line .now) (s .pre) (k .result) size (t .result .end) (t .ensures .ends) (t .result .value) (p .result .value)
@@ -73,5 +97,7 @@ worth-of-spec =
     number-at-requires
     add-number-at-2
     number-at-requires-2
-    mul-t6
+    add-code-at
+    code-at-requires
+    mul-t7
     returns)
