@@ -211,7 +211,7 @@ def register():
     scripts("Reports", "register04", True, f"{before} {longer}", ["opening", "offer", "get", "report", "reset", "number", "handed", "reported"],
             ["answers", "times"])
     scripts("Currencies", "register10", False, "First the lines that were offered to each register of wishes 2 to 9.",
-            ["opening", "offer", "get", "report", "old", "reset", "number", "handed", "reported"], ["answers", "oldLines", "oldOffered", "times"])
+            ["opening", "offer", "get", "report", "old", "reset", "number", "handed", "reported"], ["answers", "times"])
 
 
 def main():

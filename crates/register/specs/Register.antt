@@ -50,6 +50,16 @@ withLine register line = record { house = register .house; lines = register .lin
 unfoldable pub offered : Register → (line : List ℕ) → Register
 offered register line = cond (eqb (offerNumber (register .lines) line) 0) (withLine register line) register
 
+-- W2.5 and W2.7 as they were before this wish: a line of four fields that was taken stood behind all others as it came. So the lines of a register
+-- that isn't opened came about (RegisterLaws: old-is, is-old).
+unfoldable pub oldOffered : Lines → (line : List ℕ) → Lines
+oldOffered lines line =
+    cond (eqb (lowestOf (isLine line) (holds lines (contractOf line)) (leb mostLines (length lines))) 0) (lines ++ (line ∷ [])) lines
+
+unfoldable pub oldLines : Lines → (offers : List (List ℕ)) → Lines
+oldLines lines [] = lines
+oldLines lines (line ∷ rest) = oldLines (oldOffered lines line) rest
+
 -- W10.3 "On opening, the register is told the house currency", "a held register of old lines is rewritten so, with order and other fields kept;
 -- opening again changes only the house currency"
 unfoldable pub opened : Register → (currency : List ℕ) → Register

@@ -24,6 +24,8 @@ use Rattle.register.specs.Register.{
   lowestOf,
   offerNumber,
   offered,
+  oldOffered,
+  oldLines,
   opened,
   Act,
   opening,
@@ -232,24 +234,31 @@ pub home-currency : (house : List ℕ) → isCurrency house ≡ true → isHouse
 unfolding isHouse
 home-currency house e = test-cases (λ t. (t || isCurrency house) ≡ true) (isNil house) (λ _. refl) (λ _. e)
 
--- A register that is opened stays one with a line that is taken.
+-- A register stays one with a line of its form behind the others, if its contract isn't held and there is room.
+more-sound : (register : Register) (text : List ℕ) → Sound register → formOf (register .house) text ≡ true
+    → holds (register .lines) (contractOf text) ≡ false
+    → length (register .lines) < mostLines
+    → Sound (record { house = register .house; lines = register .lines ++ (text ∷ []) })
+unfolding all
+more-sound register text s form fresh room =
+    record {
+      home = s .home;
+      few = omega (arith, room, length-append (register .lines) (text ∷ []));
+      good = all-append (formOf (register .house)) (register .lines) (text ∷ []) (s .good) (both-pass form refl);
+      different = differ-more (register .lines) text (s .different) fresh;
+    }
+
+-- So does one that is opened with a line that is taken.
 module _ (register : Register) (line : List ℕ) (s : Sound register) (is : isOpen register ≡ true) where
   currency-is : isCurrency (register .house) ≡ true
   currency-is = house-open register (s .home) is
 
-  pub taken-sound : Taken (register .lines) line → Sound (withLine register line)
-  unfolding all
+  taken-sound : Taken (register .lines) line → Sound (withLine register line)
   taken-sound t =
       let kept = stored (register .house) line in
       let five = stored-record (register .house) currency-is line (t .form) in
-      let form = form-open (register .house) kept (currency-some (register .house) currency-is) ∙ five in
-      let fresh = ap (holds (register .lines)) (stored-contract (register .house) currency-is line) ∙ t .fresh in
-      record {
-        home = s .home;
-        few = omega (arith, t .room, length-append (register .lines) (kept ∷ []));
-        good = all-append (formOf (register .house)) (register .lines) (kept ∷ []) (s .good) (both-pass form refl);
-        different = differ-more (register .lines) kept (s .different) fresh;
-      }
+      more-sound register kept s (form-open (register .house) kept (currency-some (register .house) currency-is) ∙ five)
+      (ap (holds (register .lines)) (stored-contract (register .house) currency-is line) ∙ t .fresh) (t .room)
 
   pub offered-sound : Sound (offered register line)
   offered-sound =
@@ -324,42 +333,53 @@ none-open : isOpen nothing ≡ false
 unfolding isOpen isNil
 none-open = refl
 
+-- Lines given one after another to what has those before them: if each is taken where all of them are as they should be, all are.
+module _ {S : Type 0} (has : Lines → S) (give : S → Lines → S) (none : (s : S) → give s [] ≡ s) (ok : Lines → Type 0)
+    (one : (done rest : Lines) (line : List ℕ) → ok (done ++ (line ∷ rest)) → give (has done) (line ∷ rest) ≡ give (has (done ++ (line ∷ []))) rest)
+  where
+    all-taken : (done rest : Lines) → ok (done ++ rest) → give (has done) rest ≡ has (done ++ rest)
+    all-taken done [] fit = none (has done) ∙ ap has (sym (append-nil done))
+    all-taken done (line ∷ rest) fit =
+        let next : (done ++ (line ∷ [])) ++ rest ≡ done ++ (line ∷ rest) = append-assoc done (line ∷ []) rest in
+        one done rest line fit ∙ all-taken (done ++ (line ∷ [])) rest (subst ok (sym next) fit) ∙ ap has next
+
+-- at most 256 lines of a form, with different contracts
+record Fit (form : List ℕ → Bool) (ls : Lines) : Type 0 where
+  few : length ls ≤ mostLines
+  forms : all form ls ≡ true
+  different : differ ls ≡ true
+
 -- Lines of good form with different contracts, offered one after another to a register that is opened and has none of them, are all taken.
 module _ (c : List ℕ) (is : isCurrency c ≡ true) where
   abbrev holding : Lines → Register
   holding ls = record { house = c; lines = map (stored c) ls }
 
-  offered-next : (done rest : Lines) (line : List ℕ) → length (done ++ (line ∷ rest)) ≤ mostLines → all hasForm (done ++ (line ∷ rest)) ≡ true
-      → differ (done ++ (line ∷ rest)) ≡ true
-      → after (holding done) (offering line) ≡ holding (done ++ (line ∷ []))
-  offered-next done rest line few forms different =
-      let fresh = map-holds (stored c) (stored-contract c is) done (contractOf line) ∙ differ-split done line rest different in
-      let room : length (map (stored c) done) < mostLines = omega (arith, few, length-map done (stored c), length-append done (line ∷ rest)) in
-      let zero = taken-zero (map (stored c) done) line (record { form = all-middle hasForm done line rest forms; fresh = fresh; room = room }) in
-      after-offering (holding done) line (currency-open (holding done) is)
-      ∙ offered-taken (holding done) line zero
-      ∙ (λ i. record { house = c; lines = sym (map-append (stored c) done (line ∷ [])) i })
-
-  fold-all : (done rest : Lines) → length (done ++ rest) ≤ mostLines → all hasForm (done ++ rest) ≡ true → differ (done ++ rest) ≡ true
-      → fold (holding done) (map offering rest) ≡ holding (done ++ rest)
+  offered-next : (done rest : Lines) (line : List ℕ) → Fit hasForm (done ++ (line ∷ rest))
+      → fold (holding done) (offering line ∷ map offering rest) ≡ fold (holding (done ++ (line ∷ []))) (map offering rest)
   unfolding fold
-  fold-all done [] few forms different = ap holding (sym (append-nil done))
-  fold-all done (line ∷ rest) few forms different =
-      let next : (done ++ (line ∷ [])) ++ rest ≡ done ++ (line ∷ rest) = append-assoc done (line ∷ []) rest in
-      ap (λ r. fold r (map offering rest)) (offered-next done rest line few forms different)
-      ∙ fold-all (done ++ (line ∷ [])) rest (subst (λ l. length l ≤ mostLines) (sym next) few)
-      (subst (λ l. all hasForm l ≡ true) (sym next) forms) (subst (λ l. differ l ≡ true) (sym next) different)
-      ∙ ap holding next
+  offered-next done rest line fit =
+      let fresh = map-holds (stored c) (stored-contract c is) done (contractOf line) ∙ differ-split done line rest (fit .different) in
+      let room : length (map (stored c) done) < mostLines =
+      omega (arith, fit .few, length-map done (stored c), length-append done (line ∷ rest)) in
+      let form = all-middle hasForm done line rest (fit .forms) in
+      let zero = taken-zero (map (stored c) done) line (record { form = form; fresh = fresh; room = room }) in
+      ap (λ r. fold r (map offering rest))
+      (after-offering (holding done) line (currency-open (holding done) is)
+      ∙ offered-taken (holding done) line zero
+      ∙ (λ i. record { house = c; lines = sym (map-append (stored c) done (line ∷ [])) i }))
 
   opened-first : opened nothing c ≡ holding []
   opened-first = opened-old nothing c none-open
 
   -- opened at first, and then given these lines
-  given : (ls : Lines) → length ls ≤ mostLines → all hasForm ls ≡ true → differ ls ≡ true
-      → fold nothing (opening c ∷ map offering ls) ≡ holding ls
+  given : (ls : Lines) → Fit hasForm ls → fold nothing (opening c ∷ map offering ls) ≡ holding ls
   unfolding fold
-  given ls few forms different =
-      ap (λ r. fold r (map offering ls)) (after-opening nothing c is ∙ opened-first) ∙ fold-all [] ls few forms different
+  given ls fit =
+      ap (λ r. fold r (map offering ls)) (after-opening nothing c is ∙ opened-first)
+      ∙ all-taken holding (λ r l. fold r (map offering l)) (λ _. refl) (Fit hasForm) offered-next [] ls fit
+
+fit-forms : (register : Register) → Sound register → Fit hasForm (register .lines)
+fit-forms register s = record { few = s .few; forms = all-forms register s; different = s .different }
 
 -- Each register that is opened is left by an opening with its house currency and offers of its lines.
 pub is-fold : (register : Register) → isRegister register ≡ true → isOpen register ≡ true
@@ -370,7 +390,51 @@ is-fold register good e =
     let is = house-open register (s .home) e in
     let same-lines = map-agree (stored c) (λ line. line) isRecord (stored-same c is) (register .lines) (open-records register s e)
     ∙ map-id (register .lines) in
-    given c is (register .lines) (s .few) (all-forms register s) (s .different) ∙ (λ i. record { house = c; lines = same-lines i })
+    given c is (register .lines) (fit-forms register s) ∙ (λ i. record { house = c; lines = same-lines i })
+
+-- A register that isn't opened is what offers left before this wish: what they leave is one,
+abbrev unopened : Lines → Register
+unopened ls = record { house = []; lines = ls }
+
+old-more : (ls : Lines) (line : List ℕ) → Sound (unopened ls) → Sound (unopened (oldOffered ls line))
+unfolding oldOffered lowestOf isNil
+old-more ls line s =
+    let number : ℕ = lowestOf (isLine line) (holds ls (contractOf line)) (leb mostLines (length ls)) in
+    test-cases (λ t. eqb number 0 ≡ t → Sound (unopened (cond t (ls ++ (line ∷ [])) ls))) (eqb number 0)
+    (λ e _.
+    let tests = chosen (isLine line) (holds ls (contractOf line)) (leb mostLines (length ls)) (eqb-true number 0 e) in
+    more-sound (unopened ls) line s (form-old [] line refl ∙ tests .0) (tests .1) (leb-false mostLines (length ls) (tests .2)))
+    (λ _ _. s) refl
+
+old-sound : (ls offers : Lines) → Sound (unopened ls) → Sound (unopened (oldLines ls offers))
+unfolding oldLines
+old-sound ls [] s = s
+old-sound ls (line ∷ offers) s = old-sound (oldOffered ls line) offers (old-more ls line s)
+
+pub old-is : (offers : Lines) → isRegister (unopened (oldLines [] offers)) ≡ true
+old-is offers = is-register (unopened (oldLines [] offers)) (old-sound [] offers empty-sound)
+
+-- and each one is left by the offers of its lines.
+old-next : (done rest : Lines) (line : List ℕ) → Fit isLine (done ++ (line ∷ rest))
+    → oldLines done (line ∷ rest) ≡ oldLines (done ++ (line ∷ [])) rest
+unfolding oldLines oldOffered lowestOf
+old-next done rest line fit =
+    let room : length done < mostLines = omega (arith, fit .few, length-append done (line ∷ rest)) in
+    ap (λ l. oldLines l rest)
+    (rw (all-middle isLine done line rest (fit .forms), differ-split done line rest (fit .different), lt-leb mostLines (length done) room))
+
+no-house : (house : List ℕ) → isNil house ≡ true → house ≡ []
+unfolding isNil
+no-house [] e = refl
+no-house (b ∷ house) e = absurd (false≢true e)
+
+pub is-old : (register : Register) → isRegister register ≡ true → isOpen register ≡ false → unopened (oldLines [] (register .lines)) ≡ register
+unfolding oldLines
+is-old register good e =
+    let s = sound register good in
+    let fit : Fit isLine (register .lines) = record { few = s .few; forms = old-lines register s e; different = s .different } in
+    let same-lines = all-taken (λ l. l) oldLines (λ _. refl) (Fit isLine) old-next [] (register .lines) fit in
+    λ i. record { house = sym (no-house (register .house) (nil-closed register e)) i; lines = same-lines i }
 
 -- W10.3 "a held register of old lines is rewritten so": as its lines would be stored if they were offered to it opened. So an old register that is
 -- opened holds what one holds that was opened at first and then given the same lines;
@@ -381,7 +445,7 @@ old-as-new register c good e is =
     let same-lines = map-agree (written c) (stored c) isLine (λ l four. sym (stored-line c is l four)) (register .lines) (old-lines register s e) in
     opened-old register c e
     ∙ (λ i. record { house = c; lines = same-lines i })
-    ∙ sym (given c is (register .lines) (s .few) (all-forms register s) (s .different))
+    ∙ sym (given c is (register .lines) (fit-forms register s))
 
 fold-append : (register : Register) (xs ys : List Act) → fold register (xs ++ ys) ≡ fold (fold register xs) ys
 unfolding fold

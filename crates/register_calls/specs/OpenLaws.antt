@@ -250,11 +250,11 @@ module _ (buffer c : List ℕ) (is : isCurrency c ≡ true) where
 
   pub opened-again-gets : (n : ℕ) (keys left : List ℕ) → Ready buffer n keys → left ≡ splice buffer 0 c → bufferBack 0 left ≡ openCall buffer c
   opened-again-gets n keys left ready put =
-      let s = read-sound buffer (ready .keeps) in
+      let s = read-sound buffer (ready .counted .keeps) in
       ap (bufferBack 0)
-      (put ∙ ap (λ b. splice b 0 c) (sym (with-same buffer (ready .keeps))) ∙ house-told buffer (registerIn buffer) c (s .home) is
-      ∙ ap (withRegister buffer) (sym (opened-again (registerIn buffer) c (ready .is-open))))
-      ∙ sym (open-does buffer c is (ready .keeps))
+      (put ∙ ap (λ b. splice b 0 c) (sym (with-same buffer (ready .counted .keeps))) ∙ house-told buffer (registerIn buffer) c (s .home) is
+      ∙ ap (withRegister buffer) (sym (opened-again (registerIn buffer) c (ready .counted .is-open))))
+      ∙ sym (open-does buffer c is (ready .counted .keeps))
 
   module _ (n : ℕ) (u : Unopened buffer n) (between : List ℕ) (w : WrittenOut buffer c between) where
     pub opened-old-gets : (left : List ℕ) → left ≡ splice between 0 c → bufferBack 0 left ≡ openCall buffer c

@@ -30,7 +30,7 @@ use Rattle.register_lines.specs.FieldLaws.{contract-size, count-form, four-fiel
 use Rattle.register_lines.specs.Fields.{Run, fieldCount}
 use Rattle.register_reading.specs.KeyLaws.{key-read, keys-hold}
 use Rattle.register_reading.specs.ReadLaws.{here-form, here-size}
-use Rattle.register_reading.specs.Reading.{Placed, Ready, Stands, Unopened, slotAt}
+use Rattle.register_reading.specs.Reading.{Placed, Ready, Stands, slotAt}
 use Rattle.register_calls.specs.Putting.{Judged, Keyed, Puts, storedBy}
 
 -- slots with zeros behind them, with a line over the first of these
@@ -187,12 +187,12 @@ module _ (line keys : List ℕ) (n contract key : ℕ) (run : Run isNameByte lin
 module _ (buffer line keys : List ℕ) (n fields number : ℕ) (ready : Ready buffer n keys) (j : Judged line n keys number)
     (f : fields ≡ fieldCount line) where
   is-ready : bufferOpen buffer ≡ true
-  is-ready = open-keeps buffer (ready .keeps) ∙ ready .is-open
+  is-ready = open-keeps buffer (ready .counted .keeps) ∙ ready .counted .is-open
 
   keyed : Keyed (registerIn buffer .lines) n keys
   keyed =
-      let s = read-sound buffer (ready .keeps) in
-      record { good = all-forms (registerIn buffer) s; few = s .few; count = ready .count; keyed = ready .keyed }
+      let s = read-sound buffer (ready .counted .keeps) in
+      record { good = all-forms (registerIn buffer) s; few = s .few; count = ready .counted .count; keyed = ready .keyed }
 
   number-is : offerNumber (registerIn buffer .lines) line ≡ number
   number-is = sym (j .judged (registerIn buffer .lines) keyed)
@@ -205,7 +205,7 @@ module _ (buffer line keys : List ℕ) (n fields number : ℕ) (ready : Ready bu
     takes = taken (registerIn buffer .lines) line (number-is ∙ zero-is)
 
     currency-is : isCurrency (registerIn buffer .house) ≡ true
-    currency-is = house-open (registerIn buffer) (read-sound buffer (ready .keeps) .home) (ready .is-open)
+    currency-is = house-open (registerIn buffer) (read-sound buffer (ready .counted .keeps) .home) (ready .counted .is-open)
 
     -- the house currency stands in the first three bytes
     house-here : take 3 buffer ≡ registerIn buffer .house
@@ -228,8 +228,8 @@ module _ (buffer line keys : List ℕ) (n fields number : ℕ) (ready : Ready bu
     offer-room =
         omega (
           arith,
-          line-room buffer (ready .keeps) (stored (registerIn buffer .house) line) fits (takes .room),
-          ready .count,
+          line-room buffer (ready .counted .keeps) (stored (registerIn buffer .house) line) fits (takes .room),
+          ready .counted .count,
           ap length text-is,
         )
 
@@ -238,14 +238,10 @@ module _ (buffer line keys : List ℕ) (n fields number : ℕ) (ready : Ready bu
     offer-put left put =
         let at : splice buffer (slotAt n) (storedBy fields (take 3 buffer) line)
         ≡ splice buffer (slotAt (length (registerIn buffer .lines))) (stored (registerIn buffer .house) line) =
-        ap₂ {C = List ℕ} (λ m t. splice buffer (slotAt m) t) (ready .count) text-is in
+        ap₂ {C = List ℕ} (λ m t. splice buffer (slotAt m) t) (ready .counted .count) text-is in
         ap₂ {C = BufferCalled} bufferBack zero-is
-        (put ∙ at ∙ line-put buffer (ready .keeps) (stored (registerIn buffer .house) line) fits (takes .room))
+        (put ∙ at ∙ line-put buffer (ready .counted .keeps) (stored (registerIn buffer .house) line) fits (takes .room))
         ∙ sym (offer-taken buffer line is-ready (number-is ∙ zero-is))
-
--- what isn't opened gets 14
-pub refused-old : (buffer : List ℕ) (n : ℕ) → Unopened buffer n → bufferOpen buffer ≡ false
-refused-old buffer n u = open-keeps buffer (u .keeps) ∙ u .is-old
 
 pub offer-refuses : (buffer line : List ℕ) → bufferOpen buffer ≡ false → bufferBack 14 buffer ≡ offerCall buffer line
 unfolding turnedDown
@@ -286,16 +282,16 @@ module _ (buffer : List ℕ) (place : ℕ) where
 
   module _ (n : ℕ) (keys : List ℕ) (ready : Ready buffer n keys) where
     lent : bufferOpen buffer ≡ true
-    lent = open-keeps buffer (ready .keeps) ∙ ready .is-open
+    lent = open-keeps buffer (ready .counted .keeps) ∙ ready .counted .is-open
 
     pub line-placed : place < n → Placed buffer place
-    line-placed h = record { keeps = ready .keeps; inside = omega (arith, ready .count) }
+    line-placed h = record { keeps = ready .counted .keeps; inside = omega (arith, ready .counted .count) }
 
     pub line-none : (out : List ℕ) → out ≡ replicate lineSize 0 → n ≤ place → lineBack 0 out 0 ≡ lineCall buffer place
     unfolding lineAt
     line-none out zeros h =
         none-handed 0 out zeros
-        ∙ ap (handing 0) (sym (List·getD-eq-default (registerIn buffer .lines) [] (omega (arith, ready .count))))
+        ∙ ap (handing 0) (sym (List·getD-eq-default (registerIn buffer .lines) [] (omega (arith, ready .counted .count))))
         ∙ sym (line-handed buffer place lent)
 
     pub line-found : (size : ℕ) (out : List ℕ) → Puts (lineAt (registerIn buffer .lines) place) size out → lineBack 0 out size ≡ lineCall buffer place

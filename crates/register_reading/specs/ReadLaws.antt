@@ -14,6 +14,8 @@ use Rattle.base.specs.Lists.{all, isNil}
 use Rattle.register.specs.Buffer.{headerSize, bufferKeeps, cellKeeps, headerIn, isZero, keepsRules, linesIn, registerIn, registerSize, slotSize}
 use Rattle.register.specs.Buffer.{slotsIn, slotsKeep, textIn}
 use Rattle.register.specs.BufferLaws.{cell-form, cell-zeros, house-cases, house-size, kept, read-sound, sound-size, text-front, text-read}
+use Rattle.register.specs.CallLaws.{open-broken, open-keeps}
+use Rattle.register.specs.Calls.{bufferOpen}
 use Rattle.register.specs.Line.{hasForm, isCurrency, isLine, isRecord}
 use Rattle.register.specs.LineLaws.{currency-size, currency-text}
 use Rattle.register.specs.Register.{Lines, differ, formOf, isHouse, isOpen, lineAt, mostLines}
@@ -179,7 +181,11 @@ module _ (buffer : List ℕ) (fields : ℕ) (h : registerSize ≤ length buffer)
       unfolding Finds Reads registerIn
       read-opened five =
           record {
-            finds = record { keeps = judged ∙ finds .0; is-open = open-is false (sym five); count = finds .1; keyed = finds .2 };
+            finds =
+                record {
+                  counted = record { keeps = judged ∙ finds .0; is-open = open-is false (sym five); count = finds .1 };
+                  keyed = finds .2;
+                };
             size = found .size;
           }
 
@@ -204,6 +210,13 @@ module _ (buffer keys : List ℕ) (r : State) (read : Read buffer keys r) where
   pub is-opened : (n : ℕ) → r ≡ Opened n → Ready buffer n keys
   unfolding Reads
   is-opened n e = subst (Reads buffer keys) e (read .finds)
+
+  -- W10.6 the buffers that every call but opening turns down
+  pub broken-refused : r ≡ Broken → bufferOpen buffer ≡ false
+  broken-refused e = open-broken buffer (is-broken e)
+
+  pub old-refused : (n : ℕ) → r ≡ Old n → bufferOpen buffer ≡ false
+  old-refused n e = let u = is-old n e in open-keeps buffer (u .keeps) ∙ u .is-old
 
 -- The line of a place stands in its slot, which keeps its rule
 record SlotHolds (form : List ℕ → Bool) (slot line : List ℕ) : Type 0 where

@@ -73,11 +73,14 @@ fieldsOf house = cond (isNil house) 4 5
 unfoldable pub headerFields : (header : List ℕ) → ℕ
 headerFields header = cond (cellKeeps isHouse header) (fieldsOf (textIn header)) 0
 
--- a register with so many lines: one that is opened, with their keys; and one that isn't
-pub record Ready (buffer : List ℕ) (n : ℕ) (keys : List ℕ) : Type 0 where
+-- a register with so many lines: one that is opened, also with their keys; and one that isn't
+pub record Counted (buffer : List ℕ) (n : ℕ) : Type 0 where
   pub keeps : bufferKeeps buffer ≡ true
   pub is-open : isOpen (registerIn buffer) ≡ true
   pub count : n ≡ length (registerIn buffer .lines)
+
+pub record Ready (buffer : List ℕ) (n : ℕ) (keys : List ℕ) : Type 0 where
+  pub counted : Counted buffer n
   pub keyed : take n keys ≡ keysOf (registerIn buffer .lines)
 
 pub record Unopened (buffer : List ℕ) (n : ℕ) : Type 0 where

@@ -17,7 +17,7 @@ use Rattle.calls.specs.Splices.{splice, length-splice, splice-behind, splice-ni
 use Rattle.cards.specs.Bytes.{newline}
 use Rattle.register.specs.Buffer.{registerIn}
 use Rattle.register.specs.BufferLaws.{read-sound}
-use Rattle.register.specs.CallLaws.{open-broken, open-keeps, put-fits, put-full, report-put, report-refused}
+use Rattle.register.specs.CallLaws.{open-keeps, put-fits, put-full, report-put, report-refused}
 use Rattle.register.specs.Calls.{ReportCalled, bufferOpen, putting, puttingNothing, reportCall}
 use Rattle.register.specs.Claims.{reportBack}
 use Rattle.register.specs.Line.{isRecord}
@@ -26,13 +26,11 @@ use Rattle.register.specs.RegisterLaws.{open-records}
 use Rattle.register.specs.Report.{printed, report, tonnesOf, totalLines, valueOf}
 use Rattle.register.specs.ReportLaws.{mostReport, mostValue, printed-append, record-small, report-size, value-small}
 use Rattle.register_reading.specs.ReadLaws.{here-size}
-use Rattle.register_reading.specs.Reading.{Placed, Read, Reads, Ready, Stands, Unopened, slotAt}
-use Rattle.register_reading.specs.declared.State.{State}
-use Rattle.register_reading.specs.declared.State.the-variants.{Broken, Old, Opened}
+use Rattle.register_reading.specs.Reading.{Counted, Placed, Stands, slotAt}
 use Rattle.register_report.specs.Codes.{codeIn}
 use Rattle.register_report.specs.declared.Sizes.{Sizes}
 use Rattle.register_report.specs.declared.Worth.{Worth}
-use Rattle.register_report.specs.Sums.{Columns, Counted, Filled, Fits, LinesPut, RecordPut, Roomy, TotalsMade, Weighed}
+use Rattle.register_report.specs.Sums.{Columns, Filled, Fits, LinesPut, RecordPut, Roomy, TotalsMade, Weighed}
 
 -- The columns of lines are small enough for their sums.
 column-small : (f : List ℕ → ℕ) (most : ℕ) → ((line : List ℕ) → isRecord line ≡ true → f line ≤ most) → (lines : Lines) → all isRecord lines ≡ true
@@ -296,25 +294,7 @@ module _ (buffer : List ℕ) (n : ℕ) (c : Counted buffer n) where
             ap₂ {C = ReportCalled} (reportBack 0) (whole ∙ front) size-is
             ∙ sym (open-is output ∙ put-fits (report held) output (omega (arith, size-is)))
 
--- What the call makes of what was read: an opened register of n lines is reported, any other buffer gets 14.
-module _ (buffer keys : List ℕ) (r : State) (found : Read buffer keys r) where
-  pub read-counted : (n : ℕ) → r ≡ Opened n → Counted buffer n
-  unfolding Reads
-  read-counted n is =
-      let ready : Ready buffer n keys = subst (Reads buffer keys) is (found .finds) in
-      record { keeps = ready .keeps; is-open = ready .is-open; count = ready .count }
-
-  module _ (output : List ℕ) where
-    refuses : bufferOpen buffer ≡ false → reportBack 14 output 0 ≡ reportCall buffer output
-    unfolding puttingNothing
-    refuses e = sym (report-refused buffer output e)
-
-    pub old-refused : (n : ℕ) → r ≡ Old n → reportBack 14 output 0 ≡ reportCall buffer output
-    unfolding Reads
-    old-refused n is =
-        let old : Unopened buffer n = subst (Reads buffer keys) is (found .finds) in
-        refuses (open-keeps buffer (old .keeps) ∙ old .is-old)
-
-    pub broken-refused : r ≡ Broken → reportBack 14 output 0 ≡ reportCall buffer output
-    unfolding Reads
-    broken-refused is = refuses (open-broken buffer (subst (Reads buffer keys) is (found .finds)))
+-- what isn't opened, or keeps no rules, gets 14
+pub report-refuses : (buffer output : List ℕ) → bufferOpen buffer ≡ false → reportBack 14 output 0 ≡ reportCall buffer output
+unfolding puttingNothing
+report-refuses buffer output e = sym (report-refused buffer output e)

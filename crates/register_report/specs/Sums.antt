@@ -9,10 +9,9 @@ use Rattle.base.specs.Lists.{all}
 use Rattle.calls.specs.Splices.{splice}
 use Rattle.cards.specs.Bytes.{isDigit}
 use Rattle.values.specs.Conversion.{decimal}
-use Rattle.register.specs.Buffer.{bufferKeeps, registerIn}
 use Rattle.register.specs.Line.{isRecord}
 use Rattle.register.specs.LineLaws.{firstField}
-use Rattle.register.specs.Register.{Lines, isOpen, mostLines}
+use Rattle.register.specs.Register.{Lines, mostLines}
 use Rattle.register.specs.Report.{Totals, tonnesOf, valueOf, totalLine, totalLines, printed}
 use Rattle.register.specs.ReportLaws.{mostValue}
 use Rattle.register_report.specs.Codes.{codeIn, countOf, sumOf, wordOf}
@@ -63,12 +62,6 @@ pub record Roomy (codes tonnes values : List ℕ) : Type 0 where
   pub code-room : length codes ≡ mostLines
   pub tonnes-room : length tonnes ≡ mostLines
   pub value-room : length values ≡ mostLines
-
--- a buffer that keeps the rules, with a register that is opened and has n lines
-pub record Counted (buffer : List ℕ) (n : ℕ) : Type 0 where
-  pub keeps : bufferKeeps buffer ≡ true
-  pub is-open : isOpen (registerIn buffer) ≡ true
-  pub count : n ≡ length (registerIn buffer .lines)
 
 -- the columns of n lines, and the bytes that they are printed in
 pub record Filled (lines : Lines) (n : ℕ) (codes tonnes values : List ℕ) (bytes : ℕ) : Type 0 where

@@ -117,6 +117,8 @@ unfolding
     Rattle.register.specs.Register.lowestOf
     Rattle.register.specs.Register.offerNumber
     Rattle.register.specs.Register.offered
+    Rattle.register.specs.Register.oldOffered
+    Rattle.register.specs.Register.oldLines
     Rattle.register.specs.Register.opened
     Rattle.register.specs.Register.after
     Rattle.register.specs.Register.fold

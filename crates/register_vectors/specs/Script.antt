@@ -3,12 +3,11 @@ use mathlib.Core.Bool.{cond}
 use mathlib.Core.List.{List, [], _∷_, _++_, map}
 use mathlib.Core.Path.{_≡_}
 use Prim.Native.Nat.{ℕ, zero, suc}
-use lib.Dec.{eqb, leb}
-use lib.ListN.{length, take, replicate}
+use lib.ListN.{take, replicate}
 use Rattle.register.specs.Calls.{ReportCalled, putting, puttingNothing}
 use Rattle.register.specs.Claims.{bufferBack, madeByOffer, madeByOpening}
-use Rattle.register.specs.Line.{contractOf, isCurrency, isLine}
-use Rattle.register.specs.Register.{Lines, Register, nothing, isOpen, holds, lowestOf, lineAt, mostLines, offerNumber}
+use Rattle.register.specs.Line.{isCurrency}
+use Rattle.register.specs.Register.{Register, nothing, isOpen, lineAt, oldLines, offerNumber}
 use Rattle.register.specs.Report as Report
 
 -- the register opened with a currency, a line offered, a line asked for by its place, a report asked for with so many bytes of output; and two new
@@ -30,15 +29,6 @@ pub data Answer : Type 0 where
 -- what came back of a report: the number, and the bytes put at the start of the output
 abbrev pub reportedBy : ReportCalled → Answer
 reportedBy back = reported (back .number) (take (back .size) (back .left))
-
--- The offers of wishes 2 to 9: lines of four fields, kept as they came.
-unfoldable pub oldOffered : Lines → (line : List ℕ) → Lines
-oldOffered lines line =
-    cond (eqb (lowestOf (isLine line) (holds lines (contractOf line)) (leb mostLines (length lines))) 0) (lines ++ (line ∷ [])) lines
-
-unfoldable pub oldLines : Lines → (offers : List (List ℕ)) → Lines
-oldLines lines [] = lines
-oldLines lines (line ∷ rest) = oldLines (oldOffered lines line) rest
 
 -- The answers, with the register that the commands before made by their numbers, as in Claims: ListClaim. It is the register after them by CallLaws:
 -- opening-is and offer-is; here it spares working out a number twice. W10.6 29 first on opening, and 14 for every other call until then.

@@ -2,9 +2,9 @@
 -- Assumes nothing.
 use borrow.Author.Needs.{needs}
 use mathlib.Core.Path.{refl}
-use Rattle.register.specs.CallLaws.{line-promise, open-broken}
-use Rattle.register_reading.specs.ReadLaws.{is-broken, is-old, is-opened}
-use Rattle.register_calls.specs.PutLaws.{line-found, line-none, line-placed, line-refuses, refused-old}
+use Rattle.register.specs.CallLaws.{line-promise}
+use Rattle.register_reading.specs.ReadLaws.{broken-refused, is-opened, old-refused}
+use Rattle.register_calls.specs.PutLaws.{line-found, line-none, line-placed, line-refuses}
 use Rattle.register_calls.proofs.strigol_register_line.Statement.{statement}
 use Rattle.register_calls.proofs.strigol_register_line.Tie as tie
 
@@ -37,7 +37,7 @@ returns c =
     let f = c .before .before .read-register in
     line-promise (a .buffer .now) (a .place) _
     (line-refuses (a .buffer .now) (a .place) _ refl
-    (open-broken (a .buffer .now) (is-broken (a .buffer .now) (f .last .1 .0) (f .result) (f .ensures) (c .enum-told .given .1))))
+    (broken-refused (a .buffer .now) (f .last .1 .0) (f .result) (f .ensures) (c .enum-told .given .1)))
 
 returns-2 : tie.Need-returns-2
 returns-2 c =
@@ -46,7 +46,7 @@ returns-2 c =
     let n = c .enum-told2 .given in
     line-promise (a .buffer .now) (a .place) _
     (line-refuses (a .buffer .now) (a .place) _ refl
-    (refused-old (a .buffer .now) (n .0 .0) (is-old (a .buffer .now) (f .last .1 .0) (f .result) (f .ensures) (n .0 .0) (n .1))))
+    (old-refused (a .buffer .now) (f .last .1 .0) (f .result) (f .ensures) (n .0 .0) (n .1)))
 
 returns-3 : tie.Need-returns-3
 returns-3 c =

@@ -3,9 +3,9 @@
 use borrow.Author.Needs.{needs}
 use native.Mathlib.Omega.{arith}
 use Rattle.register.specs.BufferLaws.{read-sound}
-use Rattle.register.specs.CallLaws.{offer-promise, open-broken}
-use Rattle.register_reading.specs.ReadLaws.{is-broken, is-old, is-opened}
-use Rattle.register_calls.specs.PutLaws.{offer-refuses, refused-old}
+use Rattle.register.specs.CallLaws.{offer-promise}
+use Rattle.register_reading.specs.ReadLaws.{broken-refused, is-opened, old-refused}
+use Rattle.register_calls.specs.PutLaws.{offer-refuses}
 use Rattle.register_calls.proofs.strigol_register_offer.Statement.{statement}
 use Rattle.register_calls.proofs.strigol_register_offer.Tie as tie
 
@@ -30,7 +30,7 @@ offer-to-requires c κs =
     let f = c .before .before .before .before .before .read-register in
     let n = c .before .before .before .state .given in
     let ready = is-opened buffer (f .last .1 .0) (f .result) (f .ensures) (n .0 .0) (n .1) in
-    (ready, omega (arith, f .ensures .size, ready .count, read-sound buffer (ready .keeps) .few))
+    (ready, omega (arith, f .ensures .size, ready .counted .count, read-sound buffer (ready .counted .keeps) .few))
 
 same-length : tie.Need-same-length
 same-length c = search needs
@@ -41,7 +41,7 @@ returns c =
     let f = c .before .before .read-register in
     offer-promise (a .buffer .now) (a .line .now) _
     (offer-refuses (a .buffer .now) (a .line .now)
-    (open-broken (a .buffer .now) (is-broken (a .buffer .now) (f .last .1 .0) (f .result) (f .ensures) (c .enum-told .given .1))))
+    (broken-refused (a .buffer .now) (f .last .1 .0) (f .result) (f .ensures) (c .enum-told .given .1)))
 
 same-length-2 : tie.Need-same-length-2
 same-length-2 c = search needs
@@ -53,7 +53,7 @@ returns-2 c =
     let n = c .enum-told2 .given in
     offer-promise (a .buffer .now) (a .line .now) _
     (offer-refuses (a .buffer .now) (a .line .now)
-    (refused-old (a .buffer .now) (n .0 .0) (is-old (a .buffer .now) (f .last .1 .0) (f .result) (f .ensures) (n .0 .0) (n .1))))
+    (old-refused (a .buffer .now) (f .last .1 .0) (f .result) (f .ensures) (n .0 .0) (n .1)))
 
 same-length-3 : tie.Need-same-length-3
 same-length-3 c = search needs

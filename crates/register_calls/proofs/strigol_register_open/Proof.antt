@@ -28,7 +28,8 @@ write-requires c κs =
     let n = c .before .enum-told2 .given in
     let own = c .before .before .before .before .before .before .before .is-currency in
     let is = sym (own .ensures) ∙ not-false (own .result) (c .before .before .before .before .before .before .if1 .left) in
-    told-room (a .buffer .now) (a .currency .now) is (is-opened (a .buffer .now) (f .last .1 .0) (f .result) (f .ensures) (n .0 .0) (n .1) .keeps)
+    told-room (a .buffer .now) (a .currency .now) is
+    (is-opened (a .buffer .now) (f .last .1 .0) (f .result) (f .ensures) (n .0 .0) (n .1) .counted .keeps)
 
 enum-known-state : tie.Need-enum-known-state
 enum-known-state c = search needs

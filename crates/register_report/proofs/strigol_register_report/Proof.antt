@@ -3,7 +3,8 @@
 use borrow.Author.Needs.{needs}
 use mathlib.Core.Path.{refl}
 use Rattle.register.specs.CallLaws.{report-promise}
-use Rattle.register_report.specs.PutLaws.{broken-refused, old-refused, read-counted}
+use Rattle.register_reading.specs.ReadLaws.{broken-refused, is-opened, old-refused}
+use Rattle.register_report.specs.PutLaws.{report-refuses}
 use Rattle.register_report.proofs.strigol_register_report.Statement.{statement}
 use Rattle.register_report.proofs.strigol_register_report.Tie as tie
 
@@ -24,14 +25,15 @@ put-report-requires c κs =
     let f = c .before .before .before .before .before .read-register in
     let n = c .before .before .before .state .given in
     let a = c .before .before .before .before .before .before .before .before .before .args in
-    (read-counted (a .buffer .now) (f .last .1 .0) (f .result) (f .ensures) (n .0 .0) (n .1), refl)
+    (is-opened (a .buffer .now) (f .last .1 .0) (f .result) (f .ensures) (n .0 .0) (n .1) .counted, refl)
 
 returns : tie.Need-returns
 returns c =
     let a = c .before .before .before .before .before .before .args in
     let f = c .before .before .read-register in
     report-promise (a .buffer .now) (a .output .now) _
-    (broken-refused (a .buffer .now) (f .last .1 .0) (f .result) (f .ensures) (a .output .now) (c .enum-told .given .1))
+    (report-refuses (a .buffer .now) (a .output .now)
+    (broken-refused (a .buffer .now) (f .last .1 .0) (f .result) (f .ensures) (c .enum-told .given .1)))
 
 returns-2 : tie.Need-returns-2
 returns-2 c =
@@ -39,7 +41,8 @@ returns-2 c =
     let f = c .before .before .read-register in
     let n = c .enum-told2 .given in
     report-promise (a .buffer .now) (a .output .now) _
-    (old-refused (a .buffer .now) (f .last .1 .0) (f .result) (f .ensures) (a .output .now) (n .0 .0) (n .1))
+    (report-refuses (a .buffer .now) (a .output .now)
+    (old-refused (a .buffer .now) (f .last .1 .0) (f .result) (f .ensures) (n .0 .0) (n .1)))
 
 same-length : tie.Need-same-length
 same-length c = search needs
