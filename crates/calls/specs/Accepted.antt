@@ -10,6 +10,7 @@ use borrow.Author.Tests.{lt-ltb, le-leb, ne-eqb}
 use Rattle.base.specs.Choice.{test-cases, both-pass}
 use Rattle.base.specs.Edition.{Edition}
 use Rattle.base.specs.Limits as Limits
+use Rattle.base.specs.Limits.{longestDeck}
 use Rattle.base.specs.Lists.{same, any, all, total}
 use Rattle.base.specs.ListLaws.{same-true, same-refl}
 use Rattle.cards.specs.Cards.{Entry, entries}
@@ -148,7 +149,7 @@ accepted-totals e deck p q =
     })
 
 -- steps hold where their cards are below 2 ^ 16 and their statements hold
-steps-hold : (e : Edition) (s n k size : ℕ) → size ≤ 32768 → (ss : List Step) → Each (λ (a : Step). a .card ≤ size) ss
+steps-hold : (e : Edition) (s n k size : ℕ) → size ≤ longestDeck → (ss : List Step) → Each (λ (a : Step). a .card ≤ size) ss
     → StatementsHold e s n k ss → all (stepHolds e s n k) ss ≡ true
 unfolding all stepHolds Each
 steps-hold e s n k size short [] cards h = refl
@@ -158,7 +159,7 @@ steps-hold e s n k size short (a ∷ ss) cards h =
     both-pass (both-pass (lt-ltb (a .card) (2 ^ 16) (omega arith)) (parts .0)) (steps-hold e s n k size short ss (cards .1) (parts .1))
 
 -- the program of every accepted deck is in range
-pub accepted-isProgram : (e : Edition) (deck : List ℕ) (p : Program) → length deck ≤ 32768 → judge e deck ≡ accepted p
+pub accepted-isProgram : (e : Edition) (deck : List ℕ) (p : Program) → length deck ≤ longestDeck → judge e deck ≡ accepted p
     → isProgram e p ≡ true
 unfolding isProgram
 accepted-isProgram e deck p short q =

@@ -6,6 +6,7 @@ use Prim.Native.Nat.{ℕ, zero, suc, _+_}
 use lib.Dec.{ltb, eqb}
 use lib.ListN.{length, drop, getD, replicate}
 use Rattle.base.specs.Edition.{Edition}
+use Rattle.base.specs.Limits.{longestDeck}
 use Rattle.judgement.specs.Deck.{Judgement, accepted, refused, judge}
 use Rattle.machine.specs.Run.{Outcome, FINISHED, STOPPED, SPENT, REFUSED}
 use Rattle.machine.specs.State.{State}
@@ -15,10 +16,6 @@ use Rattle.calls.specs.Buffers.{storeSize, storeKeeps, stateKeeps, state
 use Rattle.calls.specs.Rules.{keepsRules}
 use Rattle.calls.specs.Table.{image}
 use Rattle.calls.specs.TableReading.{programIn}
-
--- Q1 "The deck exceeds 32,768 bytes"
-unfoldable pub longestDeck : ℕ
-longestDeck = 32768
 
 -- the deck call: number, card, and the table left
 pub record ReadCalled : Type 0 where

@@ -12,7 +12,9 @@ use lib.ListN.{length, getD, set, length-set, List·getD-eq-default}
 use lib.Seq.{getD-set-same, getD-set-other}
 use borrow.Author.Tests.{ltb-true, ltb-false, lt-ltb, eqb-true, eqb-false, not-true}
 use Rattle.base.specs.Choice.{test-cases, both-true}
-use Rattle.base.specs.Edition.{Edition, edition1}
+use Rattle.base.specs.Current.{current}
+use Rattle.base.specs.Edition.{Edition}
+use Rattle.base.specs.Limits.{longestDeck}
 use Rattle.base.specs.Lists.{all}
 use Rattle.judgement.specs.Deck.{accepted, judge}
 use Rattle.language.specs.Program as Program
@@ -26,7 +28,7 @@ use Rattle.machine.specs.Step.{carrying, statementAt, turnedDownBy, concluded, 
 use Rattle.values.specs.Conversion.{longestString}
 use Rattle.calls.specs.Accepted.{accepted-isProgram}
 use Rattle.calls.specs.Buffers.{storeSize, stateIn}
-use Rattle.calls.specs.Calls.{longestDeck, readCall, Buffers, givenIn}
+use Rattle.calls.specs.Calls.{readCall, Buffers, givenIn}
 use Rattle.calls.specs.Calls.{StepCalled, carried, stepCall, buffersAfter, RunReturned, resultNumbers, returned, runEnded, runCall}
 use Rattle.calls.specs.Demands.{LeftBy, Scans, IsFiller, Fails, Observed, observedStep, observedRun, stepsTried}
 use Rattle.calls.specs.Demands.{StepClaim, RunClaim, ListClaim, AllRefused, Linked, History, Demand3}
@@ -278,7 +280,6 @@ linked-more e table input (observedRun count given back ∷ calls) more b m z h 
 -- the program of a deck that the deck call accepts is in range
 accepted-inside : (e : Edition) (deck table : List ℕ) (p : Program) → judge e deck ≡ accepted p → readCall e deck table .number ≡ 0
     → isProgram e p ≡ true
-unfolding longestDeck
 accepted-inside e deck table p judged h = accepted-isProgram e deck p (read-short e deck table h) judged
 
 -- numbers fit their places, and tables and string lengths their sizes
@@ -326,16 +327,16 @@ module _ (e : Edition) (limit : e .limit < bias) (wide : longestString ≤ e .li
       }
 
 -- edition 1: its numbers fit their places
-pub edition1-limit : edition1 .limit < bias
-unfolding edition1 bias
-edition1-limit = lit< tt
+pub current-limit : current .limit < bias
+unfolding current bias
+current-limit = lit< tt
 
 -- a string's length is one of them
-pub edition1-wide : longestString ≤ edition1 .limit
-unfolding edition1 longestString
-edition1-wide = lit≤ tt
+pub current-wide : longestString ≤ current .limit
+unfolding current longestString
+current-wide = lit≤ tt
 
 -- its tables have room for all literal bytes
-pub edition1-size : literalsAt + 4096 ≤ edition1 .tableSize
-unfolding edition1 literalsAt
-edition1-size = lit≤ tt
+pub current-size : literalsAt + 4096 ≤ current .tableSize
+unfolding current literalsAt
+current-size = lit≤ tt

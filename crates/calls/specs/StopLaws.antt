@@ -64,7 +64,7 @@ module _ (e : Edition) (steps : ℕ) (store state input output : List ℕ) (size
   held = stateIn store state input output
 
   state-same : (x : Status) → stateLeft state input (withStatus x held) ≡ statusNumber x ∷ drop 1 state
-  unfolding stateLeft withStatus held stateIn returnsIn numbersIn returnsAt numbersAt mostReturns mostNumbers stateSize
+  unfolding stateLeft withStatus held stateIn returnsIn numbersIn returnsAt numbersAt mostReturns mostNumbers
   state-same x =
       let n = getD state 2 0 in
       let behind = drop 5 state in

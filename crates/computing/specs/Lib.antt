@@ -2,6 +2,7 @@
 
 unfoldable pub everything : Unit {0}
 unfolding
+    Rattle.base.specs.Current.current
     Rattle.base.specs.Edition.edition1
     Rattle.base.specs.Lists.same
     Rattle.base.specs.Lists.begins
@@ -311,7 +312,6 @@ unfolding
     Rattle.machine.specs.Step.step
     Rattle.calls.specs.BufferLaws.storeWith
     Rattle.calls.specs.Buffers.cellSize
-    Rattle.calls.specs.Buffers.storeSize
     Rattle.calls.specs.Buffers.cellImage
     Rattle.calls.specs.Buffers.storeImage
     Rattle.calls.specs.Buffers.stringIn
@@ -320,7 +320,6 @@ unfolding
     Rattle.calls.specs.Buffers.cellKeeps
     Rattle.calls.specs.Buffers.cellsKeep
     Rattle.calls.specs.Buffers.storeKeeps
-    Rattle.calls.specs.Buffers.stateSize
     Rattle.calls.specs.Buffers.returnsAt
     Rattle.calls.specs.Buffers.numbersAt
     Rattle.calls.specs.Buffers.statusNumber
@@ -333,7 +332,6 @@ unfolding
     Rattle.calls.specs.Buffers.stateLeft
     Rattle.calls.specs.Buffers.outputLeft
     Rattle.calls.specs.Buffers.firstState
-    Rattle.calls.specs.Calls.longestDeck
     Rattle.calls.specs.Calls.readJudged
     Rattle.calls.specs.Calls.readCall
     Rattle.calls.specs.Calls.startCall

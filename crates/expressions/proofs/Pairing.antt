@@ -9,7 +9,7 @@ use lib.Dec.{leb, ltb}
 use lib.IntN.{ℤ}
 use borrow.Author.Tests.{leb-true, leb-false}
 use Rattle.base.specs.Choice.{cond-cases}
-use Rattle.base.specs.Edition.{edition1}
+use Rattle.base.specs.Current.{current}
 use Rattle.calls.specs.Rules.{mostWaiting, balanced}
 use Rattle.calls.specs.Table.{itemsAt}
 use Rattle.calls.specs.Table as Table
@@ -117,22 +117,22 @@ module _ {t : List ℕ} {s : Stretch} (hold : ItemsHold t s) where
 
 -- the value of a pair
 module _ (m : Memory) {is : List Item} {a b : Operand} {o : Operator} (items : is ≡ pairOf a b o) where
-  operand-known : (c : Operand) (known : List ℤ) {x : ℤ} {n : ℕ} → operandIn edition1 m c ≡ done x n
-      → itemIn edition1 m known (operand c) ≡ done (x ∷ known) (n + 0)
+  operand-known : (c : Operand) (known : List ℤ) {x : ℤ} {n : ℕ} → operandIn current m c ≡ done x n
+      → itemIn current m known (operand c) ≡ done (x ∷ known) (n + 0)
   unfolding itemIn _>>=_ noting quietly
   operand-known c known e = ap (λ (w : Work ℤ). w >>= λ z. quietly (z ∷ known)) e
 
-  operand-stops : (c : Operand) (known : List ℤ) {k : ℕ} → operandIn edition1 m c ≡ stop k
-      → itemIn edition1 m known (operand c) ≡ stop k
+  operand-stops : (c : Operand) (known : List ℤ) {k : ℕ} → operandIn current m c ≡ stop k
+      → itemIn current m known (operand c) ≡ stop k
   unfolding itemIn _>>=_
   operand-stops c known e = ap (λ (w : Work ℤ). w >>= λ z. quietly (z ∷ known)) e
 
   -- the operator makes what is left of two numbers
-  operator-works : (x y : ℤ) (notes : ℕ) (w : Work ℤ) → operation edition1 o x y ≡ w
+  operator-works : (x y : ℤ) (notes : ℕ) (w : Work ℤ) → operation current o x y ≡ w
       → numericFrom m notes (y ∷ (x ∷ [])) (operator o ∷ []) ≡ noting notes w
   unfolding itemIn combined _>>=_ noting quietly
   operator-works x y notes (done z n) e =
-      let item : itemIn edition1 m (y ∷ (x ∷ [])) (operator o) ≡ done (z ∷ []) (n + 0) =
+      let item : itemIn current m (y ∷ (x ∷ [])) (operator o) ≡ done (z ∷ []) (n + 0) =
       ap (λ (w : Work ℤ). w >>= λ v. quietly (v ∷ [])) e in
       numeric-more m notes (n + 0) (y ∷ (x ∷ [])) (z ∷ []) (operator o) [] item
       ∙ numeric-ends m (notes + (n + 0)) z []
@@ -141,30 +141,30 @@ module _ (m : Memory) {is : List Item} {a b : Operand} {o : Operator} (items : i
       numeric-stops m notes k (y ∷ (x ∷ [])) (operator o) []
       (ap (λ (w : Work ℤ). w >>= λ v. quietly (v ∷ [])) e)
 
-  module _ {x : ℤ} {n : ℕ} (one : operandIn edition1 m a ≡ done x n) where
-    first-known : numericIn edition1 m is ≡ numericFrom m n (x ∷ []) (operand b ∷ (operator o ∷ []))
+  module _ {x : ℤ} {n : ℕ} (one : operandIn current m a ≡ done x n) where
+    first-known : numericIn current m is ≡ numericFrom m n (x ∷ []) (operand b ∷ (operator o ∷ []))
     first-known =
         let count : 0 + (n + 0) ≡ n = omega arith in
-        ap (numericIn edition1 m) items
+        ap (numericIn current m) items
         ∙ numeric-begins m (pairOf a b o)
         ∙ numeric-more m 0 (n + 0) [] (x ∷ []) (operand a) (operand b ∷ (operator o ∷ [])) (operand-known a [] one)
         ∙ ap (λ (k : ℕ). numericFrom m k (x ∷ []) (operand b ∷ (operator o ∷ []))) count
 
-    pub pair-works : {y : ℤ} {k : ℕ} → operandIn edition1 m b ≡ done y k
-        → numericIn edition1 m is ≡ noting (n + k) (operation edition1 o x y)
+    pub pair-works : {y : ℤ} {k : ℕ} → operandIn current m b ≡ done y k
+        → numericIn current m is ≡ noting (n + k) (operation current o x y)
     pair-works {y} {k} two =
         let count : n + (k + 0) ≡ n + k = omega arith in
         first-known
         ∙ numeric-more m n (k + 0) (x ∷ []) (y ∷ (x ∷ [])) (operand b) (operator o ∷ []) (operand-known b (x ∷ []) two)
         ∙ ap (λ (l : ℕ). numericFrom m l (y ∷ (x ∷ [])) (operator o ∷ [])) count
-        ∙ operator-works x y (n + k) (operation edition1 o x y) refl
+        ∙ operator-works x y (n + k) (operation current o x y) refl
 
-    pub pair-second-stops : {k : ℕ} → operandIn edition1 m b ≡ stop k → numericIn edition1 m is ≡ stop k
+    pub pair-second-stops : {k : ℕ} → operandIn current m b ≡ stop k → numericIn current m is ≡ stop k
     pair-second-stops {k} two =
         first-known ∙ numeric-stops m n k (x ∷ []) (operand b) (operator o ∷ []) (operand-stops b (x ∷ []) two)
 
-  pub pair-first-stops : {k : ℕ} → operandIn edition1 m a ≡ stop k → numericIn edition1 m is ≡ stop k
+  pub pair-first-stops : {k : ℕ} → operandIn current m a ≡ stop k → numericIn current m is ≡ stop k
   pair-first-stops {k} one =
-      ap (numericIn edition1 m) items
+      ap (numericIn current m) items
       ∙ numeric-begins m (pairOf a b o)
       ∙ numeric-stops m 0 k [] (operand a) (operand b ∷ (operator o ∷ [])) (operand-stops a [] one)

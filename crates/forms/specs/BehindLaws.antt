@@ -11,7 +11,7 @@ use lib.ListN.{length, take, drop, length-append, length-drop, drop-of-length-le
 use lib.Seq.{drop-drop}
 use borrow.Author.Tests.{ltb-true, ltb-false}
 use Rattle.base.specs.Choice.{cond-cases}
-use Rattle.base.specs.Edition.{edition1}
+use Rattle.base.specs.Current.{current}
 use Rattle.base.specs.Limits as Limits
 use Rattle.base.specs.ListLaws.{begins-room}
 use Rattle.base.specs.Lists.{all, any, begins, total}
@@ -134,22 +134,22 @@ form-skip {text} {table} {keys} {tags} n {b} {c} s before ready x q {t} {k} {g} 
 
 -- ---- numbers that are set
 module _ (known : List ℕ) (place : ℕ) where
-  pub assigned-broken : (bs : List ℕ) → expressionFrom edition1 (placesIn known) 0 bs ≡ broken → assignedTo known place bs ≡ broken
+  pub assigned-broken : (bs : List ℕ) → expressionFrom current (placesIn known) 0 bs ≡ broken → assignedTo known place bs ≡ broken
   unfolding assignedTo
-  assigned-broken bs e = then-broken _ (numeric-from edition1 (placesIn known) bs ∙ e)
+  assigned-broken bs e = then-broken _ (numeric-from current (placesIn known) bs ∙ e)
 
   abbrev pub numberRow : Cell → Row
   numberRow right =
       record { kind = 1; flag = 0; success = 0; failure = 0; left = record { kind = 5; place = place; value = 0 }; right = right }
 
   module _ {text table keys tags : List ℕ} {c : Cursor} {t k g : List ℕ} {d : Cursor}
-      (a : GetsItems [] text table keys tags c (expressionFrom edition1 (placesIn known) 0 (drop (c .at) text)) t k g d) where
+      (a : GetsItems [] text table keys tags c (expressionFrom current (placesIn known) 0 (drop (c .at) text)) t k g d) where
     assigned-is : (y : Read (Option Statement)) → stepEnd (setNumber place (a .items)) (drop (d .at) text) ≡ y
         → assignedTo known place (drop (c .at) text) ≡ meeting (metIn (a .entries) (length (a .items)) [] 0) y
     unfolding assignedTo _>>=_ meeting
     assigned-is y e =
         ap (λ (z : Read (List Item)). z >>= λ (x, rest). stepEnd (setNumber place x) rest)
-        (numeric-from edition1 (placesIn known) (drop (c .at) text) ∙ a .is)
+        (numeric-from current (placesIn known) (drop (c .at) text) ∙ a .is)
         ∙ ap (meeting (metIn (a .entries) (length (a .items)) [] 0)) e
 
     pub assigned-case : (right : Cell) → right ≡ rangeIn (c .items) (d .items - c .items) 0 → (b : Bool) → ltb (d .at) (length text) ≡ b
@@ -194,12 +194,12 @@ module _ (known : List ℕ) (place : ℕ) where
         }
 
 module _ (known : List ℕ) where
-  pub number-broken : (bs : List ℕ) → numberName edition1 (placesIn known) bs ≡ broken → numberSet known bs ≡ broken
+  pub number-broken : (bs : List ℕ) → numberName current (placesIn known) bs ≡ broken → numberSet known bs ≡ broken
   unfolding numberSet
   number-broken bs e = then-broken _ e
 
   module _ {place : ℕ} {text keys tags : List ℕ} {c : Cursor} {k g : List ℕ} {d : Cursor}
-      (a : Gets (λ j. j) place text keys tags c (numberName edition1 (placesIn known) (drop (c .at) text)) k g d) where
+      (a : Gets (λ j. j) place text keys tags c (numberName current (placesIn known) (drop (c .at) text)) k g d) where
     pub number-open : begins (61 ∷ []) (drop (d .at) text) ≡ false → numberSet known (drop (c .at) text) ≡ broken
     unfolding numberSet bytes
     number-open e = got-broken _ (a .is) (skip-broken (61 ∷ []) (drop (d .at) text) (λ (_, l). assignedTo known (a .value) l) e)
@@ -218,7 +218,7 @@ module _ (known : List ℕ) where
 
   -- a name known as a number before `=`
   pub sets-is : {text : List ℕ} {at n key : ℕ} → NameAt text at n → key ≡ keyOf (take n (drop at text))
-      → setsNumber edition1 (numberIn known) (placesIn known) (drop at text)
+      → setsNumber current (numberIn known) (placesIn known) (drop at text)
       ≡ (numberIn known (nameOf key) && begins (61 ∷ []) (drop (at + n) text))
   unfolding setsNumber bytes
   sets-is {text} {at} {n} {key} a e =
@@ -229,13 +229,13 @@ module _ (known : List ℕ) where
       ∙ ap₂ (λ (w l : List ℕ). numberIn known w && begins (61 ∷ []) l) named (drop-drop n at text)
 
   module _ (bs : List ℕ) where
-    pub replacement-number : setsNumber edition1 (numberIn known) (placesIn known) bs ≡ true
-        → replacement edition1 (numberIn known) (placesIn known) bs ≡ numberSet known bs
+    pub replacement-number : setsNumber current (numberIn known) (placesIn known) bs ≡ true
+        → replacement current (numberIn known) (placesIn known) bs ≡ numberSet known bs
     unfolding replacement numberSet assignedTo
     replacement-number e = chosen _ _ e
 
-    pub replacement-string : setsNumber edition1 (numberIn known) (placesIn known) bs ≡ false
-        → replacement edition1 (numberIn known) (placesIn known) bs ≡ stringSet known bs
+    pub replacement-string : setsNumber current (numberIn known) (placesIn known) bs ≡ false
+        → replacement current (numberIn known) (placesIn known) bs ≡ stringSet known bs
     unfolding replacement stringSet
     replacement-string e = chosen _ _ e
 
@@ -295,12 +295,12 @@ module _ {text keys tags : List ℕ} {c : Cursor} {key : ℕ} {k g : List ℕ} {
       (ap (λ j. metIn (entry j (purposeNumber p + 8) ∷ []) 0 [] 0) (n .keyed) ∙ declared-met (n .bytes) (n .shown) p) (sym (named-by n))
 
   pub program-read : (known table : List ℕ) → Ready text keys tags c → Names text keys tags c 8 key k g d
-      → FormAt (programForm edition1 (numberIn known) (placesIn known) (drop (c .at) text)) text table keys tags c (unsteppedAt text d) table k g
+      → FormAt (programForm current (numberIn known) (placesIn known) (drop (c .at) text)) text table keys tags c (unsteppedAt text d) table k g
   unfolding programForm purposeNumber
   program-read known table ready n =
       form-behind ready (names-elements table (declared-name program n)) (λ (_, rest). noStepEnd rest) (unsteppedAt text d) (unstepped-read (n .ready))
 
-pub program-broken : (known bs : List ℕ) → Words.name bs ≡ broken → programForm edition1 (numberIn known) (placesIn known) bs ≡ broken
+pub program-broken : (known bs : List ℕ) → Words.name bs ≡ broken → programForm current (numberIn known) (placesIn known) bs ≡ broken
 unfolding programForm
 program-broken known bs e = then-broken _ (name-as-broken (declaring program) bs e)
 
@@ -314,7 +314,7 @@ list-left x more next =
     bind-assoc (more rest) (λ (ns, l). give (n ∷ ns) l) (λ (_, l). next l)
     ∙ bind-same (more rest) _ _ (λ ns l. give-then (n ∷ ns) l (λ (_, l). next l)))
 
-numbers-is : (known bs : List ℕ) → numberForm edition1 (numberIn known) (placesIn known) bs
+numbers-is : (known bs : List ℕ) → numberForm current (numberIn known) (placesIn known) bs
     ≡ (nameAs (declaring number) bs >>= λ (_, rest). numbersLeft (length rest) rest)
 unfolding numberForm listOf numbersLeft
 numbers-is known bs =
@@ -343,7 +343,7 @@ module _ {text : List ℕ} (table : List ℕ) {keys tags : List ℕ} {c : Cursor
 
   pub numbers-first : (known : List ℕ) {key : ℕ} {k g : List ℕ} {d : Cursor} → Names text keys tags c 11 key k g d → (q : Form) {k′ g′ : List ℕ}
       → FormAt (numbersLeft (length (drop (d .at) text)) (drop (d .at) text)) text table k g d q table k′ g′
-      → FormAt (numberForm edition1 (numberIn known) (placesIn known) (drop (c .at) text)) text table keys tags c q table k′ g′
+      → FormAt (numberForm current (numberIn known) (placesIn known) (drop (c .at) text)) text table keys tags c q table k′ g′
   unfolding purposeNumber
   numbers-first known {key} {k} {g} {d} n q {k′} {g′} f =
       subst (λ z. FormRead (length text - c .at) table keys tags c z q table k′ g′) (sym (numbers-is known (drop (c .at) text)))
@@ -380,7 +380,7 @@ module _ {text : List ℕ} (table : List ℕ) {keys tags : List ℕ} {c : Cursor
         ∙ then-broken _
         (ap (nameAs (declaring number)) (sym (drop-moved text c 1 s)) ∙ name-as-broken (declaring number) (drop (b .at) text) e)
 
-pub numbers-none : (known bs : List ℕ) → Words.name bs ≡ broken → numberForm edition1 (numberIn known) (placesIn known) bs ≡ broken
+pub numbers-none : (known bs : List ℕ) → Words.name bs ≡ broken → numberForm current (numberIn known) (placesIn known) bs ≡ broken
 numbers-none known bs e = numbers-is known bs ∙ then-broken _ (name-as-broken (declaring number) bs e)
 
 -- ---- the form of a kind
@@ -405,11 +405,11 @@ module _ (text : List ℕ) (c : Cursor) (lead : Keyword) (is : leads lead ≡ le
 
   pub of-kind : (known : List ℕ) {table keys tags : List ℕ} (kind : Keywords.Kind) → kindOf (lead .kind) ≡ kind → {d : Cursor} → d ≡ moved c (lead .size) → Ready text keys tags c
       → Ready text keys tags d → (q : Form) {t k g : List ℕ}
-      → FormAt (formOf edition1 (numberIn known) (placesIn known) kind (drop (d .at) text)) text table keys tags d q t k g
-      → FormRead (length text) table keys tags c (statementForm edition1 (numberIn known) (placesIn known) text) q t k g
+      → FormAt (formOf current (numberIn known) (placesIn known) kind (drop (d .at) text)) text table keys tags d q t k g
+      → FormRead (length text) table keys tags c (statementForm current (numberIn known) (placesIn known) text) q t k g
   unfolding statementForm
   of-kind known {table} {keys} {tags} kind e {d} s before ready q {t} {k} {g} f =
-      let forms = formOf edition1 (numberIn known) (placesIn known) in
+      let forms = formOf current (numberIn known) (placesIn known) in
       let at : d .at ≡ leading text .size =
       ap (λ (z : Cursor). z .at) s ∙ ap (λ n. n + lead .size) start ∙ zero-add (lead .size) ∙ ap (λ (l : Leading). l .size) is in
       let most : length text - c .at ≡ length text = omega arith in

@@ -6,7 +6,7 @@ use mathlib.Core.Path.{_≡_}
 use Prim.Native.Nat.{ℕ, _+_, _≤_}
 use lib.Dec.{ltb}
 use lib.ListN.{length}
-use Rattle.base.specs.Edition.{edition1}
+use Rattle.base.specs.Current.{current}
 use Rattle.base.specs.Limits as Limits
 use Rattle.base.specs.Lists.{all, any, total}
 use Rattle.branches.specs.Places.{numberIn}
@@ -28,10 +28,11 @@ use Rattle.numeric.specs.Operands.{Noting}
 use Rattle.packer.specs.Keys.{keyOf, isKeyByte}
 use Rattle.forms.specs.declared.Form as FormCode
 use Rattle.forms.specs.declared.Form.{Form}
+use Rattle.packer.specs.Packs.{longestText}
 
 -- the arrays have their sizes, and the cursor stands before a statement: at most its label is noted
 pub record Starts (text keys tags : List ℕ) (c : Cursor) : Type 0 where
-  pub textSize : length text ≤ 32_768
+  pub textSize : length text ≤ longestText
   pub at : c .at ≡ 0
   pub names : c .names ≤ 1
   pub items : c .items ≤ 4_294_967_296
@@ -89,7 +90,7 @@ pub record FormRead (most : ℕ) (table keys tags : List ℕ) (c : Cursor) (x : 
 -- the statement that a text is: no more names than bytes
 abbrev pub StatementFormRead : (text known table keys tags : List ℕ) (c : Cursor) → Form → (table′ keys′ tags′ : List ℕ) → Type 0
 StatementFormRead text known table keys tags c =
-    FormRead (length text) table keys tags c (statementForm edition1 (numberIn known) (placesIn known) text)
+    FormRead (length text) table keys tags c (statementForm current (numberIn known) (placesIn known) text)
 
 -- what the code has of a statement: the key of its label, its text packed, whether its literals are whole
 pub record Wording (labelBytes raw text : List ℕ) (label : ℕ) (complete : Bool) : Type 0 where
@@ -102,4 +103,4 @@ pub record Wording (labelBytes raw text : List ℕ) (label : ℕ) (complete : Bo
 -- the statement with its label: one name more
 abbrev pub StatementRead : (labelBytes raw text known table keys tags : List ℕ) (c : Cursor) → Form → (table′ keys′ tags′ : List ℕ) → Type 0
 StatementRead labelBytes raw text known table keys tags c =
-    FormRead (length text + 1) table keys tags c (readStatement edition1 (numberIn known) (placesIn known) labelBytes raw)
+    FormRead (length text + 1) table keys tags c (readStatement current (numberIn known) (placesIn known) labelBytes raw)

@@ -10,7 +10,7 @@ use lib.Dec.{eqb, leb, ltb, eqb·suc-suc}
 use lib.ListN.{length, drop}
 use borrow.Author.Tests.{eqb-false, eq-eqb, ne-eqb, le-leb, leb-true}
 use Rattle.base.specs.Choice.{test-cases}
-use Rattle.base.specs.Edition.{edition1}
+use Rattle.base.specs.Current.{current}
 use Rattle.base.specs.Limits as Limits
 use Rattle.base.specs.Lists.{all}
 use Rattle.branches.specs.Places.{numberIn}
@@ -165,10 +165,10 @@ labelled-off (got u m rest) form = refl
 labelled-off broken form = refl
 
 abbrev pub formIn : (known text : List ℕ) → Read (Option Statement)
-formIn known text = statementForm edition1 (numberIn known) (placesIn known) text
+formIn known text = statementForm current (numberIn known) (placesIn known) text
 
 abbrev pub statementIn : (known labelBytes raw : List ℕ) → Read (Option Statement)
-statementIn known labelBytes raw = readStatement edition1 (numberIn known) (placesIn known) labelBytes raw
+statementIn known labelBytes raw = readStatement current (numberIn known) (placesIn known) labelBytes raw
 
 module _ (known : List ℕ) where
   -- literals that aren't whole
@@ -277,6 +277,6 @@ module _ {text keys tags : List ℕ} {c : Cursor} (lead : Keyword) {d : Cursor} 
   lead-ready = ready-on (lead .size) (starts-ready s) e (lead-fits text c lead is (s .at))
 
   pub of-lead : (known : List ℕ) {table : List ℕ} (kind : Keywords.Kind) → kindOf (lead .kind) ≡ kind → (q : Form) {t k g : List ℕ}
-      → FormAt (formOf edition1 (numberIn known) (placesIn known) kind (drop (d .at) text)) text table keys tags d q t k g
+      → FormAt (formOf current (numberIn known) (placesIn known) kind (drop (d .at) text)) text table keys tags d q t k g
       → FormRead (length text) table keys tags c (formIn known text) q t k g
   of-lead known kind f q a = of-kind text c lead is (s .at) known kind f e (starts-ready s) lead-ready q a

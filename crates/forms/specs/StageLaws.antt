@@ -7,7 +7,7 @@ use Prim.Native.Nat.{ℕ, _+_, _-_, _*_}
 use native.Mathlib.Omega.{arith}
 use lib.ListN.{length, drop, length-map}
 use lib.Seq.{drop-drop}
-use Rattle.base.specs.Edition.{edition1}
+use Rattle.base.specs.Current.{current}
 use Rattle.base.specs.Lists.{begins, total}
 use Rattle.base.specs.Text.{bytes}
 use Rattle.branches.specs.Places.{numberIn}
@@ -131,14 +131,14 @@ stage-same DraftCode.the-variants.Broken h a = record { stands = tt; answer = h 
 -- a branch field, if there is one
 module _ (known : List ℕ) where
   pub branch-any : (bs : List ℕ) → begins (47 ∷ []) bs ≡ true
-      → branchIfAny edition1 (numberIn known) (placesIn known) bs ≡ branch edition1 (numberIn known) (placesIn known) bs
+      → branchIfAny current (numberIn known) (placesIn known) bs ≡ branch current (numberIn known) (placesIn known) bs
   unfolding branchIfAny bytes
   branch-any bs e = chosen _ _ e
 
   pub branch-not : {text : List ℕ} (table : List ℕ) {keys tags : List ℕ} (row row′ : Row) (c : Cursor) → Ready text keys tags c
       → begins (47 ∷ []) (drop (c .at) text) ≡ false
       → rowMeaning row′ ≡ withBranch (record { success = placesIn known .next; failure = placesIn known .next }) (rowMeaning row)
-      → Drawn (branchIfAny edition1 (numberIn known) (placesIn known) (drop (c .at) text)) withBranch (λ _. []) text table keys tags row c row′
+      → Drawn (branchIfAny current (numberIn known) (placesIn known) (drop (c .at) text)) withBranch (λ _. []) text table keys tags row c row′
       table keys tags c
   unfolding branchIfAny bytes total
   branch-not {text} table {keys} {tags} row row′ c ready e made =
@@ -183,18 +183,18 @@ drawn-row sized row {c} {d = d} a put made =
 
 -- a replacement, if there is one
 abbrev pub replacementAt : (known text : List ℕ) → ℕ → Read (Option (List Element))
-replacementAt known text at = replacementIfAny edition1 (numberIn known) (placesIn known) (drop at text)
+replacementAt known text at = replacementIfAny current (numberIn known) (placesIn known) (drop at text)
 
 module _ (known text : List ℕ) (at : ℕ) where
   replacement-is : begins (61 ∷ []) (drop at text) ≡ true
       → replacementAt known text at
-      ≡ (stringExpression edition1 (placesIn known) (drop (at + 1) text) >>= λ (xs, rest). give (some xs) rest)
+      ≡ (stringExpression current (placesIn known) (drop (at + 1) text) >>= λ (xs, rest). give (some xs) rest)
   unfolding replacementIfAny bytes
   replacement-is e =
       chosen _ _ e
-      ∙ ap (λ (l : List ℕ). stringExpression edition1 (placesIn known) l >>= λ (xs, rest). give (some xs) rest) (drop-drop 1 at text)
+      ∙ ap (λ (l : List ℕ). stringExpression current (placesIn known) l >>= λ (xs, rest). give (some xs) rest) (drop-drop 1 at text)
 
-  pub replaced-broken : begins (61 ∷ []) (drop at text) ≡ true → stringExpression edition1 (placesIn known) (drop (at + 1) text) ≡ broken
+  pub replaced-broken : begins (61 ∷ []) (drop at text) ≡ true → stringExpression current (placesIn known) (drop (at + 1) text) ≡ broken
       → replacementAt known text at ≡ broken
   replaced-broken e h = replacement-is e ∙ then-broken _ h
 
@@ -215,7 +215,7 @@ module _ (known : List ℕ) (direction from : ℕ) {text table keys tags : List 
       }
 
   pub replaced-got : begins (61 ∷ []) (drop (c .at) text) ≡ true → {row′ : Row} {cell : _} {t k g : List ℕ} {d : Cursor}
-      → GetsRow (map value) text table keys tags (moved c 1) (stringExpression edition1 (placesIn known) (drop (c .at + 1) text)) t k g d
+      → GetsRow (map value) text table keys tags (moved c 1) (stringExpression current (placesIn known) (drop (c .at + 1) text)) t k g d
       → row′ ≡ rightIn row (direction + 2) cell → cell ≡ rangeIn from (c .elements - from) (d .elements - c .elements)
       → Drawn (replacementAt known text (c .at)) (withReplacement direction from (c .elements)) (λ o. map value (replacementOf o)) text table keys tags row c row′ t k g d
   unfolding replacementOf rangeCell range Table.cell Table.row

@@ -31,6 +31,7 @@ ghost use mathlib.Core.List.{List};
 ghost use mathlib.Core.Path.{_≡_};
 ghost use Prim.Native.Nat.{ℕ, _≤_};
 ghost use lib.ListN.{length};
+ghost use Rattle.base.specs.Current.{tableSize};
 ghost use Rattle.forms.specs.Contracts.{Starts, StatementFormRead, Wording, StatementRead};
 ghost use Rattle.forms.specs.Labels.{nameShown};
 ghost use Rattle.met.specs.Known.{Counted};
@@ -53,7 +54,7 @@ pub fn read_form(
 ) -> Form
     requires { ⌜ Starts (now text) (now keys) (now tags) c ⌝ }
     requires { ⌜ Counted (now known) ⌝ }
-    requires { ⌜ 28672 ≤ length (now table) ⌝ }
+    requires { ⌜ tableSize ≤ length (now table) ⌝ }
     ensures { λ r. ⌜ StatementFormRead (now (text .entry)) (now (known .entry)) (now (table .entry)) (now (keys .entry)) (now (tags .entry)) c r (now (table .exit)) (now (keys .exit)) (now (tags .exit)) ⌝ }
 {
     let lead = leading(text);
@@ -119,7 +120,7 @@ pub fn read_statement(
     requires { ⌜ Starts (now text) (now keys) (now tags) c ⌝ }
     requires { ⌜ c .names ≡ 0 ⌝ }
     requires { ⌜ Counted (now known) ⌝ }
-    requires { ⌜ 28672 ≤ length (now table) ⌝ }
+    requires { ⌜ tableSize ≤ length (now table) ⌝ }
     ensures { λ r. ⌜ ((labelBytes raw : List ℕ) → Wording labelBytes raw (now (text .entry)) label whole → StatementRead labelBytes raw (now (text .entry)) (now (known .entry)) (now (table .entry)) (now (keys .entry)) (now (tags .entry)) c r (now (table .exit)) (now (keys .exit)) (now (tags .exit))) ⌝ }
 {
     if !whole {

@@ -22,6 +22,7 @@ use words::stands_at;
 ghost use mathlib.Core.Path.{_≡_};
 ghost use Prim.Native.Nat.{_≤_, _<_};
 ghost use lib.ListN.{length};
+ghost use Rattle.base.specs.Current.{tableSize};
 ghost use Rattle.branches.specs.Branches.{TargetTag};
 ghost use Rattle.forms.specs.Rows.{begunAs, stepsIn, leftIn, rightIn, rangeIn};
 ghost use Rattle.forms.specs.Stages.{Inward, markedBy, Standing, TargetStage, PartStage};
@@ -249,7 +250,7 @@ pub fn right_row(
 ) -> Draft
     requires { ⌜ Standing (now text) (now keys) (now tags) r ⌝ }
     requires { ⌜ Counted (now known) ⌝ }
-    requires { ⌜ 28672 ≤ length (now table) ⌝ }
+    requires { ⌜ tableSize ≤ length (now table) ⌝ }
     ensures { λ q. ⌜ RowStage (now (text .entry)) (now (known .entry)) patterned (now (table .entry)) (now (keys .entry)) (now (tags .entry)) r q (now (table .exit)) (now (keys .exit)) (now (tags .exit)) ⌝ }
 {
     match r {
@@ -277,7 +278,7 @@ pub fn replaced(
 ) -> Draft
     requires { ⌜ Following (now text) (now keys) (now tags) from r ⌝ }
     requires { ⌜ Counted (now known) ⌝ }
-    requires { ⌜ 28672 ≤ length (now table) ⌝ }
+    requires { ⌜ tableSize ≤ length (now table) ⌝ }
     requires { ⌜ direction < 3 ⌝ }
     ensures { λ q. ⌜ ReplacedStage (now (text .entry)) (now (known .entry)) (now (table .entry)) (now (keys .entry)) (now (tags .entry)) from direction r q (now (table .exit)) (now (keys .exit)) (now (tags .exit)) ⌝ }
 {

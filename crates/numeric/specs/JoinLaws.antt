@@ -7,7 +7,7 @@ use Prim.Native.Nat.{ℕ, _+_, _-_, _≤_, _<_}
 use native.Mathlib.Nat.{add-zero}
 use native.Mathlib.Omega.{arith}
 use lib.ListN.{length, drop, length-append}
-use Rattle.base.specs.Edition.{edition1}
+use Rattle.base.specs.Current.{current}
 use Rattle.language.specs.Fuel.{Reader, More, expressionFrom, moreTermsFrom, termFrom, moreFactorsFrom, factorFrom}
 use Rattle.language.specs.Fuel.{expressionBy, expression-is, moreTermsBy, moreTerms-is, termBy, term-is, moreFactorsBy, moreFactors-is}
 use Rattle.language.specs.Program.{Item, Operator, operator}
@@ -221,27 +221,27 @@ operator-joins {one} {more} {text} {at} is s =
     }
 
 module _ (p : Places) (depth : ℕ) {text : List ℕ} {at kind : ℕ} where
-  pub sum-joins : SumAt text at kind → Joins (termFrom edition1 p depth) (moreTermsFrom edition1 p depth) text at kind
+  pub sum-joins : SumAt text at kind → Joins (termFrom current p depth) (moreTermsFrom current p depth) text at kind
   unfolding moreTermsBy
-  sum-joins = operator-joins (moreTerms-is edition1 p depth (drop at text))
+  sum-joins = operator-joins (moreTerms-is current p depth (drop at text))
 
-  pub product-joins : ProductAt text at kind → Joins (factorFrom edition1 p depth) (moreFactorsFrom edition1 p depth) text at kind
+  pub product-joins : ProductAt text at kind → Joins (factorFrom current p depth) (moreFactorsFrom current p depth) text at kind
   unfolding moreFactorsBy
-  product-joins = operator-joins (moreFactors-is edition1 p depth (drop at text))
+  product-joins = operator-joins (moreFactors-is current p depth (drop at text))
 
 -- an expression is terms joined, the first with its sign
 pub expression-joined : (p : Places) (depth : ℕ) {text table keys tags : List ℕ} (c : Cursor) {kind n : ℕ} {d : Cursor} {r : Outcome}
     {t k g : List ℕ} → SignAt text (c .at) kind → n ≡ length (waiting kind) → d ≡ moved c n
-    → WaitedRead (termFrom edition1 p depth) (moreTermsFrom edition1 p depth) text table keys tags kind d r t k g
-    → ItemsRead [] text table keys tags c (expressionFrom edition1 p depth (drop (c .at) text)) r t k g
+    → WaitedRead (termFrom current p depth) (moreTermsFrom current p depth) text table keys tags kind d r t k g
+    → ItemsRead [] text table keys tags c (expressionFrom current p depth (drop (c .at) text)) r t k g
 unfolding expressionBy _>>=_
 expression-joined p depth {text} {table} {keys} {tags} c {r = r} {t} {k} {g} s size skips w =
     subst (λ y. ItemsRead [] text table keys tags c y r t k g)
     (sym
-    (expression-is edition1 p depth (drop (c .at) text)
+    (expression-is current p depth (drop (c .at) text)
     ∙ ap
     (λ (z : Read (List Item)).
-    z >>= λ (s, rest). termFrom edition1 p depth rest >>= λ (u, rest). moreTermsFrom edition1 p depth (u ++ s) rest)
+    z >>= λ (s, rest). termFrom current p depth rest >>= λ (u, rest). moreTermsFrom current p depth (u ++ s) rest)
     (s .is)))
     (w c (skips ∙ ap (moved c) size) [])
 
@@ -273,13 +273,13 @@ moved-none c =
 
 -- a term is factors joined
 pub term-joined : (p : Places) (depth : ℕ) {text table keys tags : List ℕ} (c : Cursor) {r : Outcome} {t k g : List ℕ}
-    → WaitedRead (factorFrom edition1 p depth) (moreFactorsFrom edition1 p depth) text table keys tags 0 c r t k g
-    → ItemsRead [] text table keys tags c (termFrom edition1 p depth (drop (c .at) text)) r t k g
+    → WaitedRead (factorFrom current p depth) (moreFactorsFrom current p depth) text table keys tags 0 c r t k g
+    → ItemsRead [] text table keys tags c (termFrom current p depth (drop (c .at) text)) r t k g
 unfolding termBy waiting
 term-joined p depth {text} {table} {keys} {tags} c {r} {t} {k} {g} w =
     subst (λ y. ItemsRead [] text table keys tags c y r t k g)
     (sym
-    (term-is edition1 p depth (drop (c .at) text)
-    ∙ first-waits (moreFactorsFrom edition1 p depth) (factorFrom edition1 p depth (drop (c .at) text))
-    ∙ ap (λ j. waited (factorFrom edition1 p depth) (moreFactorsFrom edition1 p depth) [] [] (drop j text)) (sym (add-zero (c .at)))))
+    (term-is current p depth (drop (c .at) text)
+    ∙ first-waits (moreFactorsFrom current p depth) (factorFrom current p depth (drop (c .at) text))
+    ∙ ap (λ j. waited (factorFrom current p depth) (moreFactorsFrom current p depth) [] [] (drop j text)) (sym (add-zero (c .at)))))
     (w c (moved-none c) [])

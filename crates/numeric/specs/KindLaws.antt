@@ -11,7 +11,7 @@ use lib.ListN.{length, drop}
 use lib.Seq.{drop-drop}
 use borrow.Author.Tests.{eqb-true, eqb-false}
 use Rattle.base.specs.Choice.{test-cases, cond-cases, true-behind}
-use Rattle.base.specs.Edition.{edition1}
+use Rattle.base.specs.Current.{current}
 use Rattle.base.specs.ListLaws.{begins-inside}
 use Rattle.base.specs.Lists.{begins}
 use Rattle.base.specs.Text.{bytes}
@@ -231,13 +231,13 @@ items-within OutcomeCode.the-variants.Broken a = tt
 module _ (p : Places) (depth : ℕ) (c : Cursor) {text table keys tags : List ℕ} {t k g : List ℕ}
     (paren : begins (bytes "(") (drop (c .at) text) ≡ true) (shallow : ltb depth deepest ≡ true) where
   pub inside-closed : (r : Outcome)
-      → ItemsRead [] text table keys tags (moved c 1) (expressionFrom edition1 p (suc depth) (drop (c .at + 1) text)) r t k g
-      → ItemsRead [] text table keys tags c (factorFrom edition1 p depth (drop (c .at) text)) (closes text r) t k g
+      → ItemsRead [] text table keys tags (moved c 1) (expressionFrom current p (suc depth) (drop (c .at + 1) text)) r t k g
+      → ItemsRead [] text table keys tags c (factorFrom current p depth (drop (c .at) text)) (closes text r) t k g
   inside-closed (OutcomeCode.the-variants.Got d) a =
       test-cases
       (λ b.
       begins (41 ∷ []) (drop (d .at) text) ≡ b
-      → ItemsRead [] text table keys tags c (factorFrom edition1 p depth (drop (c .at) text))
+      → ItemsRead [] text table keys tags c (factorFrom current p depth (drop (c .at) text))
       (elim b [ true ↦ OutcomeCode.the-variants.Got (moved d 1) | false ↦ OutcomeCode.the-variants.Broken ]) t k g)
       (begins (41 ∷ []) (drop (d .at) text))
       (λ _ e. record { answer = inside-then p depth c paren shallow (a .answer) e })
@@ -246,7 +246,7 @@ module _ (p : Places) (depth : ℕ) (c : Cursor) {text table keys tags : List �
       record {
         answer =
             inside-broken p depth (drop (c .at) text) paren shallow
-            (ap (expressionFrom edition1 p (suc depth)) (drop-drop 1 (c .at) text) ∙ a .answer);
+            (ap (expressionFrom current p (suc depth)) (drop-drop 1 (c .at) text) ∙ a .answer);
       }
 
 module _ (text : List ℕ) {r : Outcome} {d : Cursor} (e : r ≡ OutcomeCode.the-variants.Got d) where
@@ -261,18 +261,18 @@ module _ (text : List ℕ) {r : Outcome} {d : Cursor} (e : r ≡ OutcomeCode.the
 
 -- an operand that is broken
 module _ (p : Places) (depth : ℕ) {text table keys tags : List ℕ} {c : Cursor} where
-  pub operand-broken : {t k g : List ℕ} → begins (bytes "(") (drop (c .at) text) ≡ false → plainFactor edition1 p (drop (c .at) text) ≡ broken
-      → ItemsRead [] text table keys tags c (factorFrom edition1 p depth (drop (c .at) text)) OutcomeCode.the-variants.Broken t k g
+  pub operand-broken : {t k g : List ℕ} → begins (bytes "(") (drop (c .at) text) ≡ false → plainFactor current p (drop (c .at) text) ≡ broken
+      → ItemsRead [] text table keys tags c (factorFrom current p depth (drop (c .at) text)) OutcomeCode.the-variants.Broken t k g
   unfolding factorBy
   operand-broken open′ h =
-      record { answer = factor-is edition1 p depth (drop (c .at) text) ∙ chosen _ _ open′ ∙ then-broken _ h }
+      record { answer = factor-is current p depth (drop (c .at) text) ∙ chosen _ _ open′ ∙ then-broken _ h }
 
 -- an expression one deeper, as the code counts
 pub deeper : (p : Places) (depth : ℕ) {text table keys tags : List ℕ} (c : Cursor) {b : Cursor} {r : Outcome} {t k g : List ℕ} → b ≡ moved c 1
-    → ItemsRead [] text table keys tags b (expressionFrom edition1 p (depth + 1) (drop (b .at) text)) r t k g
-    → ItemsRead [] text table keys tags (moved c 1) (expressionFrom edition1 p (suc depth) (drop (c .at + 1) text)) r t k g
+    → ItemsRead [] text table keys tags b (expressionFrom current p (depth + 1) (drop (b .at) text)) r t k g
+    → ItemsRead [] text table keys tags (moved c 1) (expressionFrom current p (suc depth) (drop (c .at + 1) text)) r t k g
 deeper p depth {text} {table} {keys} {tags} c {r = r} {t} {k} {g} e a =
     let next : depth + 1 ≡ suc depth = omega arith in
     subst
-    (λ (j : ℕ). ItemsRead [] text table keys tags (moved c 1) (expressionFrom edition1 p j (drop (c .at + 1) text)) r t k g) next
-    (subst (λ (z : Cursor). ItemsRead [] text table keys tags z (expressionFrom edition1 p (depth + 1) (drop (z .at) text)) r t k g) e a)
+    (λ (j : ℕ). ItemsRead [] text table keys tags (moved c 1) (expressionFrom current p j (drop (c .at + 1) text)) r t k g) next
+    (subst (λ (z : Cursor). ItemsRead [] text table keys tags z (expressionFrom current p (depth + 1) (drop (z .at) text)) r t k g) e a)

@@ -9,7 +9,7 @@ use native.Mathlib.Omega.{arith}
 use lib.IntN.{pos}
 use lib.ListN.{length, take, drop, getD, length-append, length-map, length-drop}
 use lib.Seq.{drop-drop}
-use Rattle.base.specs.Edition.{edition1}
+use Rattle.base.specs.Current.{current}
 use Rattle.base.specs.Lists.{all, begins}
 use Rattle.base.specs.ListLaws.{begins-room}
 use Rattle.base.specs.Text.{bytes}
@@ -277,7 +277,7 @@ module _ {text keys tags : List ℕ} {c : Cursor} {tag key : ℕ} {k t : List �
 
 module _ {text keys tags : List ℕ} {c : Cursor} (known : List ℕ) {key place : ℕ} {k t : List ℕ} {d : Cursor} where
   pub number-got : Names text keys tags c 3 key k t d → place ≡ keyPlace key (numberKeys known)
-      → Gets (λ j. j) place text keys tags c (numberName edition1 (placesIn known) (drop (c .at) text)) k t d
+      → Gets (λ j. j) place text keys tags c (numberName current (placesIn known) (drop (c .at) text)) k t d
   unfolding numberName purposeNumber
   number-got n e =
       name-placed (naming number []) (placesIn known .number) n
@@ -285,7 +285,7 @@ module _ {text keys tags : List ℕ} {c : Cursor} (known : List ℕ) {key place 
       (number-placed known (n .bytes) (n .shown) ∙ ap (λ j. keyPlace j (numberKeys known)) (sym (n .keyed)) ∙ sym e)
 
   pub string-got : {tag : ℕ} → StringTag tag → Names text keys tags c tag key k t d → place ≡ keyPlace key (stringKeys known)
-      → Gets (λ j. j) place text keys tags c (stringName edition1 (placesIn known) (roleOf (tag / 16)) (drop (c .at) text)) k t d
+      → Gets (λ j. j) place text keys tags c (stringName current (placesIn known) (roleOf (tag / 16)) (drop (c .at) text)) k t d
   unfolding stringName
   string-got {tag} s n e =
       name-placed (λ w. naming string (roleOf (tag / 16) w) w) (placesIn known .string) n
@@ -334,11 +334,11 @@ unfolding nameAs
 name-as-broken meets bs e = then-broken _ e
 
 module _ (p : Places) (bs : List ℕ) (e : Words.name bs ≡ broken) where
-  pub number-broken : numberName edition1 p bs ≡ broken
+  pub number-broken : numberName current p bs ≡ broken
   unfolding numberName
   number-broken = then-broken _ (name-as-broken _ bs e)
 
-  pub string-broken : (roles : List ℕ → List Role) → stringName edition1 p roles bs ≡ broken
+  pub string-broken : (roles : List ℕ → List Role) → stringName current p roles bs ≡ broken
   unfolding stringName
   string-broken roles = then-broken _ (name-as-broken _ bs e)
 
@@ -413,14 +413,14 @@ chosen {A} x y e = ap {B = A} (λ t. elim t [ true ↦ x | false ↦ y ]) e
 module _ (p : Places) {text keys tags : List ℕ} {c : Cursor} where
   module _ (kind place : ℕ) where
     pub bound-constant : {r : Operand} → isDigit (getD (drop (c .at) text) 0 0) ≡ true → ConstantRead text keys tags c kind place r
-        → CellRead (lengthCell kind place) text keys tags c (bound edition1 p (drop (c .at) text)) r keys tags
+        → CellRead (lengthCell kind place) text keys tags c (bound current p (drop (c .at) text)) r keys tags
     unfolding bound lengthCell
     bound-constant {r} e a =
         cell-same (chosen _ _ e) (cell-made (λ v. constantly (pos v)) (lengthCell kind place) r (λ _. refl) a)
 
     pub bound-number : {n : ℕ} {k t : List ℕ} {d : Cursor} → isDigit (getD (drop (c .at) text) 0 0) ≡ false
-        → Gets (λ j. j) n text keys tags c (numberName edition1 p (drop (c .at) text)) k t d
-        → Gets (lengthCell kind place) (Table.cell (kind + 1) place n) text keys tags c (bound edition1 p (drop (c .at) text)) k t d
+        → Gets (λ j. j) n text keys tags c (numberName current p (drop (c .at) text)) k t d
+        → Gets (lengthCell kind place) (Table.cell (kind + 1) place n) text keys tags c (bound current p (drop (c .at) text)) k t d
     unfolding bound lengthCell
     bound-number {n} {k} {t} {d} e a =
         subst (λ y. Gets (lengthCell kind place) (Table.cell (kind + 1) place n) text keys tags c y k t d) (sym (chosen _ _ e))
@@ -428,30 +428,30 @@ module _ (p : Places) {text keys tags : List ℕ} {c : Cursor} where
 
   -- a name or substring
   module _ (shift : ℕ) (roles : List ℕ → List Role) {s : ℕ} {k t : List ℕ} {d : Cursor}
-      (a : Gets (λ j. j) s text keys tags c (stringName edition1 p roles (drop (c .at) text)) k t d) where
+      (a : Gets (λ j. j) s text keys tags c (stringName current p roles (drop (c .at) text)) k t d) where
     pub part-whole : begins (36 ∷ []) (drop (d .at) text) ≡ false
-        → Gets (partCell shift) (Table.cell (shift + 1) s 0) text keys tags c (partName edition1 p roles (drop (c .at) text)) k t d
+        → Gets (partCell shift) (Table.cell (shift + 1) s 0) text keys tags c (partName current p roles (drop (c .at) text)) k t d
     unfolding partName partOf partCell bytes
     part-whole e =
-        gets-give (λ (s, rest). partOf edition1 p s rest) (partCell shift) _ (whole (a .value)) a (chosen _ _ e)
+        gets-give (λ (s, rest). partOf current p s rest) (partCell shift) _ (whole (a .value)) a (chosen _ _ e)
         (ap (λ j. Table.cell (shift + 1) j 0) (a .made))
 
     pub part-first : Ready text keys tags c → begins (36 ∷ []) (drop (d .at) text) ≡ true → (r : Operand) {b : Cursor} {k′ t′ : List ℕ}
-        → b ≡ moved d 1 → CellRead (lengthCell (shift + 2) s) text k t b (bound edition1 p (drop (b .at) text)) r k′ t′
-        → CellRead (partCell shift) text keys tags c (partName edition1 p roles (drop (c .at) text)) r k′ t′
+        → b ≡ moved d 1 → CellRead (lengthCell (shift + 2) s) text k t b (bound current p (drop (b .at) text)) r k′ t′
+        → CellRead (partCell shift) text keys tags c (partName current p roles (drop (c .at) text)) r k′ t′
     unfolding partName partOf partCell bytes
     part-first ready e r m b =
-        let lengths : List ℕ → Read Program.Part = λ l. bound edition1 p l >>= λ (n, rest). give (first (a .value) n) rest in
-        cell-then a (λ (s, rest). partOf edition1 p s rest) (partCell shift) r ready
+        let lengths : List ℕ → Read Program.Part = λ l. bound current p l >>= λ (n, rest). give (first (a .value) n) rest in
+        cell-then a (λ (s, rest). partOf current p s rest) (partCell shift) r ready
         (cell-same (chosen _ _ e ∙ ap lengths (sym (drop-moved text d 1 m)))
         (cell-made (first (a .value)) (partCell shift) r (λ n. ap (λ j. lengthCell (shift + 2) j n) (a .made)) (cell-skip 1 r (skipped d 1 m) b)))
 
 module _ (p : Places) (bs : List ℕ) where
-  pub bound-broken : isDigit (getD bs 0 0) ≡ false → numberName edition1 p bs ≡ broken → bound edition1 p bs ≡ broken
+  pub bound-broken : isDigit (getD bs 0 0) ≡ false → numberName current p bs ≡ broken → bound current p bs ≡ broken
   unfolding bound
   bound-broken e h = chosen _ _ e ∙ then-broken _ h
 
-  pub part-broken : (roles : List ℕ → List Role) → stringName edition1 p roles bs ≡ broken → partName edition1 p roles bs ≡ broken
+  pub part-broken : (roles : List ℕ → List Role) → stringName current p roles bs ≡ broken → partName current p roles bs ≡ broken
   unfolding partName
   part-broken roles h = then-broken _ h
 
@@ -513,41 +513,41 @@ role-none = refl
 -- LENGTH, NUMBER, a number; constants
 module _ (p : Places) {text keys tags : List ℕ} {c : Cursor} {k t : List ℕ} where
   pub called-length : {d : Cursor} → d ≡ moved c 7 → begins (bytes "LENGTH(") (drop (c .at) text) ≡ true → (q : Place)
-      → PlaceRead text keys tags d (stringName edition1 p (roleOf 0) (drop (d .at) text)) q k t
-      → CellRead operandCell text keys tags c (calledOrNumber edition1 p (drop (c .at) text)) (closedBy text (placedIn 6 0 q)) k t
+      → PlaceRead text keys tags d (stringName current p (roleOf 0) (drop (d .at) text)) q k t
+      → CellRead operandCell text keys tags c (calledOrNumber current p (drop (c .at) text)) (closedBy text (placedIn 6 0 q)) k t
   unfolding calledOrNumber operandCell roleOf noRole
   called-length s e q a =
       let closes : List ℕ → Read Program.Operand =
-      λ l. stringName edition1 p noRole l >>= λ (s, rest). skip (bytes ")") rest >>= λ (_, rest). give (lengthOf s) rest in
+      λ l. stringName current p noRole l >>= λ (s, rest). skip (bytes ")") rest >>= λ (_, rest). give (lengthOf s) rest in
       cell-same (chosen _ _ e ∙ ap closes (sym (drop-moved text c 7 s)))
       (closed-cell lengthOf operandCell (λ _. refl) (placedIn 6 0 q) (cell-skip 7 (placedIn 6 0 q) (skipped c 7 s) (place-cell 6 0 q a)))
 
   pub called-number : {d : Cursor} → d ≡ moved c 7 → begins (bytes "LENGTH(") (drop (c .at) text) ≡ false
       → begins (bytes "NUMBER(") (drop (c .at) text) ≡ true → (q : Operand)
-      → CellRead (partCell 6) text keys tags d (partName edition1 p (roleOf 0) (drop (d .at) text)) q k t
-      → CellRead operandCell text keys tags c (calledOrNumber edition1 p (drop (c .at) text)) (closedBy text q) k t
+      → CellRead (partCell 6) text keys tags d (partName current p (roleOf 0) (drop (d .at) text)) q k t
+      → CellRead operandCell text keys tags c (calledOrNumber current p (drop (c .at) text)) (closedBy text q) k t
   unfolding calledOrNumber operandCell roleOf noRole
   called-number s e₁ e q a =
       let closes : List ℕ → Read Program.Operand =
-      λ l. partName edition1 p noRole l >>= λ (s, rest). skip (bytes ")") rest >>= λ (_, rest). give (numberOf s) rest in
+      λ l. partName current p noRole l >>= λ (s, rest). skip (bytes ")") rest >>= λ (_, rest). give (numberOf s) rest in
       cell-same (chosen _ _ e₁ ∙ chosen _ _ e ∙ ap closes (sym (drop-moved text c 7 s)))
       (closed-cell numberOf operandCell (λ _. refl) q (cell-skip 7 q (skipped c 7 s) a))
 
   pub called-plain : begins (bytes "LENGTH(") (drop (c .at) text) ≡ false → begins (bytes "NUMBER(") (drop (c .at) text) ≡ false → (q : Place)
-      → PlaceRead text keys tags c (numberName edition1 p (drop (c .at) text)) q k t
-      → CellRead operandCell text keys tags c (calledOrNumber edition1 p (drop (c .at) text)) (placedIn 5 0 q) k t
+      → PlaceRead text keys tags c (numberName current p (drop (c .at) text)) q k t
+      → CellRead operandCell text keys tags c (calledOrNumber current p (drop (c .at) text)) (placedIn 5 0 q) k t
   unfolding calledOrNumber operandCell
   called-plain e₁ e₂ q a =
       cell-same (chosen _ _ e₁ ∙ chosen _ _ e₂) (cell-made Program.number operandCell (placedIn 5 0 q) (λ _. refl) (place-cell 5 0 q a))
 
   pub plain-called : {r : Operand} → isDigit (getD (drop (c .at) text) 0 0) ≡ false
-      → CellRead operandCell text keys tags c (calledOrNumber edition1 p (drop (c .at) text)) r k t
-      → CellRead operandCell text keys tags c (plainFactor edition1 p (drop (c .at) text)) r k t
+      → CellRead operandCell text keys tags c (calledOrNumber current p (drop (c .at) text)) r k t
+      → CellRead operandCell text keys tags c (plainFactor current p (drop (c .at) text)) r k t
   unfolding plainFactor
   plain-called e a = cell-same (chosen _ _ e) a
 
 module _ (p : Places) {text keys tags : List ℕ} {c : Cursor} where
   pub plain-constant : {r : Operand} → isDigit (getD (drop (c .at) text) 0 0) ≡ true → ConstantRead text keys tags c 4 0 r
-      → CellRead operandCell text keys tags c (plainFactor edition1 p (drop (c .at) text)) r keys tags
+      → CellRead operandCell text keys tags c (plainFactor current p (drop (c .at) text)) r keys tags
   unfolding plainFactor operandCell
   plain-constant {r} e a = cell-same (chosen _ _ e) (cell-made (λ v. Program.constant (pos v)) operandCell r (λ _. refl) a)

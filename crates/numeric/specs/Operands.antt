@@ -5,7 +5,7 @@ use mathlib.Core.Path.{_≡_}
 use Prim.Native.Nat.{ℕ, _+_, _/_, _%_, _≤_, _<_}
 use lib.IntN.{pos}
 use lib.ListN.{length, drop}
-use Rattle.base.specs.Edition.{edition1}
+use Rattle.base.specs.Current.{current}
 use Rattle.base.specs.Lists.{all, begins}
 use Rattle.calls.specs.Numerals.{biased}
 use Rattle.calls.specs.Splices.{splice}
@@ -27,6 +27,7 @@ use Rattle.numeric.specs.declared.operands.Operand as OperandCode
 use Rattle.numeric.specs.declared.operands.Operand.{Operand}
 use Rattle.numeric.specs.declared.operands.Place as PlaceCode
 use Rattle.numeric.specs.declared.operands.Place.{Place}
+use Rattle.packer.specs.Packs.{longestText}
 
 -- a cursor d behind c by so many names and items
 pub record Onward (c : Cursor) (n i : ℕ) (d : Cursor) : Type 0 where
@@ -55,7 +56,7 @@ pub record Skips (c : Cursor) (n : ℕ) (d : Cursor) : Type 0 where
 
 -- the arrays have their sizes, and the cursor has met no more than the bytes behind it allow
 pub record Ready (text keys tags : List ℕ) (c : Cursor) : Type 0 where
-  pub textSize : length text ≤ 32_768
+  pub textSize : length text ≤ longestText
   pub inside : c .at ≤ length text
   pub names : c .names ≤ c .at + 1
   pub items : c .items ≤ 4_294_967_296 + c .at
@@ -126,29 +127,29 @@ pub record CellRead {A : Type 0} (f : A → Table.Cell) (text keys tags : List �
 
 -- each reader of document 01 at the cursor
 abbrev pub NumberRead : (text known keys tags : List ℕ) (c : Cursor) → Place → (keys′ tags′ : List ℕ) → Type 0
-NumberRead text known keys tags c = PlaceRead text keys tags c (numberName edition1 (placesIn known) (drop (c .at) text))
+NumberRead text known keys tags c = PlaceRead text keys tags c (numberName current (placesIn known) (drop (c .at) text))
 
 abbrev pub StringRead : (text known keys tags : List ℕ) (c : Cursor) (tag : ℕ) → Place → (keys′ tags′ : List ℕ) → Type 0
 StringRead text known keys tags c tag =
-    PlaceRead text keys tags c (stringName edition1 (placesIn known) (roleOf (tag / 16)) (drop (c .at) text))
+    PlaceRead text keys tags c (stringName current (placesIn known) (roleOf (tag / 16)) (drop (c .at) text))
 
 abbrev pub ConstantRead : (text keys tags : List ℕ) (c : Cursor) (kind place : ℕ) → Operand → Type 0
 ConstantRead text keys tags c kind place r =
-    CellRead (λ v. Table.cell kind place (biased (pos v))) text keys tags c (unsigned edition1 (drop (c .at) text)) r keys tags
+    CellRead (λ v. Table.cell kind place (biased (pos v))) text keys tags c (unsigned current (drop (c .at) text)) r keys tags
 
 abbrev pub BoundRead : (text known keys tags : List ℕ) (c : Cursor) (kind place : ℕ) → Operand → (keys′ tags′ : List ℕ) → Type 0
 BoundRead text known keys tags c kind place =
-    CellRead (lengthCell kind place) text keys tags c (bound edition1 (placesIn known) (drop (c .at) text))
+    CellRead (lengthCell kind place) text keys tags c (bound current (placesIn known) (drop (c .at) text))
 
 abbrev pub PartRead : (text known keys tags : List ℕ) (c : Cursor) (shift tag : ℕ) → Operand → (keys′ tags′ : List ℕ) → Type 0
 PartRead text known keys tags c shift tag =
-    CellRead (partCell shift) text keys tags c (partName edition1 (placesIn known) (roleOf (tag / 16)) (drop (c .at) text))
+    CellRead (partCell shift) text keys tags c (partName current (placesIn known) (roleOf (tag / 16)) (drop (c .at) text))
 
 abbrev pub CalledRead : (text known keys tags : List ℕ) (c : Cursor) → Operand → (keys′ tags′ : List ℕ) → Type 0
-CalledRead text known keys tags c = CellRead operandCell text keys tags c (calledOrNumber edition1 (placesIn known) (drop (c .at) text))
+CalledRead text known keys tags c = CellRead operandCell text keys tags c (calledOrNumber current (placesIn known) (drop (c .at) text))
 
 abbrev pub PlainRead : (text known keys tags : List ℕ) (c : Cursor) → Operand → (keys′ tags′ : List ℕ) → Type 0
-PlainRead text known keys tags c = CellRead operandCell text keys tags c (plainFactor edition1 (placesIn known) (drop (c .at) text))
+PlainRead text known keys tags c = CellRead operandCell text keys tags c (plainFactor current (placesIn known) (drop (c .at) text))
 
 -- a place in a cell of a kind and a value
 abbrev pub placedIn : (kind value : ℕ) → Place → Operand
@@ -158,7 +159,7 @@ placedIn kind value PlaceCode.the-variants.Broken = OperandCode.the-variants.Bro
 
 -- the cursor of an operand is inside the text
 abbrev pub Inside : List ℕ → Operand → Type 0
-Inside text (OperandCode.the-variants.Got v d) = (d .at ≤ length text) × (length text ≤ 32_768)
+Inside text (OperandCode.the-variants.Got v d) = (d .at ≤ length text) × (length text ≤ longestText)
 Inside text OperandCode.the-variants.Broken = Unit {0}
 
 -- the operand before `)`, its cursor behind it

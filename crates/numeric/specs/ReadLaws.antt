@@ -9,7 +9,7 @@ use native.Mathlib.Omega.{arith}
 use lib.Dec.{ltb}
 use lib.ListN.{length, drop}
 use lib.Seq.{drop-drop}
-use Rattle.base.specs.Edition.{edition1}
+use Rattle.base.specs.Current.{current}
 use Rattle.base.specs.Lists.{begins}
 use Rattle.base.specs.Text.{bytes}
 use Rattle.calls.specs.Table as Table
@@ -34,9 +34,9 @@ use Rattle.numeric.specs.declared.Outcome as OutcomeCode
 -- an operand is one item
 pub operand-written : (p : Places) (depth : ℕ) {text table keys tags : List ℕ} {c : Cursor} (v : Cell) {k g : List ℕ} {d : Cursor}
     → Ready text keys tags c → begins (bytes "(") (drop (c .at) text) ≡ false
-    → Gets operandCell (meaning v) text keys tags c (plainFactor edition1 p (drop (c .at) text)) k g d → {t : List ℕ} {e : Cursor}
+    → Gets operandCell (meaning v) text keys tags c (plainFactor current p (drop (c .at) text)) k g d → {t : List ℕ} {e : Cursor}
     → PutsCell table d (meaning v) t e
-    → ItemsRead [] text table keys tags c (factorFrom edition1 p depth (drop (c .at) text)) (OutcomeCode.the-variants.Got e) t k g
+    → ItemsRead [] text table keys tags c (factorFrom current p depth (drop (c .at) text)) (OutcomeCode.the-variants.Got e) t k g
 unfolding factorBy _>>=_ meeting withItems itemCell anItem metIn gather
 operand-written p depth {text} {table} {c = c} v {d = d} ready open′ a {t} {e} put =
     let on = put .goes in
@@ -46,7 +46,7 @@ operand-written p depth {text} {table} {c = c} v {d = d} ready open′ a {t} {e}
             items = operand (a .value) ∷ [];
             entries = a .entries;
             is =
-                factor-is edition1 p depth (drop (c .at) text)
+                factor-is current p depth (drop (c .at) text)
                 ∙ chosen _ _ open′
                 ∙ ap (λ (z : Read Operand). z >>= λ (x, rest). got (operand x ∷ []) anItem rest) (a .is)
                 ∙ ap (λ (m : Met). got (operand (a .value) ∷ []) m (drop (d .at) text)) (met-more (a .entries) 0 1 [] [] 0 0)
@@ -67,38 +67,38 @@ operand-written p depth {text} {table} {c = c} v {d = d} ready open′ a {t} {e}
 
 -- an expression in parentheses
 module _ (p : Places) (depth : ℕ) (bs : List ℕ) (paren : begins (bytes "(") bs ≡ true) where
-  pub too-deep : ltb depth deepest ≡ false → factorFrom edition1 p depth bs ≡ broken
+  pub too-deep : ltb depth deepest ≡ false → factorFrom current p depth bs ≡ broken
   unfolding factorBy
-  too-deep e = factor-is edition1 p depth bs ∙ chosen _ _ paren ∙ chosen _ _ e
+  too-deep e = factor-is current p depth bs ∙ chosen _ _ paren ∙ chosen _ _ e
 
   inside : ltb depth deepest ≡ true
-      → factorFrom edition1 p depth bs
-      ≡ (expressionFrom edition1 p (suc depth) (drop 1 bs) >>= λ (x, rest). skip (bytes ")") rest >>= λ (_, rest). give x rest)
+      → factorFrom current p depth bs
+      ≡ (expressionFrom current p (suc depth) (drop 1 bs) >>= λ (x, rest). skip (bytes ")") rest >>= λ (_, rest). give x rest)
   unfolding factorBy
-  inside e = factor-is edition1 p depth bs ∙ chosen _ _ paren ∙ chosen _ _ e
+  inside e = factor-is current p depth bs ∙ chosen _ _ paren ∙ chosen _ _ e
 
-  pub inside-broken : ltb depth deepest ≡ true → expressionFrom edition1 p (suc depth) (drop 1 bs) ≡ broken
-      → factorFrom edition1 p depth bs ≡ broken
+  pub inside-broken : ltb depth deepest ≡ true → expressionFrom current p (suc depth) (drop 1 bs) ≡ broken
+      → factorFrom current p depth bs ≡ broken
   inside-broken e h = inside e ∙ then-broken _ h
 
 module _ (p : Places) (depth : ℕ) (c : Cursor) {text table keys tags : List ℕ} {t k g : List ℕ} {d : Cursor}
     (paren : begins (bytes "(") (drop (c .at) text) ≡ true) (shallow : ltb depth deepest ≡ true)
-    (a : GetsItems [] text table keys tags (moved c 1) (expressionFrom edition1 p (suc depth) (drop (c .at + 1) text)) t k g d) where
+    (a : GetsItems [] text table keys tags (moved c 1) (expressionFrom current p (suc depth) (drop (c .at + 1) text)) t k g d) where
   closing : (r : Read (List Item))
       → (skip (bytes ")") (drop (d .at) text) >>= λ (_, rest). give (a .items) rest) ≡ r
-      → factorFrom edition1 p depth (drop (c .at) text) ≡ meeting (metIn (a .entries) (length (a .items)) [] 0) r
+      → factorFrom current p depth (drop (c .at) text) ≡ meeting (metIn (a .entries) (length (a .items)) [] 0) r
   unfolding _>>=_ meeting
   closing r e =
       inside p depth (drop (c .at) text) paren shallow
       ∙ ap
       (λ (l : List ℕ).
-      expressionFrom edition1 p (suc depth) l >>= λ (x, rest). skip (bytes ")") rest >>= λ (_, rest). give x rest)
+      expressionFrom current p (suc depth) l >>= λ (x, rest). skip (bytes ")") rest >>= λ (_, rest). give x rest)
       (drop-drop 1 (c .at) text)
       ∙ ap (λ (z : Read (List Item)). z >>= λ (x, rest). skip (bytes ")") rest >>= λ (_, rest). give x rest) (a .is)
       ∙ ap (meeting (metIn (a .entries) (length (a .items)) [] 0)) e
 
   pub inside-then : begins (41 ∷ []) (drop (d .at) text) ≡ true
-      → GetsItems [] text table keys tags c (factorFrom edition1 p depth (drop (c .at) text)) t k g (moved d 1)
+      → GetsItems [] text table keys tags c (factorFrom current p depth (drop (c .at) text)) t k g (moved d 1)
   unfolding bytes meeting give
   inside-then e =
       record {
@@ -116,6 +116,6 @@ module _ (p : Places) (depth : ℕ) (c : Cursor) {text table keys tags : List �
         short = omega (arith, a .short);
       }
 
-  pub inside-open : begins (41 ∷ []) (drop (d .at) text) ≡ false → factorFrom edition1 p depth (drop (c .at) text) ≡ broken
+  pub inside-open : begins (41 ∷ []) (drop (d .at) text) ≡ false → factorFrom current p depth (drop (c .at) text) ≡ broken
   unfolding bytes meeting
   inside-open e = closing broken (skip-broken (41 ∷ []) (drop (d .at) text) (λ (_, rest). give (a .items) rest) e)

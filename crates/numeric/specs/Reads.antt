@@ -6,7 +6,7 @@ use mathlib.Core.Path.{_≡_}
 use Prim.Native.Nat.{ℕ, _+_, _≤_}
 use lib.Dec.{eqb}
 use lib.ListN.{length, drop}
-use Rattle.base.specs.Edition.{edition1}
+use Rattle.base.specs.Current.{current}
 use Rattle.language.specs.Fuel.{expressionFrom, termFrom, factorFrom}
 use Rattle.language.specs.Program.{Item, operator, sign, plus, minus, times, over, positive, negative}
 use Rattle.language.specs.Reading.{Read, got, broken}
@@ -54,12 +54,12 @@ waiting kind =
 -- each reader of document 01 at the cursor
 abbrev pub ExpressionRead : (text known table keys tags : List ℕ) (c : Cursor) (depth : ℕ) → Outcome → (table′ keys′ tags′ : List ℕ) → Type 0
 ExpressionRead text known table keys tags c depth =
-    ItemsRead [] text table keys tags c (expressionFrom edition1 (placesIn known) depth (drop (c .at) text))
+    ItemsRead [] text table keys tags c (expressionFrom current (placesIn known) depth (drop (c .at) text))
 
 abbrev pub TermRead : (text known table keys tags : List ℕ) (c : Cursor) (depth : ℕ) → Outcome → (table′ keys′ tags′ : List ℕ) → Type 0
 TermRead text known table keys tags c depth =
-    ItemsRead [] text table keys tags c (termFrom edition1 (placesIn known) depth (drop (c .at) text))
+    ItemsRead [] text table keys tags c (termFrom current (placesIn known) depth (drop (c .at) text))
 
 abbrev pub FactorRead : (text known table keys tags : List ℕ) (c : Cursor) (depth : ℕ) → Outcome → (table′ keys′ tags′ : List ℕ) → Type 0
 FactorRead text known table keys tags c depth =
-    ItemsRead [] text table keys tags c (factorFrom edition1 (placesIn known) depth (drop (c .at) text))
+    ItemsRead [] text table keys tags c (factorFrom current (placesIn known) depth (drop (c .at) text))

@@ -24,6 +24,7 @@ ghost use Prim.Native.Nat.{ℕ, _+_, _≤_, _<_};
 ghost use Rattle.numeric.specs.Operands.{Ready, moved, StringTag, NameRead, NumberRead, StringRead, ConstantRead, BoundRead, PartRead, Inside, closedBy, placedIn, CalledRead, PlainRead};
 ghost use lib.ListN.{length};
 ghost use Rattle.met.specs.Known.{Counted};
+ghost use Rattle.packer.specs.Packs.{longestText};
 
 // a name by its key, with the cursor behind it
 pub enum Name {
@@ -124,7 +125,7 @@ pub fn read_string(
 
 // a constant at the cursor, in the cell of a kind and a place
 fn constant(text: &[u8], c: Cursor, kind: u8, place: u8) -> Operand
-    requires { ⌜ (c .at ≤ length (now text)) × (length (now text) ≤ 32768) ⌝ }
+    requires { ⌜ (c .at ≤ length (now text)) × (length (now text) ≤ longestText) ⌝ }
     ensures { λ r. ⌜ ((keys tags : List ℕ) → Ready (now (text .entry)) keys tags c → ConstantRead (now (text .entry)) keys tags c kind place r) ⌝ }
 {
     let at = c.at;

@@ -10,7 +10,7 @@ use lib.Dec.{eqb}
 use lib.ListN.{length, take, drop, length-take, length-drop}
 use lib.Seq.{take-take}
 use Rattle.base.specs.Choice.{test-cases}
-use Rattle.base.specs.Edition.{edition1}
+use Rattle.base.specs.Current.{current}
 use Rattle.base.specs.ListLaws.{stretch-few}
 use Rattle.base.specs.Lists.{all}
 use Rattle.cards.specs.Bytes.{slash}
@@ -68,10 +68,10 @@ module _ (deck text : List ℕ) where
         Holds deck text′ r (addLine p line (lines (drop next deck)))
     unfolding addLine packed
     holds-line line next text′ r a =
-        let more = textOf edition1 line in
+        let more = textOf current line in
         let k = a .packs in
         record {
-          sound = a .sound ∙ ap (λ t. t && (soundLine line && not (eqb (column9 edition1 line) slash))) (h .sound);
+          sound = a .sound ∙ ap (λ t. t && (soundLine line && not (eqb (column9 current line) slash))) (h .sound);
           more = a .more;
           count = a .count ∙ ap (λ (n : ℕ). n + 1) (h .count);
           rest = ap (λ (n : ℕ). lines (drop n deck)) (a .behind);
@@ -99,21 +99,21 @@ module _ (deck text : List ℕ) where
 
     -- a statement that is over
     pub holds-told : s .more ≡ false → (n : ℕ) (label : List ℕ) →
-        told n label p ≡ statement n (s .sound) label (p .raw) ∷ entriesFrom edition1 (n + s .lines) (lines (drop (s .next) deck))
+        told n label p ≡ statement n (s .sound) label (p .raw) ∷ entriesFrom current (n + s .lines) (lines (drop (s .next) deck))
     unfolding told
     holds-told over n label = rw (h .sound, h .count, h .rest, sym (h .more) ∙ over)
 
-text-within : (line : List ℕ) → length (textOf edition1 line) ≤ length line
-unfolding textOf edition1
+text-within : (line : List ℕ) → length (textOf current line) ≤ length line
+unfolding textOf current
 text-within line = omega (arith, length-drop 9 (take 72 line), length-take 72 line, min-le-right 72 (length line))
 
-pub text-fits : (line part : List ℕ) (n most : ℕ) → part ≡ textOf edition1 line → n + length line ≤ most → n + length part ≤ most
+pub text-fits : (line part : List ℕ) (n most : ℕ) → part ≡ textOf current line → n + length line ≤ most → n + length part ≤ most
 text-fits line part n most e h = rw e (omega (arith, text-within line))
 
 -- a line's parts put together
 module _ (line : List ℕ) (next : ℕ) (text : List ℕ) (s : Joining) (text′ : List ℕ) (packing : Packing)
     (sound more : Bool) (mark : ℕ) (part : List ℕ) where
-  pub added : sound ≡ soundLine line → mark ≡ column9 edition1 line → more ≡ joins mark → part ≡ textOf edition1 line →
+  pub added : sound ≡ soundLine line → mark ≡ column9 current line → more ≡ joins mark → part ≡ textOf current line →
       Packs part text (s .packing) text′ packing →
       Added line next text s text′
       (record { sound = s .sound && (sound && not (eqb mark 47)); more = more; packing = packing; lines = s .lines + 1; next = next })
@@ -268,11 +268,11 @@ room-nothing deck from text read =
       within = omega arith;
     }
 
-label-front : (line : List ℕ) → labelOf edition1 line ≡ withoutBlanks (take 8 line)
-unfolding labelOf edition1
+label-front : (line : List ℕ) → labelOf current line ≡ withoutBlanks (take 8 line)
+unfolding labelOf current
 label-front line = ap withoutBlanks (take-take 8 72 line (omega arith))
 
-label-short : (line : List ℕ) → length (labelOf edition1 line) ≤ 8
+label-short : (line : List ℕ) → length (labelOf current line) ≤ 8
 label-short line = rw (label-front line) (le-trans (blanks-less (take 8 line)) (front-short 8 line (take 8 line) refl))
 
 -- an entry whose first line ends at end
@@ -289,7 +289,7 @@ module _ (deck : List ℕ) (from : ℕ) (text : List ℕ) (read : Readable deck 
         label = [];
         entry =
             λ n.
-            ap (entriesFrom edition1 n) (ends .first) ∙ skipped-told n first (lines (drop (end + 1) deck)) skip;
+            ap (entriesFrom current n) (ends .first) ∙ skipped-told n first (lines (drop (end + 1) deck)) skip;
         key = refl;
         short = omega arith;
         clean = λ _. refl;
@@ -321,10 +321,10 @@ module _ (deck : List ℕ) (from : ℕ) (text : List ℕ) (read : Readable deck 
       let start = nothingOf (lines (drop from deck)) in
       let held = holds-line deck text (nothingFrom from) start (holds-nothing deck text from) first (end + 1) text₁ s₁ a in
       let k = j .complete (addLine start first (lines (drop (end + 1) deck))) held in
-      let label = labelOf edition1 first in
-      let others : ℕ → List Entry = λ n. entriesFrom edition1 (n + s .lines) (lines (drop (s .next) deck)) in
+      let label = labelOf current first in
+      let others : ℕ → List Entry = λ n. entriesFrom current (n + s .lines) (lines (drop (s .next) deck)) in
       let entries : (n : ℕ) →
-      entriesFrom edition1 n (first ∷ lines (drop (end + 1) deck)) ≡ statement n (s .sound) label (k .part .raw) ∷ others n =
+      entriesFrom current n (first ∷ lines (drop (end + 1) deck)) ≡ statement n (s .sound) label (k .part .raw) ∷ others n =
       λ n.
       first-told n first (lines (drop (end + 1) deck)) skip
       ∙ ap (λ (rest : List (List ℕ)). told n label (addLine (nothingOf rest) first (lines (drop (end + 1) deck)))) (sym (ends .first))
@@ -333,7 +333,7 @@ module _ (deck : List ℕ) (from : ℕ) (text : List ℕ) (read : Readable deck 
       record {
         raw = k .part .raw;
         label = label;
-        entry = λ n. ap (entriesFrom edition1 n) (ends .first) ∙ entries n;
+        entry = λ n. ap (entriesFrom current n) (ends .first) ∙ entries n;
         key = ek ∙ ap keyOf (sym (label-front first));
         short = label-short first;
         clean =

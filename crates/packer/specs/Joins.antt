@@ -3,7 +3,7 @@ use mathlib.Core.Bool.{Bool, true, false, cond, not, _&&_}
 use mathlib.Core.List.{List, [], _∷_, _++_}
 use Prim.Native.Nat.{ℕ, _+_}
 use lib.Dec.{eqb}
-use Rattle.base.specs.Edition.{edition1}
+use Rattle.base.specs.Current.{current}
 use Rattle.cards.specs.Bytes.{slash}
 use Rattle.cards.specs.Cards.{Entry, skipped, statement, soundLine, column9, textOf, entriesFrom}
 use Rattle.packer.specs.Lines.{isSkipped, joins}
@@ -21,9 +21,9 @@ pub record Part : Type 0 where
 unfoldable pub addLine : Part → List ℕ → List (List ℕ) → Part
 addLine p line ls =
     record {
-      sound = p .sound && (soundLine line && not (eqb (column9 edition1 line) slash));
-      more = joins (column9 edition1 line);
-      raw = p .raw ++ textOf edition1 line;
+      sound = p .sound && (soundLine line && not (eqb (column9 current line) slash));
+      more = joins (column9 current line);
+      raw = p .raw ++ textOf current line;
       count = p .count + 1;
       rest = ls;
     }
@@ -45,7 +45,7 @@ before n sound label raw (statement c s l text ∷ rest) = statement n (sound &&
 -- the entries that a statement, perhaps not whole yet, and the lines behind it make up
 unfoldable pub told : ℕ → List ℕ → Part → List Entry
 told n label p =
-    let rest = entriesFrom edition1 (n + p .count) (p .rest) in
+    let rest = entriesFrom current (n + p .count) (p .rest) in
     cond (p .more)
     (before n (p .sound) label (p .raw) rest)
     (statement n (p .sound) label (p .raw) ∷ rest)

@@ -3,7 +3,7 @@ use mathlib.Core.List.{List, []}
 use mathlib.Core.Path.{_≡_, ap, sym}
 use Prim.Native.Nat.{ℕ, _≤_}
 use lib.ListN.{length, drop, drop-of-length-le}
-use Rattle.base.specs.Edition.{edition1}
+use Rattle.base.specs.Current.{current}
 use Rattle.cards.specs.Cards.{entriesFrom, lines}
 
 module _ (deck : List ℕ) (i : ℕ) (over : length deck ≤ i) where
@@ -11,6 +11,6 @@ module _ (deck : List ℕ) (i : ℕ) (over : length deck ≤ i) where
   unfolding lines
   lines-behind = rw (drop-of-length-le deck over)
 
-  pub entries-behind : (n : ℕ) → entriesFrom edition1 n (lines (drop i deck)) ≡ []
+  pub entries-behind : (n : ℕ) → entriesFrom current n (lines (drop i deck)) ≡ []
   unfolding entriesFrom
-  entries-behind n = ap (entriesFrom edition1 n) (sym lines-behind)
+  entries-behind n = ap (entriesFrom current n) (sym lines-behind)

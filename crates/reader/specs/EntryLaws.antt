@@ -9,7 +9,8 @@ use lib.ListN.{length, take, drop}
 use lib.Seq.{length-take-le}
 use borrow.Author.Tests.{ne-eqb, eq-eqb}
 use Rattle.base.specs.Choice.{test-cases}
-use Rattle.base.specs.Edition.{edition1}
+use Rattle.base.specs.Current.{current}
+use Rattle.base.specs.Limits.{longestDeck}
 use Rattle.cards.specs.Cards as Cards
 use Rattle.cards.specs.Cards.{Entry, skipped, statement, entriesFrom}
 use Rattle.cards.specs.Packing.{packed}
@@ -58,7 +59,7 @@ module _ {text : List ℕ} {e : Gathered} {a : Arrays} where
               number =
                   λ taken k h.
                   sym
-                  (ap (λ t. statementNumber k (leading (packed raw) .kind) t (readStatement edition1 (isOneOf (numbers k)) unplaced label raw)) s);
+                  (ap (λ t. statementNumber k (leading (packed raw) .kind) t (readStatement current (isOneOf (numbers k)) unplaced label raw)) s);
               learnt = λ z. absurd (omega arith);
             };
       }
@@ -91,7 +92,7 @@ module _ {deck : List ℕ} {from : ℕ} {text : List ℕ} {e : Gathered} (g : Ga
         fits = omega (arith, g .fits, g .size);
       }
 
-  pub entered : {a : Arrays} → Held a from → length deck ≤ 32_768 → Entered text e a
+  pub entered : {a : Arrays} → Held a from → length deck ≤ longestDeck → Entered text e a
   entered h small =
       record {
         label = g .label;
@@ -107,29 +108,29 @@ module _ {deck : List ℕ} {from : ℕ} {text : List ℕ} {e : Gathered} (g : Ga
   -- how the entries from here on are judged
   module _ (a a′ : Arrays) (number : ℕ) (n : EntryNumbered text e a number a′) (card : ℕ) (k : Known) (h : Holds a from k) where
     abbrev rest : List Entry
-    rest = entriesFrom edition1 (card + e .lines) (Cards.lines (drop (e .next) deck))
+    rest = entriesFrom current (card + e .lines) (Cards.lines (drop (e .next) deck))
 
     abbrev here : Deck.Judged
-    here = judgeFrom edition1 k (entriesFrom edition1 card (Cards.lines (drop from deck)))
+    here = judgeFrom current k (entriesFrom current card (Cards.lines (drop from deck)))
 
     abbrev kept : Known
     kept =
-        learn k (leading (packed (g .raw)) .kind) (metBy (readStatement edition1 (isOneOf (numbers k)) unplaced (g .label) (g .raw)))
+        learn k (leading (packed (g .raw)) .kind) (metBy (readStatement current (isOneOf (numbers k)) unplaced (g .label) (g .raw)))
 
     -- of a comment or blank line
-    skip-judged : e .skipped ≡ true → here ≡ elim (e .sound) [ true ↦ judgeFrom edition1 k rest | false ↦ Deck.Judged.refused 3 card ]
+    skip-judged : e .skipped ≡ true → here ≡ elim (e .sound) [ true ↦ judgeFrom current k rest | false ↦ Deck.Judged.refused 3 card ]
     unfolding judgeFrom entryOf
     skip-judged t =
-        ap (judgeFrom edition1 k) (g .entry card)
-        ∙ ap (λ u. judgeFrom edition1 k (cond u (skipped card (e .sound)) (statement card (e .sound) (g .label) (g .raw)) ∷ rest)) t
+        ap (judgeFrom current k) (g .entry card)
+        ∙ ap (λ u. judgeFrom current k (cond u (skipped card (e .sound)) (statement card (e .sound) (g .label) (g .raw)) ∷ rest)) t
 
     -- of a statement
-    statement-judged : e .skipped ≡ false → here ≡ elim (eqb number 0) [ true ↦ judgeFrom edition1 kept rest | false ↦ Deck.Judged.refused number card ]
+    statement-judged : e .skipped ≡ false → here ≡ elim (eqb number 0) [ true ↦ judgeFrom current kept rest | false ↦ Deck.Judged.refused number card ]
     unfolding judgeFrom entryOf
     statement-judged f =
-        ap (judgeFrom edition1 k) (g .entry card)
-        ∙ ap (λ u. judgeFrom edition1 k (cond u (skipped card (e .sound)) (statement card (e .sound) (g .label) (g .raw)) ∷ rest)) f
-        ∙ ap {B = Deck.Judged} (λ m. elim (eqb m 0) [ true ↦ judgeFrom edition1 kept rest | false ↦ Deck.Judged.refused m card ])
+        ap (judgeFrom current k) (g .entry card)
+        ∙ ap (λ u. judgeFrom current k (cond u (skipped card (e .sound)) (statement card (e .sound) (g .label) (g .raw)) ∷ rest)) f
+        ∙ ap {B = Deck.Judged} (λ m. elim (eqb m 0) [ true ↦ judgeFrom current kept rest | false ↦ Deck.Judged.refused m card ])
         (sym (n .judges f (g .label) (g .raw) gathered-worded .number from k h))
 
     refuses-entry : (number ≡ 0 → ⊥) → here ≡ Deck.Judged.refused number card
@@ -140,11 +141,11 @@ module _ {deck : List ℕ} {from : ℕ} {text : List ℕ} {e : Gathered} (g : Ga
         (λ _ u. absurd (z (n .skips t .0 ∙ ap (λ v. cond v 0 3) u)))
         (λ _ u.
         skip-judged t
-        ∙ ap {B = Deck.Judged} (λ v. elim v [ true ↦ judgeFrom edition1 k rest | false ↦ Deck.Judged.refused 3 card ]) u
+        ∙ ap {B = Deck.Judged} (λ v. elim v [ true ↦ judgeFrom current k rest | false ↦ Deck.Judged.refused 3 card ]) u
         ∙ ap (λ m. Deck.Judged.refused m card) (sym (n .skips t .0 ∙ ap (λ v. cond v 0 3) u))) refl)
         (λ _ f.
         statement-judged f
-        ∙ ap {B = Deck.Judged} (λ v. elim v [ true ↦ judgeFrom edition1 kept rest | false ↦ Deck.Judged.refused number card ]) (ne-eqb number 0 z))
+        ∙ ap {B = Deck.Judged} (λ v. elim v [ true ↦ judgeFrom current kept rest | false ↦ Deck.Judged.refused number card ]) (ne-eqb number 0 z))
         refl
 
     goes-entry : number ≡ 0 → Going deck from card k (e .lines) (e .next) a′
@@ -160,7 +161,7 @@ module _ {deck : List ℕ} {from : ℕ} {text : List ℕ} {e : Gathered} (g : Ga
               (subst (Holds a (e .next)) (held-shown a from k h) (shown-held a from (e .next) k (omega (arith, g .onward)) h));
           rest =
               skip-judged t
-              ∙ ap {B = Deck.Judged} (λ v. elim v [ true ↦ judgeFrom edition1 k rest | false ↦ Deck.Judged.refused 3 card ]) u;
+              ∙ ap {B = Deck.Judged} (λ v. elim v [ true ↦ judgeFrom current k rest | false ↦ Deck.Judged.refused 3 card ]) u;
         })
         (λ _ u. let is : number ≡ 3 = n .skips t .0 ∙ ap (λ v. cond v 0 3) u in absurd (omega arith)) refl)
         (λ _ f.
@@ -171,7 +172,7 @@ module _ {deck : List ℕ} {from : ℕ} {text : List ℕ} {e : Gathered} (g : Ga
               (omega (arith, g .spare, ap length (g .bytes), length-take-le (e .length) text (gathered-worded .fits)));
           rest =
               statement-judged f
-              ∙ ap {B = Deck.Judged} (λ v. elim v [ true ↦ judgeFrom edition1 kept rest | false ↦ Deck.Judged.refused number card ])
+              ∙ ap {B = Deck.Judged} (λ v. elim v [ true ↦ judgeFrom current kept rest | false ↦ Deck.Judged.refused number card ])
               (eq-eqb number 0 z);
         }) refl
 

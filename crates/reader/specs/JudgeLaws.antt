@@ -7,7 +7,7 @@ use Prim.Native.Nat.{ℕ, _+_, _≤_}
 use native.Mathlib.Omega.{arith}
 use native.Mathlib.Nat.{zero-add}
 use lib.ListN.{length}
-use Rattle.base.specs.Edition.{edition1}
+use Rattle.base.specs.Current.{current}
 use Rattle.base.specs.Limits as Limits
 use Rattle.branches.specs.Places.{numberIn}
 use Rattle.calls.specs.Table.{allLiterals}
@@ -33,6 +33,7 @@ use Rattle.met.specs.Known.{placesIn}
 use Rattle.met.specs.declared.Cursor.{Cursor}
 use Rattle.naming.specs.Arrays.{metFrom}
 use Rattle.naming.specs.HoldLaws.{entries-noted}
+use Rattle.packer.specs.Packs.{longestText}
 use Rattle.words.specs.Kinds.{kindOf}
 use Rattle.words.specs.declared.keywords.Kind.{Kind}
 use Rattle.packer.specs.declared.Gathered.{Gathered}
@@ -41,23 +42,23 @@ use Rattle.reader.specs.Judging.{Stays, startAt, Readied, Numbered}
 -- what the judgement reads, and what the code reads
 module _ (label raw : List ℕ) (a : Arrays) (taken : ℕ) (k : Known) (h : Holds a taken k) where
   abbrev judged : Read (Option Statement)
-  judged = readStatement edition1 (isOneOf (numbers k)) unplaced label raw
+  judged = readStatement current (isOneOf (numbers k)) unplaced label raw
 
   abbrev read : Read (Option Statement)
-  read = readStatement edition1 (numberIn (a .known)) (placesIn (a .known)) label raw
+  read = readStatement current (numberIn (a .known)) (placesIn (a .known)) label raw
 
   -- the number is the same
   number-read : (kind : Keywords.Kind) (sound : Bool) → statementNumber k kind sound judged ≡ statementNumber k kind sound read
   number-read kind sound =
-      number-anywhere edition1 (isOneOf (numbers k)) (placesIn (a .known)) label raw k kind sound
-      ∙ ap (λ (ns : List (List ℕ)). statementNumber k kind sound (readStatement edition1 (isOneOf ns) (placesIn (a .known)) label raw))
+      number-anywhere current (isOneOf (numbers k)) (placesIn (a .known)) label raw k kind sound
+      ∙ ap (λ (ns : List (List ℕ)). statementNumber k kind sound (readStatement current (isOneOf ns) (placesIn (a .known)) label raw))
       (sym (h .numbers))
 
   -- so is what was met
   met-read : metBy judged ≡ metBy read
   met-read =
-      met-anywhere edition1 (isOneOf (numbers k)) (placesIn (a .known)) label raw
-      ∙ ap (λ (ns : List (List ℕ)). metBy (readStatement edition1 (isOneOf ns) (placesIn (a .known)) label raw)) (sym (h .numbers))
+      met-anywhere current (isOneOf (numbers k)) (placesIn (a .known)) label raw
+      ∙ ap (λ (ns : List (List ℕ)). metBy (readStatement current (isOneOf ns) (placesIn (a .known)) label raw)) (sym (h .numbers))
 
   module _ (kind : Keywords.Kind) where
     pub misplaced-number : isMisplaced k kind ≡ true → 4 ≡ statementNumber k kind true judged
@@ -123,7 +124,7 @@ module _ {most : ℕ} {table keys tags : List ℕ} {c : Cursor} {x : Read (Optio
       record { value = some (a .statement); formed = a .formed }
 
 -- a statement can be read
-pub starts : {a : Arrays} {taken : ℕ} {k : Known} {text keys tags : List ℕ} {c : Cursor} → Holds a taken k → length text ≤ 32_768
+pub starts : {a : Arrays} {taken : ℕ} {k : Known} {text keys tags : List ℕ} {c : Cursor} → Holds a taken k → length text ≤ longestText
     → length keys ≡ namesRoom → length tags ≡ namesRoom → c ≡ startAt (a .known) → Starts text keys tags c
 starts {a} {text = text} {keys} {tags} h small ks ts e =
     subst (Starts text keys tags) (sym e)
@@ -162,7 +163,7 @@ module _ (a : Arrays) (kind : Kind) (label raw text : List ℕ) (leads : kindOf 
       }
 
   module _ (placed : (taken : ℕ) (k : Known) → Holds a taken k → isMisplaced k (kindOf kind) ≡ false) where
-    pub broken-numbered : {a′ : Arrays} → readStatement edition1 (numberIn (a .known)) (placesIn (a .known)) label raw ≡ broken
+    pub broken-numbered : {a′ : Arrays} → readStatement current (numberIn (a .known)) (placesIn (a .known)) label raw ≡ broken
         → Numbered label raw true a 5 a′
     broken-numbered e =
         record {
@@ -175,16 +176,16 @@ module _ (a : Arrays) (kind : Kind) (label raw text : List ℕ) (leads : kindOf 
 
     pub formed-numbered : {v : Option Statement} {table keys tags table′ keys′ tags′ : List ℕ} {c d : Cursor} {a′ : Arrays} {r : ℕ}
         → c ≡ startAt (a .known)
-        → Formed v (length text + 1) table keys tags c (readStatement edition1 (numberIn (a .known)) (placesIn (a .known)) label raw) table′ keys′ tags′ d
+        → Formed v (length text + 1) table keys tags c (readStatement current (numberIn (a .known)) (placesIn (a .known)) label raw) table′ keys′ tags′ d
         → StatementJudged a keys′ tags′ d kind a′ r
         → Numbered label raw true a r a′
     formed-numbered {v} {table} {keys} {tags} {table′} {keys′} {tags′} {c} {d} {a′} {r} start g j = from
       where
         f : Formed v (length text + 1) table keys tags (startAt (a .known))
-            (readStatement edition1 (numberIn (a .known)) (placesIn (a .known)) label raw) table′ keys′ tags′ d
+            (readStatement current (numberIn (a .known)) (placesIn (a .known)) label raw) table′ keys′ tags′ d
         f =
             subst (λ (z : Cursor). Formed v (length text + 1) table keys tags z
-            (readStatement edition1 (numberIn (a .known)) (placesIn (a .known)) label raw) table′ keys′ tags′ d) start g
+            (readStatement current (numberIn (a .known)) (placesIn (a .known)) label raw) table′ keys′ tags′ d) start g
 
         entries : metFrom keys′ tags′ 0 (d .names) ≡ f .entries
         entries =

@@ -5,7 +5,7 @@ use mathlib.Core.Path.{_≡_}
 use Prim.Native.Nat.{ℕ, _+_, _≤_, _<_}
 use lib.Dec.{eqb}
 use lib.ListN.{length, take, drop, getD}
-use Rattle.base.specs.Edition.{edition1}
+use Rattle.base.specs.Current.{current, tableSize}
 use Rattle.base.specs.Lists.{all}
 use Rattle.cards.specs.Cards as Cards
 use Rattle.cards.specs.Cards.{entriesFrom, entries}
@@ -22,6 +22,7 @@ use Rattle.met.specs.Known.{endedAt, itemCountAt, elementCountAt, literalCountA
 use Rattle.met.specs.declared.Cursor.{Cursor}
 use Rattle.forms.specs.Contracts.{Wording}
 use Rattle.packer.specs.Keys.{keyOf, isKeyByte}
+use Rattle.packer.specs.Packs.{longestText}
 use Rattle.packer.specs.declared.Gathered.{Gathered}
 use Rattle.reader.specs.declared.judge.EntryVerdict.{EntryVerdict}
 use Rattle.reader.specs.declared.judge.Verdict.{Verdict}
@@ -35,7 +36,7 @@ pub record Held (a : Arrays) (taken : ℕ) : Type 0 where
 pub record Lent (keys tags table : List ℕ) : Type 0 where
   pub keysSize : length keys ≡ namesRoom
   pub tagsSize : length tags ≡ namesRoom
-  pub tableSize : 28_672 ≤ length table
+  pub tableSize : tableSize ≤ length table
 
 -- a statement of the deck by its label and its bytes, as the code has it in the first bytes of a text
 pub record Worded (text : List ℕ) (e : Gathered) (label raw : List ℕ) : Type 0 where
@@ -54,7 +55,7 @@ pub record Readied (text : List ℕ) (e : Gathered) (a : Arrays) : Type 0 where
   pub taken : ℕ
   pub known : Known
   pub holds : Holds a taken known
-  pub small : length text ≤ 32_768
+  pub small : length text ≤ longestText
   pub room : taken + length text < namesRoom
 
 -- there is an entry to be judged
@@ -65,7 +66,7 @@ pub record Entered (text : List ℕ) (e : Gathered) (a : Arrays) : Type 0 where
   pub taken : ℕ
   pub known : Known
   pub holds : Holds a taken known
-  pub small : e .length ≤ 32_768
+  pub small : e .length ≤ longestText
   pub room : taken + e .length < namesRoom
 
 -- where the number is 0 the arrays of names have their sizes still
@@ -88,9 +89,9 @@ startAt known =
 -- the number of a statement, and what the arrays hold behind it where it is 0; its names take a byte each, its label one more
 pub record Numbered (label raw : List ℕ) (sound : Bool) (a : Arrays) (r : ℕ) (a′ : Arrays) : Type 0 where
   pub number : (taken : ℕ) (k : Known) → Holds a taken k
-      → r ≡ statementNumber k (leading (packed raw) .kind) sound (readStatement edition1 (isOneOf (numbers k)) unplaced label raw)
+      → r ≡ statementNumber k (leading (packed raw) .kind) sound (readStatement current (isOneOf (numbers k)) unplaced label raw)
   pub learnt : r ≡ 0 → (taken : ℕ) (k : Known) → Holds a taken k → (taken′ : ℕ) → taken + length (packed raw) < taken′
-      → Holds a′ taken′ (learn k (leading (packed raw) .kind) (metBy (readStatement edition1 (isOneOf (numbers k)) unplaced label raw)))
+      → Holds a′ taken′ (learn k (leading (packed raw) .kind) (metBy (readStatement current (isOneOf (numbers k)) unplaced label raw)))
 
 -- the number of an entry; a comment or blank line changes nothing
 pub record EntryNumbered (text : List ℕ) (e : Gathered) (a : Arrays) (r : ℕ) (a′ : Arrays) : Type 0 where
@@ -101,12 +102,12 @@ pub record EntryNumbered (text : List ℕ) (e : Gathered) (a : Arrays) (r : ℕ)
 pub record Going (deck : List ℕ) (from card : ℕ) (k : Known) (lines next : ℕ) (a′ : Arrays) : Type 0 where
   pub known : Known
   pub holds : Holds a′ next known
-  pub rest : judgeFrom edition1 k (entriesFrom edition1 card (Cards.lines (drop from deck)))
-      ≡ judgeFrom edition1 known (entriesFrom edition1 (card + lines) (Cards.lines (drop next deck)))
+  pub rest : judgeFrom current k (entriesFrom current card (Cards.lines (drop from deck)))
+      ≡ judgeFrom current known (entriesFrom current (card + lines) (Cards.lines (drop next deck)))
 
 pub record EntryJudged (deck : List ℕ) (from : ℕ) (a : Arrays) (r : EntryVerdict) (a′ : Arrays) : Type 0 where
   pub refuses : (r .number ≡ 0 → ⊥) → (card : ℕ) (k : Known) → Holds a from k
-      → judgeFrom edition1 k (entriesFrom edition1 card (Cards.lines (drop from deck))) ≡ Deck.Judged.refused (r .number) card
+      → judgeFrom current k (entriesFrom current card (Cards.lines (drop from deck))) ≡ Deck.Judged.refused (r .number) card
   pub goes : r .number ≡ 0 → (card : ℕ) (k : Known) → Holds a from k → Going deck from card k (r .lines) (r .next) a′
   pub onward : from < r .next
   pub paced : from + r .lines ≤ r .next
@@ -122,10 +123,10 @@ pub record Passed (deck : List ℕ) (a : Arrays) : Type 0 where
   pub taken : ℕ
   pub holds : Holds a taken known
   pub few : taken ≤ namesRoom
-  pub is : judgeFrom edition1 nothingKnown (entries edition1 deck) ≡ passed known
+  pub is : judgeFrom current nothingKnown (entries current deck) ≡ passed known
 
 pub record StatementsJudged (deck : List ℕ) (r : Verdict) (a : Arrays) : Type 0 where
-  pub refuses : (r .number ≡ 0 → ⊥) → judgeFrom edition1 nothingKnown (entries edition1 deck) ≡ Deck.Judged.refused (r .number) (r .card)
+  pub refuses : (r .number ≡ 0 → ⊥) → judgeFrom current nothingKnown (entries current deck) ≡ Deck.Judged.refused (r .number) (r .card)
   pub passes : r .number ≡ 0 → Passed deck a
   pub few : r .card ≤ length deck + 1
 
@@ -139,11 +140,11 @@ pub record Accepted (deck : List ℕ) (a : Arrays) : Type 0 where
   pub known : Known
   pub taken : ℕ
   pub holds : Holds a taken known
-  pub judging : Judging edition1 nothingKnown (entries edition1 deck) (passed known)
-  pub is : judge edition1 deck ≡ accepted (programOf edition1 known (entries edition1 deck))
+  pub judging : Judging current nothingKnown (entries current deck) (passed known)
+  pub is : judge current deck ≡ accepted (programOf current known (entries current deck))
 
 pub record DeckJudged (deck : List ℕ) (r : Verdict) (a : Arrays) : Type 0 where
-  pub refuses : (r .number ≡ 0 → ⊥) → judge edition1 deck ≡ Judgement.refused (r .number) (r .card)
+  pub refuses : (r .number ≡ 0 → ⊥) → judge current deck ≡ Judgement.refused (r .number) (r .card)
   pub accepts : r .number ≡ 0 → Accepted deck a
   pub few : r .card ≤ length deck + 1
   pub without : r .number ≡ 0 → r .card ≡ 0

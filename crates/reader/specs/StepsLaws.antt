@@ -10,7 +10,8 @@ use lib.Dec.{eqb}
 use lib.ListN.{length, take, drop, getD, set, length-append, length-set}
 use lib.Seq.{getD-set-other, getD-set-same, take-set-le, drop-set-add}
 use Rattle.base.specs.Choice.{test-cases}
-use Rattle.base.specs.Edition.{edition1}
+use Rattle.base.specs.Current.{current}
+use Rattle.base.specs.Limits.{longestDeck}
 use Rattle.branches.specs.Places.{numberIn}
 use Rattle.calls.specs.Table.{allElements, allItems, allLiterals, elementsOf, itemsOf}
 use Rattle.cards.specs.Cards as Cards
@@ -46,18 +47,18 @@ pub record Reread (whole k : Known) (sound : Bool) (label raw : List ℕ) (es : 
   pub value : Option Statement
   pub met : Met
   pub rest : List ℕ
-  pub is : readStatement edition1 (isOneOf (numbers whole)) (placesOf whole (suc (k .steps))) label raw ≡ got value met rest
+  pub is : readStatement current (isOneOf (numbers whole)) (placesOf whole (suc (k .steps))) label raw ≡ got value met rest
   pub step : IsStep (isStep (leading (packed raw) .kind)) value
-  pub again : Again edition1 whole (learn k (leading (packed raw) .kind) met) es
+  pub again : Again current whole (learn k (leading (packed raw) .kind) met) es
   pub whether : sound ≡ true
 
 again-statement : {whole k : Known} {card : ℕ} {sound : Bool} {label raw : List ℕ} {es : List Entry}
-    → Again edition1 whole k (statement card sound label raw ∷ es) → Reread whole k sound label raw es
+    → Again current whole k (statement card sound label raw ∷ es) → Reread whole k sound label raw es
 again-statement (reads s m rest q step p used next j) =
     record { value = s; met = m; rest = rest; is = q; step = step; again = j; whether = refl }
 
 again-skipped : {whole k : Known} {card : ℕ} {sound : Bool} {es : List Entry}
-    → Again edition1 whole k (skipped card sound ∷ es) → Again edition1 whole k es
+    → Again current whole k (skipped card sound ∷ es) → Again current whole k es
 again-skipped (past j) = j
 
 -- the steps known behind a statement
@@ -111,32 +112,32 @@ module _ {deck : List ℕ} {whole : Known} {e : Gathered} {p : Progress} {t : Li
 
 -- the step that a statement makes, and those behind it
 steps-none : (whole : Known) (n card : ℕ) (sound : Bool) (label raw : List ℕ) (es : List Entry) {m : Met} {rest : List ℕ}
-    → readStatement edition1 (isOneOf (numbers whole)) (placesOf whole (suc n)) label raw ≡ got none m rest
-    → stepsFrom edition1 whole n (statement card sound label raw ∷ es) ≡ stepsFrom edition1 whole n es
+    → readStatement current (isOneOf (numbers whole)) (placesOf whole (suc n)) label raw ≡ got none m rest
+    → stepsFrom current whole n (statement card sound label raw ∷ es) ≡ stepsFrom current whole n es
 unfolding stepsFrom stepRead
 steps-none whole n card sound label raw es q =
-    ap {B = List Step} (λ x. let read = stepRead card x in read ++ stepsFrom edition1 whole (elim read [ [] ↦ n | s ∷ ss ↦ suc n ]) es) q
+    ap {B = List Step} (λ x. let read = stepRead card x in read ++ stepsFrom current whole (elim read [ [] ↦ n | s ∷ ss ↦ suc n ]) es) q
 
 steps-some : (whole : Known) (n card : ℕ) (sound : Bool) (label raw : List ℕ) (es : List Entry) {s : Statement} {m : Met} {rest : List ℕ}
-    → readStatement edition1 (isOneOf (numbers whole)) (placesOf whole (suc n)) label raw ≡ got (some s) m rest
-    → stepsFrom edition1 whole n (statement card sound label raw ∷ es)
-    ≡ record { card = card; statement = s } ∷ stepsFrom edition1 whole (suc n) es
+    → readStatement current (isOneOf (numbers whole)) (placesOf whole (suc n)) label raw ≡ got (some s) m rest
+    → stepsFrom current whole n (statement card sound label raw ∷ es)
+    ≡ record { card = card; statement = s } ∷ stepsFrom current whole (suc n) es
 unfolding stepsFrom stepRead
 steps-some whole n card sound label raw es q =
-    ap {B = List Step} (λ x. let read = stepRead card x in read ++ stepsFrom edition1 whole (elim read [ [] ↦ n | s ∷ ss ↦ suc n ]) es) q
+    ap {B = List Step} (λ x. let read = stepRead card x in read ++ stepsFrom current whole (elim read [ [] ↦ n | s ∷ ss ↦ suc n ]) es) q
 
 -- what the code reads with is what the deck's program is read with
 read-again : (a : Arrays) (taken : ℕ) (whole : Known) → Holds a taken whole → (n : ℕ) → getD (a .known) nextAt 0 ≡ n → (label raw : List ℕ)
-    → readStatement edition1 (numberIn (a .known)) (placesIn (a .known)) label raw
-    ≡ readStatement edition1 (isOneOf (numbers whole)) (placesOf whole n) label raw
+    → readStatement current (numberIn (a .known)) (placesIn (a .known)) label raw
+    ≡ readStatement current (isOneOf (numbers whole)) (placesOf whole n) label raw
 read-again a taken whole h n e label raw =
-    ap (λ (ns : List (List ℕ)). readStatement edition1 (isOneOf ns) (placesIn (a .known)) label raw) (h .numbers)
-    ∙ ap (λ at. readStatement edition1 (isOneOf (numbers whole)) at label raw) (held-places a taken whole h n e)
+    ap (λ (ns : List (List ℕ)). readStatement current (isOneOf ns) (placesIn (a .known)) label raw) (h .numbers)
+    ∙ ap (λ at. readStatement current (isOneOf (numbers whole)) at label raw) (held-places a taken whole h n e)
 
 -- the entry that the code has gathered
 module _ {deck text : List ℕ} {e : Gathered} {p : Progress} (g : Gathers deck (p .from) text e) (whole : Known) (again : Resumes deck whole p) where
   abbrev rest : List Entry
-  rest = entriesFrom edition1 (p .card + e .lines) (Cards.lines (drop (e .next) deck))
+  rest = entriesFrom current (p .card + e .lines) (Cards.lines (drop (e .next) deck))
 
   pub skipped-written : (t : List ℕ) → e .skipped ≡ true → EntryWritten deck whole p t (passedBy p e) t
   unfolding entryOf stepsFrom
@@ -144,11 +145,11 @@ module _ {deck text : List ℕ} {e : Gathered} {p : Progress} (g : Gathers deck 
       let here : entriesLeft deck p ≡ skipped (p .card) (e .sound) ∷ rest =
       g .entry (p .card) ∙ ap (λ u. cond u (skipped (p .card) (e .sound)) (statement (p .card) (e .sound) (g .label) (g .raw)) ∷ rest) s in
       record {
-        onward = onward-skip refl refl refl refl refl (ap (stepsFrom edition1 whole (p .steps)) here);
+        onward = onward-skip refl refl refl refl refl (ap (stepsFrom current whole (p .steps)) here);
         again =
             record {
               run = again .run;
-              reads = again-skipped (subst (Again edition1 whole (again .run)) here (again .reads));
+              reads = again-skipped (subst (Again current whole (again .run)) here (again .reads));
               steps = again .steps;
             };
         further = g .onward;
@@ -162,7 +163,7 @@ module _ {deck text : List ℕ} {e : Gathered} {p : Progress} (g : Gathers deck 
     here = g .entry (p .card) ∙ ap (λ u. cond u (skipped (p .card) (e .sound)) (statement (p .card) (e .sound) (g .label) (g .raw)) ∷ rest) f
 
     reread : Reread whole (again .run) (e .sound) (g .label) (g .raw) rest
-    reread = again-statement (subst (Again edition1 whole (again .run)) here (again .reads))
+    reread = again-statement (subst (Again current whole (again .run)) here (again .reads))
 
     pub is-sound : e .sound ≡ true
     is-sound = reread .whether
@@ -170,9 +171,9 @@ module _ {deck text : List ℕ} {e : Gathered} {p : Progress} (g : Gathers deck 
     pub again-worded : Wording (g .label) (g .raw) (take (e .length) text) (e .label) (e .whole)
     again-worded = wording (gathered-worded g) is-sound
 
-    read : readStatement edition1 (isOneOf (numbers whole)) (placesOf whole (suc (p .steps))) (g .label) (g .raw)
+    read : readStatement current (isOneOf (numbers whole)) (placesOf whole (suc (p .steps))) (g .label) (g .raw)
         ≡ got (reread .value) (reread .met) (reread .rest)
-    read = ap (λ n. readStatement edition1 (isOneOf (numbers whole)) (placesOf whole (suc n)) (g .label) (g .raw)) (sym (again .steps)) ∙ reread .is
+    read = ap (λ n. readStatement current (isOneOf (numbers whole)) (placesOf whole (suc n)) (g .label) (g .raw)) (sym (again .steps)) ∙ reread .is
 
     module _ {t t′ : List ℕ} {r : Progress} where
       to-written : (v : Option Statement) → v ≡ reread .value → Written v e p t r t′ → EntryWritten deck whole p t r t′
@@ -182,7 +183,7 @@ module _ {deck text : List ℕ} {e : Gathered} {p : Progress} (g : Gathers deck 
             again =
                 record {
                   run = learn (again .run) (leading (packed (g .raw)) .kind) (reread .met);
-                  reads = subst (Again edition1 whole (learn (again .run) (leading (packed (g .raw)) .kind) (reread .met))) (sym entries) (reread .again);
+                  reads = subst (Again current whole (learn (again .run) (leading (packed (g .raw)) .kind) (reread .met))) (sym entries) (reread .again);
                   steps =
                       learnt-steps (again .run) (g .raw) (reread .met) (reread .value) (reread .step)
                       ∙ ap (λ u. again .run .steps + stepCount u) (sym q)
@@ -200,14 +201,14 @@ module _ {deck text : List ℕ} {e : Gathered} {p : Progress} (g : Gathers deck 
           onward : (v : Option Statement) → v ≡ reread .value → Written v e p t r t′ → Continues deck whole p t r t′
           onward none q w =
               onward-none w
-              (ap (stepsFrom edition1 whole (p .steps)) here
+              (ap (stepsFrom current whole (p .steps)) here
               ∙ steps-none whole (p .steps) (p .card) (e .sound) (g .label) (g .raw) rest
               (read ∙ ap (λ v. got v (reread .met) (reread .rest)) (sym q))
               ∙ sym (rw (w .from, w .card, w .steps ∙ add-zero (p .steps))))
           onward (some s) q w =
               let next : r .steps ≡ suc (p .steps) = omega (arith, w .steps) in
               onward-some s w
-              (ap (stepsFrom edition1 whole (p .steps)) here
+              (ap (stepsFrom current whole (p .steps)) here
               ∙ steps-some whole (p .steps) (p .card) (e .sound) (g .label) (g .raw) rest
               (read ∙ ap (λ v. got v (reread .met) (reread .rest)) (sym q))
               ∙ ap (λ ss. record { card = p .card; statement = s } ∷ ss) (sym (rw (w .from, w .card, next))))
@@ -345,20 +346,20 @@ gathered-steps {deck} {text} {known} {keys} {tags} {e} {p} {t} {r} {known′} {k
 pub record Ongoing (deck known₀ t₀ : List ℕ) (whole : Known) (a : Arrays) (taken : ℕ) (known : List ℕ) (p : Progress) (t : List ℕ) : Type 0 where
   pub holds : Holds (withKnown a known) taken whole
   pub again : Resumes deck whole p
-  pub table : withAllSteps t₀ 0 0 0 0 (stepsFrom edition1 whole 0 (entries edition1 deck))
+  pub table : withAllSteps t₀ 0 0 0 0 (stepsFrom current whole 0 (entries current deck))
       ≡ withAllSteps t (p .steps) (p .elements) (p .items) (p .literals) (stepsLeft deck whole p)
-  pub steps : length (stepsFrom edition1 whole 0 (entries edition1 deck)) ≡ p .steps + length (stepsLeft deck whole p)
-  pub elements : length (allElements (stepsFrom edition1 whole 0 (entries edition1 deck)))
+  pub steps : length (stepsFrom current whole 0 (entries current deck)) ≡ p .steps + length (stepsLeft deck whole p)
+  pub elements : length (allElements (stepsFrom current whole 0 (entries current deck)))
       ≡ p .elements + length (allElements (stepsLeft deck whole p))
-  pub items : length (allItems (stepsFrom edition1 whole 0 (entries edition1 deck))) ≡ p .items + length (allItems (stepsLeft deck whole p))
-  pub literals : length (allLiterals (allElements (stepsFrom edition1 whole 0 (entries edition1 deck))))
+  pub items : length (allItems (stepsFrom current whole 0 (entries current deck))) ≡ p .items + length (allItems (stepsLeft deck whole p))
+  pub literals : length (allLiterals (allElements (stepsFrom current whole 0 (entries current deck))))
       ≡ p .literals + length (allLiterals (allElements (stepsLeft deck whole p)))
   pub inside : p .from ≤ length deck + 1
   pub few : p .card ≤ p .from + 1
 
 -- all steps of the deck are written
 pub record DeckWritten (deck known t : List ℕ) (r : Progress) (known′ t′ : List ℕ) : Type 0 where
-  pub written : (w : Whole deck known) → StepsWritten (stepsFrom edition1 (w .whole) 0 (entries edition1 deck)) t r t′
+  pub written : (w : Whole deck known) → StepsWritten (stepsFrom current (w .whole) 0 (entries current deck)) t r t′
   pub holds : (w : Whole deck known) → Holds (withKnown (w .arrays) known′) (w .taken) (w .whole)
 
 -- before the first line
@@ -383,7 +384,7 @@ ongoing-none t₀ w =
 
 module _ {deck known₀ t₀ : List ℕ} {whole : Known} {a : Arrays} {taken : ℕ} {known : List ℕ} {p : Progress} {t : List ℕ}
     (o : Ongoing deck known₀ t₀ whole a taken known p t) where
-  pub ongoing-small : InRange edition1 (programOf edition1 whole (entries edition1 deck)) → p .from < length deck → length deck ≤ 32_768 → Small p
+  pub ongoing-small : InRange current (programOf current whole (entries current deck)) → p .from < length deck → length deck ≤ longestDeck → Small p
   unfolding programOf
   ongoing-small f h small =
       record {
@@ -419,9 +420,9 @@ module _ {deck known₀ t₀ : List ℕ} {whole : Known} {a : Arrays} {taken : �
   -- behind the last line there are no steps
   no-more : length deck ≤ p .from → stepsLeft deck whole p ≡ []
   unfolding stepsFrom
-  no-more h = ap (stepsFrom edition1 whole (p .steps)) (entries-behind deck (p .from) h (p .card))
+  no-more h = ap (stepsFrom current whole (p .steps)) (entries-behind deck (p .from) h (p .card))
 
-  pub ongoing-ends : length deck ≤ p .from → StepsWritten (stepsFrom edition1 whole 0 (entries edition1 deck)) t₀ p t
+  pub ongoing-ends : length deck ≤ p .from → StepsWritten (stepsFrom current whole 0 (entries current deck)) t₀ p t
   unfolding withAllSteps allElements allItems allLiterals
   ongoing-ends h =
       let none = no-more h in

@@ -2,6 +2,7 @@
 
 unfoldable pub everything : Unit {0}
 unfolding
+    Rattle.base.specs.Current.current
     Rattle.base.specs.Edition.edition1
     Rattle.base.specs.Lists.same
     Rattle.base.specs.Lists.begins

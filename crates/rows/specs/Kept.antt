@@ -9,7 +9,7 @@ use lib.Dec.{leb, eqb}
 use lib.ListN.{length, take, drop, getD, length-append, length-map, List·getD-map}
 use borrow.Author.Tests.{leb-true, ltb-true, eqb-true}
 use Rattle.base.specs.Choice.{cond-cases}
-use Rattle.base.specs.Edition.{edition1}
+use Rattle.base.specs.Current.{current}
 use Rattle.base.specs.Limits as Limits
 use Rattle.base.specs.Lists.{all, isNil}
 use Rattle.language.specs.Program as Program
@@ -108,7 +108,7 @@ statement-is t k h =
     List·getD-map statement (programIn t .steps) k noStep ∙ ap statement (program-step t k noStep h)
 
 -- the table keeps the rules
-module _ (t : List ℕ) (kept : keepsRules edition1 t ≡ true) where
+module _ (t : List ℕ) (kept : keepsRules current t ≡ true) where
   -- what its program has
   abbrev strings : ℕ
   strings = programIn t .strings
@@ -125,12 +125,12 @@ module _ (t : List ℕ) (kept : keepsRules edition1 t ≡ true) where
   abbrev items : ℕ
   items = length (allItems (programIn t .steps))
 
-  ok : InRange edition1 (programIn t)
+  ok : InRange current (programIn t)
   ok = program-in-range t kept
 
   -- an element that is read from one of its cells and passes the test holds
   element-holds : (k : ℕ) (x : Element) → k < elements → ElementRead t (cellAt t (elementsAt + 8 * k)) x
-      → Rules.elementHolds edition1 strings numbers steps (elementMeaning t x) ≡ true → ElementHolds x
+      → Rules.elementHolds current strings numbers steps (elementMeaning t x) ≡ true → ElementHolds x
   unfolding Rules.elementHolds literalsAt
   element-holds k (Literal from to) inside r h =
       let kind = literal-kind t (cellAt t (elementsAt + 8 * k)) (take (to - from) (drop from t)) (r .means) in
@@ -142,7 +142,7 @@ module _ (t : List ℕ) (kept : keepsRules edition1 t ≡ true) where
 
   -- and so does an element of a pattern
   pattern-holds : (reference k : ℕ) (x : PatternElement) → k < elements → PatternRead t (cellAt t (elementsAt + 8 * k)) x
-      → Rules.patternHolds edition1 strings numbers steps reference (patternMeaning t x) ≡ true → PatternHolds reference x
+      → Rules.patternHolds current strings numbers steps reference (patternMeaning t x) ≡ true → PatternHolds reference x
   unfolding Rules.patternHolds
   pattern-holds r k (Value x) inside read h = element-holds k x inside (value-read t (cellAt t (elementsAt + 8 * k)) x read) h
   pattern-holds r k (Free s) inside read h = free-holds strings numbers steps (ok .strings) (ok .numbers) r s h
@@ -150,10 +150,10 @@ module _ (t : List ℕ) (kept : keepsRules edition1 t ≡ true) where
 
   -- a stretch of items that pass the test and end within all items
   items-hold : (s : Stretch) → s .from + s .count ≤ items → balanced 0 (itemsMeaning t s) ≡ true
-      → all (Rules.itemHolds edition1 strings numbers steps) (itemsMeaning t s) ≡ true → ItemsHold t s
+      → all (Rules.itemHolds current strings numbers steps) (itemsMeaning t s) ≡ true → ItemsHold t s
   unfolding itemsFrom
   items-hold s end whole h =
-      let test = Rules.itemHolds edition1 strings numbers steps in
+      let test = Rules.itemHolds current strings numbers steps in
       let own : ℕ → Program.Item = λ k. itemOfCell (cellAt t (itemsAt + 8 * k)) in
       record {
         inside = omega (arith, ok .items);
@@ -166,10 +166,10 @@ module _ (t : List ℕ) (kept : keepsRules edition1 t ≡ true) where
 
   -- a stretch of elements
   elements-hold : (s : Stretch) → s .from + s .count ≤ elements → s .count ≡ length (elementsMeaning t s)
-      → Rules.rowHolds edition1 strings numbers steps (elementsMeaning t s) ≡ true → ElementsHold t s
+      → Rules.rowHolds current strings numbers steps (elementsMeaning t s) ≡ true → ElementsHold t s
   unfolding Rules.rowHolds elementsFrom
   elements-hold s end count h =
-      let test = Rules.elementHolds edition1 strings numbers steps in
+      let test = Rules.elementHolds current strings numbers steps in
       let size = length (elementsMeaning t s) in
       let both = and-eq-true-iff (leb size Limits.row) (all test (elementsMeaning t s)) .0 h in
       let own : ℕ → Program.Element = λ k. elementOfCell t (cellAt t (elementsAt + 8 * k)) in
@@ -183,10 +183,10 @@ module _ (t : List ℕ) (kept : keepsRules edition1 t ≡ true) where
 
   -- a stretch of a pattern
   patterns-hold : (reference : ℕ) (s : Stretch) → s .from + s .count ≤ elements → s .count ≤ Limits.row
-      → all (Rules.patternHolds edition1 strings numbers steps reference) (patternsMeaning t s) ≡ true → PatternsHold t reference s
+      → all (Rules.patternHolds current strings numbers steps reference) (patternsMeaning t s) ≡ true → PatternsHold t reference s
   unfolding patternFrom
   patterns-hold reference s end few h =
-      let test = Rules.patternHolds edition1 strings numbers steps reference in
+      let test = Rules.patternHolds current strings numbers steps reference in
       let own : ℕ → Program.PatternElement = λ k. patternOfCell t (cellAt t (elementsAt + 8 * k)) in
       record {
         inside = omega (arith, ok .elements);
@@ -199,7 +199,7 @@ module _ (t : List ℕ) (kept : keepsRules edition1 t ≡ true) where
   -- a row's stretch of elements, and nothing behind it
   stretch-holds : (at card element : ℕ) (r : Table.Row) (s : Stretch) → Stands t at (rowBytes card r)
       → r .right ≡ rangeCell element (length (elementsMeaning t s)) 0 → element + length (map Program.value (elementsMeaning t s)) ≤ elements
-      → StretchRead (rowAt t at .right .value) s → Rules.rowHolds edition1 strings numbers steps (elementsMeaning t s) ≡ true
+      → StretchRead (rowAt t at .right .value) s → Rules.rowHolds current strings numbers steps (elementsMeaning t s) ≡ true
       → ElementsHold t s
   stretch-holds at card element r s bytes right end read h =
       let size = length (elementsMeaning t s) in
@@ -210,7 +210,7 @@ module _ (t : List ℕ) (kept : keepsRules edition1 t ≡ true) where
   -- a replacement behind its pattern
   replacement-holds : (x : Replacement) (v from count : ℕ) → RangeIs v from count (length (replacementOf (replacementMeaning t x)))
       → BehindRead v x → from + (count + length (replacementOf (replacementMeaning t x))) ≤ elements
-      → Rules.rowHolds edition1 strings numbers steps (replacementOf (replacementMeaning t x)) ≡ true → ReplacementHolds t x
+      → Rules.rowHolds current strings numbers steps (replacementOf (replacementMeaning t x)) ≡ true → ReplacementHolds t x
   unfolding replacementOf
   replacement-holds Nothing v from count range read end h = tt
   replacement-holds (By s) v from count range read end h =
@@ -219,14 +219,14 @@ module _ (t : List ℕ) (kept : keepsRules edition1 t ≡ true) where
   -- a scan
   scan-holds : (at card : ℕ) (x : Scan.Scan) → RowPlace t at elements items card (statementMeaning t (statements.Scan x))
       → ScanStretches (rowAt t at .right .value) x
-      → Rules.statementHolds edition1 strings numbers steps (statementMeaning t (statements.Scan x)) ≡ true → ScanHolds t steps x
+      → Rules.statementHolds current strings numbers steps (statementMeaning t (statements.Scan x)) ≡ true → ScanHolds t steps x
   unfolding Rules.statementHolds rowOf row elementsOf
   scan-holds at card x p r h =
       let xs = patternsMeaning t (x .pattern) in
       let more = replacementOf (replacementMeaning t (x .replacement)) in
       let d = directionMeaning (x .direction) in
       let b = branchMeaning (x .branch) in
-      let tests = scan-parts edition1 strings numbers steps d (partMeaning (x .part)) xs (replacementMeaning t (x .replacement)) b h in
+      let tests = scan-parts current strings numbers steps d (partMeaning (x .part)) xs (replacementMeaning t (x .replacement)) b h in
       let count = length-append xs (map Program.value more) in
       let moreCount = length-map more Program.value in
       let end : p .element + (length xs + length more) ≤ elements = omega (arith, p .elementsEnd) in
@@ -246,19 +246,19 @@ module _ (t : List ℕ) (kept : keepsRules edition1 t ≡ true) where
 
   -- what passes a test, with a branch behind it
   and-branch : {A : Type 0} (test : Bool) (b : Branch) → (test ≡ true → A)
-      → test && Rules.branchHolds edition1 strings numbers steps (branchMeaning b) ≡ true → A × BranchHolds steps b
+      → test && Rules.branchHolds current strings numbers steps (branchMeaning b) ≡ true → A × BranchHolds steps b
   and-branch test b holds h =
-      let both = and-eq-true-iff test (Rules.branchHolds edition1 strings numbers steps (branchMeaning b)) .0 h in
+      let both = and-eq-true-iff test (Rules.branchHolds current strings numbers steps (branchMeaning b)) .0 h in
       (holds (both .0), branch-holds strings numbers steps (ok .strings) (ok .numbers) b (both .1))
 
   -- a statement that is read from its row
   statement-kept : (at card : ℕ) (x : Statement) → RowPlace t at elements items card (statementMeaning t x)
-      → StretchesRead (rowAt t at .right .value) x → Rules.statementHolds edition1 strings numbers steps (statementMeaning t x) ≡ true
+      → StretchesRead (rowAt t at .right .value) x → Rules.statementHolds current strings numbers steps (statementMeaning t x) ≡ true
       → StatementHolds t steps x
   unfolding Rules.statementHolds Rules.testHolds rowOf row elementsOf itemsOf
   statement-kept at card (statements.SetNumber i s) p r h =
       let l = itemsMeaning t s in
-      let tests = number-parts edition1 strings numbers steps i l h in
+      let tests = number-parts current strings numbers steps i l h in
       let own = rowOf (p .element) (p .item) (Program.setNumber i l) in
       let range = row-range t at card (p .item) (length l) 0 own (p .bytes) refl (omega (arith, p .itemsEnd, ok .items)) in
       let end : s .from + s .count ≤ items = omega (arith, r .from, r .count, range .first, range .second, p .itemsEnd) in
@@ -266,7 +266,7 @@ module _ (t : List ℕ) (kept : keepsRules edition1 t ≡ true) where
   statement-kept at card (statements.SetString q s) p r h =
       let l = elementsMeaning t s in
       let both =
-      and-eq-true-iff (Rules.partHolds edition1 strings numbers steps (partMeaning q)) (Rules.rowHolds edition1 strings numbers steps l) .0 h in
+      and-eq-true-iff (Rules.partHolds current strings numbers steps (partMeaning q)) (Rules.rowHolds current strings numbers steps l) .0 h in
       let own = rowOf (p .element) (p .item) (Program.setString (partMeaning q) l) in (
         part-holds strings numbers steps (ok .strings) (ok .numbers) q (both .0),
         stretch-holds at card (p .element) own s (p .bytes) refl (p .elementsEnd) r (both .1),
@@ -293,22 +293,22 @@ module _ (t : List ℕ) (kept : keepsRules edition1 t ≡ true) where
       let inside : k < steps = omega (arith, step-count t) in
       let card = getD (programIn t .steps) k noStep .card in
       let place = subst (RowPlace t (stepsAt + 24 * k) elements items card) own (kept-row t kept k noStep inside) in
-      let test = statement-holds edition1 strings numbers steps (programIn t .steps) k (ok .hold) in
+      let test = statement-holds current strings numbers steps (programIn t .steps) k (ok .hold) in
       let passes =
-      ap (Rules.statementHolds edition1 strings numbers steps)
+      ap (Rules.statementHolds current strings numbers steps)
       (sym own ∙ sym (List·getD-map (λ (s : Program.Step). s .statement) (programIn t .steps) k noStep)) ∙ test in
       subst (λ (n : ℕ). StatementHolds t n x) (step-count t) (statement-kept (stepsAt + 24 * k) card x place (r .stretches) passes)
 
   -- there is a first step, and not too many
   pub kept-steps : (0 < numberAt 2 t 2) × (numberAt 2 t 2 ≤ Limits.statements)
   kept-steps =
-      let runs = program-runs edition1 (programIn t) (keeps-image edition1 t kept .0) in
+      let runs = program-runs current (programIn t) (keeps-image current t kept .0) in
       omega (arith, step-count t, first-step (programIn t .steps) (runs .last), ok .steps)
 
   -- behind a step that doesn't finish there is a step
   pub kept-next : (k : ℕ) → k < numberAt 2 t 2 → isFinish (statementOfRow t (rowAt t (stepsAt + 24 * k))) ≡ false → k + 1 < numberAt 2 t 2
   unfolding statementAt
   kept-next k h goes =
-      let runs = program-runs edition1 (programIn t) (keeps-image edition1 t kept .0) in
+      let runs = program-runs current (programIn t) (keeps-image current t kept .0) in
       let count = step-count t in
       omega (arith, step-behind (programIn t .steps) k (runs .last) (omega arith) (ap isFinish (statement-is t k h) ∙ goes))

@@ -6,9 +6,9 @@ use mathlib.Core.Path.{_≡_, refl, _∙_, ap, subst}
 use Prim.Native.Nat.{ℕ, zero, suc, _+_, _*_, _-_, _^_, _≤_, _<_}
 use native.Mathlib.Omega.{arith}
 use lib.ListN.{length, drop, getD, length-append, take-append-drop}
-use Rattle.base.specs.Edition.{edition1}
+use Rattle.base.specs.Current.{current}
 use Rattle.base.specs.Limits as Limits
-use Rattle.calls.specs.DemandLaws.{edition1-size}
+use Rattle.calls.specs.DemandLaws.{current-size}
 use Rattle.language.specs.Program.{PatternElement, value, freeFiller, fixedFiller, literal, part, text, Statement, Step}
 use Rattle.calls.specs.CellLaws.{cell-read, range-read, length-kinds, part-kinds, length-cellBytes}
 use Rattle.calls.specs.NumeralLaws.{Stands, stands-moved, stands-front, stands-back, byte-read}
@@ -134,19 +134,19 @@ row-range t at card from count more r s e small =
       third = ap rangeMore read ∙ ranges .third;
     }
 
-module _ (t : List ℕ) (kept : keepsRules edition1 t ≡ true) where
+module _ (t : List ℕ) (kept : keepsRules current t ≡ true) where
   -- the program that the table holds is in range
-  pub program-in-range : InRange edition1 (programIn t)
-  program-in-range = in-range edition1 (programIn t) (keeps-image edition1 t kept .0)
+  pub program-in-range : InRange current (programIn t)
+  program-in-range = in-range current (programIn t) (keeps-image current t kept .0)
 
   -- its regions stand at their places
   regions : RegionsStand t (programIn t)
   regions =
-      let size = edition1 .tableSize in
-      let whole : image edition1 (programIn t) ++ drop size t ≡ t =
-      ap (λ (l : List ℕ). l ++ drop size t) (keeps-image edition1 t kept .1) ∙ take-append-drop size t in
+      let size = current .tableSize in
+      let whole : image current (programIn t) ++ drop size t ≡ t =
+      ap (λ (l : List ℕ). l ++ drop size t) (keeps-image current t kept .1) ∙ take-append-drop size t in
       subst (λ (l : List ℕ). RegionsStand l (programIn t)) whole
-      (regions-stand edition1 (programIn t) edition1-size program-in-range (drop size t))
+      (regions-stand current (programIn t) current-size program-in-range (drop size t))
 
   -- the row of each of its steps
   pub kept-row : (k : ℕ) (d : Step) → k < length (programIn t .steps)

@@ -6,7 +6,7 @@ use mathlib.Core.Path.{_≡_, refl, sym, _∙_, ap, ap₂}
 use Prim.Native.Nat.{ℕ, _+_, _*_, _-_, _≤_, _<_}
 use native.Mathlib.Omega.{arith}
 use lib.ListN.{length, take, getD, replicate}
-use Rattle.base.specs.Edition.{edition1}
+use Rattle.base.specs.Current.{current, tableSize}
 use Rattle.base.specs.ListLaws.{same-refl, length-stretch}
 use Rattle.base.specs.Lists.{same}
 use Rattle.calls.specs.NumeralLaws.{Stands, stands-back, byte-read, number-behind}
@@ -17,7 +17,6 @@ use Rattle.calls.specs.Table.{stepsAt, elementsAt, itemsAt, literalsAt, format,
 use Rattle.calls.specs.TableLaws.{InRange, in-range, length-filledTo, length-elementRows, length-itemRows, keeps-image, length-stepRows}
 use Rattle.calls.specs.TableReading.{programIn}
 use Rattle.rows.specs.Kept.{step-count}
-use Rattle.rows.specs.Meaning.{tableSize}
 use Rattle.rules.specs.Same.{SameSteps, all-elements, all-literals, all-items}
 use Rattle.rules.specs.Same.{literals-written, items-written, elements-written, steps-written}
 use Rattle.rules.specs.Split.{piece-split, filled-split, items-same, elements-same, literals-same, steps-same}
@@ -30,7 +29,7 @@ Zeros t at n = piece t at n ≡ replicate n 0
 pub record Checked (t : List ℕ) : Type 0 where
   pub format : getD t 0 0 ≡ 1
   pub second : getD t 1 0 ≡ 0
-  pub inside : isProgram edition1 (programIn t) ≡ true
+  pub inside : isProgram current (programIn t) ≡ true
   pub elements : length (allElements (programIn t .steps)) ≡ numberAt 2 t 8
   pub items : length (allItems (programIn t .steps)) ≡ numberAt 2 t 10
   pub literals : length (allLiterals (allElements (programIn t .steps))) ≡ numberAt 2 t 12
@@ -83,11 +82,11 @@ header-written t bytes room c =
 
 -- a table of bytes that is checked is the image of its program
 image-written : (t : List ℕ) → ((i : ℕ) → getD t i 0 < 256) → tableSize ≤ length t → Checked t
-    → image edition1 (programIn t) ≡ take tableSize t
-unfolding image stepsAt elementsAt itemsAt literalsAt edition1
+    → image current (programIn t) ≡ take tableSize t
+unfolding image stepsAt elementsAt itemsAt literalsAt current
 image-written t bytes room c =
     let p = programIn t in
-    let ok = in-range edition1 p (c .inside) in
+    let ok = in-range current p (c .inside) in
     let ss = p .steps in
     let es = allElements ss in
     let count = step-count t in
@@ -108,8 +107,8 @@ image-written t bytes room c =
     ap₂ {C = List ℕ} _++_ one most ∙ sym (piece-add t 0 64 28608)
 
 -- and keeps the rules
-pub checked-keeps : (t : List ℕ) → ((i : ℕ) → getD t i 0 < 256) → tableSize ≤ length t → Checked t → keepsRules edition1 t ≡ true
-unfolding keepsRules edition1
+pub checked-keeps : (t : List ℕ) → ((i : ℕ) → getD t i 0 < 256) → tableSize ≤ length t → Checked t → keepsRules current t ≡ true
+unfolding keepsRules current
 checked-keeps t bytes room c = rw (c .inside, image-written t bytes room c) (same-refl (take tableSize t))
 
 -- the counts of the header are the program's
@@ -121,7 +120,7 @@ record Counted (t : List ℕ) : Type 0 where
   literals : length (allLiterals (allElements (programIn t .steps))) ≡ numberAt 2 t 12
 
 -- where its bytes stand
-header-counted : (t : List ℕ) → InRange edition1 (programIn t) → Stands t 0 (header (programIn t)) → Counted t
+header-counted : (t : List ℕ) → InRange current (programIn t) → Stands t 0 (header (programIn t)) → Counted t
 unfolding header inBytes format
 header-counted t ok s =
     let p = programIn t in
@@ -143,12 +142,12 @@ header-counted t ok s =
     }
 
 -- a table that keeps the rules is checked
-pub keeps-checked : (t : List ℕ) → tableSize ≤ length t → keepsRules edition1 t ≡ true → Checked t
-unfolding image stepsAt elementsAt itemsAt literalsAt edition1 header inBytes
+pub keeps-checked : (t : List ℕ) → tableSize ≤ length t → keepsRules current t ≡ true → Checked t
+unfolding image stepsAt elementsAt itemsAt literalsAt current header inBytes
 keeps-checked t room h =
     let p = programIn t in
-    let both = keeps-image edition1 t h in
-    let ok = in-range edition1 p (both .0) in
+    let both = keeps-image current t h in
+    let ok = in-range current p (both .0) in
     let ss = p .steps in
     let es = allElements ss in
     let rows = stepRows 0 0 ss in

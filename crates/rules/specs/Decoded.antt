@@ -9,7 +9,7 @@ use lib.Dec.{leb, ltb, eqb}
 use lib.ListN.{length, getD, length-map, length-append}
 use borrow.Author.Tests.{leb-true, lt-ltb, le-leb, eqb-true}
 use Rattle.base.specs.Choice.{test-cases, either-true, both-true}
-use Rattle.base.specs.Edition.{edition1}
+use Rattle.base.specs.Current.{current, tableSize}
 use Rattle.calls.specs.ReadingLaws.{length-items, length-elements, length-patterns}
 use Rattle.language.specs.Program.{Element, value, Statement}
 use Rattle.calls.specs.RowLaws.{Each}
@@ -19,7 +19,6 @@ use Rattle.calls.specs.Table.{replacementOf, elementsOf, itemsOf, allLiterals}
 use Rattle.calls.specs.TableReading.{rangeFrom, rangeCount, rangeMore, itemsFrom, elementsFrom, patternFrom, comparisonOf}
 use Rattle.calls.specs.TableReading.{branchOf, testOf, elementsOfRow, patternOfRow, replacementOfRow, directionOf, statementOfRow}
 use Rattle.calls.specs.YieldingForms.{literals-append}
-use Rattle.rows.specs.Meaning.{tableSize}
 use Rattle.rows.specs.declared.Counts.{Counts}
 use Rattle.rules.specs.Conjunctions.{three}
 use Rattle.rules.specs.Elements.{ElementsBack, patterns-back, values-back, all-values}
@@ -74,7 +73,7 @@ module _ (n : Counts) (few : Few n) (t : List ℕ) (bytes : (i : ℕ) → getD t
   -- what a row keeps, and the places behind its statement
   pub record RowBack (q : Places) (r : Row) (s : Statement) : Type 0 where
     pub row : rowOf (p .elements) (p .items) s ≡ r
-    pub holds : statementHolds edition1 (n .strings) (n .numbers) (n .steps) s ≡ true
+    pub holds : statementHolds current (n .strings) (n .numbers) (n .steps) s ≡ true
     pub elements : SameElements t (p .elements) (p .literals) (elementsOf s)
     pub literals : Each (LiteralSame t) (p .elements) (elementsOf s)
     pub items : Each (ItemSame t) (p .items) (itemsOf s)
@@ -109,7 +108,7 @@ module _ (n : Counts) (few : Few n) (t : List ℕ) (bytes : (i : ℕ) → getD t
   -- a row with no elements and no items
   bare-back : (kind place : ℕ) (q : Places) (r : Row) (s : Statement) → elementsOf s ≡ [] → itemsOf s ≡ []
       → cellsEnd n t p kind place (stretches 0 0 0) ≡ q → q .literals ≤ 4096 → rowOf (p .elements) (p .items) s ≡ r
-      → statementHolds edition1 (n .strings) (n .numbers) (n .steps) s ≡ true → RowBack q r s
+      → statementHolds current (n .strings) (n .numbers) (n .steps) s ≡ true → RowBack q r s
   unfolding stretches elementsEnd allLiterals
   bare-back kind place q r s none nothing e small same holds =
       record {
@@ -236,7 +235,7 @@ module _ (n : Counts) (few : Few n) (t : List ℕ) (bytes : (i : ℕ) → getD t
   record Stretch (place count : ℕ) (q : Places) (xs : List Element) : Type 0 where
     same : SameElements t (p .elements) (p .literals) (map value xs)
     literals : Each (LiteralSame t) (p .elements) (map value xs)
-    holds : rowHolds edition1 (n .strings) (n .numbers) (n .steps) xs ≡ true
+    holds : rowHolds current (n .strings) (n .numbers) (n .steps) xs ≡ true
     end : q ≡ places (p .elements + length (map value xs)) (p .items + 0) (p .literals + length (allLiterals (map value xs)))
 
   stretch-back : (place count more : ℕ) (q : Places) → count ≤ 20 → p .elements + count + more ≤ n .elements → more ≡ 0

@@ -9,7 +9,7 @@ use lib.Dec.{leb, ltb, eqb}
 use lib.ListN.{length, take, drop, getD, length-append}
 use borrow.Author.Tests.{ltb-true, leb-true, lt-ltb, le-leb, eqb-true, eq-eqb, eqb-false, not-true}
 use Rattle.base.specs.Choice.{test-cases, both-true}
-use Rattle.base.specs.Edition.{edition1}
+use Rattle.base.specs.Current.{current, tableSize}
 use Rattle.base.specs.ListLaws.{length-stretch, nil-length, not-nil}
 use Rattle.base.specs.Lists.{all, isNil}
 use Rattle.language.specs.Program.{constantly, numbered, whole, first, Element, literal, part, text, PatternElement, value, freeFiller, fixedFiller}
@@ -20,7 +20,6 @@ use Rattle.calls.specs.RowLaws.{Each}
 use Rattle.calls.specs.Rules.{lengthHolds, signedLengthHolds, partHolds, elementHolds, patternHolds}
 use Rattle.calls.specs.Table.{Cell, cell, cellBytes, lengthCell, partCell, range, elementCell, patternCell, literalIn, allLiterals, elementsAt, literalsAt}
 use Rattle.calls.specs.TableReading.{cellAt, rangeFrom, rangeCount, lengthOfCell, partOfCell, elementOfCell, patternOfCell, elementsFrom, patternFrom}
-use Rattle.rows.specs.Meaning.{tableSize}
 use Rattle.rows.specs.declared.Counts.{Counts}
 use Rattle.rules.specs.Kinds.{From, from, Passes, passes, passed, passes-more, passes-small, Back, part-back, part-forth, limited}
 use Rattle.rules.specs.Kinds.{constant-same, none-same, natural-length, natural-both, natural-low, constant-holds}
@@ -44,10 +43,10 @@ literal-range at count = omega arith
 
 module _ (n : Counts) where
   abbrev pub elementOk : Element → Bool
-  elementOk = elementHolds edition1 (n .strings) (n .numbers) (n .steps)
+  elementOk = elementHolds current (n .strings) (n .numbers) (n .steps)
 
   abbrev pub patternOk : ℕ → PatternElement → Bool
-  patternOk = patternHolds edition1 (n .strings) (n .numbers) (n .steps)
+  patternOk = patternHolds current (n .strings) (n .numbers) (n .steps)
 
   -- what the cell of an element keeps, where its literal stands at a place
   pub record Kept (t : List ℕ) (reference at : ℕ) (c : Cell) (x : PatternElement) : Type 0 where
@@ -65,7 +64,7 @@ module _ (n : Counts) where
     unfolding element-kind patternOfCell elementOfCell patternCell elementCell patternHolds elementHolds literalIn elementOwn cell
     low-kinds =
         let own : (k i v : ℕ) → k ≤ 3 → elementTest n high reference at (cell k i v) ≡ true
-        → Back (partCell 0) (partHolds edition1 (n .strings) (n .numbers) (n .steps)) (cell k i v) (partOfCell 0 (cell k i v)) =
+        → Back (partCell 0) (partHolds current (n .strings) (n .numbers) (n .steps)) (cell k i v) (partOfCell 0 (cell k i v)) =
         λ k i v small h.
         let p = passes n 1 high (cell k i v) (element-tests n high reference at (cell k i v) h .0) in
         part-back n (cell k i v) (record { least = p .least; most = small; place = p .place; above = p .above; below = p .below }) in (
@@ -268,7 +267,7 @@ module _ (n : Counts) where
       (passes-more n 1 3 1 high (partCell 0 (first s (numbered i))) (omega arith) (omega arith) (part-forth n (first s (numbered i)) ok))
       refl refl refl refl end
   element-forth high reference at h (text (constantly z) m) ok end =
-      let f = both-true (isInRange edition1 z) (ltb m (n .numbers)) ok in
+      let f = both-true (isInRange current z) (ltb m (n .numbers)) ok in
       let g = limited z (f .0) in
       stays high reference at (elementCell at (text (constantly z) m)) (value (text (constantly z) m))
       (record { least = omega arith; most = omega arith; place = ltb-true m (n .numbers) (f .1); above = g .low; below = g .high })
@@ -296,7 +295,7 @@ module _ (n : Counts) where
       (record { least = omega arith; most = omega arith; place = ltb-true s (n .strings) (f .0); above = omega arith; below = omega arith })
       refl refl (f .1) refl end
   pattern-forth reference at (fixedFiller s (constantly z)) ok end =
-      let natural = isInRange edition1 z && not (isNegative z) in
+      let natural = isInRange current z && not (isNegative z) in
       let f = both-true (ltb s (n .strings)) (not (eqb s reference) && natural) ok in
       let g = both-true (not (eqb s reference)) natural (f .1) in
       let z-holds = natural-both n z (g .1) in

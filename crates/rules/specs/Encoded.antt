@@ -9,7 +9,7 @@ use lib.Dec.{leb, ltb, eqb}
 use lib.ListN.{length, length-map, length-append}
 use borrow.Author.Tests.{ltb-true, leb-true, le-leb, eq-eqb}
 use Rattle.base.specs.Choice.{true-behind, both-true}
-use Rattle.base.specs.Edition.{edition1}
+use Rattle.base.specs.Current.{current}
 use Rattle.base.specs.Lists.{all}
 use Rattle.language.specs.Program.{Part, Item, Element, PatternElement, value}
 use Rattle.language.specs.Program.{Test, isNull, isNumeric, compares}
@@ -55,7 +55,7 @@ module _ (n : Counts) (few : Few n) (t : List ℕ) (p : Places) where
 
   -- a statement whose elements and items stand at their places, and within their limits
   pub record Placed (s : Statement) : Type 0 where
-    pub holds : statementHolds edition1 (n .strings) (n .numbers) (n .steps) s ≡ true
+    pub holds : statementHolds current (n .strings) (n .numbers) (n .steps) s ≡ true
     pub elements : SameElements t (p .elements) (p .literals) (elementsOf s)
     pub items : Each (ItemSame t) (p .items) (itemsOf s)
     pub elementsEnd : p .elements + length (elementsOf s) ≤ n .elements
@@ -190,7 +190,7 @@ module _ (n : Counts) (few : Few n) (t : List ℕ) (p : Places) where
   set-number-forth i xs h =
       let at = p .items in
       let size = length xs in
-      let ok = number-parts edition1 (n .strings) (n .numbers) (n .steps) i xs (h .holds) in
+      let ok = number-parts current (n .strings) (n .numbers) (n .steps) i xs (h .holds) in
       let inside = h .itemsEnd in
       let ranges = range-read at size 0 (omega (arith, few .items)) (omega (arith, few .items)) (omega arith) in
       let known = items-forth n few t at 0 xs (omega (arith, few .items)) (omega arith) (h .items) (ok .2) (ok .1) in
@@ -226,7 +226,7 @@ module _ (n : Counts) (few : Few n) (t : List ℕ) (p : Places) where
     end : places (p .elements + length xs + 0) (p .items + 0) (elementsEnd n 18 place t (p .elements) (p .literals) (length xs))
         ≡ places (p .elements + length (map value xs)) (p .items + 0) (p .literals + length (allLiterals (map value xs)))
 
-  ranged : (place : ℕ) (xs : List Element) → rowHolds edition1 (n .strings) (n .numbers) (n .steps) xs ≡ true
+  ranged : (place : ℕ) (xs : List Element) → rowHolds current (n .strings) (n .numbers) (n .steps) xs ≡ true
       → SameElements t (p .elements) (p .literals) (map value xs) → p .elements + length (map value xs) ≤ n .elements → p .items + 0 ≤ n .items
       → p .literals + length (allLiterals (map value xs)) ≤ 4096 → Range place xs
   unfolding rowHolds stretchesTest stretches
@@ -250,7 +250,7 @@ module _ (n : Counts) (few : Few n) (t : List ℕ) (p : Places) where
   unfolding rowOf row rangeCell cell statementHolds elementsOf itemsOf flagsTest branchTest leftTest rightTest startTest stretchesOf stretches
       hasElements stretchesTest cellsEnd numbersLeft lastKind itemsEnd elementsEnd
   set-string-forth q xs h =
-      let ok = both-true (partOk n q) (rowHolds edition1 (n .strings) (n .numbers) (n .steps) xs) (h .holds) in
+      let ok = both-true (partOk n q) (rowHolds current (n .strings) (n .numbers) (n .steps) xs) (h .holds) in
       let own = part-forth n q (ok .0) in
       let r = ranged (partCell 0 q .place) xs (ok .1) (h .elements) (h .elementsEnd) (h .itemsEnd) (h .literalsEnd) in
       record {
@@ -300,7 +300,7 @@ module _ (n : Counts) (few : Few n) (t : List ℕ) (p : Places) where
       let zs = map value ys in
       let first-size = length xs in
       let more = length ys in
-      let tests = scan-parts edition1 (n .strings) (n .numbers) (n .steps) d q xs o b (h .holds) in
+      let tests = scan-parts current (n .strings) (n .numbers) (n .steps) d q xs o b (h .holds) in
       let replacing = both-true (leb more 20) (all (elementOk n) ys) (tests .row) in
       let targets = branch-fits (b .success) (b .failure) (tests .branch) in
       let own = part-forth n q (tests .part) in

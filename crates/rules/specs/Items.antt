@@ -9,6 +9,7 @@ use lib.Dec.{leb, ltb}
 use lib.ListN.{length, getD}
 use borrow.Author.Tests.{ltb-true, leb-true, lt-ltb, le-leb, eqb-true, eq-eqb}
 use Rattle.base.specs.Choice.{test-cases, cond-cases, both-true}
+use Rattle.base.specs.Current.{tableSize}
 use Rattle.base.specs.Lists.{all}
 use Rattle.language.specs.Program.{Item, operand, operator, plus, minus, times, over, sign, positive, negative}
 use Rattle.calls.specs.CellLaws.{cell-read}
@@ -16,7 +17,6 @@ use Rattle.calls.specs.RowLaws.{Each}
 use Rattle.calls.specs.Rules.{balanced, mostWaiting, itemHolds}
 use Rattle.calls.specs.Table.{Cell, cell, cellBytes, operatorKind, signKind, itemCell, operandCell, itemsAt}
 use Rattle.calls.specs.TableReading.{cellAt, itemOfCell, itemsFrom}
-use Rattle.rows.specs.Meaning.{tableSize}
 use Rattle.rows.specs.declared.Counts.{Counts}
 use Rattle.rules.specs.Kinds.{passes, passed, passes-small, itemOk, item-back, operand-forth, item-forth}
 use Rattle.rules.specs.Same.{ItemSame}

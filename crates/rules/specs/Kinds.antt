@@ -8,7 +8,7 @@ use lib.Dec.{leb, ltb, eqb}
 use lib.IntN.{ℤ, pos, negsuc}
 use borrow.Author.Tests.{ltb-true, leb-true, leb-false, eqb-true, eqb-false, not-true, lt-ltb, le-ltb, le-leb}
 use Rattle.base.specs.Choice.{test-cases, cond-cases, both-true}
-use Rattle.base.specs.Edition.{edition1}
+use Rattle.base.specs.Current.{current, limit}
 use Rattle.language.specs.Program.{constantly, numbered, Part, whole, first, Operand, constant, number, lengthOf, numberOf}
 use Rattle.language.specs.Program.{plus, minus, times, over, positive, negative, Item, operand, operator, sign}
 use Rattle.values.specs.Numbers.{isNegative, isInRange}
@@ -33,7 +33,7 @@ from P k (suc m) b j low high =
     (λ e. let d : k + 1 ≤ j = omega (arith, eqb-false j k e) in from P (k + 1) m (b .1) j d (omega arith))
 
 -- a constant between its limits is in range, and one that is not under 0 is natural
-pub constant-holds : (v : ℕ) → 140_737_479_966_721 ≤ v → v < 140_737_496_743_936 → isInRange edition1 (unbiased v) ≡ true
+pub constant-holds : (v : ℕ) → 140_737_479_966_721 ≤ v → v < 140_737_496_743_936 → isInRange current (unbiased v) ≡ true
 constant-holds v low high = number-between v low (omega arith)
 
 pub natural-holds : (v : ℕ) → 140_737_488_355_328 ≤ v → isNegative (unbiased v) ≡ false
@@ -45,11 +45,11 @@ pub record Limited (z : ℤ) : Type 0 where
   pub low : 140_737_479_966_721 ≤ biased z
   pub high : biased z < 140_737_496_743_936
 
-pub limited : (z : ℤ) → isInRange edition1 z ≡ true → Limited z
-unfolding isInRange edition1 biased bias
-limited (pos m) h = let small = leb-true m 8_388_607 h in record { low = omega arith; high = omega arith }
+pub limited : (z : ℤ) → isInRange current z ≡ true → Limited z
+unfolding isInRange current biased bias
+limited (pos m) h = let small = leb-true m limit h in record { low = omega arith; high = omega arith }
 limited (negsuc m) h =
-    let small = leb-true (suc m) 8_388_607 h in
+    let small = leb-true (suc m) limit h in
     let e = le-ltb (2 ^ 47) (suc m) (omega arith) in
     record { low = rw e (omega arith); high = rw e (omega arith) }
 
@@ -116,13 +116,13 @@ module _ (n : Counts) where
       omega (arith, p .below)
 
   abbrev pub partOk : Part → Bool
-  partOk = partHolds edition1 (n .strings) (n .numbers) (n .steps)
+  partOk = partHolds current (n .strings) (n .numbers) (n .steps)
 
   abbrev pub operandOk : Operand → Bool
-  operandOk = operandHolds edition1 (n .strings) (n .numbers) (n .steps)
+  operandOk = operandHolds current (n .strings) (n .numbers) (n .steps)
 
   abbrev pub itemOk : Item → Bool
-  itemOk = itemHolds edition1 (n .strings) (n .numbers) (n .steps)
+  itemOk = itemHolds current (n .strings) (n .numbers) (n .steps)
 
   -- a cell of kinds 1 to 3
   unfoldable part-kind : ℕ → Type 0
@@ -135,7 +135,7 @@ module _ (n : Counts) where
   none-same k i v h = let e : 0 ≡ v = omega arith in ap (cell k i) e
 
   pub natural-length : (v : ℕ) → 140_737_488_355_328 ≤ v → v < 140_737_496_743_936
-      → (isInRange edition1 (unbiased v) && not (isNegative (unbiased v))) ≡ true
+      → (isInRange current (unbiased v) && not (isNegative (unbiased v))) ≡ true
   natural-length v low high = rw (constant-holds v (omega arith) high, natural-holds v low)
 
   parts : From part-kind 1 3
@@ -233,8 +233,8 @@ module _ (n : Counts) where
       from operator-kind 10 6 operators (c .kind) (omega (arith, leb-false (c .kind) 9 e)) (omega (arith, p .most)) (c .place) (c .value) p)
 
   -- the cells of what holds pass
-  pub natural-both : (z : ℤ) → (isInRange edition1 z && not (isNegative z)) ≡ true → (isInRange edition1 z ≡ true) × (isNegative z ≡ false)
-  natural-both z h = let f = both-true (isInRange edition1 z) (not (isNegative z)) h in (f .0, not-true (isNegative z) (f .1))
+  pub natural-both : (z : ℤ) → (isInRange current z && not (isNegative z)) ≡ true → (isInRange current z ≡ true) × (isNegative z ≡ false)
+  natural-both z h = let f = both-true (isInRange current z) (not (isNegative z)) h in (f .0, not-true (isNegative z) (f .1))
 
   pub part-forth : (p : Part) → partOk p ≡ true → Passes 1 3 (partCell 0 p)
   unfolding partCell lengthCell cell partHolds lengthHolds placeBound valueLow valueBound isString isNumber isNatural isSigned isConstant
@@ -242,7 +242,7 @@ module _ (n : Counts) where
   part-forth (whole s) h =
       record { least = omega arith; most = omega arith; place = ltb-true s (n .strings) h; above = omega arith; below = omega arith }
   part-forth (first s (constantly z)) h =
-      let f = both-true (ltb s (n .strings)) (isInRange edition1 z && not (isNegative z)) h in
+      let f = both-true (ltb s (n .strings)) (isInRange current z && not (isNegative z)) h in
       let g = natural-both z (f .1) in
       record {
         least = omega arith;

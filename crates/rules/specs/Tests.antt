@@ -5,6 +5,7 @@ use mathlib.Core.List.{List}
 use Prim.Native.Nat.{ℕ, zero, suc, _+_, _*_, _-_, _≤_, _<_, _^_}
 use lib.Dec.{leb, ltb, eqb}
 use lib.ListN.{take, drop, getD}
+use Rattle.base.specs.Current.{tableSize}
 use Rattle.base.specs.Lists.{all}
 use Rattle.calls.specs.Table.{Cell, Row, stepsAt, elementsAt, itemsAt}
 use Rattle.calls.specs.TableReading.{cellAt, rowAt, rangeFrom, rangeCount, rangeMore}
@@ -215,7 +216,7 @@ module _ (n : Counts) (t : List ℕ) where
   unusedTest =
       (((zerosTest t 14 64 && zerosTest t (64 + 24 * n .steps) 6208) && zerosTest t (6208 + 8 * n .elements) 14_400)
       && zerosTest t (14_400 + 8 * n .items) 22_592)
-      && zerosTest t (22_592 + n .literals) 28_672
+      && zerosTest t (22_592 + n .literals) tableSize
 
   unfoldable pub endsTest : Bool
   endsTest = (eqb (getD t 0 0) 1 && eqb (getD t 1 0) 0) && eqb (getD t (64 + 24 * (n .steps - 1)) 0) 4

@@ -8,7 +8,7 @@ use lib.Dec.{leb, eqb}
 use lib.ListN.{length, getD, replicate}
 use borrow.Author.Tests.{leb-true, leb-false, eqb-true, le-leb, eq-eqb, ne-eqb}
 use Rattle.base.specs.Choice.{test-cases, same-truth}
-use Rattle.base.specs.Edition.{edition1}
+use Rattle.base.specs.Current.{current, tableSize}
 use Rattle.base.specs.ListLaws.{all-zeros, length-stretch, zeros-are}
 use Rattle.base.specs.Lists.{all}
 use Rattle.language.specs.Program.{isFinish, lastFinishes}
@@ -20,7 +20,6 @@ use Rattle.calls.specs.Table.{Row, row, allElements, allItems, allLiterals, ste
 use Rattle.calls.specs.TableLaws.{in-range}
 use Rattle.calls.specs.TableReading.{rowAt, statementOfRow, stepIn, stepsFrom, programIn}
 use Rattle.rows.specs.Kept.{step-count}
-use Rattle.rows.specs.Meaning.{tableSize}
 use Rattle.rows.specs.Reading.{CountsRead}
 use Rattle.rows.specs.declared.Counts.{Counts}
 use Rattle.rules.specs.Checked.{Zeros, Checked, checked-keeps, keeps-checked}
@@ -109,7 +108,7 @@ module _ (t : List ℕ) (bytes : (i : ℕ) → getD t i 0 < 256) (room : tableSi
       let ends = three (eqb (getD t 0 0) 1) (eqb (getD t 1 0) 0) (eqb (getD t (64 + 24 * (n .steps - 1)) 0) 4) (f .0) in
       let unused =
       five (zerosTest t 14 64) (zerosTest t (64 + 24 * n .steps) 6208) (zerosTest t (6208 + 8 * n .elements) 14_400)
-      (zerosTest t (14_400 + 8 * n .items) 22_592) (zerosTest t (22_592 + n .literals) 28_672) (f .1) in
+      (zerosTest t (14_400 + 8 * n .items) 22_592) (zerosTest t (22_592 + n .literals) tableSize) (f .1) in
       let totals = three (eqb (q .elements) (n .elements)) (eqb (q .items) (n .items)) (eqb (q .literals) (n .literals)) (f .2) in
       let literals = eqb-true (q .literals) (n .literals) (totals .2) in
       let back = steps-back n few t bytes room 0 (n .steps) first q (omega (arith, few .steps)) refl (omega (arith, literals, few .literals)) in
@@ -147,7 +146,7 @@ module _ (t : List ℕ) (bytes : (i : ℕ) → getD t i 0 < 256) (room : tableSi
         elementsZeros =
             zeros-found t (6208 + 8 * n .elements) 14_400 (8192 - 8 * n .elements) (omega arith) (omega (arith, few .elements)) (unused .2);
         itemsZeros = zeros-found t (14_400 + 8 * n .items) 22_592 (8192 - 8 * n .items) (omega arith) (omega (arith, few .items)) (unused .3);
-        literalsZeros = zeros-found t (22_592 + n .literals) 28_672 (6080 - n .literals) (omega arith) (omega (arith, few .literals)) (unused .4);
+        literalsZeros = zeros-found t (22_592 + n .literals) tableSize (6080 - n .literals) (omega arith) (omega (arith, few .literals)) (unused .4);
       }
 
   -- and a table that is checked passes all tests
@@ -155,8 +154,8 @@ module _ (t : List ℕ) (bytes : (i : ℕ) → getD t i 0 < 256) (room : tableSi
   unfolding countsTest programIn
   checked-counts c =
       let n = countsIn t in
-      let ok = in-range edition1 (programIn t) (c .inside) in
-      let some = first-step (programIn t .steps) (program-runs edition1 (programIn t) (c .inside) .last) in
+      let ok = in-range current (programIn t) (c .inside) in
+      let some = first-step (programIn t .steps) (program-runs current (programIn t) (c .inside) .last) in
       let count = step-count t in
       rw (
         le-leb 1 (n .steps) (omega arith),
@@ -172,11 +171,11 @@ module _ (t : List ℕ) (bytes : (i : ℕ) → getD t i 0 < 256) (room : tableSi
   unfolding endsTest unusedTest totalsTest places programIn
   checked-tests few c =
       let n = countsIn t in
-      let ok = in-range edition1 (programIn t) (c .inside) in
-      let runs = program-runs edition1 (programIn t) (c .inside) in
+      let ok = in-range current (programIn t) (c .inside) in
+      let runs = program-runs current (programIn t) (c .inside) in
       let ss = programIn t .steps in
       let count = step-count t in
-      let holds = subst (λ (m : ℕ). all (stepHolds edition1 (n .strings) (n .numbers) m) ss ≡ true) count (ok .hold) in
+      let holds = subst (λ (m : ℕ). all (stepHolds current (n .strings) (n .numbers) m) ss ≡ true) count (ok .hold) in
       let walked =
       steps-forth n few t bytes room 0 first ss (c .steps) holds (omega (arith, c .elements)) (omega (arith, c .items))
       (omega (arith, c .literals, ok .literals)) in
@@ -193,7 +192,7 @@ module _ (t : List ℕ) (bytes : (i : ℕ) → getD t i 0 < 256) (room : tableSi
         zeros-kept t (64 + 24 * n .steps) 6208 (6144 - 24 * n .steps) (omega arith) (c .stepsZeros),
         zeros-kept t (6208 + 8 * n .elements) 14_400 (8192 - 8 * n .elements) (omega arith) (c .elementsZeros),
         zeros-kept t (14_400 + 8 * n .items) 22_592 (8192 - 8 * n .items) (omega arith) (c .itemsZeros),
-        zeros-kept t (22_592 + n .literals) 28_672 (6080 - n .literals) (omega arith) (c .literalsZeros),
+        zeros-kept t (22_592 + n .literals) tableSize (6080 - n .literals) (omega arith) (c .literalsZeros),
         end,
         eq-eqb (0 + length (allElements ss)) (n .elements) e,
         eq-eqb (0 + length (allItems ss)) (n .items) i,
@@ -201,18 +200,18 @@ module _ (t : List ℕ) (bytes : (i : ℕ) → getD t i 0 < 256) (room : tableSi
       )
 
   -- a table with counts out of their limits breaks the rules
-  pub counts-broken : (n : Counts) → CountsRead t n → countsTest n ≡ false → keepsRules edition1 t ≡ false
+  pub counts-broken : (n : Counts) → CountsRead t n → countsTest n ≡ false → keepsRules current t ≡ false
   counts-broken n c h =
-      test-cases (λ b. keepsRules edition1 t ≡ b → b ≡ false) (keepsRules edition1 t)
+      test-cases (λ b. keepsRules current t ≡ b → b ≡ false) (keepsRules current t)
       (λ _ e.
       absurd (true≢false (sym (checked-counts (keeps-checked t room e)) ∙ ap countsTest (counts-same t n c) ∙ h)))
       (λ _ e. refl) refl
 
   -- and any other keeps them where all other tests hold
-  pub tests-rules : (n : Counts) → CountsRead t n → countsTest n ≡ true → allTests n t ≡ keepsRules edition1 t
+  pub tests-rules : (n : Counts) → CountsRead t n → countsTest n ≡ true → allTests n t ≡ keepsRules current t
   tests-rules n c h =
       let same = counts-same t n c in
       let few = counts-few (countsIn t) (ap countsTest same ∙ h) in
       ap (λ (m : Counts). allTests m t) (sym same)
-      ∙ same-truth (allTests (countsIn t) t) (keepsRules edition1 t) (λ e. checked-keeps t bytes room (tests-checked few e))
+      ∙ same-truth (allTests (countsIn t) t) (keepsRules current t) (λ e. checked-keeps t bytes room (tests-checked few e))
       (λ e. checked-tests few (keeps-checked t room e))

@@ -9,7 +9,7 @@ use lib.Dec.{ltb}
 use lib.ListN.{length, getD, length-append}
 use borrow.Author.Tests.{lt-ltb}
 use Rattle.base.specs.Choice.{test-cases, both-true}
-use Rattle.base.specs.Edition.{edition1}
+use Rattle.base.specs.Current.{current, tableSize}
 use Rattle.base.specs.Lists.{all}
 use Rattle.language.specs.Program.{Statement, Step}
 use Rattle.calls.specs.Numerals.{numberAt}
@@ -18,7 +18,6 @@ use Rattle.calls.specs.Rules.{statementHolds, stepHolds}
 use Rattle.calls.specs.Table.{rowBytes, rowOf, elementsOf, itemsOf, allElements, allItems, allLiterals, stepsAt}
 use Rattle.calls.specs.TableReading.{rowAt, statementOfRow, stepIn, stepsFrom}
 use Rattle.calls.specs.YieldingForms.{literals-append}
-use Rattle.rows.specs.Meaning.{tableSize}
 use Rattle.rows.specs.declared.Counts.{Counts}
 use Rattle.rules.specs.Decoded.{places-same, RowBack, row-back}
 use Rattle.rules.specs.Encoded.{row-forth}
@@ -30,7 +29,7 @@ use Rattle.rules.specs.declared.steps.Places.{Places}
 
 module _ (n : Counts) where
   abbrev pub stepOk : Step → Bool
-  stepOk = stepHolds edition1 (n .strings) (n .numbers) (n .steps)
+  stepOk = stepHolds current (n .strings) (n .numbers) (n .steps)
 
   -- the places behind steps
   abbrev pub behind : Places → List Step → Places
@@ -117,7 +116,7 @@ module _ (n : Counts) where
         let s = x .statement in
         let at = stepsAt + 24 * k in
         let r = rowOf (p .elements) (p .items) s in
-        let ok = both-true (ltb (x .card) (2 ^ 16)) (statementHolds edition1 (n .strings) (n .numbers) (n .steps) s) h in
+        let ok = both-true (ltb (x .card) (2 ^ 16)) (statementHolds current (n .strings) (n .numbers) (n .steps) s) h in
         let own =
         row-forth n few t p s
         (record { holds = ok .1; elements = same .elements; items = same .items; elementsEnd = e; itemsEnd = i; literalsEnd = l }) in

@@ -3,7 +3,8 @@
 ghost use mathlib.Core.Path.{_≡_};
 ghost use Prim.Native.Nat.{_+_, _≤_, _<_, _^_};
 ghost use lib.ListN.{length};
-ghost use Rattle.rows.specs.Meaning.{tableSize, cellMeaning};
+ghost use Rattle.base.specs.Current.{tableSize};
+ghost use Rattle.rows.specs.Meaning.{cellMeaning};
 ghost use Rattle.rules.specs.Tests.{placeBound, valueLow, valueBound, cellTest, elementOwn, elementEnd, elementsEnd, itemUsed, itemEnd, itemsEnd};
 use base::LITERALS;
 use calls::RANGE_STEP;

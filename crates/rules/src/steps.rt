@@ -4,7 +4,8 @@
 ghost use mathlib.Core.Path.{_≡_};
 ghost use Prim.Native.Nat.{_≤_, _<_};
 ghost use lib.ListN.{length};
-ghost use Rattle.rows.specs.Meaning.{tableSize, cellMeaning, rowMeaning};
+ghost use Rattle.base.specs.Current.{tableSize};
+ghost use Rattle.rows.specs.Meaning.{cellMeaning, rowMeaning};
 ghost use Rattle.rules.specs.Tests.{Few, Short, Room, Inside, flagsTest, branchTest, leftTest, rightTest, stretchesOf, startTest, stretchesTest, rowTest, lastKind, numbersLeft, cellsEnd, stepEnd, stepsEnd, first};
 use crate::kinds;
 use base::ROW;

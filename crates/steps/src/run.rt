@@ -2,7 +2,7 @@
 ghost use mathlib.Core.List.{[], _∷_};
 ghost use mathlib.Core.Path.{_≡_};
 ghost use lib.ListN.{getD};
-ghost use Rattle.base.specs.Edition.{edition1};
+ghost use Rattle.base.specs.Current.{current};
 ghost use Rattle.calls.specs.Calls.{runCall, stepCall, buffers};
 ghost use Rattle.calls.specs.Promises.{RunPromise, runBack};
 ghost use Rattle.steps.specs.Contracts.{Given, Answers, RunAnswers};
@@ -56,9 +56,9 @@ pub fn repeat(
     answer: &mut [u32; ANSWER_SIZE],
 ) -> u32
     requires { ⌜ Given (now table) (now input) (buffers (now store) (now state) (now output)) ⌝ }
-    ensures { λ r. ⌜ RunAnswers (runCall edition1 (now (table .entry)) (now (input .entry)) count (buffers (now (store .entry)) (now (state .entry)) (now (output .entry))))
+    ensures { λ r. ⌜ RunAnswers (runCall current (now (table .entry)) (now (input .entry)) count (buffers (now (store .entry)) (now (state .entry)) (now (output .entry))))
         r (now (result .exit)) (buffers (now (store .exit)) (now (state .exit)) (now (output .exit))) ⌝ }
-    ensures { λ r. ⌜ (count ≡ 1 → Answers (stepCall edition1 (now (table .entry)) (now (input .entry)) (buffers (now (store .entry)) (now (state .entry)) (now (output .entry))))
+    ensures { λ r. ⌜ (count ≡ 1 → Answers (stepCall current (now (table .entry)) (now (input .entry)) (buffers (now (store .entry)) (now (state .entry)) (now (output .entry))))
         r (now (answer .exit)) (buffers (now (store .exit)) (now (state .exit)) (now (output .exit)))) ⌝ }
 {
     let mut kept = [0u8; STORE_SIZE];
@@ -113,7 +113,7 @@ pub extern "C" fn strigol_run(
     count: u32,
     result: &mut [u64; 4],
 ) -> u32
-    ensures { λ r. ⌜ RunPromise edition1 (now (table .entry)) (now (input .entry)) count (buffers (now (store .entry)) (now (state .entry)) (now (output .entry)))
+    ensures { λ r. ⌜ RunPromise current (now (table .entry)) (now (input .entry)) count (buffers (now (store .entry)) (now (state .entry)) (now (output .entry)))
         (runBack r (now (result .exit)) (buffers (now (store .exit)) (now (state .exit)) (now (output .exit)))) ⌝ }
 {
     if count == 0 {

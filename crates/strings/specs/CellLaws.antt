@@ -5,7 +5,7 @@ use mathlib.Core.Path.{_≡_, refl, sym, ap, _∙_}
 use Prim.Native.Nat.{ℕ, _+_}
 use lib.IntN.{ℤ, pos}
 use lib.ListN.{drop, getD}
-use Rattle.base.specs.Edition.{edition1}
+use Rattle.base.specs.Current.{current}
 use Rattle.base.specs.Lists.{begins}
 use Rattle.base.specs.Text.{bytes}
 use Rattle.calls.specs.Numerals.{bias, biased}
@@ -41,7 +41,7 @@ module _ {A B C : Type 0} {f : A → C} {v : C} {text keys tags : List ℕ} {c :
 
 module _ (p : Places) {text keys tags : List ℕ} {c : Cursor} where
   -- the m of STRING with its `)`
-  pub number-ends : (kind v : ℕ) (q : Place) {k t : List ℕ} → PlaceRead text keys tags c (numberName edition1 p (drop (c .at) text)) q k t
+  pub number-ends : (kind v : ℕ) (q : Place) {k t : List ℕ} → PlaceRead text keys tags c (numberName current p (drop (c .at) text)) q k t
       → (n : Length) → Standing n kind v
       → CellRead bareCell text keys tags c (numberEnd p n (drop (c .at) text)) (closedBy text (placedIn kind v q)) k t
   unfolding patternCell elementCell
@@ -60,7 +60,7 @@ module _ (p : Places) {text keys tags : List ℕ} {c : Cursor} where
 
   -- STRING with a constant
   pub constant-called : (q : Operand) (z : ℤ) (n next : ℕ) {d : Cursor} {k t : List ℕ} → d ≡ moved c n → c .at + n ≡ next
-      → signed edition1 (drop (c .at) text) ≡ give z (drop next text)
+      → signed current (drop (c .at) text) ≡ give z (drop next text)
       → CellRead bareCell text keys tags d (numberFollows p (constantly z) (drop (d .at) text)) q k t
       → CellRead bareCell text keys tags c (constantCall p (drop (c .at) text)) q k t
   constant-called q z n next s place is a =
@@ -86,7 +86,7 @@ standing-number i m = refl
 
 module _ (p : Places) {text keys tags : List ℕ} {c : Cursor} (ready : Ready text keys tags c) {place : ℕ} {k t : List ℕ} {d : Cursor} where
   -- STRING with a number n, and with m alone
-  module _ (a : Gets (λ j. j) place text keys tags c (numberName edition1 p (drop (c .at) text)) k t d) where
+  module _ (a : Gets (λ j. j) place text keys tags c (numberName current p (drop (c .at) text)) k t d) where
     pub number-comma : (q : Operand) {e : Cursor} {k′ t′ : List ℕ} → e ≡ moved d 1 → begins (44 ∷ []) (drop (d .at) text) ≡ true
         → ((n : Length) → Standing n 18 place → CellRead bareCell text k t e (numberEnd p n (drop (e .at) text)) q k′ t′)
         → CellRead bareCell text keys tags c (numberCall p (drop (c .at) text)) q k′ t′
@@ -110,21 +110,21 @@ module _ (p : Places) {text keys tags : List ℕ} {c : Cursor} (ready : Ready te
         (place-cell 17 140_737_488_355_328 (PlaceCode.the-variants.Got place d) (record { answer = a })))
 
   -- a filler: fixed where `$` and a length follow
-  module _ (a : Gets (λ j. j) place text keys tags c (stringName edition1 p (roleOf 3) (drop (c .at) text)) k t d) where
+  module _ (a : Gets (λ j. j) place text keys tags c (stringName current p (roleOf 3) (drop (c .at) text)) k t d) where
     pub filler-fixed : (q : Operand) {e : Cursor} {k′ t′ : List ℕ} → e ≡ moved d 1 → begins (36 ∷ []) (drop (d .at) text) ≡ true
-        → CellRead (lengthCell 20 place) text k t e (bound edition1 p (drop (e .at) text)) q k′ t′
-        → CellRead (patternCell 0) text keys tags c (fillerAt edition1 p (drop (c .at) text)) (closedBy text q) k′ t′
+        → CellRead (lengthCell 20 place) text k t e (bound current p (drop (e .at) text)) q k′ t′
+        → CellRead (patternCell 0) text keys tags c (fillerAt current p (drop (c .at) text)) (closedBy text q) k′ t′
     unfolding bytes patternCell fillerAt roleOf
     filler-fixed q s dollar b =
         let closes : List ℕ → Read PatternElement =
-        λ l. bound edition1 p l >>= λ (n, rest). skip (bytes ")") rest >>= λ (_, rest). give (fixedFiller (a .value) n) rest in
+        λ l. bound current p l >>= λ (n, rest). skip (bytes ")") rest >>= λ (_, rest). give (fixedFiller (a .value) n) rest in
         cell-then a _ (patternCell 0) (closedBy text q) ready
         (cell-same (chosen _ _ dollar ∙ ap closes (sym (drop-moved text d 1 s)))
         (closed-cell (fixedFiller (a .value)) (patternCell 0) (λ n. ap (λ j. lengthCell 20 j n) (a .made)) q
         (cell-skip 1 q (skipped d 1 s) b)))
 
     pub filler-free : begins (36 ∷ []) (drop (d .at) text) ≡ false
-        → CellRead (patternCell 0) text keys tags c (fillerAt edition1 p (drop (c .at) text))
+        → CellRead (patternCell 0) text keys tags c (fillerAt current p (drop (c .at) text))
         (closedBy text (OperandCode.the-variants.Got (record { kind = 19; place = place; value = 0 }) d)) k t
     unfolding bytes patternCell fillerAt roleOf
     filler-free none =
@@ -135,7 +135,7 @@ module _ (p : Places) {text keys tags : List ℕ} {c : Cursor} (ready : Ready te
         (closed-cell freeFiller (patternCell 0) (λ _. refl) v
         (place-cell 19 0 (PlaceCode.the-variants.Got place d) (record { answer = a })))
 
-pub filler-broken : (p : Places) (bs : List ℕ) → stringName edition1 p (roleOf 3) bs ≡ broken → fillerAt edition1 p bs ≡ broken
+pub filler-broken : (p : Places) (bs : List ℕ) → stringName current p (roleOf 3) bs ≡ broken → fillerAt current p bs ≡ broken
 unfolding fillerAt roleOf
 filler-broken p bs e = then-broken _ e
 
@@ -143,13 +143,13 @@ filler-broken p bs e = then-broken _ e
 module _ (p : Places) {text keys tags : List ℕ} {c : Cursor} {q : Operand} {k t : List ℕ} where
   pub text-constant : (isDigit (getD (drop (c .at) text) 0 0) || isSign (drop (c .at) text)) ≡ true
       → CellRead bareCell text keys tags c (constantCall p (drop (c .at) text)) q k t
-      → CellRead bareCell text keys tags c (textCall edition1 p (drop (c .at) text)) q k t
+      → CellRead bareCell text keys tags c (textCall current p (drop (c .at) text)) q k t
   unfolding textCall
   text-constant e a = cell-same (chosen _ _ e) a
 
   pub text-number : (isDigit (getD (drop (c .at) text) 0 0) || isSign (drop (c .at) text)) ≡ false
       → CellRead bareCell text keys tags c (numberCall p (drop (c .at) text)) q k t
-      → CellRead bareCell text keys tags c (textCall edition1 p (drop (c .at) text)) q k t
+      → CellRead bareCell text keys tags c (textCall current p (drop (c .at) text)) q k t
   unfolding textCall
   text-number e a = cell-same (chosen _ _ e) a
 
@@ -207,7 +207,7 @@ module _ (p : Places) where
   unfolding give
   end-bare n bs = always-then BareElement _ _ (λ m rest. always-then BareElement _ _ (λ _ rest. so (bare-text n m)))
 
-  pub text-bare : (bs : List ℕ) → Always BareElement (textCall edition1 p bs)
+  pub text-bare : (bs : List ℕ) → Always BareElement (textCall current p bs)
   unfolding textCall give
   text-bare bs =
       let constants : Always BareElement (constantCall p bs) =
@@ -221,15 +221,15 @@ module _ (p : Places) where
       always-chosen BareElement (isDigit (getD bs 0 0) || isSign bs) (constantCall p bs) (numberCall p bs) constants numbers
 
   pub part-bare : (roles : List ℕ → List Role) (bs : List ℕ)
-      → Always BareElement (partName edition1 p roles bs >>= λ (x, rest). give (Program.part x) rest)
+      → Always BareElement (partName current p roles bs >>= λ (x, rest). give (Program.part x) rest)
   unfolding give
   part-bare roles bs = always-then BareElement _ _ (λ x rest. so (bare-part x))
 
-  pub filler-bare : (bs : List ℕ) → Always Bare (fillerAt edition1 p bs)
+  pub filler-bare : (bs : List ℕ) → Always Bare (fillerAt current p bs)
   unfolding fillerAt give
   filler-bare bs =
       let fixed : (s : ℕ) (rest : List ℕ)
-      → Always Bare (bound edition1 p rest >>= λ (n, rest). skip (bytes ")") rest >>= λ (_, rest). give (fixedFiller s n) rest) =
+      → Always Bare (bound current p rest >>= λ (n, rest). skip (bytes ")") rest >>= λ (_, rest). give (fixedFiller s n) rest) =
       λ s rest. always-then Bare _ _ (λ n rest. always-then Bare _ _ (λ _ rest. so (bare-fixed s n))) in
       let free : (s : ℕ) (rest : List ℕ) → Always Bare (skip (bytes ")") rest >>= λ (_, rest). give (freeFiller s) rest) =
       λ s rest. always-then Bare _ _ (λ _ rest. so (bare-free s)) in

@@ -6,7 +6,7 @@ use mathlib.Core.Path.{_≡_}
 use Prim.Native.Nat.{ℕ, _+_, _*_, _-_, _/_, _≤_, _<_}
 use lib.Dec.{eqb, ltb}
 use lib.ListN.{length, take, drop}
-use Rattle.base.specs.Edition.{edition1}
+use Rattle.base.specs.Current.{current, tableSize}
 use Rattle.base.specs.Limits as Limits
 use Rattle.base.specs.Lists.{any}
 use Rattle.calls.specs.Table as Table
@@ -24,6 +24,7 @@ use Rattle.numeric.specs.declared.operands.Operand as OperandCode
 use Rattle.numeric.specs.declared.operands.Operand.{Operand}
 use Rattle.numeric.specs.declared.Outcome as OutcomeCode
 use Rattle.numeric.specs.declared.Outcome.{Outcome}
+use Rattle.packer.specs.Packs.{longestText}
 
 -- a cursor d behind c by n names, by these elements and by rows of these lengths
 pub record Passes (c : Cursor) (n : ℕ) (es : List PatternElement) (rows : List ℕ) (d : Cursor) : Type 0 where
@@ -95,11 +96,11 @@ celled table OperandCode.the-variants.Broken = table
 -- n literal bytes behind the quote at the cursor can be written
 pub record Spellable (text table : List ℕ) (c : Cursor) (n size : ℕ) : Type 0 where
   pub inside : c .at + 1 + n ≤ length text
-  pub textSize : length text ≤ 32_768
+  pub textSize : length text ≤ longestText
   pub near : size ≤ 100_000
   pub elements : c .elements ≤ 5_000_000_000
   pub literals : c .literals ≤ 5_000_000_000
-  pub tableSize : 28_672 ≤ length table
+  pub tableSize : tableSize ≤ length table
 
 -- the cursor behind a literal of n bytes
 abbrev pub spelt : Cursor → (n size : ℕ) → Cursor
@@ -145,11 +146,11 @@ pub record ReadsOne {A : Type 0} (f : A → PatternElement) (text table keys tag
 
 abbrev pub ElementRead : (text known table keys tags : List ℕ) (c : Cursor) (tag : ℕ) → Outcome → (table′ keys′ tags′ : List ℕ) → Type 0
 ElementRead text known table keys tags c tag =
-    ReadsOne value text table keys tags c (Strings.element edition1 (placesIn known) (roleOf (tag / 16)) (drop (c .at) text))
+    ReadsOne value text table keys tags c (Strings.element current (placesIn known) (roleOf (tag / 16)) (drop (c .at) text))
 
 abbrev pub PatternElementRead : (text known table keys tags : List ℕ) (c : Cursor) → Outcome → (table′ keys′ tags′ : List ℕ) → Type 0
 PatternElementRead text known table keys tags c =
-    ReadsOne (λ x. x) text table keys tags c (Strings.patternElement edition1 (placesIn known) (drop (c .at) text))
+    ReadsOne (λ x. x) text table keys tags c (Strings.patternElement current (placesIn known) (drop (c .at) text))
 
 -- what a row has: elements of a pattern, or of a string expression
 abbrev pub Valued : Bool → Type 0
@@ -161,8 +162,8 @@ shown true = λ x. x
 shown false = value
 
 abbrev pub readOne : (b : Bool) → Places → List ℕ → Read (Valued b)
-readOne true p = Strings.patternElement edition1 p
-readOne false p = Strings.element edition1 p noRole
+readOne true p = Strings.patternElement current p
+readOne false p = Strings.element current p noRole
 
 abbrev pub OneRead : (text known table keys tags : List ℕ) (c : Cursor) (b : Bool) → Outcome → (table′ keys′ tags′ : List ℕ) → Type 0
 OneRead text known table keys tags c b =
@@ -218,8 +219,8 @@ shownRow true = λ xs. xs
 shownRow false = map value
 
 abbrev pub readRow : (b : Bool) → Places → List ℕ → Read (List (Valued b))
-readRow true p = Strings.pattern edition1 p
-readRow false p = Strings.stringExpression edition1 p
+readRow true p = Strings.pattern current p
+readRow false p = Strings.stringExpression current p
 
 abbrev pub RowsRead : (text known table keys tags : List ℕ) (c : Cursor) (b : Bool) → Outcome → (table′ keys′ tags′ : List ℕ) → Type 0
 RowsRead text known table keys tags c b =

@@ -10,7 +10,7 @@ use lib.ListN.{length, take, drop, length-drop, length-map, drop-of-length-le}
 use lib.Seq.{drop-drop, length-take-le, take-take}
 use borrow.Author.Tests.{ltb-true, ltb-false, lt-ltb, le-ltb, ne-eqb}
 use Rattle.base.specs.Choice.{test-cases}
-use Rattle.base.specs.Edition.{edition1}
+use Rattle.base.specs.Current.{current}
 use Rattle.base.specs.Limits as Limits
 use Rattle.base.specs.Lists.{any, begins}
 use Rattle.base.specs.ListLaws.{begins-iff, begins-inside}
@@ -205,7 +205,7 @@ one-written {f = f} {text} {table} {keys} {tags} {c} {x} q {r} {t} {k} {g} e a =
 -- an element by its first bytes
 module _ (p : Places) (roles : List ℕ → List Role) {text table keys tags : List ℕ} {c : Cursor} (ready : Ready text keys tags c) where
   pub element-literal : {t : List ℕ} {d : Cursor} → begins (34 ∷ []) (drop (c .at) text) ≡ true → LiteralRead text table keys tags c t d
-      → ReadsOne value text table keys tags c (Strings.element edition1 p roles (drop (c .at) text)) (OutcomeCode.the-variants.Got d) t keys tags
+      → ReadsOne value text table keys tags c (Strings.element current p roles (drop (c .at) text)) (OutcomeCode.the-variants.Got d) t keys tags
   unfolding Strings.element bytes
   element-literal e a =
       one-same (chosen _ _ e ∙ ap (λ (l : List ℕ). literalAt l >>= λ (w, rest). give (literal w) rest) (drop-drop 1 (c .at) text))
@@ -213,16 +213,16 @@ module _ (p : Places) (roles : List ℕ → List Role) {text table keys tags : L
 
   module _ (no : begins (34 ∷ []) (drop (c .at) text) ≡ false) where
     pub element-text : (q : Operand) {d : Cursor} {k t : List ℕ} → d ≡ moved c 7 → begins (bytes "STRING(") (drop (c .at) text) ≡ true
-        → CellRead bareCell text keys tags d (textCall edition1 p (drop (d .at) text)) q k t
-        → ReadsOne value text table keys tags c (Strings.element edition1 p roles (drop (c .at) text)) (written q) (celled table q) k t
+        → CellRead bareCell text keys tags d (textCall current p (drop (d .at) text)) q k t
+        → ReadsOne value text table keys tags c (Strings.element current p roles (drop (c .at) text)) (written q) (celled table q) k t
     unfolding Strings.element bytes
     element-text q {d} s e a =
-        one-same (chosen _ _ no ∙ chosen _ _ e ∙ ap (textCall edition1 p) (sym (drop-moved text c 7 s)))
+        one-same (chosen _ _ no ∙ chosen _ _ e ∙ ap (textCall current p) (sym (drop-moved text c 7 s)))
         (cell-element value table q ready (text-bare p (drop (d .at) text)) (cell-skip 7 q (skipped c 7 s) a))
 
     pub element-part : (q : Operand) {k t : List ℕ} → begins (bytes "STRING(") (drop (c .at) text) ≡ false
-        → CellRead (partCell 0) text keys tags c (partName edition1 p roles (drop (c .at) text)) q k t
-        → ReadsOne value text table keys tags c (Strings.element edition1 p roles (drop (c .at) text)) (written q) (celled table q) k t
+        → CellRead (partCell 0) text keys tags c (partName current p roles (drop (c .at) text)) q k t
+        → ReadsOne value text table keys tags c (Strings.element current p roles (drop (c .at) text)) (written q) (celled table q) k t
     unfolding Strings.element bytes patternCell elementCell
     element-part q e a =
         one-same (chosen _ _ no ∙ chosen _ _ e)
@@ -232,16 +232,16 @@ module _ (p : Places) (roles : List ℕ → List Role) {text table keys tags : L
 module _ (p : Places) {text table keys tags : List ℕ} {c : Cursor} where
   pub pattern-filler : Ready text keys tags c → (q : Operand) {d : Cursor} {k t : List ℕ} → d ≡ moved c 1
       → begins (40 ∷ []) (drop (c .at) text) ≡ true
-      → CellRead (patternCell 0) text keys tags d (fillerAt edition1 p (drop (d .at) text)) q k t
-      → ReadsOne (λ x. x) text table keys tags c (Strings.patternElement edition1 p (drop (c .at) text)) (written q) (celled table q) k t
+      → CellRead (patternCell 0) text keys tags d (fillerAt current p (drop (d .at) text)) q k t
+      → ReadsOne (λ x. x) text table keys tags c (Strings.patternElement current p (drop (c .at) text)) (written q) (celled table q) k t
   unfolding Strings.patternElement bytes
   pattern-filler ready q {d} s e a =
-      one-same (chosen _ _ e ∙ ap (fillerAt edition1 p) (sym (drop-moved text c 1 s)))
+      one-same (chosen _ _ e ∙ ap (fillerAt current p) (sym (drop-moved text c 1 s)))
       (cell-element (λ x. x) table q ready (filler-bare p (drop (d .at) text)) (cell-skip 1 q (skipped c 1 s) a))
 
   pub pattern-value : (r : Outcome) {t k g : List ℕ} → begins (40 ∷ []) (drop (c .at) text) ≡ false
-      → ReadsOne value text table keys tags c (Strings.element edition1 p (roleOf 2) (drop (c .at) text)) r t k g
-      → ReadsOne (λ x. x) text table keys tags c (Strings.patternElement edition1 p (drop (c .at) text)) r t k g
+      → ReadsOne value text table keys tags c (Strings.element current p (roleOf 2) (drop (c .at) text)) r t k g
+      → ReadsOne (λ x. x) text table keys tags c (Strings.patternElement current p (drop (c .at) text)) r t k g
   unfolding Strings.patternElement bytes roleOf
   pattern-value (OutcomeCode.the-variants.Got d) e a = one-same (chosen _ _ e) (record { answer = one-made value (λ x. x) (a .answer) })
   pattern-value OutcomeCode.the-variants.Broken e a = record { answer = chosen _ _ e ∙ then-broken _ (a .answer) }
@@ -255,7 +255,7 @@ module _ (known : List ℕ) {text table keys tags : List ℕ} {c : Cursor} {b : 
   one-string e a =
       subst (λ z. OneRead text known table keys tags c z r t k g) (sym e)
       (subst
-      (λ roles. ReadsOne value text table keys tags c (Strings.element edition1 (placesIn known) roles (drop (c .at) text)) r t k g)
+      (λ roles. ReadsOne value text table keys tags c (Strings.element current (placesIn known) roles (drop (c .at) text)) r t k g)
       role-none a)
 
 -- where a comma stands one turn is taken

@@ -6,7 +6,7 @@ use mathlib.Core.Path.{_≡_, refl, ap}
 use Prim.Native.Nat.{ℕ}
 use native.Mathlib.Omega.{arith}
 use lib.ListN.{drop}
-use Rattle.base.specs.Edition.{edition1}
+use Rattle.base.specs.Current.{current}
 use Rattle.branches.specs.Places.{numberIn}
 use Rattle.calls.specs.Table as Table
 use Rattle.calls.specs.Table.{rowOf, elementsOf, itemsOf, directionNumber, noCell}
@@ -41,7 +41,7 @@ module _ (c : tie.After-skip) where
 
   of-kind : {table : List ℕ} (kind : Kind) → kindOf (c .before .leading .result .kind) ≡ kind → (q : Form) {t k g : List ℕ}
       → FormAt
-      (formOf edition1 (numberIn (c .before .before .before .before .args .known .now)) (placesIn (c .before .before .before .before .args .known .now)) kind (drop (c .skip .result .at) (c .before .before .before .before .args .text .now)))
+      (formOf current (numberIn (c .before .before .before .before .args .known .now)) (placesIn (c .before .before .before .before .args .known .now)) kind (drop (c .skip .result .at) (c .before .before .before .before .args .text .now)))
       (c .before .before .before .before .args .text .now) table (c .before .before .before .before .args .keys .now) (c .before .before .before .before .args .tags .now) (c .skip .result) q t k g
       → StatementFormRead (c .before .before .before .before .args .text .now) (c .before .before .before .before .args .known .now) table (c .before .before .before .before .args .keys .now) (c .before .before .before .before .args .tags .now) (c .before .before .before .before .args .c) q t k g
   of-kind =
@@ -178,7 +178,7 @@ returns-5 : tie.Need-returns-5
 unfolding formOf
 returns-5 c =
     of-kind (c .before .before .before .before .before) GOTO (ap kindOf (c .before .before .before .enum-told5 .given .1))
-    (c .target-form .result) (c .target-form .ensures (gotoForm edition1 (numberIn (c .before .before .before .before .before .before .before .before .before .args .known .now)) (placesIn (c .before .before .before .before .before .before .before .before .before .args .known .now))) (goto-leads (c .before .before .before .before .before .before .before .before .before .args .known .now)) (c .before .before .before .before .before .before .before .before .before .args .table .now))
+    (c .target-form .result) (c .target-form .ensures (gotoForm current (numberIn (c .before .before .before .before .before .before .before .before .before .args .known .now)) (placesIn (c .before .before .before .before .before .before .before .before .before .args .known .now))) (goto-leads (c .before .before .before .before .before .before .before .before .before .args .known .now)) (c .before .before .before .before .before .before .before .before .before .args .table .now))
 
 returns-6 : tie.Need-returns-6
 unfolding formOf rowOf elementsOf itemsOf Table.row noCell
@@ -238,13 +238,13 @@ returns-13 : tie.Need-returns-13
 unfolding formOf
 returns-13 c =
     of-kind (c .before .before .before .before .before) ROUTINE (ap kindOf (c .before .before .before .enum-told13 .given .1))
-    (c .target-form2 .result) (c .target-form2 .ensures (routineForm edition1 (numberIn (c .before .before .before .before .before .before .before .before .before .args .known .now)) (placesIn (c .before .before .before .before .before .before .before .before .before .args .known .now))) (routine-leads (c .before .before .before .before .before .before .before .before .before .args .known .now)) (c .before .before .before .before .before .before .before .before .before .args .table .now))
+    (c .target-form2 .result) (c .target-form2 .ensures (routineForm current (numberIn (c .before .before .before .before .before .before .before .before .before .args .known .now)) (placesIn (c .before .before .before .before .before .before .before .before .before .args .known .now))) (routine-leads (c .before .before .before .before .before .before .before .before .before .args .known .now)) (c .before .before .before .before .before .before .before .before .before .args .table .now))
 
 returns-14 : tie.Need-returns-14
 unfolding formOf
 returns-14 c =
     of-kind (c .before .before .before .before .before) EXECUTE (ap kindOf (c .before .before .before .enum-told14 .given .1))
-    (c .target-form3 .result) (c .target-form3 .ensures (executeForm edition1 (numberIn (c .before .before .before .before .before .before .before .before .before .args .known .now)) (placesIn (c .before .before .before .before .before .before .before .before .before .args .known .now))) (execute-leads (c .before .before .before .before .before .before .before .before .before .args .known .now)) (c .before .before .before .before .before .before .before .before .before .args .table .now))
+    (c .target-form3 .result) (c .target-form3 .ensures (executeForm current (numberIn (c .before .before .before .before .before .before .before .before .before .args .known .now)) (placesIn (c .before .before .before .before .before .before .before .before .before .args .known .now))) (execute-leads (c .before .before .before .before .before .before .before .before .before .args .known .now)) (c .before .before .before .before .before .before .before .before .before .args .table .now))
 
 returns-15 : tie.Need-returns-15
 unfolding formOf rowOf elementsOf itemsOf Table.row noCell

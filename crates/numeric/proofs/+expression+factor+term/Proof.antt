@@ -7,7 +7,7 @@ use native.Mathlib.Omega.{arith}
 use lib.ListN.{length, drop}
 use borrow.Author.Needs.{needs}
 use borrow.Author.Tests.{lt-ltb, le-ltb, not-true, not-false}
-use Rattle.base.specs.Edition.{edition1}
+use Rattle.base.specs.Current.{current}
 use Rattle.base.specs.Text.{bytes}
 use Rattle.language.specs.Fuel.{termFrom, moreTermsFrom, factorFrom, moreFactorsFrom}
 use Rattle.language.specs.Numeric.{deepest}
@@ -53,7 +53,7 @@ abbrev μ-term : Measures 5 term-kinds.ps ℕ
 
 abbrev expression-Inv : expression-lts.InvT-loop
 expression-Inv text known table₀ keys₀ tags₀ depth kind₀ d₀ table keys tags kind d =
-    Joining (termFrom edition1 (placesIn known) depth) (moreTermsFrom edition1 (placesIn known) depth) text table₀ keys₀ tags₀ kind₀ d₀
+    Joining (termFrom current (placesIn known) depth) (moreTermsFrom current (placesIn known) depth) text table₀ keys₀ tags₀ kind₀ d₀
     table keys tags kind d
 
 abbrev expression-μ-loop : expression-lts.MeasureT-loop
@@ -61,7 +61,7 @@ expression-μ-loop text known table₀ keys₀ tags₀ depth kind₀ d₀ table 
 
 abbrev term-Inv : term-lts.InvT-loop
 term-Inv text known table₀ keys₀ tags₀ depth kind₀ d₀ table keys tags kind d =
-    Joining (factorFrom edition1 (placesIn known) depth) (moreFactorsFrom edition1 (placesIn known) depth) text table₀ keys₀ tags₀ kind₀ d₀
+    Joining (factorFrom current (placesIn known) depth) (moreFactorsFrom current (placesIn known) depth) text table₀ keys₀ tags₀ kind₀ d₀
     table keys tags kind d
 
 abbrev term-μ-loop : term-lts.MeasureT-loop

@@ -18,7 +18,7 @@ pack-requires c κs =
     let text = c .before .text-of in
     record {
       size = c .before .before .before .before .before .pre .size;
-      room = text-fits (a .line .now) (text .result .now) (a .s .packing .length) 32768 (text .ensures) (omega arith);
+      room = text-fits (a .line .now) (text .result .now) (a .s .packing .length) longestText (text .ensures) (omega arith);
     }
 
 sound-line-requires : tie.Need-sound-line-requires

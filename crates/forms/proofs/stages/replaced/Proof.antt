@@ -7,7 +7,7 @@ use Prim.Native.Nat.{_+_, _≤_}
 use lib.ListN.{drop}
 use native.Mathlib.Omega.{arith}
 use borrow.Author.Tests.{not-true, not-false}
-use Rattle.base.specs.Edition.{edition1}
+use Rattle.base.specs.Current.{current}
 use Rattle.base.specs.Lists.{begins}
 use Rattle.language.specs.Program.{value}
 use Rattle.language.specs.Strings.{stringExpression}
@@ -54,7 +54,7 @@ module _ (c : tie.After-row) where
       (mark .before .before .before .before .before .before .args .table .now)
       (mark .before .before .before .before .before .before .args .keys .now)
       (mark .before .before .before .before .before .before .args .tags .now) (moved (here mark) 1)
-      (stringExpression edition1 (placesIn (mark .before .before .before .before .before .before .args .known .now))
+      (stringExpression current (placesIn (mark .before .before .before .before .before .before .args .known .now))
       (drop (here mark .at + 1) (mark .before .before .before .before .before .before .args .text .now)))
       (c .row .result) (c .row .last .1 .1 .0) (c .row .last .1 .1 .1 .0)
       (c .row .last .1 .1 .1 .1 .0)
@@ -64,7 +64,7 @@ module _ (c : tie.After-row) where
       subst
       (λ z.
       RowRead (map value) (a .text .now) (a .table .now) (a .keys .now) (a .tags .now) z
-      (stringExpression edition1 (placesIn (a .known .now)) (drop (z .at) (a .text .now))) (s .result) (s .last .1 .1 .0) (s .last .1 .1 .1 .0)
+      (stringExpression current (placesIn (a .known .now)) (drop (z .at) (a .text .now))) (s .result) (s .last .1 .1 .0) (s .last .1 .1 .1 .0)
       (s .last .1 .1 .1 .1 .0))
       (c .before .skip .ensures) (s .ensures)
 

@@ -7,6 +7,7 @@ use Prim.Native.Nat.{ℕ, _+_, _-_}
 use native.Mathlib.Omega.{arith}
 use lib.ListN as lists
 use borrow.Author.Needs.{needs}
+use Rattle.calls.specs.Buffers.{storeSize}
 use Rattle.calls.specs.Calls.{buffers}
 use Rattle.scanstep.specs.Scans.{Lent}
 use Rattle.steps.specs.Laws.{zeros-lent}
@@ -21,7 +22,7 @@ Inv-loop table store₀ state₀ input output₀ count result₀ answer₀ kept�
     × (lists.length store ≡ lists.length store₀)
     × (lists.length output ≡ lists.length output₀)
     × Lent kept values rows names reference scratch out
-    × (lists.length kept ≡ 32832)
+    × (lists.length kept ≡ storeSize)
     × Alone table input (buffers store₀ state₀ output₀) done answer (buffers store state output)
 
 abbrev μ-loop : tie.MeasureT-loop
@@ -32,7 +33,7 @@ loop-holds : tie.Need-loop-holds Inv-loop μ-loop
 loop-holds c =
     let a = c .before .before .before .before .args in
     let g = c .before .before .before .before .pre in
-    (repeats-none (a .table .now) (a .input .now) (buffers (a .store .now) (a .state .now) (a .output .now)) (a .count) g, refl, refl, zeros-lent, lists.length-replicate {A = ℕ} 32832 0, alone-none (a .table .now) (a .input .now) (buffers (a .store .now) (a .state .now) (a .output .now)) (a .answer .now))
+    (repeats-none (a .table .now) (a .input .now) (buffers (a .store .now) (a .state .now) (a .output .now)) (a .count) g, refl, refl, zeros-lent, lists.length-replicate {A = ℕ} storeSize 0, alone-none (a .table .now) (a .input .now) (buffers (a .store .now) (a .state .now) (a .output .now)) (a .answer .now))
 
 slice-aggregate-step-on : tie.Need-slice-aggregate-step-on Inv-loop μ-loop
 slice-aggregate-step-on c = sym (c .before .before .before .before .before .loop .inv .4)
