@@ -2,6 +2,7 @@
 -- 11 and 12 and the program (Deck), the same as rules (Rules). Of these: the range of the answers and the program's counts (Laws), each
 -- name has one purpose (Names), labels and routines stand at steps (Targets), the places of names are below the counts (Placed).
 pub mod Deck
+pub mod Declares
 pub mod Known
 pub mod Laws
 pub mod Names

@@ -11,5 +11,7 @@ pub mod Numeric
 pub mod Placed
 pub mod Program
 pub mod Reading
+pub mod ScopeForms
+pub mod Scopes
 pub mod Strings
 pub mod Words
