@@ -1,6 +1,8 @@
 -- The judgement of a deck: what is known behind some statements (Known), a statement's number 3 to 10 (Refusals), the whole deck, with
 -- 11 and 12 and the program (Deck), the same as rules (Rules). Of these: the range of the answers and the program's counts (Laws), each
--- name has one purpose (Names), labels and routines stand at steps (Targets), the places of names are below the counts (Placed).
+-- name has one purpose (Names), labels and routines stand at steps (Targets), the places of names are below the counts (Placed), 12 holds
+-- exactly when a chain of EXECUTEs (Chains) leads from a routine back to itself (ChainLaws).
+pub mod Chains
 pub mod Deck
 pub mod Known
 pub mod Laws
