@@ -2,6 +2,7 @@
 -- 11 and 12 and the program (Deck), the same as rules (Rules). Of these: the range of the answers and the program's counts (Laws), each
 -- name has one purpose (Names), labels and routines stand at steps (Targets), the places of names are below the counts (Placed), 12 holds
 -- exactly when a chain of EXECUTEs (Chains) leads from a routine back to itself (ChainLaws).
+pub mod ChainLaws
 pub mod Chains
 pub mod Deck
 pub mod Known
