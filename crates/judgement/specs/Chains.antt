@@ -1,10 +1,10 @@
 -- Document 01, 12 "A routine executes itself, directly or through others.", said of chains of EXECUTEs. Assumes nothing.
-use mathlib.Core.Bool.{true, _&&_}
+use mathlib.Core.Bool.{true, false, _&&_}
 use mathlib.Core.List.{List, [], _∷_}
 use mathlib.Core.Path.{_≡_}
 use Prim.Native.Nat.{ℕ}
 use Rattle.base.specs.Lists.{same, any}
-use Rattle.judgement.specs.Known.{Use, Known}
+use Rattle.judgement.specs.Known.{Use, Known, isOneOf}
 
 -- a routine of this name is declared
 abbrev pub Declared : Known → List ℕ → Type 0
@@ -28,3 +28,8 @@ unfoldable pub Chained : List Use → List (List ℕ) → Type 0
 Chained us [] = Unit
 Chained us (a ∷ []) = Unit
 Chained us (a ∷ (b ∷ ns)) = Executes us a b × Chained us (b ∷ ns)
+
+-- names of which none comes twice
+abbrev pub Different : List (List ℕ) → Type 0
+Different [] = Unit
+Different (n ∷ ns) = (isOneOf ns n ≡ false) × Different ns
