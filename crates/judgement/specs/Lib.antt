@@ -13,4 +13,6 @@ pub mod Placed
 pub mod Refusals
 pub mod Rounds
 pub mod Rules
+pub mod ScopeLaws
+pub mod Standing
 pub mod Targets

@@ -46,7 +46,7 @@ any-append f [] ys = refl
 any-append f (x ∷ xs) ys = ap (λ b. f x || b) (any-append f xs ys) ∙ sym (or-assoc (f x) (any f xs) (any f ys))
 
 -- a test that no name in a list passes is failed by each
-none-passes : (f : Naming → Bool) (x : Naming) (ns : List Naming) → any f ns ≡ false → Has x ns → f x ≡ false
+pub none-passes : (f : Naming → Bool) (x : Naming) (ns : List Naming) → any f ns ≡ false → Has x ns → f x ≡ false
 unfolding any
 none-passes f x [] h g = absurd (false≢true g)
 none-passes f x (n ∷ ns) h g =

@@ -34,7 +34,7 @@ abbrev pub isInner : Kind → Bool
 isInner kind = isStep kind && not (sameKind kind END)
 
 -- what holds of the other kinds holds of a kind that is not so
-outer-cases : (P : Kind → Type 0) → P PROGRAM → P NUMBER → P END → (kind : Kind) → isInner kind ≡ false → P kind
+pub outer-cases : (P : Kind → Type 0) → P PROGRAM → P NUMBER → P END → (kind : Kind) → isInner kind ≡ false → P kind
 unfolding isStep
 outer-cases P p n z kind h =
     test-cases (λ _. P kind) (sameKind kind PROGRAM) (λ q. subst P (sym (same-kind kind PROGRAM q)) p) (λ q1.
