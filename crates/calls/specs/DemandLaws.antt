@@ -197,18 +197,18 @@ module _ (e : Edition) (limit : e .limit < bias) (wide : longestString ≤ e .li
 
   -- calls one behind the other: buffers b that hold a machine c in range, so the buffers left hold the machine left
   module _ (lent : ℕ) where
-    record Behind (c : State) (b : Buffers) : Type 0 where
-      sound : Sound e p lent input c
-      holds : Holding e p lent input c b
+    pub record Behind (c : State) (b : Buffers) : Type 0 where
+      pub sound : Sound e p lent input c
+      pub holds : Holding e p lent input c b
 
-    behind-step : (c : State) (b : Buffers) → Behind c b → Behind (step e p lent c .state) (stepCall e table input b .left)
+    pub behind-step : (c : State) (b : Buffers) → Behind c b → Behind (step e p lent c .state) (stepCall e table input b .left)
     behind-step c b k =
         record {
           sound = step-sound e wide p runs lent input c (k .sound);
           holds = step-holds e p table input t limit wide runs lent c b (k .sound) (k .holds);
         }
 
-    behind-steps : (k : ℕ) (c : State) (b : Buffers) → Behind c b → Behind (after e p lent k c) (buffersAfter e table input k b)
+    pub behind-steps : (k : ℕ) (c : State) (b : Buffers) → Behind c b → Behind (after e p lent k c) (buffersAfter e table input k b)
     unfolding after buffersAfter
     behind-steps zero c b h = h
     behind-steps (suc k) c b h = behind-steps k (step e p lent c .state) (stepCall e table input b .left) (behind-step c b h)
@@ -277,6 +277,13 @@ linked-more e table input (observedStep given back ∷ calls) more b m z h g =
 linked-more e table input (observedRun count given back ∷ calls) more b m z h g =
     (h .0, h .1, linked-more e table input calls more (back .left) m z (h .2) g)
 
+-- a table that holds the program of an accepted deck, which is in range
+pub record Loaded (e : Edition) (deck table : List ℕ) : Type 0 where
+  pub program : Program
+  pub accepts : judge e deck ≡ accepted program
+  pub runs : Runs e program
+  pub tabled : Tabled e program table
+
 -- the program of a deck that the deck call accepts is in range
 accepted-inside : (e : Edition) (deck table : List ℕ) (p : Program) → judge e deck ≡ accepted p → readCall e deck table .number ≡ 0
     → isProgram e p ≡ true
@@ -289,41 +296,63 @@ module _ (e : Edition) (limit : e .limit < bias) (wide : longestString ≤ e .li
       → Tabled e p (readCall e deck table .table)
   accepted-tabled deck table p judged h = read-tabled e limit size deck table p (accepted-inside e deck table p judged h) judged h
 
-  -- demand 3, of every list that ends with a call which kept its equation
-  pub demand3 : (table input : List ℕ) (b : Buffers) (h : History e table input b) (call : Observed) (left : Buffers)
-      → Linked e table input b (call ∷ []) left → Demand3 e table input h call
-  unfolding startedWith
-  demand3 table input b h call left kept =
-      let number : readCall e (h .deck) (h .before) .number ≡ 0 = sym (ap (λ x. x .number) (h .read)) in
-      let left-table : readCall e (h .deck) (h .before) .table ≡ table = sym (ap (λ x. x .table) (h .read)) in
-      let judged = read-accepted e (h .deck) (h .before) number in
+  pub read-loaded : (deck table : List ℕ) → readCall e deck table .number ≡ 0 → Loaded e deck (readCall e deck table .table)
+  read-loaded deck table h =
+      let judged = read-accepted e deck table h in
       let p = judged .0 in
-      let runs = program-runs e p (accepted-inside e (h .deck) (h .before) p (judged .1) number) in
-      let t = subst (Tabled e p) left-table (accepted-tabled (h .deck) (h .before) p (judged .1) number) in
-      let lent = length (h .output) in
-      let first : Buffers = record { store = h .start .store; state = h .start .state; output = h .output } in
-      let started : first ≡ startedWith (h .store) (h .output) =
-      ap (λ x. record { store = x .store; state = x .state; output = h .output }) (h .started) in
-      let all-linked = linked-more e table input (h .calls) (call ∷ []) first b left (h .linked) kept in
       record {
         program = p;
         accepts = judged .1;
+        runs = program-runs e p (accepted-inside e deck table p (judged .1) h);
+        tabled = accepted-tabled deck table p (judged .1) h;
+      }
+
+  -- with a large enough store, what starting leaves holds the machine before its first step
+  pub started-behind : {deck table : List ℕ} (l : Loaded e deck table) (store input output : List ℕ) → storeSize ≤ length store
+      → Behind e limit wide (l .program) (l .runs) table input (l .tabled) (length output) (fresh input) (startedWith store output)
+  started-behind l store input output large =
+      record {
+        sound = fresh-sound e wide (l .program) (l .runs) (length output) input;
+        holds = started-holds e limit wide (l .program) (l .runs) store input output large;
+      }
+
+  -- what was read and started, and every call of the list up to one which kept its equation
+  module _ (table input : List ℕ) (b : Buffers) (h : History e table input b) where
+    pub history-loaded : Loaded e (h .deck) table
+    history-loaded =
+        let number : readCall e (h .deck) (h .before) .number ≡ 0 = sym (ap (λ x. x .number) (h .read)) in
+        let left-table : readCall e (h .deck) (h .before) .table ≡ table = sym (ap (λ x. x .table) (h .read)) in
+        subst (Loaded e (h .deck)) left-table (read-loaded (h .deck) (h .before) number)
+
+    pub history-linked : (call : Observed) (left : Buffers) → Linked e table input b (call ∷ []) left
+        → Linked e table input (startedWith (h .store) (h .output)) (h .calls ++ (call ∷ [])) left
+    unfolding startedWith
+    history-linked call left kept =
+        let first : Buffers = record { store = h .start .store; state = h .start .state; output = h .output } in
+        let started : first ≡ startedWith (h .store) (h .output) =
+        ap (λ x. record { store = x .store; state = x .state; output = h .output }) (h .started) in
+        subst (λ (x : Buffers). Linked e table input x (h .calls ++ (call ∷ [])) left) started
+        (linked-more e table input (h .calls) (call ∷ []) first b left (h .linked) kept)
+
+  -- demand 3, of every list that ends with a call which kept its equation
+  pub demand3 : (table input : List ℕ) (b : Buffers) (h : History e table input b) (call : Observed) (left : Buffers)
+      → Linked e table input b (call ∷ []) left → Demand3 e table input h call
+  demand3 table input b h call left kept =
+      let l = history-loaded table input b h in
+      let first = startedWith (h .store) (h .output) in
+      let linked = history-linked table input b h call left kept in
+      record {
+        program = l .program;
+        accepts = l .accepts;
         claim =
             λ large.
-            list-claim e limit wide p runs table input t lent (h .calls ++ (call ∷ [])) (fresh input) first left
-            (record {
-              sound = fresh-sound e wide p runs lent input;
-              holds =
-                  subst (Holding e p lent input (fresh input)) (sym started)
-                  (started-holds e limit wide p runs (h .store) input (h .output) large);
-            })
-            all-linked;
+            list-claim e limit wide (l .program) (l .runs) table input (l .tabled) (length (h .output)) (h .calls ++ (call ∷ [])) (fresh input)
+            first left (started-behind l (h .store) input (h .output) large) linked;
         small =
             λ less.
             let stays = started-small (h .store) (h .output) (lt-ltb (length (h .store)) storeSize less) in
-            let still : length (first .store) < storeSize =
-            subst (λ (l : List ℕ). length l < storeSize) (sym (ap (λ (x : Buffers). x .store) started ∙ stays)) less in
-            list-small e limit wide p runs table input t (h .calls ++ (call ∷ [])) first left still all-linked;
+            let still : length (first .store) < storeSize = subst (λ (s : List ℕ). length s < storeSize) (sym stays) less in
+            list-small e limit wide (l .program) (l .runs) table input (l .tabled) (h .calls ++ (call ∷ [])) first left still linked;
       }
 
 -- edition 1: its numbers fit their places

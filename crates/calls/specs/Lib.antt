@@ -40,6 +40,7 @@ pub mod Strigol
 pub mod Table
 pub mod TableLaws
 pub mod TableReading
+pub mod TurnedDownLaws
 pub mod Yielding
 pub mod YieldingForms
 pub mod YieldingNumeric
