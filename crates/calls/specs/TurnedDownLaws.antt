@@ -1,18 +1,17 @@
 -- A run of an accepted deck from a fresh start, with a large enough store, is never turned down: each call is done or stops, and once the
 -- run is over it gets 16. (Returns held never pass the chain of routines.) Assumes nothing; every edition whose sizes fit is covered.
-use mathlib.Core.Bool.{Bool, true, false, cond, true≢false, false≢true}
+use mathlib.Core.Bool.{cond}
 use mathlib.Core.List.{List, [], _∷_, _++_}
 use mathlib.Core.Logic.{_⊎_, inl, inr}
 use mathlib.Core.Path.{_≡_, refl, sym, _∙_, ap, subst}
 use Prim.Native.Nat.{ℕ, zero, suc, _+_, _≤_, _<_}
 use native.Mathlib.Omega.{arith}
-use lib.Dec.{ltb, eqb}
+use lib.Dec.{eqb}
 use lib.ListN.{length, getD}
-use borrow.Author.Tests.{lt-ltb, eq-eqb, ne-eqb}
-use Rattle.base.specs.Choice.{test-cases, cond-cases}
+use borrow.Author.Tests.{lt-ltb}
+use Rattle.base.specs.Choice.{cond-cases}
 use Rattle.base.specs.Edition.{Edition}
 use Rattle.judgement.specs.Chains.{Executes}
-use Rattle.judgement.specs.Deck.{accepted, judge}
 use Rattle.judgement.specs.ScopeLaws.{HasScopes, accepted-scoped}
 use Rattle.language.specs.Placed.{Each}
 use Rattle.language.specs.Program.{Program}
@@ -29,15 +28,14 @@ use Rattle.calls.specs.Buffers.{storeSize, statusOf, stateIn}
 use Rattle.calls.specs.Calls.{readCall, Buffers, StepCalled, stepCall, buffersAfter, RunReturned, outcomeNumber, resultNumbers}
 use Rattle.calls.specs.Calls.{returned, runEnded, runCall}
 use Rattle.calls.specs.Demands.{Observed, observedStep, observedRun, stepsTried, Linked, History}
-use Rattle.calls.specs.DemandLaws.{Behind, behind-step, behind-steps, Loaded, read-loaded, started-behind, history-loaded}
+use Rattle.calls.specs.DemandLaws.{Behind, behind-step, behind-steps, read-loaded, started-behind, history-loaded}
 use Rattle.calls.specs.DemandLaws.{history-linked}
-use Rattle.calls.specs.Holding.{Holding}
-use Rattle.calls.specs.Invariant.{Sound, returns-enough, next-sound, step-sound, fresh-sound}
+use Rattle.calls.specs.Invariant.{Sound, returns-enough, next-sound, step-sound}
 use Rattle.calls.specs.Numerals.{bias}
 use Rattle.calls.specs.ProgramLaws.{Runs}
 use Rattle.calls.specs.RunLaws.{call-numbers, run-same, run-left}
-use Rattle.calls.specs.StartLaws.{read-accepted, startedWith, started-holds}
-use Rattle.calls.specs.StepLaws.{Tabled, step-holds}
+use Rattle.calls.specs.StartLaws.{startedWith}
+use Rattle.calls.specs.StepLaws.{Tabled}
 use Rattle.calls.specs.Table.{literalsAt}
 
 -- a call is done, or one of 17 to 21 stops it
@@ -211,7 +209,7 @@ module _ (e : Edition) (limit : e .limit < bias) (wide : longestString ≤ e .li
         let next = behind-step e limit wide p runs table input t lent c given here in (
           subst (λ (x : StepCalled). CallGoes (observedStep given x)) (sym (linked .1)) (step-call-goes c given here n),
           list-goes calls (step e p lent c .state) (back .left) z
-          (subst (Before (step e p lent c .state)) (sym (ap (λ x. x .left) (linked .1))) next) (step-nests c n) (linked .2),
+              (subst (Before (step e p lent c .state)) (sym (ap (λ x. x .left) (linked .1))) next) (step-nests c n) (linked .2),
         )
     list-goes (observedRun count given back ∷ calls) c b z h n linked =
         let here = subst (Before c) (sym (linked .0)) h in
@@ -222,7 +220,7 @@ module _ (e : Edition) (limit : e .limit < bias) (wide : longestString ≤ e .li
         let next = behind-steps e limit wide p runs table input t lent tried c given here in (
           subst (λ (x : RunReturned). CallGoes (observedRun count given x)) (sym (linked .1)) (run-call-goes count c given here n),
           list-goes calls (after e p lent tried c) (back .left) z
-          (subst (Before (after e p lent tried c)) (sym left-is) next) (steps-nest tried c n) (linked .2),
+              (subst (Before (after e p lent tried c)) (sym left-is) next) (steps-nest tried c n) (linked .2),
         )
 
 -- numbers fit their places, and tables and string lengths their sizes

@@ -3,9 +3,8 @@ use mathlib.Core.Bool.{Bool, true, false, cond, not, _&&_, _||_, true≢false}
 use mathlib.Core.List.{List, [], _∷_, _++_}
 use mathlib.Core.Option.{Option}
 use mathlib.Core.Path.{_≡_, refl, sym, subst}
-use Prim.Native.Nat.{ℕ, zero, suc, _+_, _*_}
+use Prim.Native.Nat.{ℕ, zero, suc, _+_}
 use lib.Dec.{leb, ltb, eqb}
-use lib.IntN.{ℤ, pos, negℤ}
 use lib.ListN.{length, take, drop, getD}
 use Rattle.base.specs.Edition.{Edition}
 use Rattle.base.specs.Lists.{begins, keep}

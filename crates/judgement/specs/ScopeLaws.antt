@@ -8,7 +8,7 @@ use Prim.Native.Nat.{ℕ, zero, suc, _+_, _≤_}
 use native.Mathlib.Omega.{arith}
 use lib.ListN.{length, drop, getD}
 use borrow.Author.Tests.{not-true, not-false}
-use Rattle.base.specs.Choice.{test-cases, both-true, both-pass, neither-true, true-behind}
+use Rattle.base.specs.Choice.{test-cases, both-pass, neither-true, true-behind}
 use Rattle.base.specs.Edition.{Edition}
 use Rattle.base.specs.Limits as Limits
 use Rattle.base.specs.Lists.{same, any, keep}
@@ -22,16 +22,15 @@ use Rattle.language.specs.Program.{Statement, finish, Step, Program}
 use Rattle.language.specs.Reading.{Purpose, label, routine, samePurpose, Naming, Met, Read, got, broken}
 use Rattle.language.specs.ScopeForms.{Gives, gives, breaks, gives-map, gives-meeting, goesOn, StepLeads, UseLeads, leads-formOf}
 use Rattle.language.specs.Scopes.{Leads, Nested, Scoped}
-use Rattle.language.specs.Words.{Places}
-use Rattle.judgement.specs.Known.{Routine, Use, Known, nothingKnown, numbers, namesFor, isOneOf, isStep, usesAt, learn}
+use Rattle.judgement.specs.Known.{Use, Known, nothingKnown, numbers, namesFor, isOneOf, isStep, usesAt, learn}
 use Rattle.judgement.specs.Refusals.{labelForm, labelled, readStatement, is9}
 use Rattle.judgement.specs.Deck.{passed, stepOf, routineNamed, placesOf, stepRead, stepsFrom, programOf, is11, is12, accepted, judge}
 use Rattle.judgement.specs.ChainLaws.{executes-few}
 use Rattle.judgement.specs.Chains.{Executes, Chained}
 use Rattle.judgement.specs.Placed.Again.{IsStep, Again, ends, past, reads, passed-again}
 use Rattle.judgement.specs.Rounds.{executed-declared}
-use Rattle.judgement.specs.Rules.{Passes, Judging, ended, skips, learns, accepted-program}
-use Rattle.judgement.specs.Standing.{scopedStep, scopesOf, From, learn-scope, statement-behind, from-here, Stands, Standing, read-stands}
+use Rattle.judgement.specs.Rules.{Judging, ended, skips, learns, accepted-program}
+use Rattle.judgement.specs.Standing.{scopesOf, From, learn-scope, statement-behind, from-here, Stands, Standing, read-stands}
 use Rattle.judgement.specs.Standing.{again-standing, entry-stands, exit-stands}
 
 module _ {A : Type 0} where
@@ -287,7 +286,10 @@ accepted-scoped e deck p q =
       scoped =
           record {
             outside = outside;
-            leads = λ i. step-leads e k h11 scope outside standing steps 0 i i (omega arith) (again-leads e k h11 scope outside standing (passed-ended j) again from);
+            leads =
+                λ i.
+                step-leads e k h11 scope outside standing steps 0 i i (omega arith)
+                (again-leads e k h11 scope outside standing (passed-ended j) again from);
             few = λ next returns h. omega (arith, nested-few scope j h11 h12 returns next [] tt h);
           };
     })

@@ -1,6 +1,6 @@
 -- Where the steps, labels and routines of a deck that passes stand: in one routine, or outside all. Assumes nothing.
 use mathlib.Core.Bool.{Bool, true, false, cond, not, _&&_, _||_, true≢false, false≢true, and-eq-true-iff}
-use mathlib.Core.List.{List, [], _∷_, _++_, map}
+use mathlib.Core.List.{List, [], _∷_, _++_}
 use mathlib.Core.Logic.{⊎-elim}
 use mathlib.Core.Option.{Option, none, some}
 use mathlib.Core.Path.{_≡_, refl, sym, _∙_, ap, subst}
@@ -16,14 +16,13 @@ use Rattle.language.specs.Keywords.{Kind, PROGRAM, NUMBER, END, ROUTINE, ENDROU
 use Rattle.language.specs.Laws.{same-kind, same-purpose-refl}
 use Rattle.language.specs.Placed.{Each}
 use Rattle.language.specs.Program.{Statement}
-use Rattle.language.specs.Reading.{Purpose, label, routine, samePurpose, Naming, Met, got}
+use Rattle.language.specs.Reading.{label, routine, samePurpose, Naming, Met, got}
 use Rattle.judgement.specs.Known.{Label, Routine, Known, numbers, namesFor, isOneOf, isStep, labelsAt, opened, closed, scopeAfter, learn}
 use Rattle.judgement.specs.Refusals.{readStatement, isDeclared, hasOther, hasTwice, is6}
 use Rattle.judgement.specs.Deck.{stepOf, routineNamed, placesOf}
 use Rattle.judgement.specs.Declares.{declares-none}
 use Rattle.judgement.specs.Names.{Has, any-append, none-passes, names-for}
 use Rattle.judgement.specs.Placed.Again.{IsStep, Again, ends, past, reads}
-use Rattle.judgement.specs.Rules.{Passes, passes-before-end}
 use Rattle.judgement.specs.Targets.{isInner, outer-cases}
 
 -- a scope goes before those of the steps behind, where the statement is a step
@@ -189,8 +188,10 @@ unfolding is6 isDeclared isOneOf
 label-fresh k m n h is =
     let x : Naming = record { purpose = label; name = n } in
     let has : Has x (m .declared) = sym (names-for label n (m .declared)) ∙ is in
-    let not-declared = neither-true (any (isDeclared k) (m .declared)) (hasTwice (m .declared)) (neither-true (any (hasOther (k .names ++ (m .declared ++ m .used))) (m .declared ++ m .used)) _ h .1) .0 in
-    let fails = none-passes (isDeclared k) x (m .declared) not-declared has in
+    let ns = m .declared ++ m .used in
+    let once = neither-true (any (hasOther (k .names ++ ns)) ns) _ h .1 in
+    let new = neither-true (any (isDeclared k) (m .declared)) (hasTwice (m .declared)) once .0 in
+    let fails = none-passes (isDeclared k) x (m .declared) new has in
     rw (same-purpose-refl label) at (neither-true (samePurpose label label && isLabel (k .labels) n) _ fails .0)
 
 -- labels behind a statement that passes

@@ -1,29 +1,19 @@
 -- The steps of labels and routines: behind a deck that passes each is below the count of steps. Assumes nothing.
 use mathlib.Core.Bool.{Bool, true, false, cond, not, _&&_, true≢false, false≢true, and-eq-true-iff}
 use mathlib.Core.List.{List, [], _∷_}
-use mathlib.Core.Option.{Option}
 use mathlib.Core.Path.{_≡_, refl, sym, _∙_, subst}
-use Prim.Native.Nat.{ℕ, zero, suc, _≤_, _<_}
+use Prim.Native.Nat.{ℕ, suc, _≤_, _<_}
 use native.Mathlib.Omega.{arith}
-use lib.Dec.{leb, eqb}
-use lib.ListN.{length, take, drop}
 use borrow.Author.Tests.{not-true}
 use Rattle.base.specs.Choice.{test-cases, cond-cases}
 use Rattle.base.specs.Edition.{Edition}
-use Rattle.base.specs.Lists.{begins, keep}
-use Rattle.base.specs.Text.{bytes}
 use Rattle.cards.specs.Cards.{Entry}
-use Rattle.cards.specs.Packing.{packed, literalsWhole}
-use Rattle.language.specs.Forms.{stepEnd, noStepEnd, programForm, numberForm, formOf, statementForm}
+use Rattle.cards.specs.Packing.{packed}
 use Rattle.language.specs.Keywords.{Kind, NUMBER, PROGRAM, END, ROUTINE, ENDROUTINE, kindNumber, sameKind, leading}
 use Rattle.language.specs.Laws.{same-kind}
 use Rattle.language.specs.Placed.{Each, each-map, each-join}
-use Rattle.language.specs.Program.{Statement}
 use Rattle.language.specs.Reading as Reading
-use Rattle.language.specs.Reading.{Purpose, program, routine, number, purposeNumber, samePurpose, Naming, Met, declaring}
-use Rattle.language.specs.Reading.{Read, got, broken, meeting, give, finished, _>>=_}
-use Rattle.language.specs.Strings.{moreOf, listOf}
-use Rattle.language.specs.Words.{Places, nameLength, name, nameAs}
+use Rattle.language.specs.Reading.{routine, Met}
 use Rattle.judgement.specs.Known.{Label, Routine, Known, namesFor, isStep, labelsAt, opened, closed, learn}
 use Rattle.judgement.specs.Declares.{declares-none}
 use Rattle.judgement.specs.Deck.{passed}

@@ -1,11 +1,10 @@
 -- Where the statement of each form leads, if the names it uses and the places of the deck lead there. Assumes nothing.
-use mathlib.Core.Bool.{Bool, true, false, not, _&&_, _||_}
-use mathlib.Core.List.{List, [], _∷_, _++_}
+use mathlib.Core.Bool.{Bool, true, false, not, _||_}
+use mathlib.Core.List.{List, [], _∷_}
 use mathlib.Core.Option.{Option, none, some}
 use mathlib.Core.Path.{_≡_, refl}
 use Prim.Native.Nat.{ℕ, suc}
-use lib.Dec.{leb}
-use lib.ListN.{take, drop}
+use lib.ListN.{drop}
 use Rattle.base.specs.Edition.{Edition}
 use Rattle.base.specs.Lists.{begins}
 use Rattle.base.specs.Text.{bytes}
@@ -36,13 +35,14 @@ use Rattle.language.specs.Keywords.{
 }
 use Rattle.language.specs.Numeric.{numericExpression, test}
 use Rattle.language.specs.Placed.{Each, each-part}
-use Rattle.language.specs.Program.{Branch, Direction, forward, backward, Statement, setNumber, setString, goto, finish, ifTest, scan}
+use Rattle.language.specs.Program.{Direction, forward, backward, Statement, setNumber, setString, goto, finish, ifTest, scan}
 use Rattle.language.specs.Program.{read, write, execute, return}
-use Rattle.language.specs.Reading.{Purpose, label, routine, number, program, samePurpose, purposeNumber, Naming, Met, naming, declaring, both, reference, nothing}
+use Rattle.language.specs.Reading.{Purpose, label, routine, number, program, samePurpose, purposeNumber, Naming, reference}
+use Rattle.language.specs.Reading.{Met, naming, declaring, both}
 use Rattle.language.specs.Reading.{Read, got, broken, meeting, give, skip, finished, _>>=_}
 use Rattle.language.specs.Scopes.{Stays, BranchStays, Leads}
 use Rattle.language.specs.Strings.{listOf, stringExpression, pattern}
-use Rattle.language.specs.Words.{Places, nameLength, name, nameAs, noRole, numberName, partName}
+use Rattle.language.specs.Words.{Places, name, nameAs, noRole, numberName, partName}
 
 -- P holds of what is read where K holds of every name it uses
 pub data Gives (K : Naming → Type 0) {A : Type 0} (P : A → Type 0) : Read A → Type 0 where

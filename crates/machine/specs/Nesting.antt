@@ -3,8 +3,8 @@
 use mathlib.Core.Bool.{Bool, true, false, cond, _||_}
 use mathlib.Core.List.{List, [], _∷_}
 use mathlib.Core.Option.{Option, none, some}
-use mathlib.Core.Path.{_≡_, refl, sym, _∙_, ap, subst}
-use Prim.Native.Nat.{ℕ, zero, suc, _+_, _≤_, _<_}
+use mathlib.Core.Path.{_≡_, refl, sym, _∙_, subst}
+use Prim.Native.Nat.{ℕ, suc, _+_}
 use native.Mathlib.Omega.{arith}
 use lib.Dec.{leb, eqb}
 use lib.IntN.{natAbs}
@@ -17,10 +17,9 @@ use Rattle.language.specs.Program as Program
 use Rattle.language.specs.Program.{Part, whole, first, Branch, Statement, setNumber, setString, goto, finish, ifTest, read, write, execute}
 use Rattle.language.specs.Program.{return, Program}
 use Rattle.language.specs.Scopes.{BranchStays, Leads, Nested, Scoped}
-use Rattle.machine.specs.Ends.{both-done, done-value, stop-not-done}
 use Rattle.machine.specs.Expressions.{lengthIn, numericIn, testIn, stringIn}
 use Rattle.machine.specs.Scanning.{scanningIn}
-use Rattle.machine.specs.State.{Memory, State, stopped, isRunning, fresh, goingTo, withReturns, withInput, withOutput, withStatus}
+use Rattle.machine.specs.State.{State, isRunning, fresh, goingTo, withReturns, withInput, withOutput, withStatus}
 use Rattle.machine.specs.Step.{Done, moving, chosen, scannedTo, setStringIn, taking, reading, shortened, putting, returning, carrying}
 use Rattle.machine.specs.Step.{statementAt, mostReturns, lacksReturn, turnedDownBy, Stepped, concluded, step}
 use Rattle.scanning.specs.Splits.{Split}
