@@ -17,7 +17,7 @@ use Rattle.language.specs.Placed.{Each}
 use Rattle.language.specs.Program.{Program}
 use Rattle.machine.specs.Ends.{Ends, ends, stops}
 use Rattle.machine.specs.Nesting.{NestedIn, fresh-nested, step-nested, nested-turned}
-use Rattle.machine.specs.Run.{Outcome, FINISHED, STOPPED, SPENT, REFUSED, Ran, after, counted, endedWith, goingOn, run}
+use Rattle.machine.specs.Run.{REFUSED, Ran, after, counted, endedWith, goingOn, run}
 use Rattle.machine.specs.State.{Status, running, finished, stopped, isRunning, Memory, State, fresh}
 use Rattle.machine.specs.Step.{Done, carrying, statementAt, turnedDownBy, Stepped, concluded, step}
 use Rattle.machine.specs.StepEnds.{step-turned}
@@ -58,21 +58,8 @@ CallGoes (observedRun (suc k) b back) =
 
 -- a run that is not turned down
 pub record RunsOn (r : Ran) : Type 0 where
-  pub unrefused : ¬ (r .outcome ≡ REFUSED)
+  pub unrefused : ¬ (outcomeNumber (r .outcome) ≡ outcomeNumber REFUSED)
   pub number : DoneOrStopped (r .number)
-
--- an outcome is no other
-finished-not-refused : ¬ (FINISHED ≡ REFUSED)
-unfolding outcomeNumber
-finished-not-refused h = let z : _≡_ {A = ℕ} 0 3 = ap outcomeNumber h in omega arith
-
-stopped-not-refused : ¬ (STOPPED ≡ REFUSED)
-unfolding outcomeNumber
-stopped-not-refused h = let z : _≡_ {A = ℕ} 1 3 = ap outcomeNumber h in omega arith
-
-spent-not-refused : ¬ (SPENT ≡ REFUSED)
-unfolding outcomeNumber
-spent-not-refused h = let z : _≡_ {A = ℕ} 2 3 = ap outcomeNumber h in omega arith
 
 -- how a statement's work is concluded
 concluded-goes : {P : Done → Type 0} (c : State) (w : Work Done) → Ends P w → DoneOrStopped (concluded c w .answer .number)
@@ -90,43 +77,35 @@ module _ (notes : ℕ) (scanned : Scanned) (next : ℕ) (returns : List ℕ) (m 
       }
 
   done-behind : (x : Status) → (x ≡ running → RunsOn rest) → RunsOn (goingOn (stepped 0 x) rest)
-  unfolding goingOn counted endedWith stepped
+  unfolding goingOn counted endedWith stepped outcomeNumber
   done-behind running h = record { unrefused = h refl .unrefused; number = h refl .number }
-  done-behind finished h = record { unrefused = finished-not-refused; number = inl refl }
-  done-behind stopped h = record { unrefused = stopped-not-refused; number = inl refl }
+  done-behind finished h = record { unrefused = λ q. omega arith; number = inl refl }
+  done-behind stopped h = record { unrefused = λ q. omega arith; number = inl refl }
 
   step-behind : (n : ℕ) (x : Status) → DoneOrStopped n → (x ≡ running → RunsOn rest) → RunsOn (goingOn (stepped n x) rest)
-  unfolding goingOn counted endedWith stepped
+  unfolding goingOn counted endedWith stepped outcomeNumber
   step-behind n x (inl none) h = subst (λ (n : ℕ). RunsOn (goingOn (stepped n x) rest)) (sym none) (done-behind x h)
   step-behind n x (inr (low, high)) h =
-      rw (lt-ltb 16 n (omega arith)) (record { unrefused = stopped-not-refused; number = inr (low, high) })
+      rw (lt-ltb 16 n (omega arith)) (record { unrefused = λ q. omega arith; number = inr (low, high) })
 
 -- a run behind a step that 16 turned down
 refused-behind : (s : Stepped) (rest : Ran) → s .answer .number ≡ 16 → goingOn s rest .number ≡ 16
 unfolding goingOn endedWith
 refused-behind s rest h = rw h
 
--- an outcome but REFUSED has another number
-unrefused-number : (o : Outcome) → ¬ (o ≡ REFUSED) → ¬ (outcomeNumber o ≡ outcomeNumber REFUSED)
-unfolding outcomeNumber
-unrefused-number FINISHED h q = omega arith
-unrefused-number STOPPED h q = omega arith
-unrefused-number SPENT h q = omega arith
-unrefused-number REFUSED h q = h refl
-
 -- numbers fit their places, a string's length is a number, and p is a program that runs, with the scopes of its steps
 module _ (e : Edition) (limit : e .limit < bias) (wide : longestString ≤ e .limit) (p : Program) (runs : Runs e p) (scopes : HasScopes p)
     (input : List ℕ) (lent : ℕ) where
   -- what the machine holds is nested in these scopes
   abbrev Nests : State → Type 0
-  Nests = NestedIn (λ n. getD (scopes .scopes) n []) (Executes (scopes .uses))
+  Nests = NestedIn (scopes .scope) (Executes (scopes .uses))
 
   -- before the first step, and behind each
   fresh-nests : Nests (fresh input)
-  fresh-nests = fresh-nested (λ n. getD (scopes .scopes) n []) (Executes (scopes .uses)) p (scopes .scoped) input
+  fresh-nests = fresh-nested (scopes .scope) (Executes (scopes .uses)) p (scopes .scoped) input
 
   step-nests : (c : State) → Nests c → Nests (step e p lent c .state)
-  step-nests c h = step-nested (λ n. getD (scopes .scopes) n []) (Executes (scopes .uses)) p (scopes .scoped) e lent c h
+  step-nests c h = step-nested (scopes .scope) (Executes (scopes .uses)) p (scopes .scoped) e lent c h
 
   steps-nest : (k : ℕ) (c : State) → Nests c → Nests (after e p lent k c)
   unfolding after
@@ -135,7 +114,7 @@ module _ (e : Edition) (limit : e .limit < bias) (wide : longestString ≤ e .li
 
   -- Q15 never, Q16 once the run is over
   turned-down : (c : State) → Nests c → turnedDownBy p c ≡ cond (isRunning (c .status)) 0 16
-  turned-down c h = nested-turned (λ n. getD (scopes .scopes) n []) (Executes (scopes .uses)) p (scopes .scoped) c h
+  turned-down c h = nested-turned (scopes .scope) (Executes (scopes .uses)) p (scopes .scoped) c h
 
   -- a step in a run that is over
   step-over : (c : State) → turnedDownBy p c ≡ 16 → step e p lent c .answer .number ≡ 16
@@ -154,8 +133,8 @@ module _ (e : Edition) (limit : e .limit < bias) (wide : longestString ≤ e .li
 
   -- a run that goes on
   run-goes : (k : ℕ) (c : State) → Sound e p lent input c → Nests c → c .status ≡ running → RunsOn (run e p lent k c)
-  unfolding run endedWith GoesOn stepped
-  run-goes zero c s h is = record { unrefused = spent-not-refused; number = inl refl }
+  unfolding run endedWith GoesOn stepped outcomeNumber
+  run-goes zero c s h is = record { unrefused = λ q. omega arith; number = inl refl }
   run-goes (suc k) c s h is =
       let next = step e p lent c .state in
       let a = step e p lent c .answer in
@@ -194,9 +173,7 @@ module _ (e : Edition) (limit : e .limit < bias) (wide : longestString ≤ e .li
         let same = run-same e limit wide p runs table input t lent (suc k) c b (h .sound) (h .holds) in
         let status = given-status c b h in (
           subst (GoesOn (statusOf (getD (b .state) 0 0))) (sym (same .number)) (run-number k c (h .sound) n _ status),
-          λ is.
-              let goes = run-goes (suc k) c (h .sound) n (status ∙ is) in
-              unrefused-number _ (λ refused. goes .unrefused (sym (same .outcome) ∙ refused)),
+          λ is refused. run-goes (suc k) c (h .sound) n (status ∙ is) .unrefused (sym (ap outcomeNumber (same .outcome)) ∙ refused),
         )
 
     -- all calls of a list
@@ -242,7 +219,7 @@ module _ (e : Edition) (limit : e .limit < bias) (wide : longestString ≤ e .li
       (fresh-nests e limit wide p (l .runs) scopes input lent) refl in
       let same = run-same e limit wide p (l .runs) (readCall e deck table .table) input (l .tabled) lent count (fresh input)
       (startedWith store output) (start .sound) (start .holds) in
-      (λ refused. goes .unrefused (sym (same .outcome) ∙ refused), subst DoneOrStopped (sym (same .number)) (goes .number))
+      (λ refused. goes .unrefused (ap outcomeNumber (sym (same .outcome) ∙ refused)), subst DoneOrStopped (sym (same .number)) (goes .number))
 
   -- nor is a step of it, before the run is over; then 16 turns it down
   pub step-never-refused : (deck table store input output : List ℕ) (k : ℕ) → readCall e deck table .number ≡ 0 → storeSize ≤ length store

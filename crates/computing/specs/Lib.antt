@@ -146,6 +146,11 @@ unfolding
     Rattle.language.specs.Reading._>>=_
     Rattle.language.specs.Reading.skip
     Rattle.language.specs.Reading.finished
+    Rattle.language.specs.ScopeForms.goesOn
+    Rattle.language.specs.ScopeForms.StepLeads
+    Rattle.language.specs.ScopeForms.UseLeads
+    Rattle.language.specs.Scopes.Leads
+    Rattle.language.specs.Scopes.Nested
     Rattle.language.specs.Strings.literalAt
     Rattle.language.specs.Strings.nothingHere
     Rattle.language.specs.Strings.moreOf
@@ -171,6 +176,7 @@ unfolding
     Rattle.language.specs.Words.partOf
     Rattle.language.specs.Words.stringName
     Rattle.language.specs.Words.partName
+    Rattle.judgement.specs.Chains.Chained
     Rattle.judgement.specs.Deck.unplaced
     Rattle.judgement.specs.Deck.metBy
     Rattle.judgement.specs.Deck.judgeFrom
@@ -219,6 +225,9 @@ unfolding
     Rattle.judgement.specs.Refusals.metNumber
     Rattle.judgement.specs.Refusals.formNumber
     Rattle.judgement.specs.Refusals.statementNumber
+    Rattle.judgement.specs.Standing.scopedStep
+    Rattle.judgement.specs.Standing.scopesOf
+    Rattle.judgement.specs.Standing.From
     Rattle.values.specs.Conversion.longestString
     Rattle.values.specs.Conversion.substring
     Rattle.values.specs.Conversion.isDigitOrBlank
@@ -452,5 +461,7 @@ unfolding
     Rattle.calls.specs.TableReading.stepIn
     Rattle.calls.specs.TableReading.stepsFrom
     Rattle.calls.specs.TableReading.programIn
+    Rattle.calls.specs.TurnedDownLaws.GoesOn
+    Rattle.calls.specs.TurnedDownLaws.CallGoes
     Rattle.calls.specs.Yielding.viewOf
 everything = tt

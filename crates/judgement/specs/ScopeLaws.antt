@@ -263,9 +263,9 @@ from-list scope (s ∷ ss) n h = (h 0 n (omega arith), from-list scope ss (suc n
 
 -- a program whose steps have scopes, in which the routines of a deck execute one another
 pub record HasScopes (p : Program) : Type 0 where
+  pub scope : ℕ → List ℕ
   pub uses : List Use
-  pub scopes : List (List ℕ)
-  pub scoped : Scoped (λ n. getD scopes n []) (Executes uses) (p .steps)
+  pub scoped : Scoped scope (Executes uses) (p .steps)
 
 -- every accepted deck has such a program
 pub accepted-scoped : (e : Edition) (deck : List ℕ) (p : Program) → judge e deck ≡ accepted p → HasScopes p
@@ -281,8 +281,8 @@ accepted-scoped e deck p q =
     let standing = again-standing scope (passed-ended j) outside again from none-yet in
     let steps = stepsFrom e k 0 (entries e deck) in
     record {
+      scope = scope;
       uses = k .executes;
-      scopes = scopes;
       scoped =
           record {
             outside = outside;
