@@ -97,7 +97,7 @@ module _ (known keys scopes purposes : List ℕ) where
   used = usesFrom 2 keys scopes purposes 0 (getD known useCountAt 0)
 
   executes-pairs : (i j : ℕ) → executes used (name i) (name j) ≡ below (usePairs known keys scopes purposes i j) (getD known useCountAt 0)
-  unfolding executes usePairs byUse
+  unfolding usePairs byUse
   executes-pairs i j =
       any-uses (λ u. same (name i) (u .scope) && same (name j) (u .name)) 2 keys scopes purposes (getD known useCountAt 0)
       ∙ below-same _ _ (getD known useCountAt 0)

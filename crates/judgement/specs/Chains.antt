@@ -11,7 +11,7 @@ abbrev pub Declared : Known → List ℕ → Type 0
 Declared k n = any (λ r. same n (r .name)) (k .routines) ≡ true
 
 -- one routine executes another: in the first stands an EXECUTE of the second; the empty name stands for outside all routines
-unfoldable pub executes : List Use → (first second : List ℕ) → Bool
+abbrev pub executes : List Use → (first second : List ℕ) → Bool
 executes us a b = any (λ u. same a (u .scope) && same b (u .name)) us
 
 abbrev pub Executes : List Use → (first second : List ℕ) → Type 0

@@ -41,7 +41,7 @@ some-named name f (x ∷ xs) n h p =
 
 -- those executed by a routine are those that it executes
 pub executed-by : (us : List Use) (a b : List ℕ) → isOneOf (executedBy us a) b ≡ executes us a b
-unfolding isOneOf executedBy executes any keep
+unfolding isOneOf executedBy any keep
 executed-by [] a b = refl
 executed-by (u ∷ us) a b =
     let rest = keep (λ (v : Use). same a (v .scope)) us in
@@ -117,7 +117,7 @@ reached-keeps (suc n) us rs a h =
 -- where every name used passes a test so does every routine executed
 pub executed-passes : (f : List ℕ → Bool) (us : List Use) → any (λ u. not (f (u .name))) us ≡ false → (a b : List ℕ) → Executes us a b
     → f b ≡ true
-unfolding executes any
+unfolding any
 executed-passes f [] h a b g = absurd (false≢true g)
 executed-passes f (u ∷ us) h a b g =
     let (here, rest) = neither-true (not (f (u .name))) (any (λ v. not (f (v .name))) us) h in
