@@ -1,5 +1,5 @@
 -- Document 01, 12 "A routine executes itself, directly or through others.", said of chains of EXECUTEs. Assumes nothing.
-use mathlib.Core.Bool.{true, false, _&&_}
+use mathlib.Core.Bool.{Bool, true, false, _&&_}
 use mathlib.Core.List.{List, [], _∷_}
 use mathlib.Core.Path.{_≡_}
 use Prim.Native.Nat.{ℕ}
@@ -11,8 +11,11 @@ abbrev pub Declared : Known → List ℕ → Type 0
 Declared k n = any (λ r. same n (r .name)) (k .routines) ≡ true
 
 -- one routine executes another: in the first stands an EXECUTE of the second; the empty name stands for outside all routines
+abbrev pub executes : List Use → (first second : List ℕ) → Bool
+executes us a b = any (λ u. same a (u .scope) && same b (u .name)) us
+
 abbrev pub Executes : List Use → (first second : List ℕ) → Type 0
-Executes us a b = any (λ u. same a (u .scope) && same b (u .name)) us ≡ true
+Executes us a b = executes us a b ≡ true
 
 -- one routine executes another, directly or through others
 pub data Chain (us : List Use) (a : List ℕ) : List ℕ → Type 0 where

@@ -13,19 +13,12 @@ use Rattle.base.specs.Lists.{same, any, keep, total}
 use Rattle.base.specs.ListLaws.{same-true, same-refl}
 use Rattle.judgement.specs.Known.{Routine, Use, Known, isOneOf}
 use Rattle.judgement.specs.Deck.{is11, executedBy, withNew, executedByAll, reached}
-use Rattle.judgement.specs.Chains.{Declared, Executes, Chain, direct, through}
+use Rattle.judgement.specs.Chains.{Declared, executes, Executes, Chain, direct, through}
 use Rattle.judgement.specs.Names.{any-append}
 
 -- a name is in a list of names
 abbrev pub In : List (List ℕ) → List ℕ → Type 0
 In ns n = isOneOf ns n ≡ true
-
--- the tests that Declared and Executes say are passed
-abbrev declares : Known → List ℕ → Bool
-declares k n = any (λ r. same n (r .name)) (k .routines)
-
-abbrev leads : List Use → (first second : List ℕ) → Bool
-leads us a b = any (λ u. same a (u .scope) && same b (u .name)) us
 
 -- some element's name passes a test exactly when some name that an element has passes it
 pub named-some : {A : Type 0} (name : A → List ℕ) (f : List ℕ → Bool) (xs : List A) → any (λ x. f (name x)) xs ≡ true
@@ -47,26 +40,26 @@ some-named name f (x ∷ xs) n h p =
     (either-true (same n (name x)) (any (λ y. same n (name y)) xs) h)
 
 -- those executed by a routine are those that it executes
-executed-by : (us : List Use) (a b : List ℕ) → isOneOf (executedBy us a) b ≡ leads us a b
+pub executed-by : (us : List Use) (a b : List ℕ) → isOneOf (executedBy us a) b ≡ executes us a b
 unfolding isOneOf executedBy any keep
 executed-by [] a b = refl
 executed-by (u ∷ us) a b =
     let rest = keep (λ (v : Use). same a (v .scope)) us in
     test-cases
-    (λ t. any (same b) (map (λ (v : Use). v .name) (elim t [ true ↦ u ∷ rest | false ↦ rest ])) ≡ ((t && same b (u .name)) || leads us a b))
+    (λ t. any (same b) (map (λ (v : Use). v .name) (elim t [ true ↦ u ∷ rest | false ↦ rest ])) ≡ ((t && same b (u .name)) || executes us a b))
     (same a (u .scope)) (λ _. ap (λ c. same b (u .name) || c) (executed-by us a b)) (λ _. executed-by us a b)
 
 -- those executed by some routines are those that one of them executes
-executed-by-all : (us : List Use) (rs : List (List ℕ)) (b : List ℕ) → isOneOf (executedByAll us rs) b ≡ any (λ a. leads us a b) rs
+pub executed-by-all : (us : List Use) (rs : List (List ℕ)) (b : List ℕ) → isOneOf (executedByAll us rs) b ≡ any (λ a. executes us a b) rs
 unfolding isOneOf executedByAll any
 executed-by-all us [] b = refl
 executed-by-all us (a ∷ rs) b =
     any-append (same b) (executedBy us a) (executedByAll us rs)
     ∙ ap (λ c. c || any (same b) (executedByAll us rs)) (executed-by us a b)
-    ∙ ap (λ c. leads us a b || c) (executed-by-all us rs b)
+    ∙ ap (λ c. executes us a b || c) (executed-by-all us rs b)
 
 -- names with new ones are those known and those added
-with-new : (known ns : List (List ℕ)) (n : List ℕ) → isOneOf (withNew known ns) n ≡ (isOneOf known n || isOneOf ns n)
+pub with-new : (known ns : List (List ℕ)) (n : List ℕ) → isOneOf (withNew known ns) n ≡ (isOneOf known n || isOneOf ns n)
 unfolding isOneOf withNew any
 with-new known [] n = sym (or-false (any (same n) known))
 with-new known (m ∷ ns) n =
@@ -109,8 +102,8 @@ reached-only P us goes (suc n) rs h a i = reached-only P us goes n (withNew rs (
     further b i =
         ⊎-elim (h b)
         (λ j.
-        let (a, has, executes) = named-some (λ a. a) (λ a. leads us a b) rs (sym (executed-by-all us rs b) ∙ j) in
-        goes a b (h a has) executes)
+        let (a, has, next) = named-some (λ a. a) (λ a. executes us a b) rs (sym (executed-by-all us rs b) ∙ j) in
+        goes a b (h a has) next)
         (either-true (isOneOf rs b) (isOneOf (executedByAll us rs) b) (sym (with-new rs (executedByAll us rs) b) ∙ i))
 
 -- a round loses nothing
@@ -121,23 +114,26 @@ reached-keeps (suc n) us rs a h =
     reached-keeps n us (withNew rs (executedByAll us rs)) a
     (with-new rs (executedByAll us rs) a ∙ ap (λ b. b || isOneOf (executedByAll us rs) a) h)
 
+-- where every name used passes a test so does every routine executed
+pub executed-passes : (f : List ℕ → Bool) (us : List Use) → any (λ u. not (f (u .name))) us ≡ false → (a b : List ℕ) → Executes us a b
+    → f b ≡ true
+unfolding any
+executed-passes f [] h a b g = absurd (false≢true g)
+executed-passes f (u ∷ us) h a b g =
+    let (here, rest) = neither-true (not (f (u .name))) (any (λ v. not (f (v .name))) us) h in
+    ⊎-elim
+    (λ is. ap f (same-true b (u .name) (both-true (same a (u .scope)) (same b (u .name)) is .1)) ∙ not-false (f (u .name)) here)
+    (executed-passes f us rest a b)
+    (either-true (same a (u .scope) && same b (u .name)) (executes us a b) g)
+
 -- where 11 does not hold every routine executed is declared
 pub executed-declared : (k : Known) → is11 k ≡ false → (a b : List ℕ) → Executes (k .executes) a b → Declared k b
-unfolding is11 any
-executed-declared k h11 a b =
+unfolding is11
+executed-declared k h11 =
     let strays : Use → Bool = λ u. not (any (λ l. same (u .name) (l .name) && same (u .scope) (l .scope)) (k .labels)) in
-    further (k .executes) (neither-true (any strays (k .branches)) (any (λ u. not (declares k (u .name))) (k .executes)) h11 .1)
-  where
-    further : (us : List Use) → any (λ u. not (declares k (u .name))) us ≡ false → Executes us a b → Declared k b
-    further [] h g = absurd (false≢true g)
-    further (u ∷ us) h g =
-        let (here, rest) = neither-true (not (declares k (u .name))) (any (λ v. not (declares k (v .name))) us) h in
-        ⊎-elim
-        (λ is.
-        let name = same-true b (u .name) (both-true (same a (u .scope)) (same b (u .name)) is .1) in
-        subst (Declared k) (sym name) (not-false (declares k (u .name)) here))
-        (further us rest)
-        (either-true (same a (u .scope) && same b (u .name)) (leads us a b) g)
+    let declared : List ℕ → Bool = λ n. any (λ r. same n (r .name)) (k .routines) in
+    executed-passes declared (k .executes)
+    (neither-true (any strays (k .branches)) (any (λ u. not (declared (u .name))) (k .executes)) h11 .1)
 
 -- how many routines have a name that passes a test
 abbrev pub counted : (List ℕ → Bool) → List Routine → ℕ
@@ -196,8 +192,8 @@ Closed us rs = (a b : List ℕ) → In rs a → Executes us a b → In rs b
 -- where a round reaches nothing new the names are closed
 round-closed : (us : List Use) (rs : List (List ℕ)) → any (λ b. not (isOneOf rs b)) (executedByAll us rs) ≡ false → Closed us rs
 unfolding isOneOf
-round-closed us rs h a b has executes =
-    let next = executed-by-all us rs b ∙ some-named (λ a. a) (λ a. leads us a b) rs a has executes in
+round-closed us rs h a b has g =
+    let next = executed-by-all us rs b ∙ some-named (λ a. a) (λ a. executes us a b) rs a has g in
     test-cases (λ t. isOneOf rs b ≡ t → t ≡ true) (isOneOf rs b) (λ _ _. refl)
     (λ _ new. absurd (false≢true (sym h ∙ some-named (λ b. b) (λ b. not (isOneOf rs b)) (executedByAll us rs) b next (ap not new)))) refl
 
@@ -209,16 +205,16 @@ round-grows k h11 rs h =
     let us = k .executes in
     let next = executedByAll us rs in
     let (b, has, new) = named-some (λ b. b) (λ b. not (isOneOf rs b)) next h in
-    let (a, _, executes) = named-some (λ a. a) (λ a. leads us a b) rs (sym (executed-by-all us rs b) ∙ has) in
+    let (a, _, g) = named-some (λ a. a) (λ a. executes us a b) rs (sym (executed-by-all us rs b) ∙ has) in
     counted-grows (isOneOf rs) (isOneOf (withNew rs next)) (λ n i. with-new rs next n ∙ ap (λ t. t || isOneOf next n) i) (k .routines) b
-    (executed-declared k h11 a b executes) (not-true (isOneOf rs b) new) (with-new rs next b ∙ true-behind (isOneOf rs b) (isOneOf next b) has)
+    (executed-declared k h11 a b g) (not-true (isOneOf rs b) new) (with-new rs next b ∙ true-behind (isOneOf rs b) (isOneOf next b) has)
 
 -- as many rounds as there are routines not reached yet are enough
 rounds-enough : (k : Known) → is11 k ≡ false → (n : ℕ) (rs : List (List ℕ)) → length (k .routines) ≤ n + counted (isOneOf rs) (k .routines)
     → Closed (k .executes) (reached n (k .executes) rs)
 unfolding reached
 rounds-enough k h11 zero rs h =
-    λ a b has executes. counted-all (isOneOf rs) (k .routines) (omega arith) b (executed-declared k h11 a b executes)
+    λ a b has g. counted-all (isOneOf rs) (k .routines) (omega arith) b (executed-declared k h11 a b g)
 rounds-enough k h11 (suc n) rs h =
     let us = k .executes in
     let next = withNew rs (executedByAll us rs) in
