@@ -1,6 +1,6 @@
 -- A run of an accepted deck from a fresh start, with a large enough store, is never turned down: each call is done or stops, and once the
 -- run is over it gets 16. (Returns held never pass the chain of routines.) Assumes nothing; every edition whose sizes fit is covered.
-use mathlib.Core.Bool.{cond}
+use mathlib.Core.Bool.{true, cond}
 use mathlib.Core.List.{List, [], _∷_, _++_}
 use mathlib.Core.Logic.{_⊎_, inl, inr}
 use mathlib.Core.Path.{_≡_, refl, sym, _∙_, ap, subst}
@@ -8,7 +8,6 @@ use Prim.Native.Nat.{ℕ, zero, suc, _+_, _≤_, _<_}
 use native.Mathlib.Omega.{arith}
 use lib.Dec.{eqb}
 use lib.ListN.{length, getD}
-use borrow.Author.Tests.{lt-ltb}
 use Rattle.base.specs.Choice.{cond-cases}
 use Rattle.base.specs.Edition.{Edition}
 use Rattle.judgement.specs.Chains.{Executes}
@@ -23,13 +22,12 @@ use Rattle.machine.specs.Step.{Done, carrying, statementAt, turnedDownBy, Stepp
 use Rattle.machine.specs.StepEnds.{step-turned}
 use Rattle.scanning.specs.Trials.{Scanned}
 use Rattle.values.specs.Conversion.{longestString}
-use Rattle.values.specs.Work.{Work, done, stop}
+use Rattle.values.specs.Work.{stopsStep, Work, done, stop}
 use Rattle.calls.specs.Buffers.{storeSize, statusOf, stateIn}
 use Rattle.calls.specs.Calls.{readCall, Buffers, StepCalled, stepCall, buffersAfter, RunReturned, outcomeNumber, resultNumbers}
 use Rattle.calls.specs.Calls.{returned, runEnded, runCall}
 use Rattle.calls.specs.Demands.{Observed, observedStep, observedRun, stepsTried, Linked, History}
-use Rattle.calls.specs.DemandLaws.{Behind, behind-step, behind-steps, read-loaded, started-behind, history-loaded}
-use Rattle.calls.specs.DemandLaws.{history-linked}
+use Rattle.calls.specs.DemandLaws.{Behind, behind-step, behind-steps, behind-start, read-loaded, history-loaded, history-linked}
 use Rattle.calls.specs.Invariant.{Sound, returns-enough, next-sound, step-sound}
 use Rattle.calls.specs.Numerals.{bias}
 use Rattle.calls.specs.ProgramLaws.{Runs}
@@ -38,9 +36,9 @@ use Rattle.calls.specs.StartLaws.{startedWith}
 use Rattle.calls.specs.StepLaws.{Tabled}
 use Rattle.calls.specs.Table.{literalsAt}
 
--- a call is done, or one of 17 to 21 stops it
+-- a call is done, or it is stopped by a number that stops a step
 abbrev pub DoneOrStopped : ℕ → Type 0
-DoneOrStopped n = (n ≡ 0) ⊎ ((17 ≤ n) × (n ≤ 21))
+DoneOrStopped n = (n ≡ 0) ⊎ (stopsStep n ≡ true)
 
 -- the number of a step or run in a state with this status: Q16 where the run is over, else none that turns it down
 unfoldable pub GoesOn : Status → ℕ → Type 0
@@ -65,7 +63,7 @@ pub record RunsOn (r : Ran) : Type 0 where
 concluded-goes : {P : Done → Type 0} (c : State) (w : Work Done) → Ends P w → DoneOrStopped (concluded c w .answer .number)
 unfolding concluded
 concluded-goes c (done d n) (ends h) = inl refl
-concluded-goes c (stop n) (stops low high) = inr (low, high)
+concluded-goes c (stop n) (stops h) = inr h
 
 -- a run behind a step that is done or stopped, where the rest of the run is not turned down if it goes on
 module _ (notes : ℕ) (scanned : Scanned) (next : ℕ) (returns : List ℕ) (m : Memory) (left out : List ℕ) (rest : Ran) where
@@ -77,7 +75,7 @@ module _ (notes : ℕ) (scanned : Scanned) (next : ℕ) (returns : List ℕ) (m 
       }
 
   done-behind : (x : Status) → (x ≡ running → RunsOn rest) → RunsOn (goingOn (stepped 0 x) rest)
-  unfolding goingOn counted endedWith stepped outcomeNumber
+  unfolding goingOn counted endedWith stepped outcomeNumber stopsStep
   done-behind running h = record { unrefused = h refl .unrefused; number = h refl .number }
   done-behind finished h = record { unrefused = λ q. omega arith; number = inl refl }
   done-behind stopped h = record { unrefused = λ q. omega arith; number = inl refl }
@@ -85,12 +83,11 @@ module _ (notes : ℕ) (scanned : Scanned) (next : ℕ) (returns : List ℕ) (m 
   step-behind : (n : ℕ) (x : Status) → DoneOrStopped n → (x ≡ running → RunsOn rest) → RunsOn (goingOn (stepped n x) rest)
   unfolding goingOn counted endedWith stepped outcomeNumber
   step-behind n x (inl none) h = subst (λ (n : ℕ). RunsOn (goingOn (stepped n x) rest)) (sym none) (done-behind x h)
-  step-behind n x (inr (low, high)) h =
-      rw (lt-ltb 16 n (omega arith)) (record { unrefused = λ q. omega arith; number = inr (low, high) })
+  step-behind n x (inr halts) h = rw halts (record { unrefused = λ q. omega arith; number = inr halts })
 
 -- a run behind a step that 16 turned down
 refused-behind : (s : Stepped) (rest : Ran) → s .answer .number ≡ 16 → goingOn s rest .number ≡ 16
-unfolding goingOn endedWith
+unfolding goingOn endedWith stopsStep
 refused-behind s rest h = rw h
 
 -- numbers fit their places, a string's length is a number, and p is a program that runs, with the scopes of its steps
@@ -214,7 +211,7 @@ module _ (e : Edition) (limit : e .limit < bias) (wide : longestString ≤ e .li
       let p = l .program in
       let lent = length output in
       let scopes = accepted-scoped e deck p (l .accepts) in
-      let start = started-behind e limit wide size l store input output large in
+      let start = behind-start e limit wide p (l .runs) (readCall e deck table .table) input (l .tabled) lent store output refl large in
       let goes = run-goes e limit wide p (l .runs) scopes input lent count (fresh input) (start .sound)
       (fresh-nests e limit wide p (l .runs) scopes input lent) refl in
       let same = run-same e limit wide p (l .runs) (readCall e deck table .table) input (l .tabled) lent count (fresh input)
@@ -232,7 +229,7 @@ module _ (e : Edition) (limit : e .limit < bias) (wide : longestString ≤ e .li
       let lent = length output in
       let table′ = readCall e deck table .table in
       let scopes = accepted-scoped e deck p (l .accepts) in
-      let start = started-behind e limit wide size l store input output large in
+      let start = behind-start e limit wide p (l .runs) table′ input (l .tabled) lent store output refl large in
       step-call-goes e limit wide p (l .runs) scopes input lent table′ (l .tabled) (after e p lent k (fresh input))
       (buffersAfter e table′ input k (startedWith store output))
       (behind-steps e limit wide p (l .runs) table′ input (l .tabled) lent k (fresh input) (startedWith store output) start)
@@ -241,12 +238,17 @@ module _ (e : Edition) (limit : e .limit < bias) (wide : longestString ≤ e .li
   -- nor is any call of a list from a fresh start
   pub calls-never-refused : (table input : List ℕ) (b : Buffers) (h : History e table input b) (call : Observed) (left : Buffers)
       → Linked e table input b (call ∷ []) left → storeSize ≤ length (h .store) → Each CallGoes (h .calls ++ (call ∷ []))
+  unfolding startedWith
   calls-never-refused table input b h call left kept large =
       let l = history-loaded e limit wide size table input b h in
       let p = l .program in
       let lent = length (h .output) in
       let scopes = accepted-scoped e (h .deck) p (l .accepts) in
-      list-goes e limit wide p (l .runs) scopes input lent table (l .tabled) (h .calls ++ (call ∷ [])) (fresh input)
-      (startedWith (h .store) (h .output)) left (started-behind e limit wide size l (h .store) input (h .output) large)
+      let first : Buffers = record { store = h .start .store; state = h .start .state; output = h .output } in
+      let started : first ≡ startedWith (h .store) (h .output) =
+      ap (λ x. record { store = x .store; state = x .state; output = h .output }) (h .started) in
+      let start = behind-start e limit wide p (l .runs) table input (l .tabled) lent (h .store) (h .output) refl large in
+      list-goes e limit wide p (l .runs) scopes input lent table (l .tabled) (h .calls ++ (call ∷ [])) (fresh input) first left
+      (subst (Behind e limit wide p (l .runs) table input (l .tabled) lent (fresh input)) (sym started) start)
       (fresh-nests e limit wide p (l .runs) scopes input lent)
       (history-linked e limit wide size table input b h call left kept)

@@ -66,6 +66,7 @@ unfolding
     Rattle.values.specs.Numbers.difference
     Rattle.values.specs.Numbers.product
     Rattle.values.specs.Numbers.quotient
+    Rattle.values.specs.Work.stopsStep
     Rattle.values.specs.Work.noting
     Rattle.values.specs.Work.quietly
     Rattle.values.specs.Work._>>=_
