@@ -290,9 +290,7 @@ module _ (deck : List ℕ) (from : ℕ) (text : List ℕ) (read : Readable deck 
         entry =
             λ n.
             ap (entriesFrom current n) (ends .first) ∙ ap (map packedEntry) (skipped-told n first (lines (drop (end + 1) deck)) skip);
-        key = refl;
-        short = omega arith;
-        clean = λ _. refl;
+        keyed = λ _. record { is = refl; clean = refl; short = omega arith };
         fits = omega arith;
         onward = let h = ends .low in omega arith;
         paced = let h = ends .low in omega arith;
@@ -336,13 +334,16 @@ module _ (deck : List ℕ) (from : ℕ) (text : List ℕ) (read : Readable deck 
             ∙ ap (map packedEntry) (joined n)
             ∙ ap₂ (λ (whole : Bool) (text : List ℕ). Entry.statement n (s .sound) label whole text ∷ map packedEntry (others n))
             (sym (holds-literals deck text₂ s (k .part) (k .holds) flag ef)) (sym (k .holds .bytes));
-        key = ek ∙ ap keyOf (sym (label-front first));
-        short = label-short first;
-        clean =
+        keyed =
             λ sound.
-            sound-label first
-            (first-sound 0 first (lines (drop (end + 1) deck)) label (k .part .raw) (others 0) skip
-            (joined 0 ∙ ap (λ t. statement 0 t label (k .part .raw) ∷ others 0) sound));
+            record {
+              is = ek ∙ ap keyOf (sym (label-front first));
+              clean =
+                  sound-label first
+                  (first-sound 0 first (lines (drop (end + 1) deck)) label (k .part .raw) (others 0) skip
+                  (joined 0 ∙ ap (λ t. statement 0 t label (k .part .raw) ∷ others 0) sound));
+              short = label-short first;
+            };
         fits = let h = j .room .within in let g = read .small in omega arith;
         onward = let h = j .onward in let g = ends .low in let b = a .behind in omega arith;
         paced = let h = j .paced in let g = ends .low in let b = a .behind in let c = a .count in omega arith;

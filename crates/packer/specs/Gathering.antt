@@ -7,7 +7,6 @@ use lib.Dec.{eqb}
 use lib.ListN.{length, take, drop}
 use Rattle.base.specs.Current.{current}
 use Rattle.base.specs.Limits.{longestDeck}
-use Rattle.base.specs.Lists.{all}
 use Rattle.cards.specs.Bytes.{slash}
 use Rattle.cards.specs.Cards.{lines, soundLine, column9, textOf}
 use Rattle.cards.specs.Entries.{Entry, skipped, statement, entriesFrom}
@@ -16,7 +15,7 @@ use Rattle.packer.specs.declared.packed.Place.the-variants.{Outside}
 use Rattle.packer.specs.declared.Gathered.{Gathered}
 use Rattle.packer.specs.declared.Joining.{Joining}
 use Rattle.packer.specs.Joins.{Part, joinLine, told}
-use Rattle.packer.specs.Keys.{isKeyByte, keyOf}
+use Rattle.packer.specs.Keys.{LabelKey}
 use Rattle.packer.specs.Lines.{joins}
 use Rattle.packer.specs.Packs.{Packs, longestText}
 use Rattle.packer.specs.Places.{placeOf, placeBehind, unbroken}
@@ -108,9 +107,7 @@ pub record Gathers (deck : List ℕ) (from : ℕ) (text : List ℕ) (r : Gathere
   pub entry : (n : ℕ) →
       entriesFrom current n (lines (drop from deck))
       ≡ entryOf r n label text ∷ entriesFrom current (n + r .lines) (lines (drop (r .next) deck))
-  pub key : r .label ≡ keyOf label
-  pub short : length label ≤ 8
-  pub clean : r .sound ≡ true → all isKeyByte label ≡ true
+  pub keyed : r .sound ≡ true → LabelKey label (r .label)
   pub fits : r .length ≤ longestText
   pub onward : from < r .next
   pub paced : from + r .lines ≤ r .next
