@@ -12,11 +12,11 @@ use Rattle.base.specs.Edition.{Edition}
 use Rattle.base.specs.Limits as Limits
 use Rattle.base.specs.Lists.{same, any}
 use Rattle.base.specs.ListLaws.{same-true, same-refl}
-use Rattle.cards.specs.Cards.{Entry, entries}
+use Rattle.cards.specs.Entries.{Entry, entries}
 use Rattle.language.specs.Placed.{Each}
 use Rattle.language.specs.Program.{Program}
 use Rattle.judgement.specs.Known.{Use, Known, nothingKnown, isOneOf}
-use Rattle.judgement.specs.Deck.{Judged, passed, judgeFrom, is11, is12, programOf, Judgement, accepted, concluded, judge}
+use Rattle.judgement.specs.Deck.{Judged, passed, judgeFrom, is11, is12, programOf, Judgement, accepted, concluded, judgeEntries, judge}
 use Rattle.judgement.specs.Chains.{Declared, Executes, Chain, direct, through, ExecutesItself, Chained, Different}
 use Rattle.judgement.specs.Laws.Cards.{deck-counts}
 use Rattle.judgement.specs.Rounds.{In, named-some, some-named, executed-declared, counted, counted-few, counted-grows}
@@ -97,7 +97,7 @@ executes-few {k} j h11 h12 a ns h =
 -- what a deck whose statements pass, and for which 11 does not hold, comes to
 judge-passed : (e : Edition) (deck : List ℕ) (k : Known) → judgeFrom e nothingKnown (entries e deck) ≡ passed k → is11 k ≡ false
     → judge e deck ≡ cond (is12 k) (Judgement.refused 12 0) (accepted (programOf e k (entries e deck)))
-unfolding judge concluded
+unfolding judge judgeEntries concluded
 judge-passed e deck k q h11 =
     let program = accepted (programOf e k (entries e deck)) in
     ap (concluded e (entries e deck)) q ∙ ap (λ t. cond t (Judgement.refused 11 0) (cond (is12 k) (Judgement.refused 12 0) program)) h11
@@ -130,7 +130,7 @@ HasChain e deck = (k : Known) × (judgeFrom e nothingKnown (entries e deck) ≡ 
 
 -- Q12: any deck is turned down by 12 exactly when this is so
 pub judge-12 : (e : Edition) (deck : List ℕ) → (judge e deck ≡ Judgement.refused 12 0) ↔ HasChain e deck
-unfolding judge concluded
+unfolding judge judgeEntries concluded
 judge-12 e deck = (λ h. further (judgeFrom e nothingKnown es) refl h, λ (k, q, h11, itself). passed-12 e deck k q h11 .1 itself)
   where
     es : List Entry

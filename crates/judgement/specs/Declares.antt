@@ -10,7 +10,6 @@ use Rattle.base.specs.Edition.{Edition}
 use Rattle.base.specs.Lists.{begins, keep}
 use Rattle.base.specs.Text.{bytes}
 use Rattle.cards.specs.Bytes.{isDigit, quote}
-use Rattle.cards.specs.Packing.{packed, literalsWhole}
 use Rattle.language.specs.Forms.{stepEnd, noStepEnd, withoutUnit, labelName, branch, branchIfAny, setsNumber, replacement, ifForm}
 use Rattle.language.specs.Forms.{replacementIfAny, scanForm, readForm, writeForm, gotoForm, executeForm, programForm, numberForm}
 use Rattle.language.specs.Forms.{formOf, statementForm}
@@ -435,10 +434,11 @@ no-routines [] h = refl
 no-routines (n ∷ ns) h = rw (h .0, keep) (no-routines ns (h .1))
 
 -- a statement that is no ROUTINE declares no routine
-pub declares-none : (e : Edition) (isNumber : List ℕ → Bool) (at : Places) (labelBytes text : List ℕ) (s : Option Statement) (m : Met)
-    (rest : List ℕ) → sameKind (leading (packed text) .kind) ROUTINE ≡ false → readStatement e isNumber at labelBytes text ≡ got s m rest
+pub declares-none : (e : Edition) (isNumber : List ℕ → Bool) (at : Places) (labelBytes : List ℕ) (whole : Bool) (text : List ℕ)
+    (s : Option Statement) (m : Met) (rest : List ℕ) → sameKind (leading text .kind) ROUTINE ≡ false
+    → readStatement e isNumber at labelBytes whole text ≡ got s m rest
     → namesFor routine (m .declared) ≡ []
 unfolding readStatement statementForm Quiet
-declares-none e isNumber at labelBytes text s m rest other q =
-    let form = quiet-formOf e at isNumber (leading (packed text) .kind) (drop (leading (packed text) .size) (packed text)) other in
-    no-routines (m .declared) (subst Quiet q (quiet-labelled (labelForm labelBytes) (literalsWhole text) _ (quiet-label labelBytes) form))
+declares-none e isNumber at labelBytes whole text s m rest other q =
+    let form = quiet-formOf e at isNumber (leading text .kind) (drop (leading text .size) text) other in
+    no-routines (m .declared) (subst Quiet q (quiet-labelled (labelForm labelBytes) whole _ (quiet-label labelBytes) form))

@@ -13,8 +13,7 @@ use Rattle.base.specs.Edition.{Edition}
 use Rattle.base.specs.Limits as Limits
 use Rattle.base.specs.Lists.{same, any, keep}
 use Rattle.base.specs.ListLaws.{same-true, same-refl}
-use Rattle.cards.specs.Cards.{Entry, entries}
-use Rattle.cards.specs.Packing.{packed, literalsWhole}
+use Rattle.cards.specs.Entries.{Entry, entries}
 use Rattle.language.specs.Forms.{statementForm}
 use Rattle.language.specs.Keywords.{Kind, PROGRAM, NUMBER, END, ROUTINE, ENDROUTINE, RETURN, sameKind, leading}
 use Rattle.language.specs.Placed.{Each, each-map, each-part}
@@ -175,15 +174,15 @@ module _ (e : Edition) (whole : Known) (h11 : is11 whole ≡ false) (scope : ℕ
       (uses-each ExecuteLeads k (namesFor routine (m .used)) executes))
 
   -- a statement that passes leads where it may
-  statement-leads : (k : Known) (labelBytes text : List ℕ) (s : Option Statement) (m : Met) (rest : List ℕ)
-      → readStatement e (isOneOf (numbers whole)) (placesOf whole (suc (k .steps))) labelBytes text ≡ got s m rest
-      → is9 k (leading (packed text) .kind) ≡ false
-      → Stands scope k (leading (packed text) .kind) m
+  statement-leads : (k : Known) (labelBytes : List ℕ) (complete : Bool) (text : List ℕ) (s : Option Statement) (m : Met) (rest : List ℕ)
+      → readStatement e (isOneOf (numbers whole)) (placesOf whole (suc (k .steps))) labelBytes complete text ≡ got s m rest
+      → is9 k (leading text .kind) ≡ false
+      → Stands scope k (leading text .kind) m
       → Each (UseLeads scope In (k .steps) (placesOf whole (suc (k .steps)))) (m .used)
       → StepLeads scope In (k .steps) s
   unfolding readStatement statementForm placesOf
-  statement-leads k labelBytes text s m rest q not9 stands uses =
-      let kind = leading (packed text) .kind in
+  statement-leads k labelBytes complete text s m rest q not9 stands uses =
+      let kind = leading text .kind in
       let at = placesOf whole (suc (k .steps)) in
       let behind : goesOn kind ≡ true → scope (suc (k .steps)) ≡ scope (k .steps) = λ goes.
       let parts = goes-on kind goes in
@@ -192,10 +191,10 @@ module _ (e : Edition) (whole : Known) (h11 : is11 whole ≡ false) (scope : ℕ
       exit-stands scope (whole .routines) n first (standing .routines) ∙ sym (not9-outside k kind not9 is) ∙ sym (stands .here) in
       let inside : (sameKind kind RETURN || sameKind kind ENDROUTINE) ≡ true → ¬ (scope (k .steps) ≡ []) = λ is out.
       not9-inside k kind not9 is (sym (stands .here) ∙ out) in
-      let form = leads-formOf scope In (k .steps) at e (isOneOf (numbers whole)) kind (drop (leading (packed text) .size) (packed text))
+      let form = leads-formOf scope In (k .steps) at e (isOneOf (numbers whole)) kind (drop (leading text .size) text)
       behind behind exits inside in
       let P : Read (Option Statement) → Type 0 = Gives (UseLeads scope In (k .steps) at) (StepLeads scope In (k .steps)) in
-      given (subst P q (leads-labelled (labelForm labelBytes) (literalsWhole text) _ form)) uses
+      given (subst P q (leads-labelled (labelForm labelBytes) complete _ form)) uses
 
   -- steps from number n on that lead where they may
   StepsLead : ℕ → List Step → Type 0
@@ -218,12 +217,12 @@ module _ (e : Edition) (whole : Known) (h11 : is11 whole ≡ false) (scope : ℕ
   unfolding stepsFrom scopesOf StepsLead learn
   again-leads end ends h = tt
   again-leads end (past j) h = again-leads end j h
-  again-leads end (reads {k} {card} {label} {text} {es} s m rest q step p used next j) h =
-      let kind = leading (packed text) .kind in
-      let stands = read-stands scope end k label text s m rest q step j h in
+  again-leads end (reads {k} {card} {label} {complete} {text} {es} s m rest q step p used next j) h =
+      let kind = leading text .kind in
+      let stands = read-stands scope end k label complete text s m rest q step j h in
       let branches = each-part BranchLeads (k .branches) _ (again-branches BranchLeads j branches-lead) .1 in
       let executes = each-part ExecuteLeads (k .executes) _ (again-executes ExecuteLeads j executes-lead) .1 in
-      let here = statement-leads k label text s m rest q (p .not9) stands (uses-lead k m (stands .here) branches executes) in
+      let here = statement-leads k label complete text s m rest q (p .not9) stands (uses-lead k m (stands .here) branches executes) in
       let behind = again-leads end j (statement-behind scope k kind m s (scopesOf j) step h) in
       subst
       (λ (read : Read (Option Statement)).

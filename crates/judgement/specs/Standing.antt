@@ -10,8 +10,7 @@ use Rattle.base.specs.Choice.{test-cases, cond-cases, both-true, neither-true, 
 use Rattle.base.specs.Edition.{Edition}
 use Rattle.base.specs.Lists.{same, any}
 use Rattle.base.specs.ListLaws.{same-true}
-use Rattle.cards.specs.Cards.{Entry}
-use Rattle.cards.specs.Packing.{packed}
+use Rattle.cards.specs.Entries.{Entry}
 use Rattle.language.specs.Keywords.{Kind, PROGRAM, NUMBER, END, ROUTINE, ENDROUTINE, kindNumber, sameKind, leading}
 use Rattle.language.specs.Laws.{same-kind, same-purpose-refl}
 use Rattle.language.specs.Placed.{Each}
@@ -92,10 +91,10 @@ pub from-here : {e : Edition} {whole k : Known} {es : List Entry} (scope : ℕ �
 unfolding scopesOf
 from-here scope ends end before h = absurd (false≢true (sym before ∙ end))
 from-here scope (past j) end before h = from-here scope j end before h
-from-here {e} scope (reads {k} {label} {text} s m rest q step p used next j) end before h =
-    let kind = leading (packed text) .kind in
+from-here {e} scope (reads {k} {label} {complete} {text} s m rest q step p used next j) end before h =
+    let kind = leading text .kind in
     let behind : From scope (learn k kind m .steps) (scopesOf j) = statement-behind scope k kind m s (scopesOf j) step h in
-    here-stands scope k kind m s (scopesOf j) step (λ other. declares-none e _ _ label text s m rest other q) h
+    here-stands scope k kind m s (scopesOf j) step (λ other. declares-none e _ _ label complete text s m rest other q) h
     (λ still. from-here scope j end still behind)
 
 -- what holds of a statement that passes: its step, and the one behind it where another comes, stand in what is open there
@@ -252,23 +251,24 @@ learn-standing scope k kind m first stands not6 old =
 -- behind all statements, where END was the last, and the first step stands outside
 module _ {e : Edition} {whole : Known} (scope : ℕ → List ℕ) (end : whole .ended ≡ true) where
   -- a statement that passes stands where it may
-  pub read-stands : {es : List Entry} (k : Known) (labelBytes text : List ℕ) (s : Option Statement) (m : Met) (rest : List ℕ)
-      → readStatement e (isOneOf (numbers whole)) (placesOf whole (suc (k .steps))) labelBytes text ≡ got s m rest
-      → IsStep (isStep (leading (packed text) .kind)) s
-      → (j : Again e whole (learn k (leading (packed text) .kind) m) es)
+  pub read-stands : {es : List Entry} (k : Known) (labelBytes : List ℕ) (complete : Bool) (text : List ℕ) (s : Option Statement) (m : Met)
+      (rest : List ℕ)
+      → readStatement e (isOneOf (numbers whole)) (placesOf whole (suc (k .steps))) labelBytes complete text ≡ got s m rest
+      → IsStep (isStep (leading text .kind)) s
+      → (j : Again e whole (learn k (leading text .kind) m) es)
       → From scope (k .steps) (scopedStep s (k .scope) (scopesOf j))
-      → Stands scope k (leading (packed text) .kind) m
-  read-stands k labelBytes text s m rest q step j h =
-      statement-stands scope k (leading (packed text) .kind) m s j end step (λ other. declares-none e _ _ labelBytes text s m rest other q) h
+      → Stands scope k (leading text .kind) m
+  read-stands k labelBytes complete text s m rest q step j h =
+      statement-stands scope k (leading text .kind) m s j end step (λ other. declares-none e _ _ labelBytes complete text s m rest other q) h
 
   pub again-standing : {k : Known} {es : List Entry} → scope 0 ≡ [] → (j : Again e whole k es) → From scope (k .steps) (scopesOf j)
       → Standing scope k → Standing scope whole
   unfolding scopesOf
   again-standing first ends h old = old
   again-standing first (past j) h old = again-standing first j h old
-  again-standing first (reads {k} {label} {text} s m rest q step p used next j) h old =
-      let kind = leading (packed text) .kind in
-      let stands = read-stands k label text s m rest q step j h in
+  again-standing first (reads {k} {label} {complete} {text} s m rest q step p used next j) h old =
+      let kind = leading text .kind in
+      let stands = read-stands k label complete text s m rest q step j h in
       again-standing first j (statement-behind scope k kind m s (scopesOf j) step h)
       (learn-standing scope k kind m first stands (p .not6) old)
 

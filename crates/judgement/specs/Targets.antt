@@ -7,8 +7,7 @@ use native.Mathlib.Omega.{arith}
 use borrow.Author.Tests.{not-true}
 use Rattle.base.specs.Choice.{test-cases, cond-cases}
 use Rattle.base.specs.Edition.{Edition}
-use Rattle.cards.specs.Cards.{Entry}
-use Rattle.cards.specs.Packing.{packed}
+use Rattle.cards.specs.Entries.{Entry}
 use Rattle.language.specs.Keywords.{Kind, NUMBER, PROGRAM, END, ROUTINE, ENDROUTINE, kindNumber, sameKind, leading}
 use Rattle.language.specs.Laws.{same-kind}
 use Rattle.language.specs.Placed.{Each, each-map, each-join}
@@ -54,7 +53,7 @@ learn-steps k kind m = cond-cases (λ n. k .steps ≤ n) (isStep kind) (λ _. om
 pub passed-grows : {e : Edition} {k after : Known} {es : List Entry} → Judging e k es (passed after) → k .steps ≤ after .steps
 passed-grows (ended _) = omega arith
 passed-grows (skips j) = passed-grows j
-passed-grows (learns {k} {text} s m rest q p j) = omega (arith, learn-steps k (leading (packed text) .kind) m, passed-grows j)
+passed-grows (learns {k} {text} s m rest q p j) = omega (arith, learn-steps k (leading text .kind) m, passed-grows j)
 
 -- END is a step
 end-is-step : (kind : Kind) → sameKind kind END ≡ true → isStep kind ≡ true
@@ -68,7 +67,7 @@ unfolding learn
 passed-goes-on h (ended g) = absurd (false≢true (sym h ∙ g))
 passed-goes-on h (skips j) = passed-goes-on h j
 passed-goes-on {after} h (learns {k} {text} s m rest q p j) =
-    let kind = leading (packed text) .kind in
+    let kind = leading text .kind in
     let grows = passed-grows j in
     test-cases (λ _. k .steps < after .steps) (sameKind kind END) (λ end. omega (arith, rw (end-is-step kind end) at grows))
     (λ inner. omega (arith, learn-steps k kind m, passed-goes-on inner j))
@@ -148,8 +147,8 @@ pub passed-below : {e : Edition} {k after : Known} {es : List Entry} → Judging
 unfolding sameKind kindNumber
 passed-below (ended {k} h) t = subst (λ e. TargetsBelow (cond e (k .steps) (suc (k .steps))) k) h t
 passed-below (skips j) t = passed-below j t
-passed-below {e} (learns {k} {label} {text} s m rest q p j) t =
-    let kind = leading (packed text) .kind in
+passed-below {e} (learns {k} {label} {whole} {text} s m rest q p j) t =
+    let kind = leading text .kind in
     let routine-free : isInner kind ≡ false → namesFor routine (m .declared) ≡ [] =
-    λ outer. declares-none e _ _ label text s m rest (outer-cases (λ k. sameKind k ROUTINE ≡ false) refl refl refl kind outer) q in
+    λ outer. declares-none e _ _ label whole text s m rest (outer-cases (λ k. sameKind k ROUTINE ≡ false) refl refl refl kind outer) q in
     passed-below j (learn-below k kind m (passes-before-end p) routine-free t)
