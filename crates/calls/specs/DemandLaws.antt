@@ -1,5 +1,5 @@
--- The customer's third demand, proved of every list of calls that keep their equations. Assumes nothing; every edition whose sizes fit is
--- covered, and edition 1 is one.
+-- The claim about lists of calls that keep their equations, proved of every table that keeps its rules; the customer's third demand is the case
+-- of an accepted deck's table. Assumes nothing; every edition whose sizes fit is covered, and edition 1 is one.
 use mathlib.Core.Bool.{true, false, not, _&&_, and-eq-true-iff}
 use mathlib.Core.List.{List, [], _∷_, _++_}
 use mathlib.Core.Logic.{⊎-elim}
@@ -28,17 +28,17 @@ use Rattle.machine.specs.Step.{carrying, statementAt, turnedDownBy, concluded, 
 use Rattle.values.specs.Conversion.{longestString}
 use Rattle.calls.specs.Accepted.{accepted-isProgram}
 use Rattle.calls.specs.Buffers.{storeSize, stateIn}
-use Rattle.calls.specs.Calls.{readCall, Buffers, givenIn}
+use Rattle.calls.specs.Calls.{readCall, StartCalled, startCall, Buffers, givenIn}
 use Rattle.calls.specs.Calls.{StepCalled, carried, stepCall, buffersAfter, RunReturned, resultNumbers, returned, runEnded, runCall}
 use Rattle.calls.specs.Demands.{LeftBy, Scans, IsFiller, Fails, Observed, observedStep, observedRun, stepsTried}
-use Rattle.calls.specs.Demands.{StepClaim, RunClaim, ListClaim, AllRefused, Linked, History, Demand3}
+use Rattle.calls.specs.Demands.{StepClaim, RunClaim, ListClaim, AllRefused, Linked, TableClaim, History, Demand3}
 use Rattle.calls.specs.GivenLaws.{held-written}
 use Rattle.calls.specs.Holding.{Holding}
 use Rattle.calls.specs.Invariant.{Sound, returns-enough, next-sound, step-sound, fresh-sound}
 use Rattle.calls.specs.ProgramLaws.{Runs, statement-holds, program-runs}
 use Rattle.calls.specs.Numerals.{bias}
 use Rattle.calls.specs.RuleLaws.{scan-parts}
-use Rattle.calls.specs.Rules.{lengthHolds, elementHolds, patternHolds, statementHolds, placeOf, isProgram}
+use Rattle.calls.specs.Rules.{lengthHolds, elementHolds, patternHolds, statementHolds, placeOf, isProgram, keepsRules}
 use Rattle.calls.specs.ScanLaws.{concluded-scans}
 use Rattle.calls.specs.RunLaws.{call-numbers, run-same, run-left, small-run}
 use Rattle.calls.specs.StartLaws.{read-accepted, read-short, read-tabled, startedWith, started-small, started-holds}
@@ -197,18 +197,18 @@ module _ (e : Edition) (limit : e .limit < bias) (wide : longestString ≤ e .li
 
   -- calls one behind the other: buffers b that hold a machine c in range, so the buffers left hold the machine left
   module _ (lent : ℕ) where
-    record Behind (c : State) (b : Buffers) : Type 0 where
-      sound : Sound e p lent input c
-      holds : Holding e p lent input c b
+    pub record Behind (c : State) (b : Buffers) : Type 0 where
+      pub sound : Sound e p lent input c
+      pub holds : Holding e p lent input c b
 
-    behind-step : (c : State) (b : Buffers) → Behind c b → Behind (step e p lent c .state) (stepCall e table input b .left)
+    pub behind-step : (c : State) (b : Buffers) → Behind c b → Behind (step e p lent c .state) (stepCall e table input b .left)
     behind-step c b k =
         record {
           sound = step-sound e wide p runs lent input c (k .sound);
           holds = step-holds e p table input t limit wide runs lent c b (k .sound) (k .holds);
         }
 
-    behind-steps : (k : ℕ) (c : State) (b : Buffers) → Behind c b → Behind (after e p lent k c) (buffersAfter e table input k b)
+    pub behind-steps : (k : ℕ) (c : State) (b : Buffers) → Behind c b → Behind (after e p lent k c) (buffersAfter e table input k b)
     unfolding after buffersAfter
     behind-steps zero c b h = h
     behind-steps (suc k) c b h = behind-steps k (step e p lent c .state) (stepCall e table input b .left) (behind-step c b h)
@@ -248,6 +248,16 @@ module _ (e : Edition) (limit : e .limit < bias) (wide : longestString ≤ e .li
         let next = subst (Behind (after e p lent (stepsTried back) c)) (sym (claim .left-is)) (behind-steps (stepsTried back) c given here) in
         (claim, list-claim calls (after e p lent (stepsTried back) c) (back .left) z next (linked .2))
 
+    -- what starting leaves with a large enough store, and the machine before its first step
+    pub behind-start : (store output : List ℕ) → length output ≡ lent → storeSize ≤ length store → Behind (fresh input) (startedWith store output)
+    behind-start store output is large =
+        record {
+          sound = fresh-sound e wide p runs lent input;
+          holds =
+              subst (λ n. Holding e p n input (fresh input) (startedWith store output)) is
+              (started-holds e limit wide p runs store input output large);
+        }
+
   -- with a store too small every call is turned down, and leaves it so
   list-small : (calls : List Observed) (b z : Buffers) → length (b .store) < storeSize → Linked e table input b calls z → AllRefused calls
   unfolding AllRefused Linked returned runEnded runCall
@@ -277,53 +287,100 @@ linked-more e table input (observedStep given back ∷ calls) more b m z h g =
 linked-more e table input (observedRun count given back ∷ calls) more b m z h g =
     (h .0, h .1, linked-more e table input calls more (back .left) m z (h .2) g)
 
+-- numbers fit their places, and a string's length is a number
+module _ (e : Edition) (limit : e .limit < bias) (wide : longestString ≤ e .limit) where
+  -- R10 "It is one claim about the list": of every list of calls, each of which took all that the last one left (R8), from the store and state
+  -- of starting, one input and one output lent (R7), on any table that has its size and keeps its rules; the statements, strings and numbers
+  -- (R9) are those of the program that it holds
+  pub sound-table-claim : (table input store output : List ℕ) (start : StartCalled) → e .tableSize ≤ length table → keepsRules e table ≡ true
+      → start ≡ startCall store → (calls : List Observed) (left : Buffers)
+      → Linked e table input (record { store = start .store; state = start .state; output = output }) calls left
+      → TableClaim e table input store output calls
+  unfolding startedWith
+  sound-table-claim table input store output start size keeps starts calls left linked =
+      let p = programIn table in
+      let runs = program-runs e p (keeps-image e table keeps .0) in
+      let t : Tabled e p table = record { size = size; keeps = keeps; reads = refl } in
+      let lent = length output in
+      let first : Buffers = record { store = start .store; state = start .state; output = output } in
+      let started : first ≡ startedWith store output = ap (λ x. record { store = x .store; state = x .state; output = output }) starts in
+      record {
+        claim =
+            λ large.
+            list-claim e limit wide p runs table input t lent calls (fresh input) first left
+            (subst (Behind e limit wide p runs table input t lent (fresh input)) (sym started)
+            (behind-start e limit wide p runs table input t lent store output refl large))
+            linked;
+        small =
+            λ less.
+            let stays = started-small store output (lt-ltb (length store) storeSize less) in
+            let still : length (first .store) < storeSize =
+            subst (λ (l : List ℕ). length l < storeSize) (sym (ap (λ (x : Buffers). x .store) started ∙ stays)) less in
+            list-small e limit wide p runs table input t calls first left still linked;
+      }
+
+-- a table that holds the program of an accepted deck, which is in range
+pub record Loaded (e : Edition) (deck table : List ℕ) : Type 0 where
+  pub program : Program
+  pub accepts : judge e deck ≡ accepted program
+  pub runs : Runs e program
+  pub tabled : Tabled e program table
+
 -- the program of a deck that the deck call accepts is in range
 accepted-inside : (e : Edition) (deck table : List ℕ) (p : Program) → judge e deck ≡ accepted p → readCall e deck table .number ≡ 0
     → isProgram e p ≡ true
 accepted-inside e deck table p judged h = accepted-isProgram e deck p (read-short e deck table h) judged
 
--- numbers fit their places, and tables and string lengths their sizes
+-- and tables have their sizes
 module _ (e : Edition) (limit : e .limit < bias) (wide : longestString ≤ e .limit) (size : literalsAt + 4096 ≤ e .tableSize) where
   -- the table of an accepted deck holds its program
   pub accepted-tabled : (deck table : List ℕ) (p : Program) → judge e deck ≡ accepted p → readCall e deck table .number ≡ 0
       → Tabled e p (readCall e deck table .table)
   accepted-tabled deck table p judged h = read-tabled e limit size deck table p (accepted-inside e deck table p judged h) judged h
 
-  -- demand 3, of every list that ends with a call which kept its equation
-  pub demand3 : (table input : List ℕ) (b : Buffers) (h : History e table input b) (call : Observed) (left : Buffers)
-      → Linked e table input b (call ∷ []) left → Demand3 e table input h call
-  unfolding startedWith
-  demand3 table input b h call left kept =
-      let number : readCall e (h .deck) (h .before) .number ≡ 0 = sym (ap (λ x. x .number) (h .read)) in
-      let left-table : readCall e (h .deck) (h .before) .table ≡ table = sym (ap (λ x. x .table) (h .read)) in
-      let judged = read-accepted e (h .deck) (h .before) number in
+  -- the table that the deck call leaves with 0 is such a one
+  pub read-loaded : (deck table : List ℕ) → readCall e deck table .number ≡ 0 → Loaded e deck (readCall e deck table .table)
+  read-loaded deck table h =
+      let judged = read-accepted e deck table h in
       let p = judged .0 in
-      let runs = program-runs e p (accepted-inside e (h .deck) (h .before) p (judged .1) number) in
-      let t = subst (Tabled e p) left-table (accepted-tabled (h .deck) (h .before) p (judged .1) number) in
-      let lent = length (h .output) in
-      let first : Buffers = record { store = h .start .store; state = h .start .state; output = h .output } in
-      let started : first ≡ startedWith (h .store) (h .output) =
-      ap (λ x. record { store = x .store; state = x .state; output = h .output }) (h .started) in
-      let all-linked = linked-more e table input (h .calls) (call ∷ []) first b left (h .linked) kept in
       record {
         program = p;
         accepts = judged .1;
+        runs = program-runs e p (accepted-inside e deck table p (judged .1) h);
+        tabled = accepted-tabled deck table p (judged .1) h;
+      }
+
+  -- whatever happened before a call, and the call
+  module _ (table input : List ℕ) (b : Buffers) (h : History e table input b) where
+    pub history-loaded : Loaded e (h .deck) table
+    history-loaded =
+        let number : readCall e (h .deck) (h .before) .number ≡ 0 = sym (ap (λ x. x .number) (h .read)) in
+        let left-table : readCall e (h .deck) (h .before) .table ≡ table = sym (ap (λ x. x .table) (h .read)) in
+        subst (Loaded e (h .deck)) left-table (read-loaded (h .deck) (h .before) number)
+
+    pub history-linked : (call : Observed) (left : Buffers) → Linked e table input b (call ∷ []) left
+        → Linked e table input (record { store = h .start .store; state = h .start .state; output = h .output }) (h .calls ++ (call ∷ [])) left
+    history-linked call left kept =
+        let first : Buffers = record { store = h .start .store; state = h .start .state; output = h .output } in
+        linked-more e table input (h .calls) (call ∷ []) first b left (h .linked) kept
+
+  -- demand 3, of every list that ends with a call which kept its equation: R7 "the table of an accepted deck" is a sound one, which holds
+  -- the deck's program
+  pub demand3 : (table input : List ℕ) (b : Buffers) (h : History e table input b) (call : Observed) (left : Buffers)
+      → Linked e table input b (call ∷ []) left → Demand3 e table input h call
+  demand3 table input b h call left kept =
+      let l = history-loaded table input b h in
+      let t = l .tabled in
+      let calls = h .calls ++ (call ∷ []) in
+      let sound = sound-table-claim e limit wide table input (h .store) (h .output) (h .start) (t .size) (t .keeps) (h .started) calls left
+      (history-linked table input b h call left kept) in
+      record {
+        program = l .program;
+        accepts = l .accepts;
         claim =
             λ large.
-            list-claim e limit wide p runs table input t lent (h .calls ++ (call ∷ [])) (fresh input) first left
-            (record {
-              sound = fresh-sound e wide p runs lent input;
-              holds =
-                  subst (Holding e p lent input (fresh input)) (sym started)
-                  (started-holds e limit wide p runs (h .store) input (h .output) large);
-            })
-            all-linked;
-        small =
-            λ less.
-            let stays = started-small (h .store) (h .output) (lt-ltb (length (h .store)) storeSize less) in
-            let still : length (first .store) < storeSize =
-            subst (λ (l : List ℕ). length l < storeSize) (sym (ap (λ (x : Buffers). x .store) started ∙ stays)) less in
-            list-small e limit wide p runs table input t (h .calls ++ (call ∷ [])) first left still all-linked;
+            subst (λ (x : Program). ListClaim e x table input (length (h .output)) calls (fresh input)) (t .reads) (sound .claim large);
+        small = sound .small;
       }
 
 -- edition 1: its numbers fit their places

@@ -27,7 +27,7 @@ use Rattle.machine.specs.Step.{statementAt, mostReturns, lacksReturn, turnedDow
 use Rattle.scanning.specs.Splits.{Split}
 use Rattle.values.specs.Conversion.{longestString}
 use Rattle.values.specs.Numbers.{isNegative}
-use Rattle.values.specs.Work.{Work, done, stop, quietly}
+use Rattle.values.specs.Work.{Work, done, stop, quietly, stopsStep}
 use Rattle.calls.specs.NumberBounds.{expression-ranged, test-ends}
 use Rattle.calls.specs.ProgramLaws.{Runs, statement-holds, step-behind, first-step}
 use Rattle.calls.specs.RuleLaws.{scan-parts, number-parts, branch-inside}
@@ -122,11 +122,11 @@ module _ (e : Edition) (wide : longestString ≤ e .limit) (p : Program) (runs :
   KeptDone d = Kept (d .state)
 
   reading-sound : (q : Part) (b : Branch) (c : State) → Kept c → BranchInside b → Ends KeptDone (reading q b c)
-  unfolding reading moving quietly
+  unfolding reading moving quietly stopsStep
   reading-sound (whole s) b c k inside = ends (taking-sound s longestString b c k inside)
   reading-sound (first s n) b c k inside =
       let z = lengthIn (c .memory) n in
-      cond-cases (Ends KeptDone) (isNegative z) (λ q. stops (omega arith) (omega arith))
+      cond-cases (Ends KeptDone) (isNegative z) (λ q. stops refl)
       (λ q. ends (taking-sound s (natAbs z) b c k inside))
 
   shortened-ends : (v : List ℕ) → Ends Any (shortened v)
@@ -134,7 +134,7 @@ module _ (e : Edition) (wide : longestString ≤ e .limit) (p : Program) (runs :
   shortened-ends v = cond-cases (Ends Any) (leb (length v) longestString) (λ q. ends tt) (λ q. ends tt)
 
   putting-sound : (v : List ℕ) (c : State) → Kept c → Ends Kept (putting lent v c)
-  unfolding putting quietly
+  unfolding putting quietly stopsStep
   putting-sound v c k =
       let o = c .output ++ (v ++ (newline ∷ [])) in
       let size : length o ≡ length (c .output) + (length v + 1) = simp length-append (omega arith) in
@@ -142,7 +142,7 @@ module _ (e : Edition) (wide : longestString ≤ e .limit) (p : Program) (runs :
       (λ q.
       cond-cases (Ends Kept) (leb (length (c .output) + (length v + 1)) lent)
       (λ fits. let inside : length o ≤ lent = omega (arith, leb-true) in ends (output-sound c o k inside))
-      (λ _. stops (omega arith) (omega arith)))
+      (λ _. stops refl))
 
   returning-sound : (rs : List ℕ) (c : State) → Kept c → ((i : ℕ) → getD rs i 0 < length (p .steps)) → length rs ≤ mostReturns
       → Kept (returning rs c)
@@ -228,7 +228,7 @@ module _ (e : Edition) (wide : longestString ≤ e .limit) (p : Program) (runs :
   concluded-sound : (c : State) (w : Work Done) → Kept c → Ends KeptDone w → Kept (concluded c w .state)
   unfolding concluded
   concluded-sound c (done d n) k (ends h) = h
-  concluded-sound c (stop n) k (stops low high) = status-sound c stopped k
+  concluded-sound c (stop n) k (stops h) = status-sound c stopped k
 
   -- a step leaves a state in range
   pub step-sound : (c : State) → Kept c → Kept (step e p lent c .state)

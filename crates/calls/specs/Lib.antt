@@ -5,7 +5,8 @@
 -- (TableLaws) are read back from their bytes (ByteLaws); rows one behind the other (ReadingLaws).
 -- Demand 3 proved (DemandLaws): programs in range run (ProgramLaws, NumberBounds, Invariant), buffers hold the machine (Holding, GivenLaws,
 -- StartLaws), calls on them do what it does (StepLaws, ScanLaws, RunLaws), stopped steps change the status alone (StopLaws), and a call that
--- does what its definition does keeps its promise (PromiseLaws).
+-- does what its definition does keeps its promise (PromiseLaws). No call of an accepted deck's run is turned down before it is over
+-- (TurnedDownLaws).
 -- The program of an accepted deck is in range (Accepted): literals are whole (Literals), and what is read is what was met (Yielding, for
 -- YieldingWords, YieldingNumeric, YieldingStrings, YieldingForms).
 pub mod Accepted
@@ -40,6 +41,7 @@ pub mod Strigol
 pub mod Table
 pub mod TableLaws
 pub mod TableReading
+pub mod TurnedDownLaws
 pub mod Yielding
 pub mod YieldingForms
 pub mod YieldingNumeric

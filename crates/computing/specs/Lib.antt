@@ -68,8 +68,10 @@ unfolding
     Rattle.cards.specs.Cards.labelOf
     Rattle.cards.specs.Cards.textOf
     Rattle.cards.specs.Cards.joined
-    Rattle.cards.specs.Cards.entriesFrom
-    Rattle.cards.specs.Cards.entries
+    Rattle.cards.specs.Cards.unpackedFrom
+    Rattle.cards.specs.Entries.packedEntry
+    Rattle.cards.specs.Entries.entriesFrom
+    Rattle.cards.specs.Entries.entries
     Rattle.cards.specs.Packing.placeAfter
     Rattle.cards.specs.Packing.isDropped
     Rattle.cards.specs.Packing.packFrom
@@ -146,6 +148,11 @@ unfolding
     Rattle.language.specs.Reading._>>=_
     Rattle.language.specs.Reading.skip
     Rattle.language.specs.Reading.finished
+    Rattle.language.specs.ScopeForms.goesOn
+    Rattle.language.specs.ScopeForms.StepLeads
+    Rattle.language.specs.ScopeForms.UseLeads
+    Rattle.language.specs.Scopes.Leads
+    Rattle.language.specs.Scopes.Nested
     Rattle.language.specs.Strings.literalAt
     Rattle.language.specs.Strings.nothingHere
     Rattle.language.specs.Strings.moreOf
@@ -171,6 +178,7 @@ unfolding
     Rattle.language.specs.Words.partOf
     Rattle.language.specs.Words.stringName
     Rattle.language.specs.Words.partName
+    Rattle.judgement.specs.Chains.Chained
     Rattle.judgement.specs.Deck.unplaced
     Rattle.judgement.specs.Deck.metBy
     Rattle.judgement.specs.Deck.judgeFrom
@@ -188,6 +196,7 @@ unfolding
     Rattle.judgement.specs.Deck.stepsFrom
     Rattle.judgement.specs.Deck.programOf
     Rattle.judgement.specs.Deck.concluded
+    Rattle.judgement.specs.Deck.judgeEntries
     Rattle.judgement.specs.Deck.judge
     Rattle.judgement.specs.Known.nothingKnown
     Rattle.judgement.specs.Known.sameNaming
@@ -219,6 +228,9 @@ unfolding
     Rattle.judgement.specs.Refusals.metNumber
     Rattle.judgement.specs.Refusals.formNumber
     Rattle.judgement.specs.Refusals.statementNumber
+    Rattle.judgement.specs.Standing.scopedStep
+    Rattle.judgement.specs.Standing.scopesOf
+    Rattle.judgement.specs.Standing.From
     Rattle.values.specs.Conversion.longestString
     Rattle.values.specs.Conversion.substring
     Rattle.values.specs.Conversion.isDigitOrBlank
@@ -241,6 +253,7 @@ unfolding
     Rattle.values.specs.Numbers.difference
     Rattle.values.specs.Numbers.product
     Rattle.values.specs.Numbers.quotient
+    Rattle.values.specs.Work.stopsStep
     Rattle.values.specs.Work.noting
     Rattle.values.specs.Work.quietly
     Rattle.values.specs.Work._>>=_
@@ -452,5 +465,7 @@ unfolding
     Rattle.calls.specs.TableReading.stepIn
     Rattle.calls.specs.TableReading.stepsFrom
     Rattle.calls.specs.TableReading.programIn
+    Rattle.calls.specs.TurnedDownLaws.GoesOn
+    Rattle.calls.specs.TurnedDownLaws.CallGoes
     Rattle.calls.specs.Yielding.viewOf
 everything = tt

@@ -13,7 +13,6 @@ use Rattle.branches.specs.Places.{numberIn}
 use Rattle.branches.specs.Rows.{rowMeaning}
 use Rattle.branches.specs.declared.Row.{Row}
 use Rattle.calls.specs.Table.{rowOf, itemsOf, elementsOf, allLiterals}
-use Rattle.cards.specs.Packing.{packed, literalsWhole}
 use Rattle.judgement.specs.Refusals.{readStatement}
 use Rattle.language.specs.Forms.{statementForm}
 use Rattle.language.specs.Program.{Item, PatternElement, Statement}
@@ -25,7 +24,6 @@ use Rattle.met.specs.Items.{withItems}
 use Rattle.met.specs.Known.{placesIn}
 use Rattle.met.specs.declared.Cursor.{Cursor}
 use Rattle.numeric.specs.Operands.{Noting}
-use Rattle.packer.specs.Keys.{keyOf, isKeyByte}
 use Rattle.forms.specs.declared.Form as FormCode
 use Rattle.forms.specs.declared.Form.{Form}
 use Rattle.packer.specs.Packs.{longestText}
@@ -92,15 +90,8 @@ abbrev pub StatementFormRead : (text known table keys tags : List ℕ) (c : Curs
 StatementFormRead text known table keys tags c =
     FormRead (length text) table keys tags c (statementForm current (numberIn known) (placesIn known) text)
 
--- what the code has of a statement: the key of its label, its text packed, whether its literals are whole
-pub record Wording (labelBytes raw text : List ℕ) (label : ℕ) (complete : Bool) : Type 0 where
-  pub key : label ≡ keyOf labelBytes
-  pub clean : all isKeyByte labelBytes ≡ true
-  pub short : length labelBytes ≤ 8
-  pub bytes : packed raw ≡ text
-  pub whole : complete ≡ literalsWhole raw
-
 -- the statement with its label: one name more
-abbrev pub StatementRead : (labelBytes raw text known table keys tags : List ℕ) (c : Cursor) → Form → (table′ keys′ tags′ : List ℕ) → Type 0
-StatementRead labelBytes raw text known table keys tags c =
-    FormRead (length text + 1) table keys tags c (readStatement current (numberIn known) (placesIn known) labelBytes raw)
+abbrev pub StatementRead : (labelBytes : List ℕ) (whole : Bool) (text known table keys tags : List ℕ) (c : Cursor) → Form
+    → (table′ keys′ tags′ : List ℕ) → Type 0
+StatementRead labelBytes whole text known table keys tags c =
+    FormRead (length text + 1) table keys tags c (readStatement current (numberIn known) (placesIn known) labelBytes whole text)

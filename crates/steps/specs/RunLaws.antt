@@ -12,8 +12,10 @@ use Rattle.calls.specs.Buffers.{stateKeeps, stateSize, storeKeeps}
 use Rattle.calls.specs.Calls.{Buffers, StepCalled, RunCalled, stepCall, runCall, runBehind, runEnded, withStep, outcomeNumber}
 use Rattle.calls.specs.DemandLaws.{current-limit, current-wide}
 use Rattle.calls.specs.Rules.{keepsRules}
-use Rattle.calls.specs.StopLaws.{passed-holds, refusal-small}
+use Rattle.calls.specs.StopLaws.{passed-holds, refusal-unstopped}
 use Rattle.calls.specs.TableReading.{programIn}
+use Rattle.values.specs.Work.{stopsStep}
+use Rattle.values.specs.WorkLaws.{zero-unstopped}
 use Rattle.steps.specs.Contracts.{Answers, Given, RunAnswers, unfitNumber}
 use Rattle.steps.specs.Laws.{tabled}
 
@@ -67,12 +69,12 @@ module _ (table input : List ℕ) (b : Buffers) {number : ℕ} {answer : List �
   begun = ap (λ (s : StepCalled). added steps notes (runBehind s (runCall current table input k (s .left)))) called
 
   -- it was stopped
-  pub run-stopped : 17 ≤ number
+  pub run-stopped : stopsStep number ≡ true
       → RunAnswers (added steps notes (runCall current table input (suc k) b)) number (1 ∷ (number ∷ ((steps + 1) ∷ ((notes + getD answer 3 0) ∷ [])))) left
   unfolding runBehind withStep runEnded outcomeNumber
   run-stopped h =
       let notes-only : notes + getD answer 3 0 ≡ notes + (getD answer 3 0 + 0) = omega arith in
-      rw (begun, lt-ltb 16 number (omega arith))
+      rw (begun, h)
       (record {
         number-is = refl;
         result-is = ap (λ (n : ℕ). 1 ∷ (number ∷ ((steps + 1) ∷ (n ∷ [])))) notes-only;
@@ -80,13 +82,13 @@ module _ (table input : List ℕ) (b : Buffers) {number : ℕ} {answer : List �
       })
 
   -- it was turned down
-  pub run-refused : number ≤ 16 → 0 < number
+  pub run-refused : stopsStep number ≡ false → 0 < number
       → RunAnswers (added steps notes (runCall current table input (suc k) b)) number (3 ∷ (number ∷ (steps ∷ (notes ∷ [])))) left
   unfolding runBehind runEnded outcomeNumber
   run-refused h some =
       let same-steps : steps ≡ steps + 0 = omega arith in
       let same-notes : notes ≡ notes + 0 = omega arith in
-      rw (begun, le-ltb 16 number h, lt-ltb 0 number some)
+      rw (begun, h, lt-ltb 0 number some)
       (record {
         number-is = refl;
         result-is = ap₂ (λ (n m : ℕ). 3 ∷ (number ∷ (n ∷ (m ∷ [])))) same-steps same-notes;
@@ -99,7 +101,7 @@ module _ (table input : List ℕ) (b : Buffers) {number : ℕ} {answer : List �
   unfolding runBehind withStep runEnded outcomeNumber
   run-finished none ends =
       let notes-only : notes + getD answer 3 0 ≡ notes + (getD answer 3 0 + 0) = omega arith in
-      rw (begun, le-ltb 16 number (omega arith), le-ltb 0 number (omega arith), ends)
+      rw (begun, zero-unstopped none, le-ltb 0 number (omega arith), ends)
       (record {
         number-is = refl;
         result-is = ap (λ (n : ℕ). 0 ∷ (0 ∷ ((steps + 1) ∷ (n ∷ [])))) notes-only;
@@ -116,7 +118,7 @@ module _ (table input : List ℕ) (b : Buffers) {number : ℕ} {answer : List �
       let count : steps + (1 + rest .steps) ≡ steps + 1 + rest .steps = omega arith in
       let all-notes : notes + (getD answer 3 0 + rest .notes) ≡ notes + getD answer 3 0 + rest .notes = omega arith in
       begun
-      ∙ rw (le-ltb 16 number (omega arith), le-ltb 0 number (omega arith), more)
+      ∙ rw (zero-unstopped none, le-ltb 0 number (omega arith), more)
       (λ i. record { outcome = rest .outcome; number = rest .number; steps = count i; notes = all-notes i; left = left-of rest })
     where
       left-of : RunCalled → Buffers
@@ -200,13 +202,13 @@ module _ {table input : List ℕ} {first : Buffers} {count steps notes : ℕ} {b
       let one-less : count - steps ≡ suc (count - (steps + 1)) = omega arith in
       r .run ∙ ap (λ (n : ℕ). added steps notes (runCall current table input n b)) one-less
 
-  pub repeats-stopped : 17 ≤ number
+  pub repeats-stopped : stopsStep number ≡ true
       → RunAnswers (runCall current table input count first) number (1 ∷ (number ∷ ((steps + 1) ∷ ((notes + getD answer 3 0) ∷ [])))) left
   repeats-stopped h = rw next-run (run-stopped table input b a steps notes (count - (steps + 1)) h)
 
-  pub repeats-refused : number < 17 → 0 < number
+  pub repeats-refused : stopsStep number ≡ false → 0 < number
       → RunAnswers (runCall current table input count first) number (3 ∷ (number ∷ (steps ∷ (notes ∷ [])))) left
-  repeats-refused h some = rw next-run (run-refused table input b a steps notes (count - (steps + 1)) (omega arith) some)
+  repeats-refused h some = rw next-run (run-refused table input b a steps notes (count - (steps + 1)) h some)
 
   pub repeats-finished : number ≤ 0 → eqb (getD (left .state) 0 0) 1 ≡ true
       → RunAnswers (runCall current table input count first) 0 (0 ∷ (0 ∷ ((steps + 1) ∷ ((notes + getD answer 3 0) ∷ [])))) left
@@ -237,9 +239,9 @@ pub unfit-run : (table input : List ℕ) (b : Buffers) (n : ℕ)
     → RunAnswers (runCall current table input count b) n (3 ∷ (n ∷ (0 ∷ (0 ∷ [])))) b
 unfit-run table input b n e h a count some =
     let one-less : count ≡ suc (count - 1) = omega arith in
-    let small : n ≤ 16 = rw e (refusal-small (ltb (length table) tableSize) (keepsRules current table) (storeKeeps (b .store))
-    (not (stateKeeps current (length (programIn table .steps)) (length input) (length (b .output)) (b .state))) 0 (omega arith)) in
-    rw (one-less, added-none (runCall current table input (suc (count - 1)) b)) (run-refused table input b a 0 0 (count - 1) small h)
+    let unstopped : stopsStep n ≡ false = rw e (refusal-unstopped (ltb (length table) tableSize) (keepsRules current table) (storeKeeps (b .store))
+    (not (stateKeeps current (length (programIn table .steps)) (length input) (length (b .output)) (b .state))) 0 (zero-unstopped refl)) in
+    rw (one-less, added-none (runCall current table input (suc (count - 1)) b)) (run-refused table input b a 0 0 (count - 1) unstopped h)
 
 -- no step is asked for
 pub run-none : (table input : List ℕ) (b : Buffers) (count : ℕ) → count ≡ 0
