@@ -1,6 +1,7 @@
 -- `packer::add_line` adds a line.
 -- Assumes nothing.
 use Rattle.packer.proofs.Parts.{added, text-fits}
+use Rattle.packer.specs.Packs.{longestText}
 use borrow.Author.Needs.{needs}
 use native.Mathlib.Omega.{arith}
 use Rattle.packer.proofs.add_line.Statement.{statement}
