@@ -18,6 +18,7 @@ use Rattle.judgement.specs.Refusals.{readStatement}
 use Rattle.language.specs.Forms.{statementForm}
 use Rattle.language.specs.Program.{Item, PatternElement, Statement}
 use Rattle.language.specs.Reading.{Read, got, broken}
+use Rattle.met.specs.Bounds.{farEnough}
 use Rattle.met.specs.Contracts.{namesRoom}
 use Rattle.met.specs.Elements.{withElements}
 use Rattle.met.specs.Entries.{Entry, metIn}
@@ -35,9 +36,9 @@ pub record Starts (text keys tags : List ℕ) (c : Cursor) : Type 0 where
   pub textSize : length text ≤ longestText
   pub at : c .at ≡ 0
   pub names : c .names ≤ 1
-  pub items : c .items ≤ 4_294_967_296
-  pub elements : c .elements ≤ 4_294_967_296
-  pub literals : c .literals ≤ 4_294_967_296
+  pub items : c .items + length text ≤ farEnough
+  pub elements : c .elements + length text ≤ farEnough
+  pub literals : c .literals + length text ≤ farEnough
   pub keysSize : length keys ≡ namesRoom
   pub tagsSize : length tags ≡ namesRoom
 

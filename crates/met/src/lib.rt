@@ -25,6 +25,7 @@ ghost use Rattle.calls.specs.Numerals.{inBytes, biased};
 ghost use Rattle.calls.specs.Splices.{splice};
 ghost use Rattle.calls.specs.Table.{cell, cellBytes};
 ghost use Rattle.convert.specs.Numbers.{InRange};
+ghost use Rattle.met.specs.Bounds.{farEnough};
 ghost use Rattle.met.specs.Cells.{withCell};
 ghost use Rattle.met.specs.Contracts.{Notable, Noted};
 ghost use Rattle.met.specs.Elements.{withElement, withLiterals};
@@ -150,7 +151,7 @@ fn put_byte(table: &mut [u8], l: usize, byte: u8)
 // writes literal bytes from byte l on; of those behind the last one nothing
 pub fn put_literals(table: &mut [u8], l: usize, bytes: &[u8])
     requires { ⌜ tableSize ≤ length (now table) ⌝ }
-    requires { ⌜ l + length (now bytes) < 9_000_000_000 ⌝ }
+    requires { ⌜ (l ≤ farEnough) × (length (now bytes) ≤ farEnough) ⌝ }
     ensures { λ _. ⌜ now (table .exit) ≡ withLiterals (now (table .entry)) l (now (bytes .entry)) ⌝ }
 {
     let mut i: usize = 0;

@@ -13,6 +13,7 @@ use Rattle.language.specs.Fuel.{expressionBy, expression-is, moreTermsBy, moreT
 use Rattle.language.specs.Program.{Item, Operator, operator}
 use Rattle.language.specs.Reading.{Met, nothing, anItem, give, both, Read, got, broken, _>>=_, meeting}
 use Rattle.language.specs.Words.{Places}
+use Rattle.met.specs.Bounds.{farEnough}
 use Rattle.met.specs.Entries.{gather, metIn}
 use Rattle.met.specs.EntryLaws.{met-both}
 use Rattle.met.specs.Items.{withItems, items-append}
@@ -120,7 +121,7 @@ module _ (one : Reader) (more : More) (ps before : List Item) where
 
 -- a loop begins, where there is room for what waits
 pub joining-begins : {one : Reader} {more : More} {text table keys tags : List ℕ} {kind : ℕ} {d : Cursor} → Ready text keys tags d
-    → d .items + length (waiting kind) ≤ 4_294_967_296 + d .at → Joining one more text table keys tags kind d table keys tags kind d
+    → d .items + length (waiting kind) + length text ≤ farEnough + d .at → Joining one more text table keys tags kind d table keys tags kind d
 joining-begins ready room = record { sameSize = refl; later = omega arith; ready = ready; room = room; goes = λ r p. p }
 
 -- and behind the sign of the first term

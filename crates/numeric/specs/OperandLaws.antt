@@ -23,6 +23,7 @@ use Rattle.calls.specs.Splices.{splice, splice-nil, splice-behind, length-splic
 use Rattle.language.specs.Reading.{number, string, purposeNumber, Role, naming, Met, nothing, both, Read, got, broken, _>>=_, meeting, give, skip}
 use Rattle.language.specs.Words as Words
 use Rattle.language.specs.Words.{Places, nameAs, noRole, bound, partOf, partName, numberName, stringName}
+use Rattle.met.specs.Bounds.{farEnough}
 use Rattle.met.specs.Contracts.{Noted}
 use Rattle.met.specs.Entries.{Entry, entry, nameOf, roleOf, gather, metIn}
 use Rattle.met.specs.EntryLaws.{met-both, name-key, used-met, role-met, string-placed, number-placed}
@@ -183,8 +184,8 @@ module _ {text keys tags : List ℕ} {c d : Cursor} where
   ready-on n ready e h = let s = skipped c n e in ready-at s ready (omega (arith, s .at))
 
   -- so it is at the same place of the text, by what it counts there
-  pub ready-here : Ready text keys tags c → d .at ≡ c .at → d .names ≡ c .names → d .items ≤ 4_294_967_296 + d .at
-      → d .elements ≤ 4_294_967_296 + d .at → d .literals ≤ 4_294_967_296 + d .at → Ready text keys tags d
+  pub ready-here : Ready text keys tags c → d .at ≡ c .at → d .names ≡ c .names → d .items + length text ≤ farEnough + d .at
+      → d .elements + length text ≤ farEnough + d .at → d .literals + length text ≤ farEnough + d .at → Ready text keys tags d
   ready-here ready at names items elements literals =
       record {
         textSize = ready .textSize;

@@ -15,6 +15,7 @@ use Rattle.language.specs.Numeric.{calledOrNumber, plainFactor}
 use Rattle.language.specs.Reading.{Read, got, broken, give}
 use Rattle.language.specs.Words as Words
 use Rattle.language.specs.Words.{unsigned, numberName, stringName, bound, partName}
+use Rattle.met.specs.Bounds.{farEnough}
 use Rattle.met.specs.Contracts.{namesRoom}
 use Rattle.met.specs.Entries.{Entry, entry, roleOf, metIn}
 use Rattle.met.specs.Known.{placesIn}
@@ -59,9 +60,9 @@ pub record Ready (text keys tags : List ℕ) (c : Cursor) : Type 0 where
   pub textSize : length text ≤ longestText
   pub inside : c .at ≤ length text
   pub names : c .names ≤ c .at + 1
-  pub items : c .items ≤ 4_294_967_296 + c .at
-  pub elements : c .elements ≤ 4_294_967_296 + c .at
-  pub literals : c .literals ≤ 4_294_967_296 + c .at
+  pub items : c .items + length text ≤ farEnough + c .at
+  pub elements : c .elements + length text ≤ farEnough + c .at
+  pub literals : c .literals + length text ≤ farEnough + c .at
   pub keysSize : length keys ≡ namesRoom
   pub tagsSize : length tags ≡ namesRoom
 

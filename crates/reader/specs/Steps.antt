@@ -18,6 +18,7 @@ use Rattle.judgement.specs.Placed.Again.{Again}
 use Rattle.judgement.specs.Refusals.{readStatement}
 use Rattle.language.specs.Program.{Statement, Step}
 use Rattle.language.specs.Reading.{Met, got}
+use Rattle.met.specs.Bounds.{farEnough}
 use Rattle.met.specs.Contracts.{namesRoom}
 use Rattle.met.specs.Holding.{Arrays, Holds}
 use Rattle.met.specs.Known.{placesIn, nextAt}
@@ -37,7 +38,7 @@ pub record Small (p : Progress) : Type 0 where
   pub elements : p .elements ≤ 1024
   pub literals : p .literals ≤ 4096
   pub steps : p .steps ≤ 256
-  pub card : p .card ≤ 40_000
+  pub card : p .card ≤ farEnough
 
 -- a statement is a step of the program, or none
 abbrev pub stepCount : Option Statement → ℕ

@@ -15,6 +15,7 @@ use Rattle.language.specs.Program.{Element, literal, PatternElement, value}
 use Rattle.language.specs.Reading.{Read, got, broken}
 use Rattle.language.specs.Strings as Strings
 use Rattle.language.specs.Words.{Places, noRole}
+use Rattle.met.specs.Bounds.{farEnough}
 use Rattle.met.specs.Elements.{withElement, withLiterals, withElements}
 use Rattle.met.specs.Entries.{Entry, roleOf, metIn}
 use Rattle.met.specs.Known.{placesIn}
@@ -81,7 +82,7 @@ oneMore c =
 
 -- there are few elements before a cell that was read
 abbrev pub Roomy : Operand → Type 0
-Roomy (OperandCode.the-variants.Got v d) = d .elements < 8_000_000_000
+Roomy (OperandCode.the-variants.Got v d) = d .elements ≤ farEnough
 Roomy OperandCode.the-variants.Broken = Unit {0}
 
 -- the outcome once a cell that was read is written, and the table with it
@@ -97,9 +98,9 @@ celled table OperandCode.the-variants.Broken = table
 pub record Spellable (text table : List ℕ) (c : Cursor) (n size : ℕ) : Type 0 where
   pub inside : c .at + 1 + n ≤ length text
   pub textSize : length text ≤ longestText
-  pub near : size ≤ 100_000
-  pub elements : c .elements ≤ 5_000_000_000
-  pub literals : c .literals ≤ 5_000_000_000
+  pub near : size ≤ farEnough
+  pub elements : c .elements ≤ farEnough
+  pub literals : c .literals ≤ farEnough
   pub tableSize : tableSize ≤ length table
 
 -- the cursor behind a literal of n bytes
