@@ -3,7 +3,7 @@ use mathlib.Core.Bool.{Bool, true, _||_}
 use mathlib.Core.List.{List, []}
 use mathlib.Core.Option.{Option, none, some}
 use mathlib.Core.Path.{_≡_}
-use Prim.Native.Nat.{ℕ, _+_, _≤_}
+use Prim.Native.Nat.{ℕ, _+_, _≤_, _<_}
 use lib.Dec.{ltb}
 use lib.ListN.{length}
 use Rattle.base.specs.Current.{current}
@@ -29,13 +29,15 @@ use Rattle.numeric.specs.Operands.{Noting}
 use Rattle.packer.specs.Keys.{keyOf, isKeyByte}
 use Rattle.forms.specs.declared.Form as FormCode
 use Rattle.forms.specs.declared.Form.{Form}
+use Rattle.packer.specs.Letters.{letters}
 use Rattle.packer.specs.Packs.{longestText}
 
--- the arrays have their sizes, and the cursor stands before a statement: at most its label is noted
+-- the arrays have their sizes, and the cursor stands before a statement: at most its label is noted, with room for a name for each letter
 pub record Starts (text keys tags : List ℕ) (c : Cursor) : Type 0 where
   pub textSize : length text ≤ longestText
   pub at : c .at ≡ 0
   pub names : c .names ≤ 1
+  pub room : letters text < namesRoom
   pub items : c .items + length text ≤ farEnough
   pub elements : c .elements + length text ≤ farEnough
   pub literals : c .literals + length text ≤ farEnough
@@ -88,10 +90,10 @@ pub record FormRead (most : ℕ) (table keys tags : List ℕ) (c : Cursor) (x : 
     (table′ keys′ tags′ : List ℕ) : Type 0 where
   pub answer : FormAnswer most table keys tags c x r table′ keys′ tags′
 
--- the statement that a text is: no more names than bytes
+-- the statement that a text is: no more names than letters
 abbrev pub StatementFormRead : (text known table keys tags : List ℕ) (c : Cursor) → Form → (table′ keys′ tags′ : List ℕ) → Type 0
 StatementFormRead text known table keys tags c =
-    FormRead (length text) table keys tags c (statementForm current (numberIn known) (placesIn known) text)
+    FormRead (letters text) table keys tags c (statementForm current (numberIn known) (placesIn known) text)
 
 -- what the code has of a statement: the key of its label, its text packed, whether its literals are whole
 pub record Wording (labelBytes raw text : List ℕ) (label : ℕ) (complete : Bool) : Type 0 where
@@ -104,4 +106,4 @@ pub record Wording (labelBytes raw text : List ℕ) (label : ℕ) (complete : Bo
 -- the statement with its label: one name more
 abbrev pub StatementRead : (labelBytes raw text known table keys tags : List ℕ) (c : Cursor) → Form → (table′ keys′ tags′ : List ℕ) → Type 0
 StatementRead labelBytes raw text known table keys tags c =
-    FormRead (length text + 1) table keys tags c (readStatement current (numberIn known) (placesIn known) labelBytes raw)
+    FormRead (letters text + 1) table keys tags c (readStatement current (numberIn known) (placesIn known) labelBytes raw)

@@ -19,6 +19,7 @@ use Rattle.met.specs.EntryLaws.{met-both}
 use Rattle.met.specs.Items.{withItems, items-append}
 use Rattle.met.specs.ReadingLaws.{meeting-nothing}
 use Rattle.met.specs.declared.Cursor.{Cursor}
+use Rattle.packer.specs.Letters.{letters, letters-on}
 use Rattle.numeric.specs.Joins.{waited, Joins, WaitedRead, Joining}
 use Rattle.numeric.specs.Kinds.{SignAt, OperatorAt, SumAt, ProductAt, Puts}
 use Rattle.numeric.specs.KindLaws.{items-case, items-none}
@@ -110,7 +111,9 @@ module _ (one : Reader) (more : More) (ps before : List Item) where
                       longest = q .goes .longest ∙ on .longest ∙ a .goes .longest;
                     };
                 ready = q .ready;
-                few = omega (arith, a .few, q .few, put .at);
+                few =
+                    omega
+                    (arith, a .few, q .few, ap (λ i. letters (drop i text)) (put .at), letters-on text (c .at) (c .at + n) (omega arith));
                 short = omega (arith, a .short, q .short, put .at);
               };
         }
@@ -182,7 +185,7 @@ module _ {one : Reader} {more : More} {text table₀ keys₀ tags₀ : List ℕ}
             let items = ap (λ (z : Cursor). z .items) skips in
             record {
               sameSize = same;
-              later = omega (arith, i .later, x .few, put .at, at);
+              later = omega (arith, i .later, x .short, put .at, at);
               ready = ready-on 1 ready-behind skips (omega (arith, o .further some));
               room = omega (arith, at, items, ready-behind .items, o .size some);
               goes =
@@ -196,7 +199,7 @@ module _ {one : Reader} {more : More} {text table₀ keys₀ tags₀ : List ℕ}
         joining-less =
             let x = items-case a is in
             let at = ap (λ (z : Cursor). z .at) skips in
-            omega (arith, at, x .few, put .at, o .further some)
+            omega (arith, at, x .short, put .at, o .further some)
 
 -- the operators that join forms
 operator-joins : {one : Reader} {more : More} {text : List ℕ} {at kind : ℕ} {test : Bool} {x : Read Operator}

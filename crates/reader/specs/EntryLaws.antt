@@ -22,6 +22,7 @@ use Rattle.judgement.specs.Refusals.{readStatement, statementNumber}
 use Rattle.language.specs.Keywords.{leading}
 use Rattle.met.specs.Holding.{Arrays, Holds}
 use Rattle.packer.specs.Gathering.{Gathers, entryOf}
+use Rattle.packer.specs.Letters.{letters}
 use Rattle.packer.specs.declared.Gathered.{Gathered}
 use Rattle.naming.specs.HoldLaws.{held-shown, shown-held}
 use Rattle.reader.specs.Judging.{Held, Worded, Readied, Entered, Numbered, EntryNumbered, Going, EntryJudged}
@@ -43,7 +44,7 @@ readied {text} {e} r s =
       known = r .known;
       holds = r .holds;
       small = omega (arith, r .small);
-      room = omega (arith, r .room);
+      room = r .room;
     }
 
 module _ {text : List ℕ} {e : Gathered} {a : Arrays} where
@@ -169,7 +170,7 @@ module _ {deck : List ℕ} {from : ℕ} {text : List ℕ} {e : Gathered} (g : Ga
           known = kept;
           holds =
               n .judges f (g .label) (g .raw) gathered-worded .learnt z from k h (e .next)
-              (omega (arith, g .spare, ap length (g .bytes), length-take-le (e .length) text (gathered-worded .fits)));
+              (omega (arith, g .spare, ap letters (g .bytes)));
           rest =
               statement-judged f
               ∙ ap {B = Deck.Judged} (λ v. elim v [ true ↦ judgeFrom current kept rest | false ↦ Deck.Judged.refused number card ])

@@ -3,7 +3,7 @@ use mathlib.Core.Bool.{Bool, true, false, cond}
 use mathlib.Core.List.{List}
 use mathlib.Core.Option.{Option, none, some}
 use mathlib.Core.Path.{_≡_, refl, sym, ap, ap₂, subst, _∙_}
-use Prim.Native.Nat.{ℕ, _+_, _≤_}
+use Prim.Native.Nat.{ℕ, _+_, _≤_, _<_}
 use native.Mathlib.Omega.{arith}
 use native.Mathlib.Nat.{zero-add}
 use lib.ListN.{length}
@@ -33,6 +33,7 @@ use Rattle.met.specs.Known.{placesIn}
 use Rattle.met.specs.declared.Cursor.{Cursor}
 use Rattle.naming.specs.Arrays.{metFrom}
 use Rattle.naming.specs.HoldLaws.{entries-noted}
+use Rattle.packer.specs.Letters.{letters}
 use Rattle.packer.specs.Packs.{longestText}
 use Rattle.words.specs.Kinds.{kindOf}
 use Rattle.words.specs.declared.keywords.Kind.{Kind}
@@ -125,13 +126,14 @@ module _ {most : ℕ} {table keys tags : List ℕ} {c : Cursor} {x : Read (Optio
 
 -- a statement can be read
 pub starts : {a : Arrays} {taken : ℕ} {k : Known} {text keys tags : List ℕ} {c : Cursor} → Holds a taken k → length text ≤ longestText
-    → length keys ≡ namesRoom → length tags ≡ namesRoom → c ≡ startAt (a .known) → Starts text keys tags c
-starts {a} {text = text} {keys} {tags} h small ks ts e =
+    → letters text < namesRoom → length keys ≡ namesRoom → length tags ≡ namesRoom → c ≡ startAt (a .known) → Starts text keys tags c
+starts {a} {text = text} {keys} {tags} h small room ks ts e =
     subst (Starts text keys tags) (sym e)
     (record {
       textSize = small;
       at = refl;
       names = omega arith;
+      room = room;
       items = omega (arith, h .fewItems);
       elements = omega (arith, h .fewElements);
       literals = omega (arith, h .fewLiterals);
@@ -142,7 +144,7 @@ starts {a} {text = text} {keys} {tags} h small ks ts e =
 -- a statement that is read can be judged
 pub formed-judgeable : {text : List ℕ} {e : Gathered} {a : Arrays} {v : Option Statement} {table keys tags table′ keys′ tags′ : List ℕ} {c : Cursor}
     {x : Read (Option Statement)} {d : Cursor} → Readied text e a → c .names ≡ 0
-    → Formed v (length text + 1) table keys tags c x table′ keys′ tags′ d → Judgeable a keys′ tags′ d
+    → Formed v (letters text + 1) table keys tags c x table′ keys′ tags′ d → Judgeable a keys′ tags′ d
 formed-judgeable {a = a} {keys′ = keys′} {tags′ = tags′} {d = d} q z f =
     judgeable a keys′ tags′ d (q .taken) (q .known) (f .keysSize) (f .tagsSize) (omega (arith, q .room, f .names, f .few)) (q .holds)
 
@@ -176,15 +178,15 @@ module _ (a : Arrays) (kind : Kind) (label raw text : List ℕ) (leads : kindOf 
 
     pub formed-numbered : {v : Option Statement} {table keys tags table′ keys′ tags′ : List ℕ} {c d : Cursor} {a′ : Arrays} {r : ℕ}
         → c ≡ startAt (a .known)
-        → Formed v (length text + 1) table keys tags c (readStatement current (numberIn (a .known)) (placesIn (a .known)) label raw) table′ keys′ tags′ d
+        → Formed v (letters text + 1) table keys tags c (readStatement current (numberIn (a .known)) (placesIn (a .known)) label raw) table′ keys′ tags′ d
         → StatementJudged a keys′ tags′ d kind a′ r
         → Numbered label raw true a r a′
     formed-numbered {v} {table} {keys} {tags} {table′} {keys′} {tags′} {c} {d} {a′} {r} start g j = from
       where
-        f : Formed v (length text + 1) table keys tags (startAt (a .known))
+        f : Formed v (letters text + 1) table keys tags (startAt (a .known))
             (readStatement current (numberIn (a .known)) (placesIn (a .known)) label raw) table′ keys′ tags′ d
         f =
-            subst (λ (z : Cursor). Formed v (length text + 1) table keys tags z
+            subst (λ (z : Cursor). Formed v (letters text + 1) table keys tags z
             (readStatement current (numberIn (a .known)) (placesIn (a .known)) label raw) table′ keys′ tags′ d) start g
 
         entries : metFrom keys′ tags′ 0 (d .names) ≡ f .entries
@@ -209,7 +211,7 @@ module _ (a : Arrays) (kind : Kind) (label raw text : List ℕ) (leads : kindOf 
                   λ z taken k h taken′ le.
                   subst (Holds a′ taken′) (ap₂ (learn k) is-kind (met ∙ sym (got-met label raw a taken k h (f .is))))
                   (j .learnt z taken k h _ _ _ (behind label raw a taken k h f) taken′
-                  (omega (arith, f .names, f .few, le, ap length bytes)));
+                  (omega (arith, f .names, f .few, le, ap letters bytes)));
             }
 
 -- another number than 0 says nothing of the arrays of names

@@ -22,6 +22,7 @@ use Rattle.met.specs.Known.{endedAt, itemCountAt, elementCountAt, literalCountA
 use Rattle.met.specs.declared.Cursor.{Cursor}
 use Rattle.forms.specs.Contracts.{Wording}
 use Rattle.packer.specs.Keys.{keyOf, isKeyByte}
+use Rattle.packer.specs.Letters.{letters}
 use Rattle.packer.specs.Packs.{longestText}
 use Rattle.packer.specs.declared.Gathered.{Gathered}
 use Rattle.reader.specs.declared.judge.EntryVerdict.{EntryVerdict}
@@ -56,7 +57,7 @@ pub record Readied (text : List ℕ) (e : Gathered) (a : Arrays) : Type 0 where
   pub known : Known
   pub holds : Holds a taken known
   pub small : length text ≤ longestText
-  pub room : taken + length text < namesRoom
+  pub room : taken + letters text < namesRoom
 
 -- there is an entry to be judged
 pub record Entered (text : List ℕ) (e : Gathered) (a : Arrays) : Type 0 where
@@ -67,7 +68,7 @@ pub record Entered (text : List ℕ) (e : Gathered) (a : Arrays) : Type 0 where
   pub known : Known
   pub holds : Holds a taken known
   pub small : e .length ≤ longestText
-  pub room : taken + e .length < namesRoom
+  pub room : taken + letters (take (e .length) text) < namesRoom
 
 -- where the number is 0 the arrays of names have their sizes still
 pub record Stays (r : ℕ) (keys tags : List ℕ) : Type 0 where
@@ -86,11 +87,11 @@ startAt known =
       longest = 0;
     }
 
--- the number of a statement, and what the arrays hold behind it where it is 0; its names take a byte each, its label one more
+-- the number of a statement, and what the arrays hold behind it where it is 0; its names take a letter each, its label one more
 pub record Numbered (label raw : List ℕ) (sound : Bool) (a : Arrays) (r : ℕ) (a′ : Arrays) : Type 0 where
   pub number : (taken : ℕ) (k : Known) → Holds a taken k
       → r ≡ statementNumber k (leading (packed raw) .kind) sound (readStatement current (isOneOf (numbers k)) unplaced label raw)
-  pub learnt : r ≡ 0 → (taken : ℕ) (k : Known) → Holds a taken k → (taken′ : ℕ) → taken + length (packed raw) < taken′
+  pub learnt : r ≡ 0 → (taken : ℕ) (k : Known) → Holds a taken k → (taken′ : ℕ) → taken + letters (packed raw) < taken′
       → Holds a′ taken′ (learn k (leading (packed raw) .kind) (metBy (readStatement current (isOneOf (numbers k)) unplaced label raw)))
 
 -- the number of an entry; a comment or blank line changes nothing

@@ -25,6 +25,7 @@ use Rattle.numeric.specs.declared.operands.Operand as OperandCode
 use Rattle.numeric.specs.declared.operands.Operand.{Operand}
 use Rattle.numeric.specs.declared.Outcome as OutcomeCode
 use Rattle.numeric.specs.declared.Outcome.{Outcome}
+use Rattle.packer.specs.Letters.{letters}
 use Rattle.packer.specs.Packs.{longestText}
 
 -- a cursor d behind c by n names, by these elements and by rows of these lengths
@@ -44,7 +45,7 @@ pub record GetsElements {A : Type 0} (text table keys tags : List ℕ) (c : Curs
   pub noting : Noting keys tags (c .names) entries keys′ tags′
   pub goes : Passes c (length entries) es rows d
   pub ready : Ready text keys′ tags′ d
-  pub few : length entries + c .at ≤ d .at
+  pub few : length entries + letters (drop (d .at) text) ≤ letters (drop (c .at) text)
   pub short : length es + c .at ≤ d .at
 
 -- the rows that are met where a row of n elements is read: none where nothing stands
