@@ -1,5 +1,5 @@
 -- What the readers of statements do: the row made, the names noted, the items and elements written. Assumes nothing.
-use mathlib.Core.Bool.{Bool, true, _||_}
+use mathlib.Core.Bool.{Bool, _||_}
 use mathlib.Core.List.{List, []}
 use mathlib.Core.Option.{Option, none, some}
 use mathlib.Core.Path.{_≡_}
@@ -8,7 +8,7 @@ use lib.Dec.{ltb}
 use lib.ListN.{length}
 use Rattle.base.specs.Current.{current}
 use Rattle.base.specs.Limits as Limits
-use Rattle.base.specs.Lists.{all, any, total}
+use Rattle.base.specs.Lists.{any, total}
 use Rattle.branches.specs.Places.{numberIn}
 use Rattle.branches.specs.Rows.{rowMeaning}
 use Rattle.branches.specs.declared.Row.{Row}

@@ -190,11 +190,11 @@ module _ (known text : List ℕ) where
   label-shown b bs w = sym (shown-name b bs (w .clean) (w .short)) ∙ ap nameShown (sym (w .is))
 
   -- a label that is no name
-  pub statement-unnamed : (labelBytes : List ℕ) {key : ℕ} {whole : Bool} → LabelKey labelBytes key → (key ≡ 0 → ⊥) → nameShown key ≡ false
+  pub statement-unnamed : (labelBytes : List ℕ) (whole : Bool) {key : ℕ} → LabelKey labelBytes key → (key ≡ 0 → ⊥) → nameShown key ≡ false
       → statementIn known labelBytes whole text ≡ broken
   unfolding readStatement labelForm labelled keyOf
-  statement-unnamed [] w z e = absurd (z (w .is))
-  statement-unnamed (b ∷ bs) {whole = whole} w z e =
+  statement-unnamed [] whole w z e = absurd (z (w .is))
+  statement-unnamed (b ∷ bs) whole w z e =
       ap
       (λ (t : Bool).
       labelled (elim t [ true ↦ got tt (declaring label (b ∷ bs)) [] | false ↦ broken ]) whole (formIn known text))

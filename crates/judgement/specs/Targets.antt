@@ -140,8 +140,8 @@ no-routines [] h = refl
 no-routines (n ∷ ns) h = rw (h .0, keep) (no-routines ns (h .1))
 
 -- PROGRAM, NUMBER and END declare no routine
-outer-declares : (e : Edition) (isNumber : List ℕ → Bool) (at : Places) (label : List ℕ) (whole : Bool) (text : List ℕ) (s : Option Statement) (m : Met)
-    (rest : List ℕ) → isInner (leading text .kind) ≡ false → readStatement e isNumber at label whole text ≡ got s m rest
+outer-declares : (e : Edition) (isNumber : List ℕ → Bool) (at : Places) (label : List ℕ) (whole : Bool) (text : List ℕ) (s : Option Statement)
+    (m : Met) (rest : List ℕ) → isInner (leading text .kind) ≡ false → readStatement e isNumber at label whole text ≡ got s m rest
     → namesFor routine (m .declared) ≡ []
 unfolding readStatement statementForm Quiet
 outer-declares e isNumber at label whole text s m rest outer q =
