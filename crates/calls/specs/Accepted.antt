@@ -13,8 +13,7 @@ use Rattle.base.specs.Limits as Limits
 use Rattle.base.specs.Limits.{longestDeck}
 use Rattle.base.specs.Lists.{same, any, all, total}
 use Rattle.base.specs.ListLaws.{same-true, same-refl}
-use Rattle.cards.specs.Cards.{Entry, entries}
-use Rattle.cards.specs.Packing.{packed}
+use Rattle.cards.specs.Entries.{Entry, entries}
 use Rattle.judgement.specs.Deck.{indexOf, placesOf, stepRead, stepsFrom, programOf, accepted, judge}
 use Rattle.judgement.specs.Known.{Known, nothingKnown, strings, numbers, namesFor, isStep, learn}
 use Rattle.judgement.specs.Laws.{not10-few, accepted-counts, accepted-finishes}
@@ -28,6 +27,7 @@ use Rattle.language.specs.Keywords.{leading}
 use Rattle.language.specs.Placed.{Each, PlacedBy}
 use Rattle.language.specs.Program.{Statement, Step, Program}
 use Rattle.language.specs.Reading.{string, Met, Read, got}
+use Rattle.calls.specs.Literals.{TextWhole, entries-whole}
 use Rattle.calls.specs.Rules.{statementHolds, stepHolds, isProgram}
 use Rattle.calls.specs.Table.{elementsOf, itemsOf, allElements, allItems, allLiterals}
 use Rattle.calls.specs.Yielding.{viewOf, Fit}
@@ -106,23 +106,24 @@ statement-sound e whole false (some a) m rest card n el it li more step h not8 s
 
 -- entries that pass make steps that hold, with as many elements, items and literal bytes as were counted
 again-sound : {e : Edition} {whole k : Known} {es : List Entry}
-    → ((n : ℕ) → PlacedBy (NamesOf whole) (deckSizes whole) (placesOf whole n)) → Again e whole k es
+    → ((n : ℕ) → PlacedBy (NamesOf whole) (deckSizes whole) (placesOf whole n)) → Each TextWhole es → Again e whole k es
     → Sound e whole (k .steps) (k .elements) (k .items) (k .literals) (stepsFrom e whole (k .steps) es)
-unfolding stepsFrom learn placesOf allElements allItems allLiterals all
-again-sound placed ends =
+unfolding stepsFrom learn placesOf allElements allItems allLiterals all Each
+again-sound placed texts ends =
     record { all-steps = omega arith; all-elements = omega arith; all-items = omega arith; all-literals = omega arith; holds = refl }
-again-sound placed (past j) = again-sound placed j
-again-sound {e} {whole} placed (reads {k} {card} {label} {text} {es} s m rest q step p used next j) =
-    let kind = leading (packed text) .kind in
+again-sound placed texts (past j) = again-sound placed (texts .1) j
+again-sound {e} {whole} placed texts (reads {k} {card} {label} {complete} {text} {es} s m rest q step p used next j) =
+    let kind = leading text .kind in
     let fit : Fit (NamesOf whole) m = record { used = used; rows = not10-few (learn k kind m) m (p .not10) .1 } in
-    let form = statement-yields e (placed (suc (k .steps))) _ label text s m rest next (places-distinct whole (suc (k .steps))) q fit in
+    let form =
+    statement-yields e (placed (suc (k .steps))) _ label complete text (texts .0) s m rest next (places-distinct whole (suc (k .steps))) q fit in
     subst
     (λ (read : Read (Option Statement)).
     Sound e whole (k .steps) (k .elements) (k .items) (k .literals)
     (stepRead card read ++ stepsFrom e whole (elim (stepRead card read) [ [] ↦ k .steps | s ∷ ss ↦ suc (k .steps) ]) es))
     (sym q)
     (statement-sound e whole (isStep kind) s m rest card (k .steps) (k .elements) (k .items) (k .literals) (λ n. stepsFrom e whole n es)
-    step form (p .not8) (again-sound placed j))
+    step form (p .not8) (again-sound placed (texts .1) j))
 
 -- a program's totals and statements are in range
 pub record Totals (e : Edition) (p : Program) : Type 0 where
@@ -138,7 +139,7 @@ accepted-totals e deck p q =
     accepted-program e deck p q (Totals e) (λ k j _ _.
     let again = passed-again j in
     let few = deck-counts j in
-    let sound = again-sound (again .0) (again .1) in
+    let sound = again-sound (again .0) (entries-whole e deck) (again .1) in
     let ss = stepsFrom e k 0 (entries e deck) in
     let count : k .steps ≡ length ss = omega arith in
     record {

@@ -14,7 +14,7 @@ use Rattle.base.specs.Edition.{Edition}
 use Rattle.base.specs.Lists.{same, all, begins, total}
 use Rattle.base.specs.Text.{bytes}
 use Rattle.cards.specs.Bytes.{quote}
-use Rattle.cards.specs.Packing.{packed, literalsFrom, literalsWhole}
+use Rattle.cards.specs.Packing.{literalsFrom}
 use Rattle.judgement.specs.Known.{isOneOf, isStep}
 use Rattle.judgement.specs.Refusals.{clashes, labelForm, labelled, readStatement}
 use Rattle.judgement.specs.Targets.{isInner}
@@ -50,7 +50,7 @@ use Rattle.language.specs.Program.{setNumber, setString, goto, finish, ifTest, 
 use Rattle.language.specs.Reading.{program, label, routine, number, string, Naming, Role, reference, sought, filler, declaring}
 use Rattle.language.specs.Reading.{Met, nothing, Read, got, broken, _>>=_}
 use Rattle.language.specs.Words.{Places, nameLength, nameAs}
-use Rattle.calls.specs.Literals.{Whole, isPlain, whole-behind, whole-leading, packed-whole}
+use Rattle.calls.specs.Literals.{Whole, isPlain, whole-behind, whole-leading}
 use Rattle.calls.specs.Rules.{patternHolds, rowHolds, branchHolds, statementHolds}
 use Rattle.calls.specs.Table.{literalIn, replacementOf, elementsOf, itemsOf, allLiterals}
 use Rattle.calls.specs.Yielding.{View, viewOf, noView, join, Fit, Yields, yields, breaks, Plainly}
@@ -302,16 +302,14 @@ yielded (yields whole p) fit = p fit
 
 -- a statement read, where the next step is one of the steps if another comes behind, and strings of other names have other places
 pub statement-yields : {K : Naming → Type 0} {z : Sizes} (e : Edition) {at : Places} → PlacedBy K z at → (isNumber : List ℕ → Bool)
-    (labelBytes text : List ℕ) (a : Option Statement) (m : Met) (rest : List ℕ)
-    → (isInner (leading (packed text) .kind) ≡ true → at .next < z .steps)
-    → Distinct K at → readStatement e isNumber at labelBytes text ≡ got a m rest → Fit K m → FormedOrNone e z a (viewOf m)
+    (labelBytes : List ℕ) (whole : Bool) (bs : List ℕ) → (whole ≡ true → Whole bs) → (a : Option Statement) (m : Met) (rest : List ℕ)
+    → (isInner (leading bs .kind) ≡ true → at .next < z .steps)
+    → Distinct K at → readStatement e isNumber at labelBytes whole bs ≡ got a m rest → Fit K m → FormedOrNone e z a (viewOf m)
 unfolding readStatement statementForm
-statement-yields {K} {z} e {at} placed isNumber labelBytes text a m rest next distinct q fit =
-    let bs = packed text in
-    let form : literalsWhole text ≡ true → Yields K (FormedOrNone e z) (statementForm e isNumber at bs) = λ h.
-    let whole = whole-leading bs (packed-whole text h) in
-    yields-formOf e placed isNumber (leading bs .kind) (drop (leading bs .size) bs) whole next distinct in
+statement-yields {K} {z} e {at} placed isNumber labelBytes whole bs h a m rest next distinct q fit =
+    let form : whole ≡ true → Yields K (FormedOrNone e z) (statementForm e isNumber at bs) = λ w.
+    yields-formOf e placed isNumber (leading bs .kind) (drop (leading bs .size) bs) (whole-leading bs (h w)) next distinct in
     yielded
     (subst (Yields K (FormedOrNone e z)) q
-    (yields-labelled (labelForm labelBytes) (literalsWhole text) (statementForm e isNumber at bs) (yields-label labelBytes) form))
+    (yields-labelled (labelForm labelBytes) whole (statementForm e isNumber at bs) (yields-label labelBytes) form))
     fit

@@ -68,8 +68,10 @@ unfolding
     Rattle.cards.specs.Cards.labelOf
     Rattle.cards.specs.Cards.textOf
     Rattle.cards.specs.Cards.joined
-    Rattle.cards.specs.Cards.entriesFrom
-    Rattle.cards.specs.Cards.entries
+    Rattle.cards.specs.Cards.unpackedFrom
+    Rattle.cards.specs.Entries.packedEntry
+    Rattle.cards.specs.Entries.entriesFrom
+    Rattle.cards.specs.Entries.entries
     Rattle.cards.specs.Packing.placeAfter
     Rattle.cards.specs.Packing.isDropped
     Rattle.cards.specs.Packing.packFrom
@@ -188,6 +190,7 @@ unfolding
     Rattle.judgement.specs.Deck.stepsFrom
     Rattle.judgement.specs.Deck.programOf
     Rattle.judgement.specs.Deck.concluded
+    Rattle.judgement.specs.Deck.judgeEntries
     Rattle.judgement.specs.Deck.judge
     Rattle.judgement.specs.Known.nothingKnown
     Rattle.judgement.specs.Known.sameNaming

@@ -1,5 +1,5 @@
 -- What the readers of statements do: the row made, the names noted, the items and elements written. Assumes nothing.
-use mathlib.Core.Bool.{Bool, true, _||_}
+use mathlib.Core.Bool.{Bool, _||_}
 use mathlib.Core.List.{List, []}
 use mathlib.Core.Option.{Option, none, some}
 use mathlib.Core.Path.{_≡_}
@@ -8,12 +8,11 @@ use lib.Dec.{ltb}
 use lib.ListN.{length}
 use Rattle.base.specs.Current.{current}
 use Rattle.base.specs.Limits as Limits
-use Rattle.base.specs.Lists.{all, any, total}
+use Rattle.base.specs.Lists.{any, total}
 use Rattle.branches.specs.Places.{numberIn}
 use Rattle.branches.specs.Rows.{rowMeaning}
 use Rattle.branches.specs.declared.Row.{Row}
 use Rattle.calls.specs.Table.{rowOf, itemsOf, elementsOf, allLiterals}
-use Rattle.cards.specs.Packing.{packed, literalsWhole}
 use Rattle.judgement.specs.Refusals.{readStatement}
 use Rattle.language.specs.Forms.{statementForm}
 use Rattle.language.specs.Program.{Item, PatternElement, Statement}
@@ -26,7 +25,6 @@ use Rattle.met.specs.Items.{withItems}
 use Rattle.met.specs.Known.{placesIn}
 use Rattle.met.specs.declared.Cursor.{Cursor}
 use Rattle.numeric.specs.Operands.{Noting}
-use Rattle.packer.specs.Keys.{keyOf, isKeyByte}
 use Rattle.forms.specs.declared.Form as FormCode
 use Rattle.forms.specs.declared.Form.{Form}
 use Rattle.packer.specs.Letters.{letters}
@@ -95,15 +93,8 @@ abbrev pub StatementFormRead : (text known table keys tags : List ℕ) (c : Curs
 StatementFormRead text known table keys tags c =
     FormRead (letters text) table keys tags c (statementForm current (numberIn known) (placesIn known) text)
 
--- what the code has of a statement: the key of its label, its text packed, whether its literals are whole
-pub record Wording (labelBytes raw text : List ℕ) (label : ℕ) (complete : Bool) : Type 0 where
-  pub key : label ≡ keyOf labelBytes
-  pub clean : all isKeyByte labelBytes ≡ true
-  pub short : length labelBytes ≤ 8
-  pub bytes : packed raw ≡ text
-  pub whole : complete ≡ literalsWhole raw
-
 -- the statement with its label: one name more
-abbrev pub StatementRead : (labelBytes raw text known table keys tags : List ℕ) (c : Cursor) → Form → (table′ keys′ tags′ : List ℕ) → Type 0
-StatementRead labelBytes raw text known table keys tags c =
-    FormRead (letters text + 1) table keys tags c (readStatement current (numberIn known) (placesIn known) labelBytes raw)
+abbrev pub StatementRead : (labelBytes : List ℕ) (whole : Bool) (text known table keys tags : List ℕ) (c : Cursor) → Form
+    → (table′ keys′ tags′ : List ℕ) → Type 0
+StatementRead labelBytes whole text known table keys tags c =
+    FormRead (letters text + 1) table keys tags c (readStatement current (numberIn known) (placesIn known) labelBytes whole text)

@@ -32,9 +32,10 @@ ghost use mathlib.Core.Path.{_≡_};
 ghost use Prim.Native.Nat.{ℕ, _≤_};
 ghost use lib.ListN.{length};
 ghost use Rattle.base.specs.Current.{tableSize};
-ghost use Rattle.forms.specs.Contracts.{Starts, StatementFormRead, Wording, StatementRead};
+ghost use Rattle.forms.specs.Contracts.{Starts, StatementFormRead, StatementRead};
 ghost use Rattle.forms.specs.Labels.{nameShown};
 ghost use Rattle.met.specs.Known.{Counted};
+ghost use Rattle.packer.specs.Keys.{LabelKey};
 
 // the form is broken; or the statement is no step, or a step with its row, read up to this cursor
 pub enum Form {
@@ -121,7 +122,7 @@ pub fn read_statement(
     requires { ⌜ c .names ≡ 0 ⌝ }
     requires { ⌜ Counted (now known) ⌝ }
     requires { ⌜ tableSize ≤ length (now table) ⌝ }
-    ensures { λ r. ⌜ ((labelBytes raw : List ℕ) → Wording labelBytes raw (now (text .entry)) label whole → StatementRead labelBytes raw (now (text .entry)) (now (known .entry)) (now (table .entry)) (now (keys .entry)) (now (tags .entry)) c r (now (table .exit)) (now (keys .exit)) (now (tags .exit))) ⌝ }
+    ensures { λ r. ⌜ ((labelBytes : List ℕ) → LabelKey labelBytes label → StatementRead labelBytes whole (now (text .entry)) (now (known .entry)) (now (table .entry)) (now (keys .entry)) (now (tags .entry)) c r (now (table .exit)) (now (keys .exit)) (now (tags .exit))) ⌝ }
 {
     if !whole {
         return Form::Broken;

@@ -1,7 +1,9 @@
 -- The judgement of a deck: what is known behind some statements (Known), a statement's number 3 to 10 (Refusals), the whole deck, with
--- 11 and 12 and the program (Deck), the same as rules (Rules). Of these: the range of the answers and the program's counts (Laws), each
--- name has one purpose (Names), labels and routines stand at steps (Targets), the places of names are below the counts (Placed).
+-- 11 and 12 and the program (Deck), the same as rules (Rules). Of these: a deck is judged by its entries alone (EntryLaws), the range of the
+-- answers and the program's counts (Laws), each name has one purpose (Names), labels and routines stand at steps (Targets), the places of
+-- names are below the counts (Placed).
 pub mod Deck
+pub mod EntryLaws
 pub mod Known
 pub mod Laws
 pub mod Names

@@ -12,8 +12,7 @@ use Rattle.base.specs.Choice.{test-cases, cond-cases}
 use Rattle.base.specs.Edition.{Edition}
 use Rattle.base.specs.Lists.{begins, keep}
 use Rattle.base.specs.Text.{bytes}
-use Rattle.cards.specs.Cards.{Entry}
-use Rattle.cards.specs.Packing.{packed, literalsWhole}
+use Rattle.cards.specs.Entries.{Entry}
 use Rattle.language.specs.Forms.{stepEnd, noStepEnd, programForm, numberForm, formOf, statementForm}
 use Rattle.language.specs.Keywords.{Kind, NUMBER, PROGRAM, END, ENDROUTINE, kindNumber, sameKind, leading}
 use Rattle.language.specs.Laws.{same-kind}
@@ -141,13 +140,13 @@ no-routines [] h = refl
 no-routines (n ∷ ns) h = rw (h .0, keep) (no-routines ns (h .1))
 
 -- PROGRAM, NUMBER and END declare no routine
-outer-declares : (e : Edition) (isNumber : List ℕ → Bool) (at : Places) (label text : List ℕ) (s : Option Statement) (m : Met)
-    (rest : List ℕ) → isInner (leading (packed text) .kind) ≡ false → readStatement e isNumber at label text ≡ got s m rest
+outer-declares : (e : Edition) (isNumber : List ℕ → Bool) (at : Places) (label : List ℕ) (whole : Bool) (text : List ℕ) (s : Option Statement)
+    (m : Met) (rest : List ℕ) → isInner (leading text .kind) ≡ false → readStatement e isNumber at label whole text ≡ got s m rest
     → namesFor routine (m .declared) ≡ []
 unfolding readStatement statementForm Quiet
-outer-declares e isNumber at label text s m rest outer q =
-    let form = quiet-form e isNumber at (leading (packed text) .kind) outer (drop (leading (packed text) .size) (packed text)) in
-    no-routines (m .declared) (subst Quiet q (quiet-labelled (labelForm label) (literalsWhole text) _ (quiet-label label) form))
+outer-declares e isNumber at label whole text s m rest outer q =
+    let form = quiet-form e isNumber at (leading text .kind) outer (drop (leading text .size) text) in
+    no-routines (m .declared) (subst Quiet q (quiet-labelled (labelForm label) whole _ (quiet-label label) form))
 
 -- a label's step is below b
 abbrev pub LabelBelow : ℕ → Label → Type 0
@@ -171,7 +170,7 @@ learn-steps k kind m = cond-cases (λ n. k .steps ≤ n) (isStep kind) (λ _. om
 pub passed-grows : {e : Edition} {k after : Known} {es : List Entry} → Judging e k es (passed after) → k .steps ≤ after .steps
 passed-grows (ended _) = omega arith
 passed-grows (skips j) = passed-grows j
-passed-grows (learns {k} {text} s m rest q p j) = omega (arith, learn-steps k (leading (packed text) .kind) m, passed-grows j)
+passed-grows (learns {k} {text} s m rest q p j) = omega (arith, learn-steps k (leading text .kind) m, passed-grows j)
 
 -- END is a step
 end-is-step : (kind : Kind) → sameKind kind END ≡ true → isStep kind ≡ true
@@ -185,7 +184,7 @@ unfolding learn
 passed-goes-on h (ended g) = absurd (false≢true (sym h ∙ g))
 passed-goes-on h (skips j) = passed-goes-on h j
 passed-goes-on {after} h (learns {k} {text} s m rest q p j) =
-    let kind = leading (packed text) .kind in
+    let kind = leading text .kind in
     let grows = passed-grows j in
     test-cases (λ _. k .steps < after .steps) (sameKind kind END) (λ end. omega (arith, rw (end-is-step kind end) at grows))
     (λ inner. omega (arith, learn-steps k kind m, passed-goes-on inner j))
@@ -264,6 +263,6 @@ pub passed-below : {e : Edition} {k after : Known} {es : List Entry} → Judging
     → TargetsBelow (after .steps) after
 passed-below (ended {k} h) t = subst (λ e. TargetsBelow (cond e (k .steps) (suc (k .steps))) k) h t
 passed-below (skips j) t = passed-below j t
-passed-below {e} (learns {k} {label} {text} s m rest q p j) t =
-    let kind = leading (packed text) .kind in
-    passed-below j (learn-below k kind m (passes-before-end p) (λ outer. outer-declares e _ _ label text s m rest outer q) t)
+passed-below {e} (learns {k} {label} {whole} {text} s m rest q p j) t =
+    let kind = leading text .kind in
+    passed-below j (learn-below k kind m (passes-before-end p) (λ outer. outer-declares e _ _ label whole text s m rest outer q) t)

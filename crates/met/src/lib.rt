@@ -32,7 +32,7 @@ ghost use Rattle.met.specs.Elements.{withElement, withLiterals};
 ghost use Rattle.met.specs.Items.{withItem};
 ghost use Rattle.met.specs.Known.{Counted, keyPlace, keysHave, stringKeys, numberKeys};
 
-// how many names fit: one for each byte of a text, and the label
+// how many names fit: one for each letter of a deck, with which a name begins, and one for the label of each of its lines
 pub const NAMES: usize = 32800;
 
 // how many numbers the array of what is known has

@@ -1,8 +1,8 @@
 -- Laws of what the code holds of a statement while it joins lines.
 -- Assumes nothing.
 use mathlib.Core.Bool.{Bool, true, false, cond, not, _&&_, false≢true}
-use mathlib.Core.List.{List, [], _∷_, _++_}
-use mathlib.Core.Path.{_≡_, refl, ap, sym, subst, _∙_}
+use mathlib.Core.List.{List, [], _∷_, _++_, map}
+use mathlib.Core.Path.{_≡_, refl, ap, ap₂, sym, subst, _∙_}
 use Prim.Native.Nat.{ℕ, _+_, _-_, _≤_, _<_}
 use native.Mathlib.Nat.{le-trans, min-le-right}
 use native.Mathlib.Omega.{arith}
@@ -14,8 +14,9 @@ use Rattle.base.specs.Current.{current}
 use Rattle.base.specs.ListLaws.{stretch-few}
 use Rattle.base.specs.Lists.{all}
 use Rattle.cards.specs.Bytes.{slash}
-use Rattle.cards.specs.Cards.{Entry, lines, soundLine, column9, labelOf, textOf, entriesFrom, statement, withoutBlanks}
-use Rattle.cards.specs.Packing.{Place, outside, packFrom, packed, literalsFrom, literalsWhole}
+use Rattle.cards.specs.Cards.{Unpacked, lines, soundLine, column9, labelOf, textOf, unpackedFrom, statement, withoutBlanks}
+use Rattle.cards.specs.Entries.{Entry, packedEntry, entriesFrom}
+use Rattle.cards.specs.Packing.{Place, outside, packFrom, packed, literalsWhole}
 use Rattle.packer.proofs.Chains.{first-sound, first-told, join-told, joined-line, skipped-told}
 use Rattle.packer.proofs.Labels.{blanks-less, front-short}
 use Rattle.packer.proofs.Packing.{packed-parts, place-parts, unbroken-parts, literals-end}
@@ -100,7 +101,7 @@ module _ (deck text : List ℕ) where
 
     -- a statement that is over
     pub holds-told : s .more ≡ false → (n : ℕ) (label : List ℕ) →
-        told n label p ≡ statement n (s .sound) label (p .raw) ∷ entriesFrom current (n + s .lines) (lines (drop (s .next) deck))
+        told n label p ≡ statement n (s .sound) label (p .raw) ∷ unpackedFrom current (n + s .lines) (lines (drop (s .next) deck))
     unfolding told
     holds-told over n label = rw (h .sound, h .count, h .rest, sym (h .more) ∙ over)
 
@@ -290,20 +291,15 @@ module _ (deck : List ℕ) (from : ℕ) (text : List ℕ) (read : Readable deck 
   first = take (end - from) (drop from deck)
 
   pub gathers-skipped : isSkipped first ≡ true → (r : Gathered) → r ≡ skippedLine first (end + 1) → Gathers deck from text r
-  unfolding all entryOf keyOf packed packFrom literalsWhole literalsFrom
+  unfolding all entryOf keyOf entriesFrom packedEntry
   gathers-skipped skip r e =
       subst (λ (r : Gathered). Gathers deck from text r) (sym e)
       (record {
-        raw = [];
         label = [];
         entry =
             λ n.
-            ap (entriesFrom current n) (ends .first) ∙ skipped-told n first (lines (drop (end + 1) deck)) skip;
-        key = refl;
-        short = omega arith;
-        clean = λ _. refl;
-        bytes = refl;
-        whole = refl;
+            ap (entriesFrom current n) (ends .first) ∙ ap (map packedEntry) (skipped-told n first (lines (drop (end + 1) deck)) skip);
+        keyed = λ _. record { is = refl; clean = refl; short = omega arith };
         fits = omega arith;
         onward = let h = ends .low in omega arith;
         paced = let h = ends .low in omega arith;
@@ -325,33 +321,38 @@ module _ (deck : List ℕ) (from : ℕ) (text : List ℕ) (read : Readable deck 
         lines = s .lines;
         next = s .next;
       })
-  unfolding entryOf
+  unfolding entryOf entriesFrom packedEntry
   gathers-statement skip key ek text₁ s₁ a text₂ s j flag ef =
       let start = nothingOf (lines (drop from deck)) in
       let held = holds-line deck text (nothingFrom from) start (holds-nothing deck text from) first (end + 1) text₁ s₁ a in
       let k = j .complete (addLine start first (lines (drop (end + 1) deck))) held in
       let label = labelOf current first in
-      let others : ℕ → List Entry = λ n. entriesFrom current (n + s .lines) (lines (drop (s .next) deck)) in
-      let entries : (n : ℕ) →
-      entriesFrom current n (first ∷ lines (drop (end + 1) deck)) ≡ statement n (s .sound) label (k .part .raw) ∷ others n =
+      let others : ℕ → List Unpacked = λ n. unpackedFrom current (n + s .lines) (lines (drop (s .next) deck)) in
+      let joined : (n : ℕ) →
+      unpackedFrom current n (first ∷ lines (drop (end + 1) deck)) ≡ statement n (s .sound) label (k .part .raw) ∷ others n =
       λ n.
       first-told n first (lines (drop (end + 1) deck)) skip
       ∙ ap (λ (rest : List (List ℕ)). told n label (addLine (nothingOf rest) first (lines (drop (end + 1) deck)))) (sym (ends .first))
       ∙ k .same n label
       ∙ holds-told deck text₂ s (k .part) (k .holds) (j .over) n label in
       record {
-        raw = k .part .raw;
         label = label;
-        entry = λ n. ap (entriesFrom current n) (ends .first) ∙ entries n;
-        key = ek ∙ ap keyOf (sym (label-front first));
-        short = label-short first;
-        clean =
+        entry =
+            λ n.
+            ap (entriesFrom current n) (ends .first)
+            ∙ ap (map packedEntry) (joined n)
+            ∙ ap₂ (λ (whole : Bool) (text : List ℕ). Entry.statement n (s .sound) label whole text ∷ map packedEntry (others n))
+            (sym (holds-literals deck text₂ s (k .part) (k .holds) flag ef)) (sym (k .holds .bytes));
+        keyed =
             λ sound.
-            sound-label first
-            (first-sound 0 first (lines (drop (end + 1) deck)) label (k .part .raw) (others 0) skip
-            (entries 0 ∙ ap (λ t. statement 0 t label (k .part .raw) ∷ others 0) sound));
-        bytes = k .holds .bytes;
-        whole = holds-literals deck text₂ s (k .part) (k .holds) flag ef;
+            record {
+              is = ek ∙ ap keyOf (sym (label-front first));
+              clean =
+                  sound-label first
+                  (first-sound 0 first (lines (drop (end + 1) deck)) label (k .part .raw) (others 0) skip
+                  (joined 0 ∙ ap (λ t. statement 0 t label (k .part .raw) ∷ others 0) sound));
+              short = label-short first;
+            };
         fits = let h = j .room .within in let g = read .small in omega arith;
         onward = let h = j .onward in let g = ends .low in let b = a .behind in omega arith;
         paced = let h = j .paced in let g = ends .low in let b = a .behind in let c = a .count in omega arith;

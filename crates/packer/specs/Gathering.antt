@@ -7,15 +7,15 @@ use lib.Dec.{eqb}
 use lib.ListN.{length, take, drop}
 use Rattle.base.specs.Current.{current}
 use Rattle.base.specs.Limits.{longestDeck}
-use Rattle.base.specs.Lists.{all}
 use Rattle.cards.specs.Bytes.{slash}
-use Rattle.cards.specs.Cards.{Entry, skipped, statement, lines, soundLine, column9, textOf, entriesFrom}
-use Rattle.cards.specs.Packing.{outside, packed, literalsWhole}
+use Rattle.cards.specs.Cards.{lines, soundLine, column9, textOf}
+use Rattle.cards.specs.Entries.{Entry, skipped, statement, entriesFrom}
+use Rattle.cards.specs.Packing.{outside, packed}
 use Rattle.packer.specs.declared.packed.Place.the-variants.{Outside}
 use Rattle.packer.specs.declared.Gathered.{Gathered}
 use Rattle.packer.specs.declared.Joining.{Joining}
 use Rattle.packer.specs.Joins.{Part, joinLine, told}
-use Rattle.packer.specs.Keys.{isKeyByte, keyOf}
+use Rattle.packer.specs.Keys.{LabelKey}
 use Rattle.packer.specs.Letters.{letters}
 use Rattle.packer.specs.Lines.{joins}
 use Rattle.packer.specs.Packs.{Packs, longestText}
@@ -92,9 +92,9 @@ abbrev pub skippedLine : List ℕ → ℕ → Gathered
 skippedLine line next =
     record { skipped = true; sound = soundLine line; label = 0; length = 0; whole = true; lines = 1; next = next }
 
--- the entry that the code's value says, with its card, the bytes of its label and of its columns 10-72
-unfoldable pub entryOf : Gathered → ℕ → List ℕ → List ℕ → Entry
-entryOf r n label raw = cond (r .skipped) (skipped n (r .sound)) (statement n (r .sound) label raw)
+-- the entry that the code's value says, with its card and the bytes of its label; its packed text is the first bytes of a text
+unfoldable pub entryOf : Gathered → ℕ → (label text : List ℕ) → Entry
+entryOf r n label text = cond (r .skipped) (skipped n (r .sound)) (statement n (r .sound) label (r .whole) (take (r .length) text))
 
 -- a deck with a line at from, and a text for the bytes of its statements
 pub record Readable (deck : List ℕ) (from : ℕ) (text : List ℕ) : Type 0 where
@@ -104,16 +104,11 @@ pub record Readable (deck : List ℕ) (from : ℕ) (text : List ℕ) : Type 0 wh
 
 -- the entry that begins with the line at from, and those behind it; its packed text has fewer letters than it takes bytes of the deck
 pub record Gathers (deck : List ℕ) (from : ℕ) (text : List ℕ) (r : Gathered) : Type 0 where
-  pub raw : List ℕ
   pub label : List ℕ
   pub entry : (n : ℕ) →
       entriesFrom current n (lines (drop from deck))
-      ≡ entryOf r n label raw ∷ entriesFrom current (n + r .lines) (lines (drop (r .next) deck))
-  pub key : r .label ≡ keyOf label
-  pub short : length label ≤ 8
-  pub clean : r .sound ≡ true → all isKeyByte label ≡ true
-  pub bytes : take (r .length) text ≡ packed raw
-  pub whole : r .whole ≡ literalsWhole raw
+      ≡ entryOf r n label text ∷ entriesFrom current (n + r .lines) (lines (drop (r .next) deck))
+  pub keyed : r .sound ≡ true → LabelKey label (r .label)
   pub fits : r .length ≤ longestText
   pub onward : from < r .next
   pub paced : from + r .lines ≤ r .next

@@ -4,7 +4,8 @@ use mathlib.Core.Path.{_≡_, ap, sym}
 use Prim.Native.Nat.{ℕ, _≤_}
 use lib.ListN.{length, drop, drop-of-length-le}
 use Rattle.base.specs.Current.{current}
-use Rattle.cards.specs.Cards.{entriesFrom, lines}
+use Rattle.cards.specs.Cards.{lines, unpackedFrom}
+use Rattle.cards.specs.Entries.{entriesFrom}
 
 module _ (deck : List ℕ) (i : ℕ) (over : length deck ≤ i) where
   pub lines-behind : [] ≡ lines (drop i deck)
@@ -12,5 +13,5 @@ module _ (deck : List ℕ) (i : ℕ) (over : length deck ≤ i) where
   lines-behind = rw (drop-of-length-le deck over)
 
   pub entries-behind : (n : ℕ) → entriesFrom current n (lines (drop i deck)) ≡ []
-  unfolding entriesFrom
+  unfolding entriesFrom unpackedFrom
   entries-behind n = ap (entriesFrom current n) (sym lines-behind)

@@ -36,8 +36,10 @@ unfolding
     Rattle.cards.specs.Cards.labelOf
     Rattle.cards.specs.Cards.textOf
     Rattle.cards.specs.Cards.joined
-    Rattle.cards.specs.Cards.entriesFrom
-    Rattle.cards.specs.Cards.entries
+    Rattle.cards.specs.Cards.unpackedFrom
+    Rattle.cards.specs.Entries.packedEntry
+    Rattle.cards.specs.Entries.entriesFrom
+    Rattle.cards.specs.Entries.entries
     Rattle.cards.specs.Packing.placeAfter
     Rattle.cards.specs.Packing.isDropped
     Rattle.cards.specs.Packing.packFrom
