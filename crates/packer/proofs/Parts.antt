@@ -115,9 +115,15 @@ added-letters : {line : List ℕ} {next : ℕ} {text : List ℕ} {s : Joining} {
 unfolding textOf current
 added-letters {line} {text = text} {s} a =
     let place = placeOf (s .packing .place) in
-    omega
-    (arith, ap letters (a .packs .bytes), letters-append (take (s .packing .length) text) (packFrom place (textOf current line)),
-    letters-packed place (textOf current line), letters-behind 9 (take 72 line), letters-front 72 line, letters-few line)
+    omega (
+      arith,
+      ap letters (a .packs .bytes),
+      letters-append (take (s .packing .length) text) (packFrom place (textOf current line)),
+      letters-packed place (textOf current line),
+      letters-behind 9 (take 72 line),
+      letters-front 72 line,
+      letters-few line,
+    )
 
 pub text-fits : (line part : List ℕ) (n most : ℕ) → part ≡ textOf current line → n + length line ≤ most → n + length part ≤ most
 text-fits line part n most e h = rw e (omega (arith, text-within line))
