@@ -338,7 +338,8 @@ module _ {text : List ℕ} (table : List ℕ) {keys tags : List ℕ} {c : Cursor
   pub numbers-end : begins (44 ∷ []) (drop (c .at) text) ≡ false → (k : ℕ)
       → FormAt (numbersLeft k (drop (c .at) text)) text table keys tags c (unsteppedAt text c) table keys tags
   numbers-end e k =
-      subst (λ z. FormRead (letters (drop (c .at) text)) table keys tags c z (unsteppedAt text c) table keys tags) (sym (left-end (drop (c .at) text) k e))
+      subst (λ z. FormRead (letters (drop (c .at) text)) table keys tags c z (unsteppedAt text c) table keys tags)
+      (sym (left-end (drop (c .at) text) k e))
       (unstepped-read ready)
 
   pub numbers-first : (known : List ℕ) {key : ℕ} {k g : List ℕ} {d : Cursor} → Names text keys tags c 11 key k g d → (q : Form) {k′ g′ : List ℕ}

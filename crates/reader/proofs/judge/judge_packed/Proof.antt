@@ -40,7 +40,8 @@ start-requires c κs = search needs
 read-statement-requires : tie.Need-read-statement-requires
 read-statement-requires c κs =
     let p = c .before .before .before .before .before .before .before .before .before .before .before .before in (
-      starts (p .pre .0 .holds) (p .pre .0 .small) (omega (arith, p .pre .0 .room)) (p .pre .1 .keysSize) (p .pre .1 .tagsSize) (c .before .before .before .before .start .ensures),
+      starts (p .pre .0 .holds) (p .pre .0 .small) (omega (arith, p .pre .0 .room)) (p .pre .1 .keysSize) (p .pre .1 .tagsSize)
+          (c .before .before .before .before .start .ensures),
       (ap (λ d. d .names) (c .before .before .before .before .start .ensures), (p .pre .0 .holds .counted, p .pre .1 .tableSize)),
     )
 
