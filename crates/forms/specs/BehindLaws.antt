@@ -41,6 +41,7 @@ use Rattle.numeric.specs.Operands.{Ready, Gets, Names, Noting, Skips, moved, me
 use Rattle.numeric.specs.Reads.{GetsItems}
 use Rattle.numeric.specs.declared.operands.Cell.{Cell}
 use Rattle.packer.specs.Keys.{keyOf, isKeyByte}
+use Rattle.packer.specs.Letters.{letters}
 use Rattle.strings.specs.ElementLaws.{names-elements, elements-none, elements-skip}
 use Rattle.strings.specs.Elements.{GetsElements}
 use Rattle.words.specs.Kinds.{kindOf, leads}
@@ -112,24 +113,23 @@ module _ {es : List Entry} {table keys tags : List ℕ} {c : Cursor} {x : Read (
 -- they are met by a reading
 module _ {A : Type 0} {x : Read A} {a : A} {text table keys tags : List ℕ} {c : Cursor} {k g : List ℕ} {d : Cursor} (ready : Ready text keys tags c)
     (r : GetsElements text table keys tags c x a [] [] table k g d) (next : A × List ℕ → Read (Option Statement)) where
-  pub form-behind : (q : Form) {t k′ g′ : List ℕ} → FormRead (length text - d .at) table k g d (next (a, drop (d .at) text)) q t k′ g′
-      → FormRead (length text - c .at) table keys tags c (x >>= next) q t k′ g′
+  pub form-behind : (q : Form) {t k′ g′ : List ℕ} → FormRead (letters (drop (d .at) text)) table k g d (next (a, drop (d .at) text)) q t k′ g′
+      → FormRead (letters (drop (c .at) text)) table keys tags c (x >>= next) q t k′ g′
   unfolding _>>=_ meeting allLiterals any
   form-behind q f =
       let is : (x >>= next) ≡ meeting (metIn (r .entries) 0 [] 0) (next (a, drop (d .at) text)) = ap (λ (y : Read A). y >>= next) (r .is) in
       let room : (c .names ≤ length keys) × (c .names ≤ length tags) = (omega (arith, ready), omega (arith, ready)) in
-      let fits : length (r .entries) + (length text - d .at) ≤ length text - c .at = omega (arith, r .few, r .ready .inside) in
       form-same is
       (form-noted room (r .noting) (r .goes .names) (r .goes .items) (r .goes .elements ∙ add-zero (c .elements))
-      (r .goes .literals ∙ add-zero (c .literals)) (r .goes .longest ∙ or-false (ltb Limits.row (c .longest))) fits q f)
+      (r .goes .literals ∙ add-zero (c .literals)) (r .goes .longest ∙ or-false (ltb Limits.row (c .longest))) (r .few) q f)
 
 -- behind skipped bytes
 pub form-skip : {text table keys tags : List ℕ} (n : ℕ) {b c : Cursor} → Skips b n c → Ready text keys tags b → Ready text keys tags c
     → (x : List ℕ → Read (Option Statement)) (q : Form) {t k g : List ℕ}
-    → FormRead (length text - c .at) table keys tags c (x (drop (c .at) text)) q t k g
-    → FormRead (length text - b .at) table keys tags b (x (drop (c .at) text)) q t k g
+    → FormRead (letters (drop (c .at) text)) table keys tags c (x (drop (c .at) text)) q t k g
+    → FormRead (letters (drop (b .at) text)) table keys tags b (x (drop (c .at) text)) q t k g
 form-skip {text} {table} {keys} {tags} n {b} {c} s before ready x q {t} {k} {g} f =
-    subst (λ z. FormRead (length text - b .at) table keys tags b z q t k g) (give-then (tt {0}) (drop (c .at) text) (λ (_, l). x l))
+    subst (λ z. FormRead (letters (drop (b .at) text)) table keys tags b z q t k g) (give-then (tt {0}) (drop (c .at) text) (λ (_, l). x l))
     (form-behind before (elements-skip n s (elements-none (tt {0}) ready)) (λ (_, l). x l) q f)
 
 -- ---- numbers that are set
@@ -186,7 +186,7 @@ module _ (known : List ℕ) (place : ℕ) where
                       items = a .goes .items;
                       elements = a .goes .elements ∙ sym (add-zero (c .elements));
                       literals = a .goes .literals ∙ sym (add-zero (c .literals));
-                      few = omega (arith, a .few, a .ready .inside);
+                      few = omega (arith, a .few);
                       keysSize = a .ready .keysSize;
                       tagsSize = a .ready .tagsSize;
                     };
@@ -210,7 +210,7 @@ module _ (known : List ℕ) where
     unfolding numberSet bytes
     number-then table ready e q {b} {t} {k′} {g′} m f =
         form-behind ready (names-elements table a) (λ (i, rest). skip (61 ∷ []) rest >>= λ (_, l). assignedTo known i l) q
-        (subst (λ z. FormRead (length text - d .at) table k g d z q t k′ g′)
+        (subst (λ z. FormRead (letters (drop (d .at) text)) table k g d z q t k′ g′)
         (sym
         (skip-then (61 ∷ []) (drop (d .at) text) (λ (_, l). assignedTo known (a .value) l) e
         ∙ ap₂ (assignedTo known) (a .made) (sym (drop-moved text d 1 m))))
@@ -278,7 +278,7 @@ unstepped-case {text} {table} {keys} {tags} {c} ready false e =
     let end = ltb-false (c .at) (length text) e in
     record {
       answer =
-          subst (λ (z : Read (Option Statement)). Formed none (length text - c .at) table keys tags c z table keys tags c)
+          subst (λ (z : Read (Option Statement)). Formed none (letters (drop (c .at) text)) table keys tags c z table keys tags c)
           (sym (no-step-here text (c .at) end)) (formed-elements (elements-none none ready) end refl refl refl);
     }
 
@@ -338,7 +338,8 @@ module _ {text : List ℕ} (table : List ℕ) {keys tags : List ℕ} {c : Cursor
   pub numbers-end : begins (44 ∷ []) (drop (c .at) text) ≡ false → (k : ℕ)
       → FormAt (numbersLeft k (drop (c .at) text)) text table keys tags c (unsteppedAt text c) table keys tags
   numbers-end e k =
-      subst (λ z. FormRead (length text - c .at) table keys tags c z (unsteppedAt text c) table keys tags) (sym (left-end (drop (c .at) text) k e))
+      subst (λ z. FormRead (letters (drop (c .at) text)) table keys tags c z (unsteppedAt text c) table keys tags)
+      (sym (left-end (drop (c .at) text) k e))
       (unstepped-read ready)
 
   pub numbers-first : (known : List ℕ) {key : ℕ} {k g : List ℕ} {d : Cursor} → Names text keys tags c 11 key k g d → (q : Form) {k′ g′ : List ℕ}
@@ -346,7 +347,7 @@ module _ {text : List ℕ} (table : List ℕ) {keys tags : List ℕ} {c : Cursor
       → FormAt (numberForm current (numberIn known) (placesIn known) (drop (c .at) text)) text table keys tags c q table k′ g′
   unfolding purposeNumber
   numbers-first known {key} {k} {g} {d} n q {k′} {g′} f =
-      subst (λ z. FormRead (length text - c .at) table keys tags c z q table k′ g′) (sym (numbers-is known (drop (c .at) text)))
+      subst (λ z. FormRead (letters (drop (c .at) text)) table keys tags c z q table k′ g′) (sym (numbers-is known (drop (c .at) text)))
       (form-behind ready (names-elements table (declared-name number n)) (λ (_, rest). numbersLeft (length rest) rest) q f)
 
   -- behind a comma
@@ -365,7 +366,7 @@ module _ {text : List ℕ} (table : List ℕ) {keys tags : List ℕ} {c : Cursor
         let enough : length (drop (d .at) text) ≤ m =
         omega (arith, length-drop (d .at) text, length-drop (c .at) text, n .further, n .ready .inside, skips .at) in
         let on = ready-moved (44 ∷ []) ready s comma in
-        subst (λ z. FormRead (length text - c .at) table keys tags c z q table k′ g′)
+        subst (λ z. FormRead (letters (drop (c .at) text)) table keys tags c z q table k′ g′)
         (sym
         (left-more (drop (c .at) text) m comma
         ∙ ap (λ (l : List ℕ). nameAs (declaring number) l >>= λ (_, rest). numbersLeft m rest) (sym (drop-moved text c 1 s))))
@@ -406,14 +407,14 @@ module _ (text : List ℕ) (c : Cursor) (lead : Keyword) (is : leads lead ≡ le
   pub of-kind : (known : List ℕ) {table keys tags : List ℕ} (kind : Keywords.Kind) → kindOf (lead .kind) ≡ kind → {d : Cursor} → d ≡ moved c (lead .size) → Ready text keys tags c
       → Ready text keys tags d → (q : Form) {t k g : List ℕ}
       → FormAt (formOf current (numberIn known) (placesIn known) kind (drop (d .at) text)) text table keys tags d q t k g
-      → FormRead (length text) table keys tags c (statementForm current (numberIn known) (placesIn known) text) q t k g
+      → FormRead (letters text) table keys tags c (statementForm current (numberIn known) (placesIn known) text) q t k g
   unfolding statementForm
   of-kind known {table} {keys} {tags} kind e {d} s before ready q {t} {k} {g} f =
       let forms = formOf current (numberIn known) (placesIn known) in
       let at : d .at ≡ leading text .size =
       ap (λ (z : Cursor). z .at) s ∙ ap (λ n. n + lead .size) start ∙ zero-add (lead .size) ∙ ap (λ (l : Leading). l .size) is in
-      let most : length text - c .at ≡ length text = omega arith in
+      let most : letters (drop (c .at) text) ≡ letters text = ap (λ i. letters (drop i text)) start in
       subst (λ n. FormRead n table keys tags c (forms (leading text .kind) (drop (leading text .size) text)) q t k g) most
-      (subst (λ z. FormRead (length text - c .at) table keys tags c z q t k g)
+      (subst (λ z. FormRead (letters (drop (c .at) text)) table keys tags c z q t k g)
       (ap₂ (λ (j : Keywords.Kind) (n : ℕ). forms j (drop n text)) (sym e ∙ ap (λ (l : Leading). l .kind) is) at)
       (form-skip (lead .size) (skipped c (lead .size) s) before ready (forms kind) q f))

@@ -33,6 +33,7 @@ use Rattle.met.specs.declared.Cursor.{Cursor}
 use Rattle.numeric.specs.OperandLaws.{ready-on}
 use Rattle.numeric.specs.Operands.{Ready, moved}
 use Rattle.packer.specs.Keys.{keyOf, isKeyByte, LabelKey}
+use Rattle.packer.specs.Letters.{letters}
 use Rattle.words.specs.Kinds.{kindOf, leads}
 use Rattle.words.specs.declared.keywords.Keyword.{Keyword}
 use Rattle.forms.specs.BehindLaws.{form-noted, lead-fits, of-kind}
@@ -190,11 +191,11 @@ module _ (known text : List ℕ) where
   label-shown b bs w = sym (shown-name b bs (w .clean) (w .short)) ∙ ap nameShown (sym (w .is))
 
   -- a label that is no name
-  pub statement-unnamed : (labelBytes : List ℕ) {key : ℕ} {whole : Bool} → LabelKey labelBytes key → (key ≡ 0 → ⊥) → nameShown key ≡ false
+  pub statement-unnamed : (labelBytes : List ℕ) (whole : Bool) {key : ℕ} → LabelKey labelBytes key → (key ≡ 0 → ⊥) → nameShown key ≡ false
       → statementIn known labelBytes whole text ≡ broken
   unfolding readStatement labelForm labelled keyOf
-  statement-unnamed [] w z e = absurd (z (w .is))
-  statement-unnamed (b ∷ bs) {whole = whole} w z e =
+  statement-unnamed [] whole w z e = absurd (z (w .is))
+  statement-unnamed (b ∷ bs) whole w z e =
       ap
       (λ (t : Bool).
       labelled (elim t [ true ↦ got tt (declaring label (b ∷ bs)) [] | false ↦ broken ]) whole (formIn known text))
@@ -236,11 +237,11 @@ module _ {most : ℕ} {table keys tags : List ℕ} {c : Cursor} {x : Read (Optio
 
 -- ---- before a statement the cursor is ready, and so it is behind its label
 pub starts-ready : {text keys tags : List ℕ} {c : Cursor} → Starts text keys tags c → Ready text keys tags c
-starts-ready s =
+starts-ready {text} s =
     record {
       textSize = s .textSize;
       inside = omega (arith, s .at);
-      names = omega (arith, s .names);
+      names = omega (arith, s .names, s .room, ap (λ i. letters (drop i text)) (s .at));
       items = omega (arith, s .items);
       elements = omega (arith, s .elements);
       literals = omega (arith, s .literals);
@@ -255,6 +256,7 @@ starts-labelled {keys = keys} {tags = tags} {c = c} {key = key} s first n =
       textSize = s .textSize;
       at = ap (λ (z : Cursor). z .at) (n .goes) ∙ s .at;
       names = omega (arith, ap (λ (z : Cursor). z .names) (n .goes));
+      room = s .room;
       items = omega (arith, s .items, ap (λ (z : Cursor). z .items) (n .goes));
       elements = omega (arith, s .elements, ap (λ (z : Cursor). z .elements) (n .goes));
       literals = omega (arith, s .literals, ap (λ (z : Cursor). z .literals) (n .goes));
@@ -270,5 +272,5 @@ module _ {text keys tags : List ℕ} {c : Cursor} (lead : Keyword) {d : Cursor} 
 
   pub of-lead : (known : List ℕ) {table : List ℕ} (kind : Keywords.Kind) → kindOf (lead .kind) ≡ kind → (q : Form) {t k g : List ℕ}
       → FormAt (formOf current (numberIn known) (placesIn known) kind (drop (d .at) text)) text table keys tags d q t k g
-      → FormRead (length text) table keys tags c (formIn known text) q t k g
+      → FormRead (letters text) table keys tags c (formIn known text) q t k g
   of-lead known kind f q a = of-kind text c lead is (s .at) known kind f e (starts-ready s) lead-ready q a

@@ -20,16 +20,17 @@ use Rattle.base.specs.Text.{bytes}
 use Rattle.met.specs.Known.{placesIn}
 use Rattle.met.specs.declared.Cursor.{Cursor}
 use Rattle.numeric.specs.Operands.{Skips}
+use Rattle.packer.specs.Letters.{letters}
 use Rattle.forms.specs.Contracts.{FormRead}
 use Rattle.forms.specs.Rows.{bare, withSteps}
 use Rattle.forms.specs.declared.Form.{Form}
 
--- a form at a cursor: no more names than bytes are left; and one that meets names alone, with any table
+-- a form at a cursor: no more names than letters are left; and one that meets names alone, with any table
 abbrev pub FormAt : Read (Option Statement) → (text table keys tags : List ℕ) (c : Cursor) → Form → (table′ keys′ tags′ : List ℕ) → Type 0
-FormAt x text table keys tags c r table′ keys′ tags′ = FormRead (length text - c .at) table keys tags c x r table′ keys′ tags′
+FormAt x text table keys tags c r table′ keys′ tags′ = FormRead (letters (drop (c .at) text)) table keys tags c x r table′ keys′ tags′
 
 abbrev pub NamesFormAt : Read (Option Statement) → (text keys tags : List ℕ) (c : Cursor) → Form → (keys′ tags′ : List ℕ) → Type 0
-NamesFormAt x text keys tags c r keys′ tags′ = (table : List ℕ) → FormRead (length text - c .at) table keys tags c x r table keys′ tags′
+NamesFormAt x text keys tags c r keys′ tags′ = (table : List ℕ) → FormRead (letters (drop (c .at) text)) table keys tags c x r table keys′ tags′
 
 -- the cursor behind a unit, if it stands here
 pub record BehindUnit (text unit : List ℕ) (c d : Cursor) : Type 0 where

@@ -27,6 +27,7 @@ ghost use Rattle.branches.specs.Branches.{TargetTag};
 ghost use Rattle.forms.specs.Rows.{begunAs, stepsIn, leftIn, rightIn, rangeIn};
 ghost use Rattle.forms.specs.Stages.{Inward, markedBy, Standing, TargetStage, PartStage};
 ghost use Rattle.forms.specs.Stages.{TestStage, BranchStage, BranchIfAnyStage, RowStage, Following, ReplacedStage};
+ghost use Rattle.met.specs.Bounds.{farEnough};
 ghost use Rattle.met.specs.Known.{Counted};
 ghost use Rattle.numeric.specs.Operands.{StringTag};
 
@@ -100,7 +101,7 @@ pub fn with_right(row: Row, flag: u8, right: Cell) -> Row
 
 // a stretch of elements or items from a place on, with more elements behind it
 pub fn range_cell(from: usize, count: usize, more: usize) -> Cell
-    requires { ⌜ (from < 8_589_934_592) × ((count < 8_589_934_592) × (more < 65_536)) ⌝ }
+    requires { ⌜ (from ≤ farEnough) × ((count ≤ farEnough) × (more < 65_536)) ⌝ }
     ensures { λ r. ⌜ r ≡ rangeIn from count more ⌝ }
 {
     Cell {

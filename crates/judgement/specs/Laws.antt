@@ -189,8 +189,9 @@ finish-step card (got u n left) false bs s m rest q = let z : _≡_ {A = ℕ} 0 
 finish-step card broken whole bs s m rest q = let z : _≡_ {A = ℕ} 0 1 = cc in absurd (omega arith)
 
 -- END is a step that finishes, whatever the places and numbers are
-end-step : (e : Edition) (isNumber isNumber′ : List ℕ → Bool) (at at′ : Places) (card : ℕ) (label : List ℕ) (complete : Bool) (text : List ℕ) (s : Option Statement)
-    (m : Met) (rest : List ℕ) → leading text .kind ≡ END → readStatement e isNumber at label complete text ≡ got s m rest
+end-step : (e : Edition) (isNumber isNumber′ : List ℕ → Bool) (at at′ : Places) (card : ℕ) (label : List ℕ) (complete : Bool)
+    (text : List ℕ) (s : Option Statement) (m : Met) (rest : List ℕ) → leading text .kind ≡ END
+    → readStatement e isNumber at label complete text ≡ got s m rest
     → stepRead card (readStatement e isNumber′ at′ label complete text) ≡ record { card = card; statement = finish } ∷ []
 unfolding readStatement statementForm formOf
 end-step e isNumber isNumber′ at at′ card label complete text s m rest end q =

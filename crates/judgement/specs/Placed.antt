@@ -123,8 +123,8 @@ abbrev bodyOf : List ℕ → List ℕ
 bodyOf text = drop (leading text .size) text
 
 -- a name is a number for a replacement of it where it is one for the whole deck
-numbers-agree : (e : Edition) (k after : Known) (label : List ℕ) (whole : Bool) (text : List ℕ) (s : Option Statement) (m : Met) (rest : List ℕ) (at : Places)
-    → kindOf text ≡ REPLACEMENT → readStatement e (isOneOf (numbers k)) unplaced label whole text ≡ got s m rest
+numbers-agree : (e : Edition) (k after : Known) (label : List ℕ) (whole : Bool) (text : List ℕ) (s : Option Statement) (m : Met)
+    (rest : List ℕ) (at : Places) → kindOf text ≡ REPLACEMENT → readStatement e (isOneOf (numbers k)) unplaced label whole text ≡ got s m rest
     → ((x : Naming) → Has x (k .names) → Has x (after .names)) → ((x : Naming) → Has x (m .used) → Has x (after .names))
     → OnePurpose (after .names)
     → setsNumber e (isOneOf (numbers k)) unplaced (bodyOf text) ≡ setsNumber e (isOneOf (numbers after)) at (bodyOf text)
@@ -206,8 +206,9 @@ next-below k kind m j inner =
     rw (parts .0) at below
 
 -- a statement that passes is read alike with the places of the deck, each name of which has one purpose
-passed-alike : (e : Edition) (after : Known) → OnePurpose (after .names) → (k : Known) (label : List ℕ) (whole : Bool) (text : List ℕ) {es : List Entry}
-    (s : Option Statement) (m : Met) (rest : List ℕ) → readStatement e (isOneOf (numbers k)) unplaced label whole text ≡ got s m rest
+passed-alike : (e : Edition) (after : Known) → OnePurpose (after .names) → (k : Known) (label : List ℕ) (whole : Bool) (text : List ℕ)
+    {es : List Entry} (s : Option Statement) (m : Met) (rest : List ℕ)
+    → readStatement e (isOneOf (numbers k)) unplaced label whole text ≡ got s m rest
     → Judging e (learn k (kindOf text) m) es (passed after)
     → Alike (SameStep (isStep (kindOf text))) (got s m rest)
     (readStatement e (isOneOf (numbers after)) (placesOf after (suc (k .steps))) label whole text)

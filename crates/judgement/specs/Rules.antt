@@ -62,7 +62,8 @@ pub data Judging (e : Edition) : Known → List Entry → Judged → Type 0 wher
   unsound : {k : Known} {card : ℕ} {es : List Entry} → Judging e k (skipped card false ∷ es) (Judged.refused 3 card)
   turned : {k : Known} {card : ℕ} {sound : Bool} {label : List ℕ} {whole : Bool} {text : List ℕ} {es : List Entry} (n : ℕ) → (3 ≤ n) × (n ≤ 10)
       → Judging e k (statement card sound label whole text ∷ es) (Judged.refused n card)
-  learns : {k : Known} {card : ℕ} {label : List ℕ} {whole : Bool} {text : List ℕ} {es : List Entry} {j : Judged} (s : Option Statement) (m : Met) (rest : List ℕ)
+  learns : {k : Known} {card : ℕ} {label : List ℕ} {whole : Bool} {text : List ℕ} {es : List Entry} {j : Judged}
+      (s : Option Statement) (m : Met) (rest : List ℕ)
       → readStatement e (isOneOf (numbers k)) unplaced label whole text ≡ got s m rest
       → Passes k (leading text .kind) m
       → Judging e (learn k (leading text .kind) m) es j

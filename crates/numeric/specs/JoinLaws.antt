@@ -13,11 +13,13 @@ use Rattle.language.specs.Fuel.{expressionBy, expression-is, moreTermsBy, moreT
 use Rattle.language.specs.Program.{Item, Operator, operator}
 use Rattle.language.specs.Reading.{Met, nothing, anItem, give, both, Read, got, broken, _>>=_, meeting}
 use Rattle.language.specs.Words.{Places}
+use Rattle.met.specs.Bounds.{farEnough}
 use Rattle.met.specs.Entries.{gather, metIn}
 use Rattle.met.specs.EntryLaws.{met-both}
 use Rattle.met.specs.Items.{withItems, items-append}
 use Rattle.met.specs.ReadingLaws.{meeting-nothing}
 use Rattle.met.specs.declared.Cursor.{Cursor}
+use Rattle.packer.specs.Letters.{letters, letters-on}
 use Rattle.numeric.specs.Joins.{waited, Joins, WaitedRead, Joining}
 use Rattle.numeric.specs.Kinds.{SignAt, OperatorAt, SumAt, ProductAt, Puts}
 use Rattle.numeric.specs.KindLaws.{items-case, items-none}
@@ -109,7 +111,9 @@ module _ (one : Reader) (more : More) (ps before : List Item) where
                       longest = q .goes .longest ∙ on .longest ∙ a .goes .longest;
                     };
                 ready = q .ready;
-                few = omega (arith, a .few, q .few, put .at);
+                few =
+                    omega
+                    (arith, a .few, q .few, ap (λ i. letters (drop i text)) (put .at), letters-on text (c .at) (c .at + n) (omega arith));
                 short = omega (arith, a .short, q .short, put .at);
               };
         }
@@ -120,7 +124,7 @@ module _ (one : Reader) (more : More) (ps before : List Item) where
 
 -- a loop begins, where there is room for what waits
 pub joining-begins : {one : Reader} {more : More} {text table keys tags : List ℕ} {kind : ℕ} {d : Cursor} → Ready text keys tags d
-    → d .items + length (waiting kind) ≤ 4_294_967_296 + d .at → Joining one more text table keys tags kind d table keys tags kind d
+    → d .items + length (waiting kind) + length text ≤ farEnough + d .at → Joining one more text table keys tags kind d table keys tags kind d
 joining-begins ready room = record { sameSize = refl; later = omega arith; ready = ready; room = room; goes = λ r p. p }
 
 -- and behind the sign of the first term
@@ -181,7 +185,7 @@ module _ {one : Reader} {more : More} {text table₀ keys₀ tags₀ : List ℕ}
             let items = ap (λ (z : Cursor). z .items) skips in
             record {
               sameSize = same;
-              later = omega (arith, i .later, x .few, put .at, at);
+              later = omega (arith, i .later, x .short, put .at, at);
               ready = ready-on 1 ready-behind skips (omega (arith, o .further some));
               room = omega (arith, at, items, ready-behind .items, o .size some);
               goes =
@@ -195,7 +199,7 @@ module _ {one : Reader} {more : More} {text table₀ keys₀ tags₀ : List ℕ}
         joining-less =
             let x = items-case a is in
             let at = ap (λ (z : Cursor). z .at) skips in
-            omega (arith, at, x .few, put .at, o .further some)
+            omega (arith, at, x .short, put .at, o .further some)
 
 -- the operators that join forms
 operator-joins : {one : Reader} {more : More} {text : List ℕ} {at kind : ℕ} {test : Bool} {x : Read Operator}

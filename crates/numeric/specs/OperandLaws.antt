@@ -23,14 +23,16 @@ use Rattle.calls.specs.Splices.{splice, splice-nil, splice-behind, length-splic
 use Rattle.language.specs.Reading.{number, string, purposeNumber, Role, naming, Met, nothing, both, Read, got, broken, _>>=_, meeting, give, skip}
 use Rattle.language.specs.Words as Words
 use Rattle.language.specs.Words.{Places, nameAs, noRole, bound, partOf, partName, numberName, stringName}
-use Rattle.met.specs.Contracts.{Noted}
+use Rattle.met.specs.Bounds.{farEnough}
+use Rattle.met.specs.Contracts.{Notable, Noted}
 use Rattle.met.specs.Entries.{Entry, entry, nameOf, roleOf, gather, metIn}
 use Rattle.met.specs.EntryLaws.{met-both, name-key, used-met, role-met, string-placed, number-placed}
 use Rattle.met.specs.Known.{stringKeys, numberKeys, keyPlace, placesIn}
 use Rattle.met.specs.ReadingLaws.{nothing-met, got-broken, skip-then, skip-broken}
 use Rattle.met.specs.declared.Cursor.{Cursor}
 use Rattle.packer.specs.Keys.{keyOf, isKeyByte}
-use Rattle.words.specs.Laws.{name-is, name-keys}
+use Rattle.packer.specs.Letters.{letters, letters-on, letters-past}
+use Rattle.words.specs.Laws.{name-first, name-is, name-keys}
 use Rattle.words.specs.Places.{NameAt}
 use Rattle.numeric.specs.Operands.{Onward, moved, Skips, Ready, Noting, Gets, StringTag, Names, NameAnswer, NameRead}
 use Rattle.numeric.specs.Operands.{PlaceAnswer, PlaceRead, CellAnswer, CellRead, meaning, placedIn, ConstantRead, Inside, closedBy}
@@ -153,7 +155,7 @@ module _ {A C : Type 0} {f : A → C} {v : C} {text keys tags : List ℕ} {c : C
         noting = subst (λ j. Noting keys tags j (r .entries) k t) names (r .noting);
         goes = onward-then (s .goes) (r .goes) (omega arith) refl;
         ready = r .ready;
-        few = omega (arith, r .few, s .at);
+        few = omega (arith, r .few, letters-on text (b .at) (c .at) (omega (arith, s .at)));
         further = omega (arith, r .further, s .at);
       }
 
@@ -171,7 +173,7 @@ module _ {text keys tags : List ℕ} {c d : Cursor} where
       record {
         textSize = ready .textSize;
         inside = h;
-        names = omega (arith, ready .names, s .goes .names, s .at);
+        names = omega (arith, ready .names, s .goes .names, letters-on text (c .at) (d .at) (omega (arith, s .at)));
         items = omega (arith, ready .items, s .goes .items, s .at);
         elements = omega (arith, ready .elements, s .goes .elements, s .at);
         literals = omega (arith, ready .literals, s .goes .literals, s .at);
@@ -183,13 +185,13 @@ module _ {text keys tags : List ℕ} {c d : Cursor} where
   ready-on n ready e h = let s = skipped c n e in ready-at s ready (omega (arith, s .at))
 
   -- so it is at the same place of the text, by what it counts there
-  pub ready-here : Ready text keys tags c → d .at ≡ c .at → d .names ≡ c .names → d .items ≤ 4_294_967_296 + d .at
-      → d .elements ≤ 4_294_967_296 + d .at → d .literals ≤ 4_294_967_296 + d .at → Ready text keys tags d
+  pub ready-here : Ready text keys tags c → d .at ≡ c .at → d .names ≡ c .names → d .items + length text ≤ farEnough + d .at
+      → d .elements + length text ≤ farEnough + d .at → d .literals + length text ≤ farEnough + d .at → Ready text keys tags d
   ready-here ready at names items elements literals =
       record {
         textSize = ready .textSize;
         inside = omega (arith, ready .inside);
-        names = omega (arith, ready .names);
+        names = omega (arith, ready .names, ap (λ i. letters (drop i text)) at);
         items = items;
         elements = elements;
         literals = literals;
@@ -202,7 +204,17 @@ pub ready-moved : {text keys tags : List ℕ} {c d : Cursor} (w : List ℕ) → 
 ready-moved {text} {c = c} w ready m e =
     ready-on (length w) ready m (omega (arith, ready .inside, begins-room w (drop (c .at) text) e, length-drop (c .at) text))
 
--- the name at the cursor, noted
+-- there is room for the name at the cursor
+pub name-notable : {text keys tags : List ℕ} {c : Cursor} {n : ℕ} → Ready text keys tags c → NameAt text (c .at) n → 1 ≤ n → Notable keys tags c
+name-notable {text} {c = c} ready a h =
+    let first = name-first (drop (c .at) text) (omega (arith, a .is)) in
+    record {
+      keysSize = ready .keysSize;
+      tagsSize = ready .tagsSize;
+      room = omega (arith, ready .names, letters-past text (c .at) (c .at + 1) (omega arith) first);
+    }
+
+-- it is noted
 module _ {text keys tags : List ℕ} {c : Cursor} {tag : ℕ} where
   pub name-got : {n key : ℕ} {k t : List ℕ} {e d : Cursor} → Ready text keys tags c → NameAt text (c .at) n → 1 ≤ n
       → key ≡ keyOf (take n (drop (c .at) text)) → Noted keys tags c key tag k t e → Skips e n d → Names text keys tags c tag key k t d
@@ -213,6 +225,7 @@ module _ {text keys tags : List ℕ} {c : Cursor} {tag : ℕ} where
       let names : d .names ≡ c .names + 1 =
       s .goes .names ∙ add-zero (e .names) ∙ ap (λ (z : Cursor). z .names) (noted .goes) in
       let items : d .items ≡ c .items = s .goes .items ∙ add-zero (e .items) ∙ ap (λ (z : Cursor). z .items) (noted .goes) in
+      let fewer = letters-past text (c .at) (d .at) (omega arith) (name-first bs (omega (arith, a .is))) in
       record {
         bytes = take n bs;
         shown = subst (λ j. all isKeyByte (take j bs) ≡ true) (sym (a .is)) (name-keys bs);
@@ -233,13 +246,14 @@ module _ {text keys tags : List ℕ} {c : Cursor} {tag : ℕ} where
             record {
               textSize = ready .textSize;
               inside = omega (arith, a .inside, ready .inside);
-              names = omega (arith, ready .names);
+              names = omega (arith, ready .names, fewer);
               items = omega (arith, ready .items);
               elements = omega (arith, ready .elements, s .goes .elements, ap (λ (z : Cursor). z .elements) (noted .goes));
               literals = omega (arith, ready .literals, s .goes .literals, ap (λ (z : Cursor). z .literals) (noted .goes));
               keysSize = ap length (noted .keyed) ∙ length-splice keys (c .names) (key ∷ []) (omega (arith, ready)) ∙ ready .keysSize;
               tagsSize = ap length (noted .tagged) ∙ length-splice tags (c .names) (tag ∷ []) (omega (arith, ready)) ∙ ready .tagsSize;
             };
+        few = fewer;
         further = omega arith;
       }
 
@@ -264,7 +278,7 @@ module _ {text keys tags : List ℕ} {c : Cursor} {tag key : ℕ} {k t : List �
         noting = n .noting;
         goes = n .goes;
         ready = n .ready;
-        few = omega (arith, n .further);
+        few = omega (arith, n .few);
         further = n .further;
       }
 
@@ -401,7 +415,7 @@ value-got f v w next {text} {keys} {tags} {c} {x} {d} ready is h g made e =
       noting = noting-none (c .names);
       goes = s .goes;
       ready = ready-at s ready (omega arith);
-      few = omega arith;
+      few = omega (arith, letters-on text (c .at) (d .at) (omega arith));
       further = omega arith;
     }
 
@@ -475,7 +489,7 @@ module _ {A B C : Type 0} {f : A → C} {v : C} (g : A → B) {text keys tags : 
         noting = r .noting;
         goes = onward-moved 1 (r .goes);
         ready = ready-moved (41 ∷ []) (r .ready) refl e;
-        few = omega (arith, r .few);
+        few = omega (arith, r .few, letters-on text (d .at) (d .at + 1) (omega arith));
         further = omega (arith, r .further);
       }
 

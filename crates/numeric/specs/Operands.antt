@@ -15,11 +15,13 @@ use Rattle.language.specs.Numeric.{calledOrNumber, plainFactor}
 use Rattle.language.specs.Reading.{Read, got, broken, give}
 use Rattle.language.specs.Words as Words
 use Rattle.language.specs.Words.{unsigned, numberName, stringName, bound, partName}
+use Rattle.met.specs.Bounds.{farEnough}
 use Rattle.met.specs.Contracts.{namesRoom}
 use Rattle.met.specs.Entries.{Entry, entry, roleOf, metIn}
 use Rattle.met.specs.Known.{placesIn}
 use Rattle.met.specs.declared.Cursor.{Cursor}
 use Rattle.packer.specs.Keys.{keyOf, isKeyByte}
+use Rattle.packer.specs.Letters.{letters}
 use Rattle.numeric.specs.declared.operands.Cell.{Cell}
 use Rattle.numeric.specs.declared.operands.Name as NameCode
 use Rattle.numeric.specs.declared.operands.Name.{Name}
@@ -54,14 +56,14 @@ pub record Skips (c : Cursor) (n : ℕ) (d : Cursor) : Type 0 where
   pub at : d .at ≡ c .at + n
   pub goes : Onward c 0 0 d
 
--- the arrays have their sizes, and the cursor has met no more than the bytes behind it allow
+-- the arrays have their sizes, with room for a name for each letter left; the cursor has met no more than the bytes behind it allow
 pub record Ready (text keys tags : List ℕ) (c : Cursor) : Type 0 where
   pub textSize : length text ≤ longestText
   pub inside : c .at ≤ length text
-  pub names : c .names ≤ c .at + 1
-  pub items : c .items ≤ 4_294_967_296 + c .at
-  pub elements : c .elements ≤ 4_294_967_296 + c .at
-  pub literals : c .literals ≤ 4_294_967_296 + c .at
+  pub names : c .names + letters (drop (c .at) text) ≤ namesRoom
+  pub items : c .items + length text ≤ farEnough + c .at
+  pub elements : c .elements + length text ≤ farEnough + c .at
+  pub literals : c .literals + length text ≤ farEnough + c .at
   pub keysSize : length keys ≡ namesRoom
   pub tagsSize : length tags ≡ namesRoom
 
@@ -80,7 +82,7 @@ pub record Gets {A C : Type 0} (f : A → C) (v : C) (text keys tags : List ℕ)
   pub noting : Noting keys tags (c .names) entries keys′ tags′
   pub goes : Onward c (length entries) 0 d
   pub ready : Ready text keys′ tags′ d
-  pub few : length entries + c .at ≤ d .at
+  pub few : length entries + letters (drop (d .at) text) ≤ letters (drop (c .at) text)
   pub further : c .at < d .at
 
 -- the tag of a string that is used: 4, and 16 times the number of its role in a SCAN
@@ -96,6 +98,7 @@ pub record Names (text keys tags : List ℕ) (c : Cursor) (tag key : ℕ) (keys�
   pub noting : Noting keys tags (c .names) (entry key tag ∷ []) keys′ tags′
   pub goes : Onward c 1 0 d
   pub ready : Ready text keys′ tags′ d
+  pub few : letters (drop (d .at) text) < letters (drop (c .at) text)
   pub further : c .at < d .at
 
 abbrev pub NameAnswer : (text keys tags : List ℕ) (c : Cursor) (tag : ℕ) → Name → (keys′ tags′ : List ℕ) → Type 0

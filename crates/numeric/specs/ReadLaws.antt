@@ -24,6 +24,7 @@ use Rattle.met.specs.EntryLaws.{met-more}
 use Rattle.met.specs.Items.{withItem, withItems}
 use Rattle.met.specs.ReadingLaws.{skip-then, skip-broken}
 use Rattle.met.specs.declared.Cursor.{Cursor}
+use Rattle.packer.specs.Letters.{letters, letters-on}
 use Rattle.numeric.specs.OperandLaws.{onward-moved, onward-then, skipped, ready-here, ready-moved, then-broken, chosen, met-nothing}
 use Rattle.numeric.specs.Kinds.{PutsCell}
 use Rattle.numeric.specs.Operands.{moved, Ready, Gets, meaning}
@@ -60,7 +61,7 @@ operand-written p depth {text} {table} {c = c} v {d = d} ready open′ a {t} {e}
             ready =
                 ready-here (a .ready) (put .at) (omega (arith, on)) (omega (arith, ready, on, a .goes, a .further, put .at))
                 (omega (arith, a .ready, on, put .at)) (omega (arith, a .ready, on, put .at));
-            few = omega (arith, a .few, put .at);
+            few = omega (arith, a .few, ap (λ i. letters (drop i text)) (put .at));
             short = omega (arith, a .further, put .at);
           };
     }
@@ -112,7 +113,7 @@ module _ (p : Places) (depth : ℕ) (c : Cursor) {text table keys tags : List �
         noting = a .noting;
         goes = onward-then (skipped c 1 refl .goes) (onward-moved 1 (a .goes)) (omega arith) (omega arith);
         ready = ready-moved (41 ∷ []) (a .ready) refl e;
-        few = omega (arith, a .few);
+        few = omega (arith, a .few, letters-on text (c .at) (c .at + 1) (omega arith), letters-on text (d .at) (d .at + 1) (omega arith));
         short = omega (arith, a .short);
       }
 

@@ -14,6 +14,7 @@ use Rattle.met.specs.Entries.{Entry, metIn}
 use Rattle.met.specs.Items.{withItems}
 use Rattle.met.specs.Known.{placesIn}
 use Rattle.met.specs.declared.Cursor.{Cursor}
+use Rattle.packer.specs.Letters.{letters}
 use Rattle.numeric.specs.Operands.{Onward, Ready, Noting}
 use Rattle.numeric.specs.declared.Outcome as OutcomeCode
 use Rattle.numeric.specs.declared.Outcome.{Outcome}
@@ -28,7 +29,7 @@ pub record GetsItems (before : List Item) (text table keys tags : List ℕ) (c :
   pub noting : Noting keys tags (c .names) entries keys′ tags′
   pub goes : Onward c (length entries) (length items) d
   pub ready : Ready text keys′ tags′ d
-  pub few : length entries + c .at ≤ d .at
+  pub few : length entries + letters (drop (d .at) text) ≤ letters (drop (c .at) text)
   pub short : length items + c .at ≤ d .at
 
 abbrev pub ItemsAnswer : (before : List Item) (text table keys tags : List ℕ) (c : Cursor) → Read (List Item) → Outcome

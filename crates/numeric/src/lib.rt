@@ -17,6 +17,7 @@ ghost use Prim.Native.Nat.{_≤_, _<_};
 ghost use lib.ListN.{length};
 ghost use Rattle.base.specs.Current.{tableSize};
 ghost use Rattle.calls.specs.Table.{cell};
+ghost use Rattle.met.specs.Bounds.{farEnough};
 ghost use Rattle.met.specs.Known.{Counted};
 ghost use Rattle.numeric.specs.Operands.{Ready};
 ghost use Rattle.numeric.specs.Kinds.{markKind, PutsCell, Puts, OperandWritten, Within, closes};
@@ -56,7 +57,7 @@ fn size(kind: u8) -> usize
 
 // writes the next item
 fn put(table: &mut [u8], c: Cursor, kind: u8, place: u8, value: usize) -> Cursor
-    requires { ⌜ (tableSize ≤ length (now table)) × (c .items < 8_000_000_000) ⌝ }
+    requires { ⌜ (tableSize ≤ length (now table)) × (c .items ≤ farEnough) ⌝ }
     ensures { λ r. ⌜ PutsCell (now (table .entry)) c (cell kind place value) (now (table .exit)) r ⌝ }
 {
     put_item(table, c.items, kind, place, value);
@@ -72,7 +73,7 @@ fn put(table: &mut [u8], c: Cursor, kind: u8, place: u8, value: usize) -> Cursor
 
 // writes what a kind stands for
 fn put_kind(table: &mut [u8], c: Cursor, kind: u8) -> Cursor
-    requires { ⌜ (tableSize ≤ length (now table)) × (c .items < 8_000_000_000) ⌝ }
+    requires { ⌜ (tableSize ≤ length (now table)) × (c .items ≤ farEnough) ⌝ }
     ensures { λ r. ⌜ Puts (now (table .entry)) c (waiting kind) (now (table .exit)) r ⌝ }
 {
     if size(kind) == 0 {

@@ -23,6 +23,7 @@ ghost use mathlib.Core.Path.{_≡_};
 ghost use Prim.Native.Nat.{ℕ, _+_, _≤_, _<_};
 ghost use Rattle.numeric.specs.Operands.{Ready, moved, StringTag, NameRead, NumberRead, StringRead, ConstantRead, BoundRead, PartRead, Inside, closedBy, placedIn, CalledRead, PlainRead};
 ghost use lib.ListN.{length};
+ghost use Rattle.met.specs.Bounds.{farEnough};
 ghost use Rattle.met.specs.Known.{Counted};
 ghost use Rattle.packer.specs.Packs.{longestText};
 
@@ -52,7 +53,7 @@ pub enum Operand {
 
 // the cursor so many bytes further
 pub fn skip(c: Cursor, n: usize) -> Cursor
-    requires { ⌜ c .at + n < 100_000 ⌝ }
+    requires { ⌜ c .at + n ≤ farEnough ⌝ }
     ensures { λ r. ⌜ r ≡ moved c n ⌝ }
 {
     Cursor {

@@ -41,6 +41,7 @@ use Rattle.packer.specs.Gathering.{
 use Rattle.packer.specs.Joins.{Part, addLine, breakOff, joinLine, nothingOf, told}
 use Rattle.packer.specs.KeyLaws.{sound-label}
 use Rattle.packer.specs.Keys.{keyOf}
+use Rattle.packer.specs.Letters.{letters, letters-append, letters-few, letters-front, letters-behind, letters-packed}
 use Rattle.packer.specs.Lines.{Ends, isSkipped, joins}
 use Rattle.packer.specs.Packs.{Packs}
 use Rattle.packer.specs.Places.{isOutside, placeOf, placeBehind, unbroken}
@@ -107,6 +108,22 @@ module _ (deck text : List ℕ) where
 text-within : (line : List ℕ) → length (textOf current line) ≤ length line
 unfolding textOf current
 text-within line = omega (arith, length-drop 9 (take 72 line), length-take 72 line, min-le-right 72 (length line))
+
+-- a line adds no more letters to the packed text than it has bytes
+added-letters : {line : List ℕ} {next : ℕ} {text : List ℕ} {s : Joining} {text′ : List ℕ} {r : Joining} → Added line next text s text′ r
+    → letters (take (r .packing .length) text′) ≤ letters (take (s .packing .length) text) + length line
+unfolding textOf current
+added-letters {line} {text = text} {s} a =
+    let place = placeOf (s .packing .place) in
+    omega (
+      arith,
+      ap letters (a .packs .bytes),
+      letters-append (take (s .packing .length) text) (packFrom place (textOf current line)),
+      letters-packed place (textOf current line),
+      letters-behind 9 (take 72 line),
+      letters-front 72 line,
+      letters-few line,
+    )
 
 pub text-fits : (line part : List ℕ) (n most : ℕ) → part ≡ textOf current line → n + length line ≤ most → n + length part ≤ most
 text-fits line part n most e h = rw e (omega (arith, text-within line))
@@ -195,9 +212,7 @@ module _ (deck text : List ℕ) (s : Joining) (room : Room deck text s) where
             spare =
                 let h = ends .low in
                 let short = line-length in
-                let part = text-within line in
-                let packs = a .packs .room in
-                omega arith;
+                omega (arith, added-letters a);
             further = λ _. let h = ends .low in omega arith;
             holds =
                 λ p h.
@@ -211,7 +226,7 @@ pub record Chain (deck text₀ : List ℕ) (s₀ : Joining) (text : List ℕ) (s
   pub room : Room deck text s
   pub onward : s₀ .next ≤ s .next
   pub paced : s₀ .next + s .lines ≤ s .next + s₀ .lines
-  pub spare : s₀ .next + s .packing .length ≤ s .next + s₀ .packing .length
+  pub spare : s₀ .next + letters (take (s .packing .length) text) ≤ s .next + letters (take (s₀ .packing .length) text₀)
   pub complete : (p : Part) → Holds deck text₀ s₀ p → Complete deck text s p
 
 -- what is left to join: nothing, or lines of the deck
@@ -294,7 +309,7 @@ module _ (deck : List ℕ) (from : ℕ) (text : List ℕ) (read : Readable deck 
         fits = omega arith;
         onward = let h = ends .low in omega arith;
         paced = let h = ends .low in omega arith;
-        spare = let h = ends .low in omega arith;
+        spare = let h = ends .low in omega (arith, letters-few (take 0 text));
         inside = let h = ends .high in omega arith;
         size = read .size;
       })
@@ -352,9 +367,7 @@ module _ (deck : List ℕ) (from : ℕ) (text : List ℕ) (read : Readable deck 
             let g = ends .low in
             let b = a .behind in
             let short = line-length deck text (nothingFrom from) (room-nothing deck from text read) end ends in
-            let part = text-within first in
-            let packs = a .packs .room in
-            omega arith;
+            omega (arith, added-letters a, letters-few (take 0 text));
         inside = j .room .next;
         size = j .room .size;
       }

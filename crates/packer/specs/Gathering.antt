@@ -16,6 +16,7 @@ use Rattle.packer.specs.declared.Gathered.{Gathered}
 use Rattle.packer.specs.declared.Joining.{Joining}
 use Rattle.packer.specs.Joins.{Part, joinLine, told}
 use Rattle.packer.specs.Keys.{LabelKey}
+use Rattle.packer.specs.Letters.{letters}
 use Rattle.packer.specs.Lines.{joins}
 use Rattle.packer.specs.Packs.{Packs, longestText}
 use Rattle.packer.specs.Places.{placeOf, placeBehind, unbroken}
@@ -54,13 +55,13 @@ pub record Added (line : List ℕ) (next : ℕ) (text : List ℕ) (s : Joining) 
   pub behind : r .next ≡ next
   pub packs : Packs (textOf current line) text (s .packing) text′ (r .packing)
 
--- one line is joined; a line takes a byte of the deck at least, and as many as it adds to the packed text; if the next one is to be joined,
--- the code has gone on
+-- one line is joined; a line takes a byte of the deck at least, and as many as it adds letters to the packed text; if the next one is to be
+-- joined, the code has gone on
 pub record Joined (deck text : List ℕ) (s : Joining) (text′ : List ℕ) (r : Joining) : Type 0 where
   pub room : Room deck text′ r
   pub onward : s .next ≤ r .next
   pub paced : s .next + r .lines ≤ r .next + s .lines
-  pub spare : s .next + r .packing .length ≤ r .next + s .packing .length
+  pub spare : s .next + letters (take (r .packing .length) text′) ≤ r .next + letters (take (s .packing .length) text)
   pub further : r .more ≡ true → s .next < r .next
   pub holds : (p : Part) → Holds deck text s p → Holds deck text′ r (joinLine p (p .rest))
 
@@ -75,7 +76,7 @@ pub record JoinedAll (deck text : List ℕ) (s : Joining) (text′ : List ℕ) (
   pub room : Room deck text′ r
   pub onward : s .next ≤ r .next
   pub paced : s .next + r .lines ≤ r .next + s .lines
-  pub spare : s .next + r .packing .length ≤ r .next + s .packing .length
+  pub spare : s .next + letters (take (r .packing .length) text′) ≤ r .next + letters (take (s .packing .length) text)
   pub over : r .more ≡ false
   pub complete : (p : Part) → Holds deck text s p → Complete deck text′ r p
 
@@ -101,7 +102,7 @@ pub record Readable (deck : List ℕ) (from : ℕ) (text : List ℕ) : Type 0 wh
   pub small : length deck ≤ longestDeck
   pub size : length text ≡ longestText
 
--- the entry that begins with the line at from, and those behind it; its packed text is shorter than the bytes of the deck that it takes
+-- the entry that begins with the line at from, and those behind it; its packed text has fewer letters than it takes bytes of the deck
 pub record Gathers (deck : List ℕ) (from : ℕ) (text : List ℕ) (r : Gathered) : Type 0 where
   pub label : List ℕ
   pub entry : (n : ℕ) →
@@ -111,6 +112,6 @@ pub record Gathers (deck : List ℕ) (from : ℕ) (text : List ℕ) (r : Gathere
   pub fits : r .length ≤ longestText
   pub onward : from < r .next
   pub paced : from + r .lines ≤ r .next
-  pub spare : from + r .length < r .next
+  pub spare : from + letters (take (r .length) text) < r .next
   pub inside : r .next ≤ length deck + 1
   pub size : length text ≡ longestText

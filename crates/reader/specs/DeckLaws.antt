@@ -10,11 +10,11 @@ use Rattle.base.specs.Choice.{test-cases}
 use Rattle.base.specs.Current.{current}
 use Rattle.base.specs.Limits.{longestDeck}
 use Rattle.cards.specs.Cards as Cards
-use Rattle.cards.specs.Cards.{entriesFrom, entries}
+use Rattle.cards.specs.Entries.{entriesFrom, entries}
 use Rattle.closing.specs.Held.{Closable, heldIn}
 use Rattle.closing.specs.HeldLaws.{closable, held-11, held-12}
 use Rattle.judgement.specs.Deck as Deck
-use Rattle.judgement.specs.Deck.{Judgement, accepted, judge, concluded, judgeFrom, passed, is11, is12, programOf}
+use Rattle.judgement.specs.Deck.{Judgement, accepted, judge, judgeEntries, concluded, judgeFrom, passed, is11, is12, programOf}
 use Rattle.judgement.specs.Known.{Known, nothingKnown}
 use Rattle.judgement.specs.Rules as Rules
 use Rattle.judgement.specs.Rules.{judging}
@@ -101,7 +101,7 @@ module _ {deck : List ℕ} {a : Arrays} {from card : ℕ} (j : Judging deck a fr
 -- the judgement of the deck from that of its statements
 module _ (deck : List ℕ) where
   judged-by : {j : Deck.Judged} → judgeFrom current nothingKnown (entries current deck) ≡ j → judge current deck ≡ concluded current (entries current deck) j
-  unfolding judge
+  unfolding judge judgeEntries
   judged-by e = ap (concluded current (entries current deck)) e
 
 -- refused by 3 to 10

@@ -12,9 +12,7 @@ use Rattle.base.specs.Choice.{test-cases}
 use Rattle.base.specs.Current.{current}
 use Rattle.base.specs.Limits.{longestDeck}
 use Rattle.cards.specs.Cards as Cards
-use Rattle.cards.specs.Cards.{Entry, skipped, statement, entriesFrom}
-use Rattle.cards.specs.Packing.{packed}
-use Rattle.forms.specs.Contracts.{Wording}
+use Rattle.cards.specs.Entries.{Entry, skipped, statement, entriesFrom}
 use Rattle.judgement.specs.Deck as Deck
 use Rattle.judgement.specs.Deck.{judgeFrom, metBy, unplaced}
 use Rattle.judgement.specs.Known.{Known, numbers, isOneOf, learn}
@@ -22,28 +20,23 @@ use Rattle.judgement.specs.Refusals.{readStatement, statementNumber}
 use Rattle.language.specs.Keywords.{leading}
 use Rattle.met.specs.Holding.{Arrays, Holds}
 use Rattle.packer.specs.Gathering.{Gathers, entryOf}
+use Rattle.packer.specs.Keys.{LabelKey}
 use Rattle.packer.specs.declared.Gathered.{Gathered}
 use Rattle.naming.specs.HoldLaws.{held-shown, shown-held}
-use Rattle.reader.specs.Judging.{Held, Worded, Readied, Entered, Numbered, EntryNumbered, Going, EntryJudged}
-
--- a sound statement as the code has it
-pub wording : {text : List ℕ} {e : Gathered} {label raw : List ℕ} → Worded text e label raw → e .sound ≡ true
-    → Wording label raw (take (e .length) text) (e .label) (e .whole)
-wording w s = record { key = w .key; clean = w .clean s; short = w .short; bytes = sym (w .bytes); whole = w .whole }
+use Rattle.reader.specs.Judging.{Held, Readied, Entered, Numbered, EntryNumbered, Going, EntryJudged}
 
 -- an entry that is sound can be judged by its text
 pub readied : {text : List ℕ} {e : Gathered} {a : Arrays} → Entered text e a → e .sound ≡ true → Readied (take (e .length) text) e a
 readied {text} {e} r s =
-    let size = length-take-le (e .length) text (r .worded .fits) in
+    let size = length-take-le (e .length) text (r .fits) in
     record {
       label = r .label;
-      raw = r .raw;
-      wording = wording (r .worded) s;
+      keyed = r .keyed s;
       taken = r .taken;
       known = r .known;
       holds = r .holds;
       small = omega (arith, r .small);
-      room = omega (arith, r .room);
+      room = r .room;
     }
 
 module _ {text : List ℕ} {e : Gathered} {a : Arrays} where
@@ -54,12 +47,13 @@ module _ {text : List ℕ} {e : Gathered} {a : Arrays} where
       record {
         skips = λ _. (sym (ap (λ t. cond t 0 3) s), refl);
         judges =
-            λ _ label raw w.
+            λ _ label w.
             record {
               number =
                   λ taken k h.
+                  let bs = take (e .length) text in
                   sym
-                  (ap (λ t. statementNumber k (leading (packed raw) .kind) t (readStatement current (isOneOf (numbers k)) unplaced label raw)) s);
+                  (ap (λ t. statementNumber k (leading bs .kind) t (readStatement current (isOneOf (numbers k)) unplaced label (e .whole) bs)) s);
               learnt = λ z. absurd (omega arith);
             };
       }
@@ -71,33 +65,22 @@ module _ {text : List ℕ} {e : Gathered} {a : Arrays} where
 
   -- a sound statement
   pub packed-numbered : {r : ℕ} {a′ : Arrays} → e .sound ≡ true → e .skipped ≡ false
-      → ((label raw : List ℕ) → Wording label raw (take (e .length) text) (e .label) (e .whole) → Numbered label raw true a r a′)
+      → ((label : List ℕ) → LabelKey label (e .label) → Numbered label (e .whole) (take (e .length) text) true a r a′)
       → EntryNumbered text e a r a′
   packed-numbered {r} {a′} s f n =
       record {
         skips = λ t. absurd (true≢false (sym t ∙ f));
-        judges = λ _ label raw w. subst (λ u. Numbered label raw u a r a′) (sym s) (n label raw (wording w s));
+        judges = λ _ label w. subst (λ u. Numbered label (e .whole) (take (e .length) text) u a r a′) (sym s) (n label (w s));
       }
 
 -- the entry that the code has gathered
 module _ {deck : List ℕ} {from : ℕ} {text : List ℕ} {e : Gathered} (g : Gathers deck from text e) where
-  pub gathered-worded : Worded text e (g .label) (g .raw)
-  gathered-worded =
-      record {
-        key = g .key;
-        clean = g .clean;
-        short = g .short;
-        bytes = g .bytes;
-        whole = g .whole;
-        fits = omega (arith, g .fits, g .size);
-      }
-
   pub entered : {a : Arrays} → Held a from → length deck ≤ longestDeck → Entered text e a
   entered h small =
       record {
         label = g .label;
-        raw = g .raw;
-        worded = gathered-worded;
+        keyed = g .keyed;
+        fits = omega (arith, g .fits, g .size);
         taken = from;
         known = h .known;
         holds = h .holds;
@@ -113,25 +96,27 @@ module _ {deck : List ℕ} {from : ℕ} {text : List ℕ} {e : Gathered} (g : Ga
     abbrev here : Deck.Judged
     here = judgeFrom current k (entriesFrom current card (Cards.lines (drop from deck)))
 
+    abbrev bytes : List ℕ
+    bytes = take (e .length) text
+
     abbrev kept : Known
-    kept =
-        learn k (leading (packed (g .raw)) .kind) (metBy (readStatement current (isOneOf (numbers k)) unplaced (g .label) (g .raw)))
+    kept = learn k (leading bytes .kind) (metBy (readStatement current (isOneOf (numbers k)) unplaced (g .label) (e .whole) bytes))
 
     -- of a comment or blank line
     skip-judged : e .skipped ≡ true → here ≡ elim (e .sound) [ true ↦ judgeFrom current k rest | false ↦ Deck.Judged.refused 3 card ]
     unfolding judgeFrom entryOf
     skip-judged t =
         ap (judgeFrom current k) (g .entry card)
-        ∙ ap (λ u. judgeFrom current k (cond u (skipped card (e .sound)) (statement card (e .sound) (g .label) (g .raw)) ∷ rest)) t
+        ∙ ap (λ u. judgeFrom current k (cond u (skipped card (e .sound)) (statement card (e .sound) (g .label) (e .whole) bytes) ∷ rest)) t
 
     -- of a statement
     statement-judged : e .skipped ≡ false → here ≡ elim (eqb number 0) [ true ↦ judgeFrom current kept rest | false ↦ Deck.Judged.refused number card ]
     unfolding judgeFrom entryOf
     statement-judged f =
         ap (judgeFrom current k) (g .entry card)
-        ∙ ap (λ u. judgeFrom current k (cond u (skipped card (e .sound)) (statement card (e .sound) (g .label) (g .raw)) ∷ rest)) f
+        ∙ ap (λ u. judgeFrom current k (cond u (skipped card (e .sound)) (statement card (e .sound) (g .label) (e .whole) bytes) ∷ rest)) f
         ∙ ap {B = Deck.Judged} (λ m. elim (eqb m 0) [ true ↦ judgeFrom current kept rest | false ↦ Deck.Judged.refused m card ])
-        (sym (n .judges f (g .label) (g .raw) gathered-worded .number from k h))
+        (sym (n .judges f (g .label) (g .keyed) .number from k h))
 
     refuses-entry : (number ≡ 0 → ⊥) → here ≡ Deck.Judged.refused number card
     refuses-entry z =
@@ -168,8 +153,7 @@ module _ {deck : List ℕ} {from : ℕ} {text : List ℕ} {e : Gathered} (g : Ga
         record {
           known = kept;
           holds =
-              n .judges f (g .label) (g .raw) gathered-worded .learnt z from k h (e .next)
-              (omega (arith, g .spare, ap length (g .bytes), length-take-le (e .length) text (gathered-worded .fits)));
+              n .judges f (g .label) (g .keyed) .learnt z from k h (e .next) (g .spare);
           rest =
               statement-judged f
               ∙ ap {B = Deck.Judged} (λ v. elim v [ true ↦ judgeFrom current kept rest | false ↦ Deck.Judged.refused number card ])

@@ -6,10 +6,8 @@ use Prim.Native.Nat.{ℕ, _+_, _≤_, _<_}
 use lib.Dec.{eqb}
 use lib.ListN.{length, take, drop, getD}
 use Rattle.base.specs.Current.{current, tableSize}
-use Rattle.base.specs.Lists.{all}
 use Rattle.cards.specs.Cards as Cards
-use Rattle.cards.specs.Cards.{entriesFrom, entries}
-use Rattle.cards.specs.Packing.{packed, literalsWhole}
+use Rattle.cards.specs.Entries.{entriesFrom, entries}
 use Rattle.judgement.specs.Deck as Deck
 use Rattle.judgement.specs.Deck.{Judgement, accepted, judge, is11, is12, judgeFrom, metBy, unplaced, programOf, passed}
 use Rattle.judgement.specs.Known.{Known, nothingKnown, numbers, isOneOf, learn}
@@ -20,8 +18,8 @@ use Rattle.met.specs.Contracts.{namesRoom}
 use Rattle.met.specs.Holding.{Arrays, Holds}
 use Rattle.met.specs.Known.{endedAt, itemCountAt, elementCountAt, literalCountAt}
 use Rattle.met.specs.declared.Cursor.{Cursor}
-use Rattle.forms.specs.Contracts.{Wording}
-use Rattle.packer.specs.Keys.{keyOf, isKeyByte}
+use Rattle.packer.specs.Keys.{LabelKey}
+use Rattle.packer.specs.Letters.{letters}
 use Rattle.packer.specs.Packs.{longestText}
 use Rattle.packer.specs.declared.Gathered.{Gathered}
 use Rattle.reader.specs.declared.judge.EntryVerdict.{EntryVerdict}
@@ -38,36 +36,26 @@ pub record Lent (keys tags table : List ℕ) : Type 0 where
   pub tagsSize : length tags ≡ namesRoom
   pub tableSize : tableSize ≤ length table
 
--- a statement of the deck by its label and its bytes, as the code has it in the first bytes of a text
-pub record Worded (text : List ℕ) (e : Gathered) (label raw : List ℕ) : Type 0 where
-  pub key : e .label ≡ keyOf label
-  pub clean : e .sound ≡ true → all isKeyByte label ≡ true
-  pub short : length label ≤ 8
-  pub bytes : take (e .length) text ≡ packed raw
-  pub whole : e .whole ≡ literalsWhole raw
-  pub fits : e .length ≤ length text
-
 -- there is a statement to be judged, with room for its names
 pub record Readied (text : List ℕ) (e : Gathered) (a : Arrays) : Type 0 where
   pub label : List ℕ
-  pub raw : List ℕ
-  pub wording : Wording label raw text (e .label) (e .whole)
+  pub keyed : LabelKey label (e .label)
   pub taken : ℕ
   pub known : Known
   pub holds : Holds a taken known
   pub small : length text ≤ longestText
-  pub room : taken + length text < namesRoom
+  pub room : taken + letters text < namesRoom
 
 -- there is an entry to be judged
 pub record Entered (text : List ℕ) (e : Gathered) (a : Arrays) : Type 0 where
   pub label : List ℕ
-  pub raw : List ℕ
-  pub worded : Worded text e label raw
+  pub keyed : e .sound ≡ true → LabelKey label (e .label)
+  pub fits : e .length ≤ length text
   pub taken : ℕ
   pub known : Known
   pub holds : Holds a taken known
   pub small : e .length ≤ longestText
-  pub room : taken + e .length < namesRoom
+  pub room : taken + letters (take (e .length) text) < namesRoom
 
 -- where the number is 0 the arrays of names have their sizes still
 pub record Stays (r : ℕ) (keys tags : List ℕ) : Type 0 where
@@ -86,17 +74,18 @@ startAt known =
       longest = 0;
     }
 
--- the number of a statement, and what the arrays hold behind it where it is 0; its names take a byte each, its label one more
-pub record Numbered (label raw : List ℕ) (sound : Bool) (a : Arrays) (r : ℕ) (a′ : Arrays) : Type 0 where
+-- the number of a statement, and what the arrays hold behind it where it is 0; its names take a letter each, its label one more
+pub record Numbered (label : List ℕ) (whole : Bool) (text : List ℕ) (sound : Bool) (a : Arrays) (r : ℕ) (a′ : Arrays) : Type 0 where
   pub number : (taken : ℕ) (k : Known) → Holds a taken k
-      → r ≡ statementNumber k (leading (packed raw) .kind) sound (readStatement current (isOneOf (numbers k)) unplaced label raw)
-  pub learnt : r ≡ 0 → (taken : ℕ) (k : Known) → Holds a taken k → (taken′ : ℕ) → taken + length (packed raw) < taken′
-      → Holds a′ taken′ (learn k (leading (packed raw) .kind) (metBy (readStatement current (isOneOf (numbers k)) unplaced label raw)))
+      → r ≡ statementNumber k (leading text .kind) sound (readStatement current (isOneOf (numbers k)) unplaced label whole text)
+  pub learnt : r ≡ 0 → (taken : ℕ) (k : Known) → Holds a taken k → (taken′ : ℕ) → taken + letters text < taken′
+      → Holds a′ taken′ (learn k (leading text .kind) (metBy (readStatement current (isOneOf (numbers k)) unplaced label whole text)))
 
 -- the number of an entry; a comment or blank line changes nothing
 pub record EntryNumbered (text : List ℕ) (e : Gathered) (a : Arrays) (r : ℕ) (a′ : Arrays) : Type 0 where
   pub skips : e .skipped ≡ true → (r ≡ cond (e .sound) 0 3) × (a′ ≡ a)
-  pub judges : e .skipped ≡ false → (label raw : List ℕ) → Worded text e label raw → Numbered label raw (e .sound) a r a′
+  pub judges : e .skipped ≡ false → (label : List ℕ) → (e .sound ≡ true → LabelKey label (e .label))
+      → Numbered label (e .whole) (take (e .length) text) (e .sound) a r a′
 
 -- an entry of the deck is judged: refused with its card, or the rest is judged from what is known behind it
 pub record Going (deck : List ℕ) (from card : ℕ) (k : Known) (lines next : ℕ) (a′ : Arrays) : Type 0 where

@@ -15,7 +15,7 @@ use Rattle.calls.specs.Promises.{ReadPromise, readBack}
 use Rattle.calls.specs.Splices.{splice}
 use Rattle.calls.specs.Table.{header}
 use Rattle.calls.specs.TableLaws.{in-range}
-use Rattle.cards.specs.Cards.{entries}
+use Rattle.cards.specs.Entries.{entries}
 use Rattle.cells.specs.CellLaws.{zeros-front}
 use Rattle.judgement.specs.Deck.{judge, programOf, stepsFrom}
 use Rattle.judgement.specs.Known as Known

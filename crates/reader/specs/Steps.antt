@@ -10,18 +10,20 @@ use Rattle.branches.specs.Places.{numberIn}
 use Rattle.calls.specs.TableLaws.{InRange}
 use Rattle.calls.specs.Table.{allElements, allItems, allLiterals}
 use Rattle.cards.specs.Cards as Cards
-use Rattle.cards.specs.Cards.{Entry, entriesFrom, entries}
-use Rattle.forms.specs.Contracts.{Wording, itemsIn, elementsIn}
+use Rattle.cards.specs.Entries.{Entry, entriesFrom, entries}
+use Rattle.forms.specs.Contracts.{itemsIn, elementsIn}
 use Rattle.judgement.specs.Deck.{stepsFrom, programOf}
 use Rattle.judgement.specs.Known.{Known, nothingKnown}
 use Rattle.judgement.specs.Placed.Again.{Again}
 use Rattle.judgement.specs.Refusals.{readStatement}
 use Rattle.language.specs.Program.{Statement, Step}
 use Rattle.language.specs.Reading.{Met, got}
+use Rattle.met.specs.Bounds.{farEnough}
 use Rattle.met.specs.Contracts.{namesRoom}
 use Rattle.met.specs.Holding.{Arrays, Holds}
 use Rattle.met.specs.Known.{placesIn, nextAt}
 use Rattle.met.specs.declared.Cursor.{Cursor}
+use Rattle.packer.specs.Keys.{LabelKey}
 use Rattle.packer.specs.Packs.{longestText}
 use Rattle.packer.specs.declared.Gathered.{Gathered}
 use Rattle.reader.specs.Writing.{withStep, withAllSteps}
@@ -37,7 +39,7 @@ pub record Small (p : Progress) : Type 0 where
   pub elements : p .elements ≤ 1024
   pub literals : p .literals ≤ 4096
   pub steps : p .steps ≤ 256
-  pub card : p .card ≤ 40_000
+  pub card : p .card ≤ farEnough
 
 -- a statement is a step of the program, or none
 abbrev pub stepCount : Option Statement → ℕ
@@ -58,11 +60,11 @@ pub record Written (v : Option Statement) (e : Gathered) (p : Progress) (t : Lis
   pub from : r .from ≡ e .next
   pub card : r .card ≡ p .card + e .lines
 
--- as its text says, whatever its label and bytes are; the arrays of names have their sizes still
+-- as its text says, whatever its label is; the arrays of names have their sizes still
 abbrev pub PackedWritten : (text known : List ℕ) (e : Gathered) (p : Progress) (t : List ℕ) (r : Progress) (t′ keys′ tags′ : List ℕ) → Type 0
 PackedWritten text known e p t r t′ keys′ tags′ =
-    (label raw : List ℕ) → Wording label raw text (e .label) (e .whole) → (v : Option Statement) (m : Met) (rest : List ℕ)
-    → readStatement current (numberIn known) (placesIn known) label raw ≡ got v m rest
+    (label : List ℕ) → LabelKey label (e .label) → (v : Option Statement) (m : Met) (rest : List ℕ)
+    → readStatement current (numberIn known) (placesIn known) label (e .whole) text ≡ got v m rest
     → Written v e p t r t′ × (length keys′ ≡ namesRoom) × (length tags′ ≡ namesRoom)
 
 -- behind an entry that makes no step

@@ -24,11 +24,11 @@ ghost use Prim.Native.Nat.{ℕ, _≤_, _<_, _+_};
 ghost use lib.ListN.{length};
 ghost use Rattle.base.specs.Limits.{longestDeck};
 ghost use Rattle.closing.specs.Held.{Closable, heldIn};
-ghost use Rattle.forms.specs.Contracts.{Wording};
 ghost use Rattle.judgement.specs.Known.{nothingKnown};
 ghost use Rattle.met.specs.Holding.{Holds};
 ghost use Rattle.met.specs.Known.{Counted, knownSize};
 ghost use Rattle.naming.specs.Arrays.{arrays};
+ghost use Rattle.packer.specs.Keys.{LabelKey};
 ghost use Rattle.packer.specs.Packs.{longestText};
 ghost use Rattle.reader.specs.Judging.{Held, Lent, Stays, startAt, Readied, Entered, Numbered, EntryNumbered, EntryJudged, endedIn, closedBy, StatementsJudged, DeckJudged};
 
@@ -76,7 +76,7 @@ fn judge_packed(
 ) -> u32
     requires { ⌜ Readied (now text) e (arrays (now known) (now «name_keys») (now «name_purposes») (now «use_keys») (now «use_scopes») (now «use_purposes»)) ⌝ }
     requires { ⌜ Lent (now keys) (now tags) (now table) ⌝ }
-    ensures { λ r. ⌜ ((label raw : List ℕ) → Wording label raw (now (text .entry)) (e .label) (e .whole) → Numbered label raw true (arrays (now (known .entry)) (now («name_keys» .entry)) (now («name_purposes» .entry)) (now («use_keys» .entry)) (now («use_scopes» .entry)) (now («use_purposes» .entry))) r (arrays (now (known .exit)) (now («name_keys» .exit)) (now («name_purposes» .exit)) (now («use_keys» .exit)) (now («use_scopes» .exit)) (now («use_purposes» .exit)))) ⌝ }
+    ensures { λ r. ⌜ ((label : List ℕ) → LabelKey label (e .label) → Numbered label (e .whole) (now (text .entry)) true (arrays (now (known .entry)) (now («name_keys» .entry)) (now («name_purposes» .entry)) (now («use_keys» .entry)) (now («use_scopes» .entry)) (now («use_purposes» .entry))) r (arrays (now (known .exit)) (now («name_keys» .exit)) (now («name_purposes» .exit)) (now («use_keys» .exit)) (now («use_scopes» .exit)) (now («use_purposes» .exit)))) ⌝ }
     ensures { λ r. ⌜ Stays r (now (keys .exit)) (now (tags .exit)) ⌝ }
 {
     let kind = leading(text).kind;

@@ -15,6 +15,7 @@ use Rattle.language.specs.Program.{Element, literal, PatternElement, value}
 use Rattle.language.specs.Reading.{Read, got, broken}
 use Rattle.language.specs.Strings as Strings
 use Rattle.language.specs.Words.{Places, noRole}
+use Rattle.met.specs.Bounds.{farEnough}
 use Rattle.met.specs.Elements.{withElement, withLiterals, withElements}
 use Rattle.met.specs.Entries.{Entry, roleOf, metIn}
 use Rattle.met.specs.Known.{placesIn}
@@ -24,6 +25,7 @@ use Rattle.numeric.specs.declared.operands.Operand as OperandCode
 use Rattle.numeric.specs.declared.operands.Operand.{Operand}
 use Rattle.numeric.specs.declared.Outcome as OutcomeCode
 use Rattle.numeric.specs.declared.Outcome.{Outcome}
+use Rattle.packer.specs.Letters.{letters}
 use Rattle.packer.specs.Packs.{longestText}
 
 -- a cursor d behind c by n names, by these elements and by rows of these lengths
@@ -43,7 +45,7 @@ pub record GetsElements {A : Type 0} (text table keys tags : List ℕ) (c : Curs
   pub noting : Noting keys tags (c .names) entries keys′ tags′
   pub goes : Passes c (length entries) es rows d
   pub ready : Ready text keys′ tags′ d
-  pub few : length entries + c .at ≤ d .at
+  pub few : length entries + letters (drop (d .at) text) ≤ letters (drop (c .at) text)
   pub short : length es + c .at ≤ d .at
 
 -- the rows that are met where a row of n elements is read: none where nothing stands
@@ -81,7 +83,7 @@ oneMore c =
 
 -- there are few elements before a cell that was read
 abbrev pub Roomy : Operand → Type 0
-Roomy (OperandCode.the-variants.Got v d) = d .elements < 8_000_000_000
+Roomy (OperandCode.the-variants.Got v d) = d .elements ≤ farEnough
 Roomy OperandCode.the-variants.Broken = Unit {0}
 
 -- the outcome once a cell that was read is written, and the table with it
@@ -97,9 +99,9 @@ celled table OperandCode.the-variants.Broken = table
 pub record Spellable (text table : List ℕ) (c : Cursor) (n size : ℕ) : Type 0 where
   pub inside : c .at + 1 + n ≤ length text
   pub textSize : length text ≤ longestText
-  pub near : size ≤ 100_000
-  pub elements : c .elements ≤ 5_000_000_000
-  pub literals : c .literals ≤ 5_000_000_000
+  pub near : size ≤ farEnough
+  pub elements : c .elements ≤ farEnough
+  pub literals : c .literals ≤ farEnough
   pub tableSize : tableSize ≤ length table
 
 -- the cursor behind a literal of n bytes

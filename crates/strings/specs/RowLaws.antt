@@ -34,6 +34,7 @@ use Rattle.numeric.specs.declared.operands.Operand as OperandCode
 use Rattle.numeric.specs.declared.operands.Operand.{Operand}
 use Rattle.numeric.specs.declared.Outcome as OutcomeCode
 use Rattle.numeric.specs.declared.Outcome.{Outcome}
+use Rattle.packer.specs.Letters.{letters-on}
 use Rattle.strings.specs.CellLaws.{Bare, Always, always-got, text-bare, part-bare, filler-bare}
 use Rattle.strings.specs.Cells.{bareCell}
 use Rattle.strings.specs.ElementLaws.{elements-none, elements-give, elements-then, elements-broken, elements-skip}
@@ -76,6 +77,7 @@ literal-spelt {text} {table} {keys} {tags} {c} n size {t} {d} ready inside end m
     let items : d .items ≡ c .items = ap (λ (z : Cursor). z .items) (s .goes) in
     let elements : d .elements ≡ c .elements + 1 = ap (λ (z : Cursor). z .elements) (s .goes) in
     let literals : d .literals ≡ c .literals + n = ap (λ (z : Cursor). z .literals) (s .goes) in
+    let fewer = letters-on text (c .at) (d .at) (omega arith) in
     record {
       element = w;
       gets =
@@ -102,14 +104,14 @@ literal-spelt {text} {table} {keys} {tags} {c} n size {t} {d} ready inside end m
                 record {
                   textSize = ready .textSize;
                   inside = omega arith;
-                  names = omega (arith, ready .names);
+                  names = omega (arith, ready .names, fewer);
                   items = omega (arith, ready .items);
                   elements = omega (arith, ready .elements);
                   literals = omega (arith, ready .literals);
                   keysSize = ready .keysSize;
                   tagsSize = ready .tagsSize;
                 };
-            few = omega arith;
+            few = omega (arith, fewer);
             short = omega arith;
           };
       further = omega arith;

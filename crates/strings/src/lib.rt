@@ -25,6 +25,7 @@ ghost use Prim.Native.Nat.{_≤_, _<_};
 ghost use lib.ListN.{length, drop};
 ghost use Rattle.base.specs.Current.{tableSize};
 ghost use Rattle.language.specs.Strings.{nothingHere};
+ghost use Rattle.met.specs.Bounds.{farEnough};
 ghost use Rattle.met.specs.Elements.{withElement};
 ghost use Rattle.met.specs.Known.{Counted};
 ghost use Rattle.numeric.specs.Operands.{Ready, StringTag, meaning};
@@ -32,7 +33,7 @@ ghost use Rattle.strings.specs.Elements.{oneMore, Roomy, written, celled
 
 // writes a cell as the next element
 fn put(table: &mut [u8], c: Cursor, v: Cell) -> Cursor
-    requires { ⌜ (tableSize ≤ length (now table)) × (c .elements < 8_000_000_000) ⌝ }
+    requires { ⌜ (tableSize ≤ length (now table)) × (c .elements ≤ farEnough) ⌝ }
     ensures { λ r. ⌜ (r ≡ oneMore c) × (now (table .exit) ≡ withElement (now (table .entry)) (c .elements) (meaning v)) ⌝ }
 {
     put_element(table, c.elements, v.kind, v.place, v.value);

@@ -11,7 +11,8 @@ use Rattle.base.specs.Current.{current}
 use Rattle.base.specs.Lists.{same, begins, all}
 use Rattle.base.specs.Text.{bytes}
 use Rattle.calls.specs.Strigol.{printed}
-use Rattle.cards.specs.Cards.{entries, lines}
+use Rattle.cards.specs.Cards.{lines}
+use Rattle.cards.specs.Entries.{entries}
 use Rattle.computing.specs.{everything}
 use Rattle.judgement.specs.Deck as Deck
 use Rattle.judgement.specs.Deck.{Judgement, accepted, Judged, passed, judge, judgeFrom}

@@ -41,6 +41,13 @@ name-short bs =
     cond-cases (λ n. n ≤ 8) (isLetter (getD bs 0 0) && leb (run isNameByte bs) 8)
     (λ e. leb-true (run isNameByte bs) 8 (and-eq-true-iff (isLetter (getD bs 0 0)) (leb (run isNameByte bs) 8) .0 e .1)) (λ _. omega arith)
 
+-- a name begins with a letter
+pub name-first : (bs : List ℕ) → 1 ≤ nameLength bs → isLetter (getD bs 0 0) ≡ true
+unfolding nameLength
+name-first bs =
+    cond-cases (λ n. 1 ≤ n → isLetter (getD bs 0 0) ≡ true) (isLetter (getD bs 0 0) && leb (run isNameByte bs) 8)
+    (λ e _. and-eq-true-iff (isLetter (getD bs 0 0)) (leb (run isNameByte bs) 8) .0 e .0) (λ _ h. absurd (omega arith))
+
 -- the bytes of a run pass its test
 run-all : (f : ℕ → Bool) (bs : List ℕ) → all f (take (run f bs) bs) ≡ true
 unfolding run all

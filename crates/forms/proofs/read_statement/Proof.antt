@@ -22,10 +22,12 @@ same-length c = search needs
 
 returns-2 : tie.Need-returns-2
 returns-2 c =
-    let p = c .before .before .before .before .before .before .before .before .before .before in
+    let t = c .before .before .before .before .before .before .before in
+    let p = t .before .before .before in
     let s = p .pre .0 in
     λ labelBytes w.
-    form-same (statement-plain (p .args .known .now) (p .args .text .now) labelBytes w (not-false _ (c .before .before .before .before .before .before .before .if1 .left)) (c .before .before .before .before .before .before .if2 .taken))
+    form-same
+    (statement-plain (p .args .known .now) (p .args .text .now) labelBytes w (not-false _ (t .if1 .left)) (c .before .before .before .before .before .before .if2 .taken))
     (form-unlabelled (omega (arith, s), omega (arith, s)) (c .before .before .read-form .result) (c .before .before .read-form .ensures))
 
 is-name-requires : tie.Need-is-name-requires
@@ -37,7 +39,7 @@ returns-3 c =
     λ labelBytes w.
     record {
       answer =
-          statement-unnamed (a .known .now) (a .text .now) labelBytes w (c .before .before .if2 .left)
+          statement-unnamed (a .known .now) (a .text .now) labelBytes (a .whole) w (c .before .before .if2 .left)
           (sym (c .before .is-name .ensures) ∙ not-true _ (c .if3 .taken));
     }
 
@@ -46,7 +48,8 @@ note-name-requires c κs = search needs
 
 read-form-requires-2 : tie.Need-read-form-requires-2
 read-form-requires-2 c κs =
-    let p = c .before .before .before .before .before .before .before .before .before .before .before .before .pre in (starts-labelled (p .0) (p .1 .0) (c .before .before .before .note-name .ensures), p .1 .1)
+    let p = c .before .before .before .before .before .before .before .before .before .before .before .before .pre in
+    (starts-labelled (p .0) (p .1 .0) (c .before .before .before .note-name .ensures), p .1 .1)
 
 same-length-2 : tie.Need-same-length-2
 same-length-2 c = search needs
@@ -59,8 +62,8 @@ returns-4 c =
     let s = p .pre .0 in
     λ labelBytes w.
     form-same
-    (statement-named (p .args .known .now) (p .args .text .now) labelBytes w (not-false _ (t .if1 .left)) (n .before .before .before .before .before .if2 .left)
-    (sym (n .before .before .before .before .is-name .ensures) ∙ not-false _ (n .before .before .before .if3 .left)))
+    (statement-named (p .args .known .now) (p .args .text .now) labelBytes w (not-false _ (t .if1 .left))
+    (n .before .before .before .before .before .if2 .left) (sym (n .before .before .before .before .is-name .ensures) ∙ not-false _ (n .before .before .before .if3 .left)))
     (form-labelled (omega (arith, s), omega (arith, s)) (n .note-name .ensures) (c .before .before .read-form2 .result)
     (c .before .before .read-form2 .ensures))
 
