@@ -19,6 +19,8 @@ pub mod Demands
 pub mod GivenLaws
 pub mod Holding
 pub mod Invariant
+pub mod KindLaws
+pub mod Kinds
 pub mod Literals
 pub mod NumberBounds
 pub mod NumeralLaws
@@ -43,5 +45,6 @@ pub mod TableReading
 pub mod Yielding
 pub mod YieldingForms
 pub mod YieldingNumeric
+pub mod YieldingRoles
 pub mod YieldingStrings
 pub mod YieldingWords
