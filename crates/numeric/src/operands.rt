@@ -193,15 +193,7 @@ pub fn read_part(
         Place::Broken => Operand::Broken,
         Place::Got(place, d) => {
             if stands_at(text, d.at, b'$') {
-                return read_bound(
-                    text,
-                    known,
-                    keys,
-                    tags,
-                    skip(d, 1),
-                    kind + 1,
-                    place,
-                );
+                return read_bound(text, known, keys, tags, skip(d, 1), kind + 1, place);
             }
             Operand::Got(
                 Cell {
