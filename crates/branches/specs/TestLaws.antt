@@ -10,8 +10,9 @@ use Rattle.base.specs.Current.{current}
 use Rattle.base.specs.ListLaws.{begins-room}
 use Rattle.base.specs.Lists.{begins}
 use Rattle.base.specs.Text.{bytes}
+use Rattle.calls.specs.Kinds.{parts, nullKind, numericKind, compareKind}
 use Rattle.calls.specs.Table as Table
-use Rattle.calls.specs.Table.{partCell, operandCell, comparisonNumber, testRow, noCell}
+use Rattle.calls.specs.Table.{partCell, operandCell, comparisonNumber, rowOf, noCell}
 use Rattle.cards.specs.Bytes.{isDigit}
 use Rattle.language.specs.Numeric.{calledOrNumber, comparison, ifOperand, test}
 use Rattle.language.specs.Program as Program
@@ -126,15 +127,17 @@ module _ (p : Places) (a : Program.Operand) where
 
     pub compared-got : (left right : Cell) {keys tags : List ℕ} {k t : List ℕ} {d : Cursor} → operandCell a ≡ meaning left
         → Gets operandCell (meaning right) text keys tags b (ifOperand current p (drop (b .at) text)) k t d
-        → Gets testAlone (Table.row 7 (r .number) 0 0 (meaning left) (meaning right)) text keys tags c (comparedTo p a (drop (c .at) text)) k t d
-    unfolding testRow
+        → Gets testAlone (Table.row (compareKind .number) (r .number) 0 0 (meaning left) (meaning right)) text keys tags c
+        (comparedTo p a (drop (c .at) text)) k t d
+    unfolding rowOf
     compared-got left right {keys} {tags} {k} {t} {d} e g =
-        let row = Table.row 7 (r .number) 0 0 (meaning left) (meaning right) in
+        let compare : ℕ → Table.Cell → Table.Cell → Table.Row = λ n x y. Table.row (compareKind .number) n 0 0 x y in
+        let row = compare (r .number) (meaning left) (meaning right) in
         subst (λ y. Gets testAlone row text keys tags c y k t d) (sym compared-is)
         (gets-skip (r .size) (skipped c (r .size) m)
         (gets-give _ testAlone row (compares a (s .which) (g .value)) g refl
-        (ap (λ n. Table.row 7 n 0 0 (operandCell a) (operandCell (g .value))) (s .made)
-        ∙ ap₂ (λ (x y : Table.Cell). Table.row 7 (r .number) 0 0 x y) e (g .made))))
+        (ap (λ n. compare n (operandCell a) (operandCell (g .value))) (s .made)
+        ∙ ap₂ (λ (x y : Table.Cell). compare (r .number) x y) e (g .made))))
 
 -- a draft behind another reading
 pub draft-then : {A B C : Type 0} {f : A → C} {v : C} (h : B → Table.Row) {text keys tags : List ℕ} {c : Cursor} {x : Read A} {k t : List ℕ}
@@ -182,24 +185,25 @@ module _ {A : Type 0} {f : A → Table.Cell} (g : A → Test) (kind : ℕ) (same
 module _ (p : Places) {text keys tags : List ℕ} {c : Cursor} {k t : List ℕ} where
   pub test-null : {d : Cursor} → d ≡ moved c 5 → begins (bytes "NULL(") (drop (c .at) text) ≡ true → (q : Place)
       → PlaceRead text keys tags d (stringName current p (roleOf 0) (drop (d .at) text)) q k t
-      → DraftRead testAlone text keys tags c (test current p (drop (c .at) text)) (testedBy text 5 (placedIn 1 0 q)) k t
-  unfolding test testRow roleOf noRole
+      → DraftRead testAlone text keys tags c (test current p (drop (c .at) text)) (testedBy text (nullKind .number) (placedIn parts 0 q)) k t
+  unfolding test rowOf partCell roleOf noRole
   test-null s e q a =
       let closes : List ℕ → Read Test =
       λ l. stringName current p noRole l >>= λ (s, rest). skip (bytes ")") rest >>= λ (_, rest). give (isNull s) rest in
       draft-same (chosen _ _ e ∙ ap closes (sym (drop-moved text c 5 s)))
-      (tested-cell isNull 5 (λ _. refl) (placedIn 1 0 q) (cell-skip 5 (placedIn 1 0 q) (skipped c 5 s) (place-cell 1 0 q a)))
+      (tested-cell isNull (nullKind .number) (λ _. refl) (placedIn parts 0 q)
+      (cell-skip 5 (placedIn parts 0 q) (skipped c 5 s) (place-cell parts 0 q a)))
 
   pub test-numeric : {d : Cursor} → d ≡ moved c 8 → begins (bytes "NULL(") (drop (c .at) text) ≡ false
       → begins (bytes "NUMERIC(") (drop (c .at) text) ≡ true → (q : Operand)
-      → CellRead (partCell 0) text keys tags d (partName current p (roleOf 0) (drop (d .at) text)) q k t
-      → DraftRead testAlone text keys tags c (test current p (drop (c .at) text)) (testedBy text 6 q) k t
-  unfolding test testRow roleOf noRole
+      → CellRead (partCell parts) text keys tags d (partName current p (roleOf 0) (drop (d .at) text)) q k t
+      → DraftRead testAlone text keys tags c (test current p (drop (c .at) text)) (testedBy text (numericKind .number) q) k t
+  unfolding test rowOf roleOf noRole
   test-numeric s e₁ e q a =
       let closes : List ℕ → Read Test =
       λ l. partName current p noRole l >>= λ (s, rest). skip (bytes ")") rest >>= λ (_, rest). give (isNumeric s) rest in
       draft-same (chosen _ _ e₁ ∙ chosen _ _ e ∙ ap closes (sym (drop-moved text c 8 s)))
-      (tested-cell isNumeric 6 (λ _. refl) q (cell-skip 8 q (skipped c 8 s) a))
+      (tested-cell isNumeric (numericKind .number) (λ _. refl) q (cell-skip 8 q (skipped c 8 s) a))
 
   pub test-compares : begins (bytes "NULL(") (drop (c .at) text) ≡ false → begins (bytes "NUMERIC(") (drop (c .at) text) ≡ false → (r : Draft)
       → DraftRead testAlone text keys tags c (comparingAt p (drop (c .at) text)) r k t

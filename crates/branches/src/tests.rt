@@ -207,7 +207,15 @@ pub fn read_test(
         return tested(
             text,
             step_kinds::NUMERIC,
-            read_part(text, known, keys, tags, skip(c, 8), 0, STRING),
+            read_part(
+                text,
+                known,
+                keys,
+                tags,
+                skip(c, 8),
+                cell_kinds::STRING,
+                STRING,
+            ),
         );
     }
     comparing(text, known, keys, tags, c)

@@ -31,7 +31,8 @@ use Rattle.calls.specs.Literals.{TextWhole, entries-whole}
 use Rattle.calls.specs.Rules.{statementHolds, stepHolds, isProgram}
 use Rattle.calls.specs.Table.{elementsOf, itemsOf, allElements, allItems, allLiterals}
 use Rattle.calls.specs.Yielding.{viewOf, Fit}
-use Rattle.calls.specs.YieldingForms.{FormedOrNone, Distinct, literals-append, statement-yields}
+use Rattle.calls.specs.YieldingForms.{FormedOrNone, literals-append, statement-yields}
+use Rattle.calls.specs.YieldingRoles.{Distinct}
 
 -- names that stand at one place in a list are equal
 index-injective : (ws : List (List ℕ)) (m n : List ℕ) → any (same m) ws ≡ true → any (same n) ws ≡ true → indexOf m ws ≡ indexOf n ws

@@ -37,8 +37,8 @@ use Rattle.calls.specs.Holding.{Holding}
 use Rattle.calls.specs.Invariant.{Sound, returns-enough, next-sound, step-sound, fresh-sound}
 use Rattle.calls.specs.ProgramLaws.{Runs, statement-holds, program-runs}
 use Rattle.calls.specs.Numerals.{bias}
-use Rattle.calls.specs.RuleLaws.{scan-parts}
-use Rattle.calls.specs.Rules.{lengthHolds, elementHolds, patternHolds, statementHolds, placeOf, isProgram, keepsRules}
+use Rattle.calls.specs.RuleLaws.{scan-parts, lengthHolds, fixed-holds}
+use Rattle.calls.specs.Rules.{patternHolds, statementHolds, placeOf, namedBy, isAmong, rolesHold, isProgram, keepsRules}
 use Rattle.calls.specs.ScanLaws.{concluded-scans}
 use Rattle.calls.specs.RunLaws.{call-numbers, run-same, run-left, small-run}
 use Rattle.calls.specs.StartLaws.{read-accepted, read-short, read-tabled, startedWith, started-small, started-holds}
@@ -54,24 +54,18 @@ null-apart s place m h =
     getD-set-other (m .strings) s place [] [] (λ q. eqb-false s place (not-true (eqb s place) h) (sym q))
 
 -- fillers made null leave a string that is none of them
-fillers-apart : (e : Edition) (strings numbers steps place : ℕ) (xs : List PatternElement) (m : Memory)
-    → all (patternHolds e strings numbers steps place) xs ≡ true → stringAt (withoutFillers xs m) place ≡ stringAt m place
-unfolding all patternHolds withoutFillers stringAt withString
-fillers-apart e strings numbers steps place [] m h = refl
-fillers-apart e strings numbers steps place (value x ∷ xs) m h =
-    fillers-apart e strings numbers steps place xs m
-    (both-true (elementHolds e strings numbers steps x) (all (patternHolds e strings numbers steps place) xs) h .1)
-fillers-apart e strings numbers steps place (freeFiller s ∷ xs) m h =
-    let both = and-eq-true-iff (ltb s strings && not (eqb s place)) (all (patternHolds e strings numbers steps place) xs) .0 h in
-    let apart = and-eq-true-iff (ltb s strings) (not (eqb s place)) .0 (both .0) .1 in
-    fillers-apart e strings numbers steps place xs (withString m s []) (both .1) ∙ null-apart s place m apart
-fillers-apart e strings numbers steps place (fixedFiller s n ∷ xs) m h =
-    let length = lengthHolds e strings numbers steps n in
-    let both =
-    and-eq-true-iff (ltb s strings && (not (eqb s place) && length)) (all (patternHolds e strings numbers steps place) xs) .0 h in
-    let inner = and-eq-true-iff (ltb s strings) (not (eqb s place) && length) .0 (both .0) .1 in
-    let apart = and-eq-true-iff (not (eqb s place)) length .0 inner .0 in
-    fillers-apart e strings numbers steps place xs (withString m s []) (both .1) ∙ null-apart s place m apart
+fillers-apart : (place : ℕ) (fs : List ℕ) (xs : List PatternElement) (m : Memory) → rolesHold place fs xs ≡ true
+    → stringAt (withoutFillers xs m) place ≡ stringAt m place
+unfolding rolesHold withoutFillers stringAt withString
+fillers-apart place fs [] m h = refl
+fillers-apart place fs (value x ∷ xs) m h =
+    fillers-apart place fs xs m (both-true (not (isAmong fs (namedBy x))) (rolesHold place fs xs) h .1)
+fillers-apart place fs (freeFiller s ∷ xs) m h =
+    let both = both-true (not (eqb s place)) (rolesHold place (s ∷ fs) xs) h in
+    fillers-apart place (s ∷ fs) xs (withString m s []) (both .1) ∙ null-apart s place m (both .0)
+fillers-apart place fs (fixedFiller s n ∷ xs) m h =
+    let both = both-true (not (eqb s place)) (rolesHold place (s ∷ fs) xs) h in
+    fillers-apart place (s ∷ fs) xs (withString m s []) (both .1) ∙ null-apart s place m (both .0)
 
 -- a null string stays null when another, or the same, is made null
 null-with : (s t : ℕ) (m : Memory) → stringAt m s ≡ [] → stringAt (withString m t []) s ≡ []
@@ -94,7 +88,7 @@ null-stays s (freeFiller t ∷ xs) m h = null-stays s xs (withString m t []) (nu
 null-stays s (fixedFiller t n ∷ xs) m h = null-stays s xs (withString m t []) (null-with s t m h)
 
 -- a filler of a pattern is made null
-module _ (e : Edition) (strings numbers steps place : ℕ) where
+module _ (e : Edition) (strings numbers steps : ℕ) where
   made-null : (s t : ℕ) (xs : List PatternElement) (m : Memory) → s ≡ t → t < length (m .strings)
       → stringAt (withoutFillers xs (withString m t [])) s ≡ []
   unfolding stringAt withString
@@ -102,21 +96,26 @@ module _ (e : Edition) (strings numbers steps place : ℕ) where
       subst (λ (i : ℕ). stringAt (withoutFillers xs (withString m t [])) i ≡ []) (sym same)
       (null-stays t xs (withString m t []) (getD-set-same (m .strings) t [] [] inside))
 
+  free-holds : (t : ℕ) → patternHolds e strings numbers steps (freeFiller t) ≡ true → ltb t strings ≡ true
+  unfolding patternHolds
+  free-holds t h = h
+
   filler-null : (s : ℕ) (xs : List PatternElement) (m : Memory) → strings ≤ length (m .strings)
-      → all (patternHolds e strings numbers steps place) xs ≡ true → IsFiller s xs → stringAt (withoutFillers xs m) s ≡ []
-  unfolding all patternHolds withoutFillers withString IsFiller
+      → all (patternHolds e strings numbers steps) xs ≡ true → IsFiller s xs → stringAt (withoutFillers xs m) s ≡ []
+  unfolding all withoutFillers withString IsFiller
   filler-null s [] m enough h f = absurd f
   filler-null s (value x ∷ xs) m enough h f =
-      filler-null s xs m enough (both-true (elementHolds e strings numbers steps x) (all (patternHolds e strings numbers steps place) xs) h .1) f
+      filler-null s xs m enough
+      (both-true (patternHolds e strings numbers steps (value x)) (all (patternHolds e strings numbers steps) xs) h .1) f
   filler-null s (freeFiller t ∷ xs) m enough h f =
-      let both = both-true (ltb t strings && not (eqb t place)) (all (patternHolds e strings numbers steps place) xs) h in
-      let inside = ltb-true t strings (both-true (ltb t strings) (not (eqb t place)) (both .0) .0) in
+      let both = both-true (patternHolds e strings numbers steps (freeFiller t)) (all (patternHolds e strings numbers steps) xs) h in
+      let inside = ltb-true t strings (free-holds t (both .0)) in
       ⊎-elim (λ same. made-null s t xs m same (omega arith))
       (λ later. filler-null s xs (withString m t []) (omega (arith, length-set (m .strings) t [])) (both .1) later) f
   filler-null s (fixedFiller t n ∷ xs) m enough h f =
-      let others = not (eqb t place) && lengthHolds e strings numbers steps n in
-      let both = both-true (ltb t strings && others) (all (patternHolds e strings numbers steps place) xs) h in
-      let inside = ltb-true t strings (both-true (ltb t strings) others (both .0) .0) in
+      let both = both-true (patternHolds e strings numbers steps (fixedFiller t n)) (all (patternHolds e strings numbers steps) xs) h in
+      let length = lengthHolds e strings numbers steps n in
+      let inside = ltb-true t strings (both-true (ltb t strings) length (sym (fixed-holds e strings numbers steps t n) ∙ both .0) .0) in
       ⊎-elim (λ same. made-null s t xs m same (omega arith))
       (λ later. filler-null s xs (withString m t []) (omega (arith, length-set (m .strings) t [])) (both .1) later) f
 
@@ -165,7 +164,7 @@ module _ (e : Edition) (limit : e .limit < bias) (wide : longestString ≤ e .li
         let steps = length (p .steps) in
         let holds = statement-holds e (p .strings) (p .numbers) steps (p .steps) (c .next) (runs .hold) in
         let scan-holds = subst (λ (x : Program.Statement). statementHolds e (p .strings) (p .numbers) steps x ≡ true) is holds in
-        let patterns = scan-parts e (p .strings) (p .numbers) steps d q xs r f scan-holds .patterns in
+        let parts = scan-parts e (p .strings) (p .numbers) steps d q xs r f scan-holds in
         let few : p .strings ≤ 32 =
         subst (λ (x : Program). x .strings ≤ 32) (t .reads) (in-range e (programIn table) (keeps-image e table (t .keeps) .0) .strings) in
         let enough : p .strings ≤ length (c .memory .strings) = omega (arith, s .memory .strings) in
@@ -173,10 +172,10 @@ module _ (e : Edition) (limit : e .limit < bias) (wide : longestString ≤ e .li
           fillers =
               λ i filler.
               ap (λ (x : Memory). stringAt x i) left
-              ∙ filler-null e (p .strings) (p .numbers) steps (placeOf q) i xs (c .memory) enough patterns filler;
+              ∙ filler-null e (p .strings) (p .numbers) steps i xs (c .memory) enough (parts .patterns) filler;
           reference =
               ap (λ (x : Memory). stringAt x (placeOf q)) left
-              ∙ fillers-apart e (p .strings) (p .numbers) steps (placeOf q) xs (c .memory) patterns;
+              ∙ fillers-apart (placeOf q) [] xs (c .memory) (parts .roles);
         }
 
     -- the claim of a step on such buffers

@@ -30,8 +30,8 @@ use Rattle.values.specs.Numbers.{isNegative}
 use Rattle.values.specs.Work.{Work, done, stop, quietly, stopsStep}
 use Rattle.calls.specs.NumberBounds.{expression-ranged, test-ends}
 use Rattle.calls.specs.ProgramLaws.{Runs, statement-holds, step-behind, first-step}
-use Rattle.calls.specs.RuleLaws.{scan-parts, number-parts, branch-inside}
-use Rattle.calls.specs.Rules.{partHolds, branchHolds, testHolds, statementHolds}
+use Rattle.calls.specs.RuleLaws.{scan-parts, number-parts, branch-inside, test-parts}
+use Rattle.calls.specs.Rules.{partHolds, branchHolds, statementHolds}
 
 -- every step, held return, string, number, and the places in input and output, are in range
 pub record Sound (e : Edition) (p : Program) (lent : ℕ) (input : List ℕ) (c : State) : Type 0 where
@@ -192,8 +192,7 @@ module _ (e : Edition) (wide : longestString ≤ e .limit) (p : Program) (runs :
   carrying-sound c (goto j) k h behind returns = ends (going-sound c j (c .memory) k (ltb-true _ _ h) (k .memory))
   carrying-sound c finish k h behind returns = ends (status-sound c finished k)
   carrying-sound c (ifTest t b) k h behind returns =
-      let test = testHolds e (p .strings) (p .numbers) (length (p .steps)) t in
-      let both = and-eq-true-iff test (branchHolds e (p .strings) (p .numbers) (length (p .steps)) b) .0 h in
+      let both = test-parts e (p .strings) (p .numbers) (length (p .steps)) t b h in
       ends-bind (test-ends e wide (p .strings) (p .numbers) (length (p .steps)) (c .memory) (k .memory) t (both .0))
       (λ r _. ends (going-sound c (chosen r b) (c .memory) k (chosen-inside r b (inside-of b (both .1))) (k .memory)))
   carrying-sound c (Program.scan d q xs r b) k h behind returns =

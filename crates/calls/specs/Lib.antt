@@ -20,6 +20,8 @@ pub mod Demands
 pub mod GivenLaws
 pub mod Holding
 pub mod Invariant
+pub mod KindLaws
+pub mod Kinds
 pub mod Literals
 pub mod NumberBounds
 pub mod NumeralLaws
@@ -45,5 +47,6 @@ pub mod TurnedDownLaws
 pub mod Yielding
 pub mod YieldingForms
 pub mod YieldingNumeric
+pub mod YieldingRoles
 pub mod YieldingStrings
 pub mod YieldingWords

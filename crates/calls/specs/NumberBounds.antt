@@ -24,7 +24,8 @@ use Rattle.values.specs.Conversion as Conversion
 use Rattle.values.specs.Conversion.{longestString, signedBy, decimal, unsignedPart}
 use Rattle.values.specs.Numbers.{isInRange, held, sum, difference, product, quotient}
 use Rattle.values.specs.Work.{quietly, stopsStep}
-use Rattle.calls.specs.Rules.{operandHolds, itemHolds, testHolds}
+use Rattle.calls.specs.RuleLaws.{testHolds}
+use Rattle.calls.specs.Rules.{operandHolds, itemHolds}
 
 -- a number in the range of the edition
 abbrev pub Ranged : Edition → ℤ → Type 0
@@ -98,7 +99,7 @@ module _ (e : Edition) (wide : longestString ≤ e .limit) (strings numbers step
 
   item-known : (known : List ℤ) (x : Item) → itemHolds e strings numbers steps x ≡ true → Known e known
       → Ends (Known e) (itemIn e m known x)
-  unfolding itemHolds itemIn quietly
+  unfolding itemHolds operandHolds itemIn quietly
   item-known known (operand a) h k = ends-bind (operand-ranged a h) (λ z g. ends (known-cons e z known g k))
   item-known known (operator o) h k = combined-known e o known k
   item-known known (sign s) h k = ends (sign-known e s known k)

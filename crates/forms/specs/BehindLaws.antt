@@ -18,8 +18,9 @@ use Rattle.base.specs.Lists.{all, any, begins, total}
 use Rattle.base.specs.Text.{bytes}
 use Rattle.branches.specs.Places.{numberIn}
 use Rattle.branches.specs.declared.Row.{Row}
+use Rattle.calls.specs.Kinds.{numberKind, rangeNumber, setNumberKind}
 use Rattle.calls.specs.Table as Table
-use Rattle.calls.specs.Table.{range, rangeCell, rowOf, itemsOf, elementsOf, allLiterals}
+use Rattle.calls.specs.Table.{range, rangeCell, operandCell, rowOf, itemsOf, elementsOf, allLiterals}
 use Rattle.language.specs.Forms.{stepEnd, noStepEnd, withoutUnit, setsNumber, replacement, programForm, numberForm, formOf, statementForm}
 use Rattle.language.specs.Fuel.{expressionFrom, numeric-from}
 use Rattle.language.specs.Keywords as Keywords
@@ -140,7 +141,14 @@ module _ (known : List ℕ) (place : ℕ) where
 
   abbrev pub numberRow : Cell → Row
   numberRow right =
-      record { kind = 1; flag = 0; success = 0; failure = 0; left = record { kind = 5; place = place; value = 0 }; right = right }
+      record {
+        kind = setNumberKind .number;
+        flag = 0;
+        success = 0;
+        failure = 0;
+        left = record { kind = numberKind .number; place = place; value = 0 };
+        right = right;
+      }
 
   module _ {text table keys tags : List ℕ} {c : Cursor} {t k g : List ℕ} {d : Cursor}
       (a : GetsItems [] text table keys tags c (expressionFrom current (placesIn known) 0 (drop (c .at) text)) t k g d) where
@@ -155,7 +163,7 @@ module _ (known : List ℕ) (place : ℕ) where
     pub assigned-case : (right : Cell) → right ≡ rangeIn (c .items) (d .items - c .items) 0 → (b : Bool) → ltb (d .at) (length text) ≡ b
         → FormAt (assignedTo known place (drop (c .at) text)) text table keys tags c
         (elim b [ true ↦ FormCode.the-variants.Broken | false ↦ FormCode.the-variants.Step (numberRow right) d ]) t k g
-    unfolding meeting give itemsIn elementsIn itemsOf elementsOf allLiterals withElements any total rowOf rangeCell range Table.row Table.cell
+    unfolding meeting give itemsIn elementsIn itemsOf elementsOf allLiterals withElements any total rowOf operandCell rangeCell range Table.row
     assigned-case right e true h =
         record { answer = assigned-is broken (step-not text (d .at) (ltb-true (d .at) (length text) h) (setNumber place (a .items))) }
     assigned-case right e false h =
@@ -163,13 +171,14 @@ module _ (known : List ℕ) (place : ℕ) where
         let s = setNumber place (a .items) in
         let met = metIn (a .entries) (length (a .items)) [] 0 in
         let count : d .items - c .items ≡ length (a .items) = omega (arith, a .goes .items) in
+        let sets : Table.Cell → Table.Row = Table.row (setNumberKind .number) 0 0 0 (Table.cell (numberKind .number) place 0) in
         record {
           answer =
               record {
                 statement = s;
                 made =
-                    ap (λ (v : Cell). Table.row 1 0 0 0 (Table.cell 5 place 0) (meaning v)) e
-                    ∙ ap (λ n. Table.row 1 0 0 0 (Table.cell 5 place 0) (Table.cell 22 0 (c .items + 65_536 * (n + 65_536 * 0)))) count;
+                    ap (λ (v : Cell). sets (meaning v)) e
+                    ∙ ap (λ n. sets (Table.cell rangeNumber 0 (c .items + 65_536 * (n + 65_536 * 0)))) count;
                 formed =
                     record {
                       entries = a .entries;

@@ -15,6 +15,7 @@ use Rattle.branches.specs.Rows.{rowMeaning}
 use Rattle.branches.specs.declared.Draft as DraftCode
 use Rattle.branches.specs.declared.Draft.{Draft}
 use Rattle.branches.specs.declared.Row.{Row}
+use Rattle.calls.specs.Kinds.{rangeNumber, replaceKind}
 use Rattle.calls.specs.Table as Table
 use Rattle.calls.specs.Table.{replacementOf, range, rangeCell}
 use Rattle.language.specs.Forms.{branch, branchIfAny, replacementIfAny}
@@ -161,7 +162,7 @@ shown-size false xs = length-map xs value
 -- a row of elements, and the range it has
 pub drawn-row : {A : Type 0} {f : List A → List PatternElement} (sized : (xs : List A) → length (f xs) ≡ length xs) {y : Read (List A)}
     {text table keys tags : List ℕ} (row : Row) {c : Cursor} {row′ : Row} {cell : _} {t k g : List ℕ} {d : Cursor}
-    → GetsRow f text table keys tags c y t k g d → row′ ≡ rightIn row (row .flag) cell → cell ≡ rangeIn (c .elements) (d .elements - c .elements) 0
+    → GetsRow f text table keys tags c y t k g d → row′ ≡ rightIn row (row .kind) cell → cell ≡ rangeIn (c .elements) (d .elements - c .elements) 0
     → Drawn y (λ xs. withRange (c .elements) xs) f text table keys tags row c row′ t k g d
 unfolding rangeCell range Table.cell Table.row
 drawn-row sized row {c} {d = d} a put made =
@@ -173,11 +174,11 @@ drawn-row sized row {c} {d = d} a put made =
       gets = a .gets;
       made =
           ap rowMeaning put
-          ∙ ap (λ v. rowMeaning (rightIn row (row .flag) v)) made
+          ∙ ap (λ v. rowMeaning (rightIn row (row .kind) v)) made
           ∙ ap
           (λ n.
           Table.row (row .kind) (row .flag) (row .success) (row .failure) (meaning (row .left))
-          (Table.cell 22 0 (c .elements + 65_536 * (n + 65_536 * 0))))
+          (Table.cell rangeNumber 0 (c .elements + 65_536 * (n + 65_536 * 0))))
           count;
     }
 
@@ -198,10 +199,10 @@ module _ (known text : List ℕ) (at : ℕ) where
       → replacementAt known text at ≡ broken
   replaced-broken e h = replacement-is e ∙ then-broken _ h
 
-module _ (known : List ℕ) (direction from : ℕ) {text table keys tags : List ℕ} {row : Row} {c : Cursor} where
+module _ (known : List ℕ) (from : ℕ) {text table keys tags : List ℕ} {row : Row} {c : Cursor} where
   pub replaced-not : Ready text keys tags c → begins (61 ∷ []) (drop (c .at) text) ≡ false
-      → Drawn (replacementAt known text (c .at)) (withReplacement direction from (c .elements)) (λ o. map value (replacementOf o)) text table keys tags row c row table keys
-      tags c
+      → Drawn (replacementAt known text (c .at)) (withReplacement from (c .elements)) (λ o. map value (replacementOf o)) text table
+      keys tags row c row table keys tags c
   unfolding replacementIfAny bytes total replacementOf
   replaced-not ready e =
       record {
@@ -216,8 +217,9 @@ module _ (known : List ℕ) (direction from : ℕ) {text table keys tags : List 
 
   pub replaced-got : begins (61 ∷ []) (drop (c .at) text) ≡ true → {row′ : Row} {cell : _} {t k g : List ℕ} {d : Cursor}
       → GetsRow (map value) text table keys tags (moved c 1) (stringExpression current (placesIn known) (drop (c .at + 1) text)) t k g d
-      → row′ ≡ rightIn row (direction + 2) cell → cell ≡ rangeIn from (c .elements - from) (d .elements - c .elements)
-      → Drawn (replacementAt known text (c .at)) (withReplacement direction from (c .elements)) (λ o. map value (replacementOf o)) text table keys tags row c row′ t k g d
+      → row′ ≡ rightIn row (replaceKind .number) cell → cell ≡ rangeIn from (c .elements - from) (d .elements - c .elements)
+      → Drawn (replacementAt known text (c .at)) (withReplacement from (c .elements)) (λ o. map value (replacementOf o)) text table
+      keys tags row c row′ t k g d
   unfolding replacementOf rangeCell range Table.cell Table.row
   replaced-got e {row′} {cell} {t} {k} {g} {d} a put made =
       let count : d .elements - c .elements ≡ length (a .values) = omega (arith, a .size) in
@@ -232,11 +234,11 @@ module _ (known : List ℕ) (direction from : ℕ) {text table keys tags : List 
             (elements-give (elements-skip 1 (skipped c 1 refl) (a .gets)) _ (some (a .values)) refl);
         made =
             ap rowMeaning put
-            ∙ ap (λ v. rowMeaning (rightIn row (direction + 2) v)) made
+            ∙ ap (λ v. rowMeaning (rightIn row (replaceKind .number) v)) made
             ∙ ap
             (λ n.
-            Table.row (row .kind) (direction + 2) (row .success) (row .failure) (meaning (row .left))
-            (Table.cell 22 0 (from + 65_536 * (c .elements - from + 65_536 * n))))
+            Table.row (replaceKind .number) (row .flag) (row .success) (row .failure) (meaning (row .left))
+            (Table.cell rangeNumber 0 (from + 65_536 * (c .elements - from + 65_536 * n))))
             count;
       }
 

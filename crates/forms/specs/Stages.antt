@@ -13,6 +13,7 @@ use Rattle.branches.specs.Tests.{testAlone}
 use Rattle.branches.specs.declared.Draft as DraftCode
 use Rattle.branches.specs.declared.Draft.{Draft}
 use Rattle.branches.specs.declared.Row.{Row}
+use Rattle.calls.specs.Kinds.{parts}
 use Rattle.calls.specs.Table as Table
 use Rattle.calls.specs.Table.{partCell, replacementOf}
 use Rattle.language.specs.Forms.{branch, branchIfAny, replacementIfAny}
@@ -85,7 +86,7 @@ TargetStage text known keys tags tag = NamesStage (targetIn known tag) (λ s. wi
 
 abbrev pub PartStage : (text known keys tags : List ℕ) (tag : ℕ) (r q : Draft) (keys′ tags′ : List ℕ) → Type 0
 PartStage text known keys tags tag =
-    NamesStage (partName current (placesIn known) (roleOf (tag / 16))) (λ p. withLeft (partCell 0 p)) text keys tags
+    NamesStage (partName current (placesIn known) (roleOf (tag / 16))) (λ p. withLeft (partCell parts p)) text keys tags
 
 abbrev pub TestStage : (text known keys tags : List ℕ) (r q : Draft) (keys′ tags′ : List ℕ) → Type 0
 TestStage text known = NamesStage (test current (placesIn known)) (λ t _. testAlone t) text
@@ -99,7 +100,7 @@ BranchIfAnyStage text known = NamesStage (branchIfAny current (numberIn known) (
 abbrev pub RowStage : (text known : List ℕ) (b : Bool) (table keys tags : List ℕ) (r q : Draft) (table′ keys′ tags′ : List ℕ) → Type 0
 RowStage text known b = StageRead (readRow b (placesIn known)) (λ n xs. withRange n xs) (shownRow b) text
 
-abbrev pub ReplacedStage : (text known table keys tags : List ℕ) (from direction : ℕ) (r q : Draft) (table′ keys′ tags′ : List ℕ) → Type 0
-ReplacedStage text known table keys tags from direction =
-    StageRead (replacementIfAny current (numberIn known) (placesIn known)) (λ n o. withReplacement direction from n o)
+abbrev pub ReplacedStage : (text known table keys tags : List ℕ) (from : ℕ) (r q : Draft) (table′ keys′ tags′ : List ℕ) → Type 0
+ReplacedStage text known table keys tags from =
+    StageRead (replacementIfAny current (numberIn known) (placesIn known)) (λ n o. withReplacement from n o)
     (λ o. map value (replacementOf o)) text table keys tags

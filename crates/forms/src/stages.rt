@@ -10,6 +10,7 @@ use branches::read_target;
 use branches::tests::read_test;
 use calls::RANGE_STEP;
 use calls::cell_kinds;
+use calls::step_kinds;
 use met::Cursor;
 use met::KNOWN;
 use met::NAMES;
@@ -85,13 +86,13 @@ fn with_left(row: Row, left: Cell) -> Row
     }
 }
 
-pub fn with_right(row: Row, flag: u8, right: Cell) -> Row
-    ensures { λ r. ⌜ r ≡ rightIn row flag right ⌝ }
+pub fn with_right(row: Row, kind: u8, right: Cell) -> Row
+    ensures { λ r. ⌜ r ≡ rightIn row kind right ⌝ }
 {
     let left = row.left;
     Row {
-        kind: row.kind,
-        flag,
+        kind,
+        flag: row.flag,
         success: row.success,
         failure: row.failure,
         left,
@@ -166,7 +167,7 @@ pub fn left_part(
 {
     match r {
         Draft::Broken => Draft::Broken,
-        Draft::Got(row, c) => match read_part(text, known, keys, tags, c, 0, tag) {
+        Draft::Got(row, c) => match read_part(text, known, keys, tags, c, cell_kinds::STRING, tag) {
             Operand::Broken => Draft::Broken,
             Operand::Got(left, d) => Draft::Got(with_left(row, left), d),
         },
@@ -260,13 +261,13 @@ pub fn right_row(
             Outcome::Broken => Draft::Broken,
             Outcome::Got(d) => {
                 let right = range_cell(c.elements, d.elements - c.elements, 0);
-                Draft::Got(with_right(row, row.flag, right), d)
+                Draft::Got(with_right(row, row.kind, right), d)
             }
         },
     }
 }
 
-// the replacement of a SCAN, if it has `=`: behind the elements of its pattern, which stand from a place on
+// the replacement of a SCAN, if it has `=`: behind the elements of its pattern, which stand from a place on; its row has a kind of its own
 pub fn replaced(
     text: &[u8],
     known: &[u64; KNOWN],
@@ -275,13 +276,11 @@ pub fn replaced(
     tags: &mut [u8; NAMES],
     r: Draft,
     from: usize,
-    direction: u8,
 ) -> Draft
     requires { ⌜ Following (now text) (now keys) (now tags) from r ⌝ }
     requires { ⌜ Counted (now known) ⌝ }
     requires { ⌜ tableSize ≤ length (now table) ⌝ }
-    requires { ⌜ direction < 3 ⌝ }
-    ensures { λ q. ⌜ ReplacedStage (now (text .entry)) (now (known .entry)) (now (table .entry)) (now (keys .entry)) (now (tags .entry)) from direction r q (now (table .exit)) (now (keys .exit)) (now (tags .exit)) ⌝ }
+    ensures { λ q. ⌜ ReplacedStage (now (text .entry)) (now (known .entry)) (now (table .entry)) (now (keys .entry)) (now (tags .entry)) from r q (now (table .exit)) (now (keys .exit)) (now (tags .exit)) ⌝ }
 {
     match r {
         Draft::Broken => Draft::Broken,
@@ -293,7 +292,7 @@ pub fn replaced(
                 Outcome::Broken => Draft::Broken,
                 Outcome::Got(d) => {
                     let right = range_cell(from, c.elements - from, d.elements - c.elements);
-                    Draft::Got(with_right(row, direction + 2, right), d)
+                    Draft::Got(with_right(row, step_kinds::REPLACE, right), d)
                 }
             }
         }

@@ -222,7 +222,6 @@ pub fn scan_form(
     requires { ⌜ Ready (now text) (now keys) (now tags) c ⌝ }
     requires { ⌜ Counted (now known) ⌝ }
     requires { ⌜ tableSize ≤ length (now table) ⌝ }
-    requires { ⌜ direction < 3 ⌝ }
     ensures { λ r. ⌜ ScanRead (now (text .entry)) (now (known .entry)) (now (table .entry)) (now (keys .entry)) (now (tags .entry)) c direction r (now (table .exit)) (now (keys .exit)) (now (tags .exit)) ⌝ }
 {
     let part = left_part(
@@ -237,7 +236,7 @@ pub fn scan_form(
     let sought = right_row(text, known, table, keys, tags, open, true);
     let close = marked(text, sought, b']');
     let from = c.elements;
-    let behind = replaced(text, known, table, keys, tags, close, from, direction);
+    let behind = replaced(text, known, table, keys, tags, close, from);
     ended(text, branched_if_any(text, known, keys, tags, behind))
 }
 

@@ -4,7 +4,7 @@ use mathlib.Core.Bool.{Bool, true, false}
 use mathlib.Core.List.{List, [], _∷_, _++_, append-nil, map, map-append}
 use mathlib.Core.Path.{_≡_, refl, sym, ap, ap₂, subst, _∙_}
 use Prim.Native.Nat.{ℕ, _+_, _-_, _/_, _≤_, _<_}
-use native.Mathlib.Nat.{add-zero}
+use native.Mathlib.Nat.{add-zero, add-assoc}
 use native.Mathlib.Omega.{arith}
 use lib.IntN.{pos}
 use lib.ListN.{length, take, drop, getD, length-append, length-map, length-drop}
@@ -14,11 +14,12 @@ use Rattle.base.specs.Lists.{all, begins}
 use Rattle.base.specs.ListLaws.{begins-room}
 use Rattle.base.specs.Text.{bytes}
 use Rattle.calls.specs.Table as Table
-use Rattle.calls.specs.Table.{lengthCell, partCell, operandCell}
+use Rattle.calls.specs.Kinds.{constantKind, numberKind, lengthKind, numberOfParts}
+use Rattle.calls.specs.Table.{partCell, operandCell}
 use Rattle.cards.specs.Bytes.{isDigit}
 use Rattle.language.specs.Numeric.{calledOrNumber, plainFactor}
 use Rattle.language.specs.Program as Program
-use Rattle.language.specs.Program.{constantly, numbered, whole, first, lengthOf, numberOf}
+use Rattle.language.specs.Program.{Length, constantly, numbered, whole, first, lengthOf, numberOf}
 use Rattle.calls.specs.Splices.{splice, splice-nil, splice-behind, length-splice}
 use Rattle.language.specs.Reading.{number, string, purposeNumber, Role, naming, Met, nothing, both, Read, got, broken, _>>=_, meeting, give, skip}
 use Rattle.language.specs.Words as Words
@@ -35,7 +36,7 @@ use Rattle.packer.specs.Letters.{letters, letters-on, letters-past}
 use Rattle.words.specs.Laws.{name-first, name-is, name-keys}
 use Rattle.words.specs.Places.{NameAt}
 use Rattle.numeric.specs.Operands.{Onward, moved, Skips, Ready, Noting, Gets, StringTag, Names, NameAnswer, NameRead}
-use Rattle.numeric.specs.Operands.{PlaceAnswer, PlaceRead, CellAnswer, CellRead, meaning, placedIn, ConstantRead, Inside, closedBy}
+use Rattle.numeric.specs.Operands.{PlaceAnswer, PlaceRead, CellAnswer, CellRead, meaning, placedIn, ConstantRead, lengthCell, Inside, closedBy}
 use Rattle.numeric.specs.declared.operands.Cell.{Cell}
 use Rattle.numeric.specs.declared.operands.Name as NameCode
 use Rattle.numeric.specs.declared.operands.Name.{Name}
@@ -424,6 +425,12 @@ pub chosen : {A : Type 0} {b : Bool} {test : Bool} (x y : A) → test ≡ b
     → _≡_ {A = A} (elim test [ true ↦ x | false ↦ y ]) (elim b [ true ↦ x | false ↦ y ])
 chosen {A} x y e = ap {B = A} (λ t. elim t [ true ↦ x | false ↦ y ]) e
 
+-- the first bytes of a string as a cell with a length
+pub part-length : (kind s : ℕ) (n : Length) → partCell kind (first s n) ≡ lengthCell (kind + 1) s n
+unfolding partCell lengthCell
+part-length kind s (constantly z) = refl
+part-length kind s (numbered i) = ap (λ k. Table.cell k s i) (sym (add-assoc kind 1 1))
+
 module _ (p : Places) {text keys tags : List ℕ} {c : Cursor} where
   module _ (kind place : ℕ) where
     pub bound-constant : {r : Operand} → isDigit (getD (drop (c .at) text) 0 0) ≡ true → ConstantRead text keys tags c kind place r
@@ -441,24 +448,25 @@ module _ (p : Places) {text keys tags : List ℕ} {c : Cursor} where
         (gets-give _ (lengthCell kind place) _ (numbered (a .value)) a refl (ap (Table.cell (kind + 1) place) (a .made)))
 
   -- a name or substring
-  module _ (shift : ℕ) (roles : List ℕ → List Role) {s : ℕ} {k t : List ℕ} {d : Cursor}
+  module _ (kind : ℕ) (roles : List ℕ → List Role) {s : ℕ} {k t : List ℕ} {d : Cursor}
       (a : Gets (λ j. j) s text keys tags c (stringName current p roles (drop (c .at) text)) k t d) where
     pub part-whole : begins (36 ∷ []) (drop (d .at) text) ≡ false
-        → Gets (partCell shift) (Table.cell (shift + 1) s 0) text keys tags c (partName current p roles (drop (c .at) text)) k t d
+        → Gets (partCell kind) (Table.cell kind s 0) text keys tags c (partName current p roles (drop (c .at) text)) k t d
     unfolding partName partOf partCell bytes
     part-whole e =
-        gets-give (λ (s, rest). partOf current p s rest) (partCell shift) _ (whole (a .value)) a (chosen _ _ e)
-        (ap (λ j. Table.cell (shift + 1) j 0) (a .made))
+        gets-give (λ (s, rest). partOf current p s rest) (partCell kind) _ (whole (a .value)) a (chosen _ _ e)
+        (ap (λ j. Table.cell kind j 0) (a .made))
 
     pub part-first : Ready text keys tags c → begins (36 ∷ []) (drop (d .at) text) ≡ true → (r : Operand) {b : Cursor} {k′ t′ : List ℕ}
-        → b ≡ moved d 1 → CellRead (lengthCell (shift + 2) s) text k t b (bound current p (drop (b .at) text)) r k′ t′
-        → CellRead (partCell shift) text keys tags c (partName current p roles (drop (c .at) text)) r k′ t′
+        → b ≡ moved d 1 → CellRead (lengthCell (kind + 1) s) text k t b (bound current p (drop (b .at) text)) r k′ t′
+        → CellRead (partCell kind) text keys tags c (partName current p roles (drop (c .at) text)) r k′ t′
     unfolding partName partOf partCell bytes
     part-first ready e r m b =
         let lengths : List ℕ → Read Program.Part = λ l. bound current p l >>= λ (n, rest). give (first (a .value) n) rest in
-        cell-then a (λ (s, rest). partOf current p s rest) (partCell shift) r ready
+        cell-then a (λ (s, rest). partOf current p s rest) (partCell kind) r ready
         (cell-same (chosen _ _ e ∙ ap lengths (sym (drop-moved text d 1 m)))
-        (cell-made (first (a .value)) (partCell shift) r (λ n. ap (λ j. lengthCell (shift + 2) j n) (a .made)) (cell-skip 1 r (skipped d 1 m) b)))
+        (cell-made (first (a .value)) (partCell kind) r
+        (λ n. part-length kind (a .value) n ∙ ap (λ j. lengthCell (kind + 1) j n) (a .made)) (cell-skip 1 r (skipped d 1 m) b)))
 
 module _ (p : Places) (bs : List ℕ) where
   pub bound-broken : isDigit (getD bs 0 0) ≡ false → numberName current p bs ≡ broken → bound current p bs ≡ broken
@@ -528,19 +536,20 @@ role-none = refl
 module _ (p : Places) {text keys tags : List ℕ} {c : Cursor} {k t : List ℕ} where
   pub called-length : {d : Cursor} → d ≡ moved c 7 → begins (bytes "LENGTH(") (drop (c .at) text) ≡ true → (q : Place)
       → PlaceRead text keys tags d (stringName current p (roleOf 0) (drop (d .at) text)) q k t
-      → CellRead operandCell text keys tags c (calledOrNumber current p (drop (c .at) text)) (closedBy text (placedIn 6 0 q)) k t
+      → CellRead operandCell text keys tags c (calledOrNumber current p (drop (c .at) text)) (closedBy text (placedIn (lengthKind .number) 0 q)) k t
   unfolding calledOrNumber operandCell roleOf noRole
   called-length s e q a =
       let closes : List ℕ → Read Program.Operand =
       λ l. stringName current p noRole l >>= λ (s, rest). skip (bytes ")") rest >>= λ (_, rest). give (lengthOf s) rest in
+      let cell = placedIn (lengthKind .number) 0 q in
       cell-same (chosen _ _ e ∙ ap closes (sym (drop-moved text c 7 s)))
-      (closed-cell lengthOf operandCell (λ _. refl) (placedIn 6 0 q) (cell-skip 7 (placedIn 6 0 q) (skipped c 7 s) (place-cell 6 0 q a)))
+      (closed-cell lengthOf operandCell (λ _. refl) cell (cell-skip 7 cell (skipped c 7 s) (place-cell (lengthKind .number) 0 q a)))
 
   pub called-number : {d : Cursor} → d ≡ moved c 7 → begins (bytes "LENGTH(") (drop (c .at) text) ≡ false
       → begins (bytes "NUMBER(") (drop (c .at) text) ≡ true → (q : Operand)
-      → CellRead (partCell 6) text keys tags d (partName current p (roleOf 0) (drop (d .at) text)) q k t
+      → CellRead (partCell numberOfParts) text keys tags d (partName current p (roleOf 0) (drop (d .at) text)) q k t
       → CellRead operandCell text keys tags c (calledOrNumber current p (drop (c .at) text)) (closedBy text q) k t
-  unfolding calledOrNumber operandCell roleOf noRole
+  unfolding calledOrNumber operandCell partCell roleOf noRole
   called-number s e₁ e q a =
       let closes : List ℕ → Read Program.Operand =
       λ l. partName current p noRole l >>= λ (s, rest). skip (bytes ")") rest >>= λ (_, rest). give (numberOf s) rest in
@@ -549,10 +558,11 @@ module _ (p : Places) {text keys tags : List ℕ} {c : Cursor} {k t : List ℕ} 
 
   pub called-plain : begins (bytes "LENGTH(") (drop (c .at) text) ≡ false → begins (bytes "NUMBER(") (drop (c .at) text) ≡ false → (q : Place)
       → PlaceRead text keys tags c (numberName current p (drop (c .at) text)) q k t
-      → CellRead operandCell text keys tags c (calledOrNumber current p (drop (c .at) text)) (placedIn 5 0 q) k t
+      → CellRead operandCell text keys tags c (calledOrNumber current p (drop (c .at) text)) (placedIn (numberKind .number) 0 q) k t
   unfolding calledOrNumber operandCell
   called-plain e₁ e₂ q a =
-      cell-same (chosen _ _ e₁ ∙ chosen _ _ e₂) (cell-made Program.number operandCell (placedIn 5 0 q) (λ _. refl) (place-cell 5 0 q a))
+      cell-same (chosen _ _ e₁ ∙ chosen _ _ e₂)
+      (cell-made Program.number operandCell (placedIn (numberKind .number) 0 q) (λ _. refl) (place-cell (numberKind .number) 0 q a))
 
   pub plain-called : {r : Operand} → isDigit (getD (drop (c .at) text) 0 0) ≡ false
       → CellRead operandCell text keys tags c (calledOrNumber current p (drop (c .at) text)) r k t
@@ -561,7 +571,7 @@ module _ (p : Places) {text keys tags : List ℕ} {c : Cursor} {k t : List ℕ} 
   plain-called e a = cell-same (chosen _ _ e) a
 
 module _ (p : Places) {text keys tags : List ℕ} {c : Cursor} where
-  pub plain-constant : {r : Operand} → isDigit (getD (drop (c .at) text) 0 0) ≡ true → ConstantRead text keys tags c 4 0 r
+  pub plain-constant : {r : Operand} → isDigit (getD (drop (c .at) text) 0 0) ≡ true → ConstantRead text keys tags c (constantKind .number) 0 r
       → CellRead operandCell text keys tags c (plainFactor current p (drop (c .at) text)) r keys tags
   unfolding plainFactor operandCell
   plain-constant {r} e a = cell-same (chosen _ _ e) (cell-made (λ v. Program.constant (pos v)) operandCell r (λ _. refl) a)

@@ -10,8 +10,9 @@ use Rattle.base.specs.Lists.{all, begins}
 use Rattle.calls.specs.Numerals.{biased}
 use Rattle.calls.specs.Splices.{splice}
 use Rattle.calls.specs.Table as Table
-use Rattle.calls.specs.Table.{lengthCell, partCell, operandCell}
+use Rattle.calls.specs.Table.{partCell, operandCell}
 use Rattle.language.specs.Numeric.{calledOrNumber, plainFactor}
+use Rattle.language.specs.Program.{Length, constantly, numbered}
 use Rattle.language.specs.Reading.{Read, got, broken, give}
 use Rattle.language.specs.Words as Words
 use Rattle.language.specs.Words.{unsigned, numberName, stringName, bound, partName}
@@ -140,13 +141,18 @@ abbrev pub ConstantRead : (text keys tags : List ℕ) (c : Cursor) (kind place :
 ConstantRead text keys tags c kind place r =
     CellRead (λ v. Table.cell kind place (biased (pos v))) text keys tags c (unsigned current (drop (c .at) text)) r keys tags
 
+-- a cell with a length: of a kind with the constant, or of the next one with the place of the number
+unfoldable pub lengthCell : (kind place : ℕ) → Length → Table.Cell
+lengthCell kind place (constantly z) = Table.cell kind place (biased z)
+lengthCell kind place (numbered n) = Table.cell (kind + 1) place n
+
 abbrev pub BoundRead : (text known keys tags : List ℕ) (c : Cursor) (kind place : ℕ) → Operand → (keys′ tags′ : List ℕ) → Type 0
 BoundRead text known keys tags c kind place =
     CellRead (lengthCell kind place) text keys tags c (bound current (placesIn known) (drop (c .at) text))
 
-abbrev pub PartRead : (text known keys tags : List ℕ) (c : Cursor) (shift tag : ℕ) → Operand → (keys′ tags′ : List ℕ) → Type 0
-PartRead text known keys tags c shift tag =
-    CellRead (partCell shift) text keys tags c (partName current (placesIn known) (roleOf (tag / 16)) (drop (c .at) text))
+abbrev pub PartRead : (text known keys tags : List ℕ) (c : Cursor) (kind tag : ℕ) → Operand → (keys′ tags′ : List ℕ) → Type 0
+PartRead text known keys tags c kind tag =
+    CellRead (partCell kind) text keys tags c (partName current (placesIn known) (roleOf (tag / 16)) (drop (c .at) text))
 
 abbrev pub CalledRead : (text known keys tags : List ℕ) (c : Cursor) → Operand → (keys′ tags′ : List ℕ) → Type 0
 CalledRead text known keys tags c = CellRead operandCell text keys tags c (calledOrNumber current (placesIn known) (drop (c .at) text))

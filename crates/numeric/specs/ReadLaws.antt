@@ -38,7 +38,7 @@ pub operand-written : (p : Places) (depth : ℕ) {text table keys tags : List �
     → Gets operandCell (meaning v) text keys tags c (plainFactor current p (drop (c .at) text)) k g d → {t : List ℕ} {e : Cursor}
     → PutsCell table d (meaning v) t e
     → ItemsRead [] text table keys tags c (factorFrom current p depth (drop (c .at) text)) (OutcomeCode.the-variants.Got e) t k g
-unfolding factorBy _>>=_ meeting withItems itemCell anItem metIn gather
+unfolding factorBy _>>=_ meeting withItems itemCell operandCell anItem metIn gather
 operand-written p depth {text} {table} {c = c} v {d = d} ready open′ a {t} {e} put =
     let on = put .goes in
     record {

@@ -7,6 +7,7 @@ use Prim.Native.Nat.{ℕ, _+_, _≤_}
 use lib.Dec.{eqb}
 use lib.ListN.{length, drop}
 use Rattle.base.specs.Current.{current}
+use Rattle.calls.specs.Kinds.{operatorNumber, signNumber}
 use Rattle.language.specs.Fuel.{expressionFrom, termFrom, factorFrom}
 use Rattle.language.specs.Program.{Item, operator, sign, plus, minus, times, over, positive, negative}
 use Rattle.language.specs.Reading.{Read, got, broken}
@@ -45,12 +46,13 @@ pub record ItemsRead (before : List Item) (text table keys tags : List ℕ) (c :
 
 -- the items that a kind stands for, none for 0
 unfoldable pub waiting : ℕ → List Item
+unfolding operatorNumber signNumber
 waiting kind =
-    cond (eqb kind 10) (operator plus ∷ [])
-    (cond (eqb kind 11) (operator minus ∷ [])
-    (cond (eqb kind 12) (operator times ∷ [])
-    (cond (eqb kind 13) (operator over ∷ [])
-    (cond (eqb kind 14) (sign positive ∷ []) (cond (eqb kind 15) (sign negative ∷ []) [])))))
+    cond (eqb kind (operatorNumber plus)) (operator plus ∷ [])
+    (cond (eqb kind (operatorNumber minus)) (operator minus ∷ [])
+    (cond (eqb kind (operatorNumber times)) (operator times ∷ [])
+    (cond (eqb kind (operatorNumber over)) (operator over ∷ [])
+    (cond (eqb kind (signNumber positive)) (sign positive ∷ []) (cond (eqb kind (signNumber negative)) (sign negative ∷ []) [])))))
 
 -- each reader of document 01 at the cursor
 abbrev pub ExpressionRead : (text known table keys tags : List ℕ) (c : Cursor) (depth : ℕ) → Outcome → (table′ keys′ tags′ : List ℕ) → Type 0

@@ -49,7 +49,13 @@ fn size(kind: u8) -> usize
     if kind < cell_kinds::PLUS {
         return 0;
     }
-    if kind < cell_kinds::LITERAL {
+    if kind <= cell_kinds::OVER {
+        return 1;
+    }
+    if kind < cell_kinds::POSITIVE {
+        return 0;
+    }
+    if kind <= cell_kinds::NEGATIVE {
         return 1;
     }
     0

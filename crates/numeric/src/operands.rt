@@ -175,38 +175,30 @@ pub fn read_bound(
     }
 }
 
-// a string or a substring, in a cell of kind 1 to 3 more than shift
+// a string or a substring, in a cell of this kind, or for the first bytes of one of the next two kinds
 pub fn read_part(
     text: &[u8],
     known: &[u64; KNOWN],
     keys: &mut [u64; NAMES],
     tags: &mut [u8; NAMES],
     c: Cursor,
-    shift: u8,
+    kind: u8,
     tag: u8,
 ) -> Operand
     requires { ⌜ Ready (now text) (now keys) (now tags) c ⌝ }
     requires { ⌜ Counted (now known) ⌝ }
-    requires { ⌜ (shift < 100) × StringTag tag ⌝ }
-    ensures { λ r. ⌜ PartRead (now (text .entry)) (now (known .entry)) (now (keys .entry)) (now (tags .entry)) c shift tag r (now (keys .exit)) (now (tags .exit)) ⌝ }
+    requires { ⌜ (kind < 100) × StringTag tag ⌝ }
+    ensures { λ r. ⌜ PartRead (now (text .entry)) (now (known .entry)) (now (keys .entry)) (now (tags .entry)) c kind tag r (now (keys .exit)) (now (tags .exit)) ⌝ }
 {
     match read_string(text, known, keys, tags, c, tag) {
         Place::Broken => Operand::Broken,
         Place::Got(place, d) => {
             if stands_at(text, d.at, b'$') {
-                return read_bound(
-                    text,
-                    known,
-                    keys,
-                    tags,
-                    skip(d, 1),
-                    shift + cell_kinds::FIRST,
-                    place,
-                );
+                return read_bound(text, known, keys, tags, skip(d, 1), kind + 1, place);
             }
             Operand::Got(
                 Cell {
-                    kind: shift + cell_kinds::STRING,
+                    kind,
                     place,
                     value: 0,
                 },

@@ -9,7 +9,7 @@ use Rattle.base.specs.Current.{current}
 use Rattle.base.specs.Lists.{begins}
 use Rattle.base.specs.Text.{bytes}
 use Rattle.calls.specs.Table as Table
-use Rattle.calls.specs.Table.{lengthCell, patternCell}
+use Rattle.calls.specs.Table.{patternCell}
 use Rattle.language.specs.Program as Program
 use Rattle.language.specs.Program.{Length, constantly, numbered, Element}
 use Rattle.language.specs.Reading.{Read, _>>=_, give, skip}
@@ -47,7 +47,7 @@ numberCall p bs = numberName current p bs >>= λ (i, rest). numberOrEnd p i rest
 
 -- a kind and a value are the cell of STRING with this n
 abbrev pub Standing : Length → (kind value : ℕ) → Type 0
-Standing n kind v = (m : ℕ) → lengthCell 17 m n ≡ Table.cell kind m v
+Standing n kind v = (m : ℕ) → bareCell (Program.text n m) ≡ Table.cell kind m v
 
 -- each reader at the cursor
 abbrev pub NumberEnds : (text known keys tags : List ℕ) (c : Cursor) (kind value : ℕ) → Operand → (keys′ tags′ : List ℕ) → Type 0

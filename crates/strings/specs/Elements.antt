@@ -9,6 +9,7 @@ use lib.ListN.{length, take, drop}
 use Rattle.base.specs.Current.{current, tableSize}
 use Rattle.base.specs.Limits as Limits
 use Rattle.base.specs.Lists.{any}
+use Rattle.calls.specs.Kinds.{literalKind}
 use Rattle.calls.specs.Table as Table
 use Rattle.calls.specs.Table.{allLiterals}
 use Rattle.language.specs.Program.{Element, literal, PatternElement, value}
@@ -122,7 +123,7 @@ pub record Spelt (text table : List ℕ) (c : Cursor) (n size : ℕ) (table′ :
   pub written :
       table′
       ≡ withElement (withLiterals table (c .literals) (take n (drop (c .at + 1) text))) (c .elements)
-      (Table.cell 16 0 (c .literals + 65_536 * n))
+      (Table.cell (literalKind .number) 0 (c .literals + 65_536 * n))
 
 -- one value is read, which is this element of a pattern
 pub record GetsOne {A : Type 0} (f : A → PatternElement) (text table keys tags : List ℕ) (c : Cursor) (x : Read A) (table′ keys′ tags′ : List ℕ)

@@ -15,8 +15,9 @@ use Rattle.base.specs.Limits as Limits
 use Rattle.base.specs.Lists.{any, begins}
 use Rattle.base.specs.ListLaws.{begins-iff, begins-inside}
 use Rattle.base.specs.Text.{bytes}
+use Rattle.calls.specs.Kinds.{literalKind, parts}
 use Rattle.calls.specs.Table as Table
-use Rattle.calls.specs.Table.{partCell, range, elementCell, patternCell, literalIn, allLiterals}
+use Rattle.calls.specs.Table.{partCell, range, patternCell, literalIn, allLiterals}
 use Rattle.cards.specs.Bytes.{quote}
 use Rattle.language.specs.Program.{literal, part, PatternElement, value}
 use Rattle.language.specs.Reading.{Role, Met, both, aRow, aLiteral, Read, got, broken, _>>=_, meeting, give}
@@ -66,7 +67,7 @@ pub literal-spelt : {text table keys tags : List ℕ} {c : Cursor} (n size : ℕ
     → c .at + 1 + n ≤ length text → c .at + size ≤ length text → n < size
     → literalAt (drop (c .at + 1) text) ≡ got (take n (drop (c .at + 1) text)) (aLiteral n) (drop (c .at + size) text)
     → Spelt text table c n size t d → LiteralRead text table keys tags c t d
-unfolding aLiteral metIn gather allLiterals literalIn patternCell elementCell range any
+unfolding aLiteral metIn gather allLiterals literalIn patternCell range any
 literal-spelt {text} {table} {keys} {tags} {c} n size {t} {d} ready inside end more is s =
     let w = take n (drop (c .at + 1) text) in
     let count : length w ≡ n = length-take-le n (drop (c .at + 1) text) (omega (arith, length-drop (c .at + 1) text)) in
@@ -88,7 +89,7 @@ literal-spelt {text} {table} {keys} {tags} {c} n size {t} {d} ready inside end m
                 ∙ ap₂ (λ (i j : ℕ). got w (metIn [] 0 [] i) (drop j text)) (sym all) (sym at);
             written =
                 s .written
-                ∙ ap (λ j. withElement (withLiterals table (c .literals) w) (c .elements) (Table.cell 16 0 j)) place
+                ∙ ap (λ j. withElement (withLiterals table (c .literals) w) (c .elements) (Table.cell (literalKind .number) 0 j)) place
                 ∙ sym (elements-one table (c .elements) (c .literals) (value (literal w)));
             noting = noting-none (c .names);
             goes =
@@ -223,9 +224,9 @@ module _ (p : Places) (roles : List ℕ → List Role) {text table keys tags : L
         (cell-element value table q ready (text-bare p (drop (d .at) text)) (cell-skip 7 q (skipped c 7 s) a))
 
     pub element-part : (q : Operand) {k t : List ℕ} → begins (bytes "STRING(") (drop (c .at) text) ≡ false
-        → CellRead (partCell 0) text keys tags c (partName current p roles (drop (c .at) text)) q k t
+        → CellRead (partCell parts) text keys tags c (partName current p roles (drop (c .at) text)) q k t
         → ReadsOne value text table keys tags c (Strings.element current p roles (drop (c .at) text)) (written q) (celled table q) k t
-    unfolding Strings.element bytes patternCell elementCell
+    unfolding Strings.element bytes patternCell partCell
     element-part q e a =
         one-same (chosen _ _ no ∙ chosen _ _ e)
         (cell-element value table q ready (part-bare p roles (drop (c .at) text)) (cell-made part bareCell q (λ _. refl) a))

@@ -4,6 +4,7 @@
 pub mod cells;
 pub mod literals;
 
+use calls::cell_kinds;
 use cells::filler;
 use cells::text_call;
 use literals::literal;
@@ -80,7 +81,10 @@ fn element(
     if begins_at(text, at, b"STRING(") {
         return write_cell(table, text_call(text, known, keys, tags, skip(c, 7)));
     }
-    write_cell(table, read_part(text, known, keys, tags, c, 0, tag))
+    write_cell(
+        table,
+        read_part(text, known, keys, tags, c, cell_kinds::STRING, tag),
+    )
 }
 
 // an element of a pattern

@@ -8,6 +8,7 @@ use native.Mathlib.Omega.{arith}
 use lib.ListN.{drop}
 use Rattle.base.specs.Current.{current}
 use Rattle.branches.specs.Places.{numberIn}
+use Rattle.calls.specs.Kinds.{finishKind, returnKind}
 use Rattle.calls.specs.Table as Table
 use Rattle.calls.specs.Table.{rowOf, elementsOf, itemsOf, directionNumber, noCell}
 use Rattle.language.specs.Forms.{formOf, gotoForm, routineForm, executeForm}
@@ -94,13 +95,13 @@ enum-told-8 : tie.Need-enum-told-8
 enum-told-8 c = search needs
 
 scan-form-requires : tie.Need-scan-form-requires
-scan-form-requires c κs = (ready (c .before .before .before .before .before), (c .before .before .before .before .before .before .before .before .before .pre .1 .0, (c .before .before .before .before .before .before .before .before .before .pre .1 .1, omega arith)))
+scan-form-requires c κs = (ready (c .before .before .before .before .before), c .before .before .before .before .before .before .before .before .before .pre .1)
 
 enum-told-9 : tie.Need-enum-told-9
 enum-told-9 c = search needs
 
 scan-form-requires-2 : tie.Need-scan-form-requires-2
-scan-form-requires-2 c κs = (ready (c .before .before .before .before .before), (c .before .before .before .before .before .before .before .before .before .pre .1 .0, (c .before .before .before .before .before .before .before .before .before .pre .1 .1, omega arith)))
+scan-form-requires-2 c κs = (ready (c .before .before .before .before .before), c .before .before .before .before .before .before .before .before .before .pre .1)
 
 enum-told-10 : tie.Need-enum-told-10
 enum-told-10 c = search needs
@@ -172,7 +173,7 @@ returns-4 : tie.Need-returns-4
 unfolding formOf rowOf elementsOf itemsOf Table.row noCell
 returns-4 c =
     of-kind (c .before .before .before) END (ap kindOf (c .before .enum-told4 .given .1))
-    (c .plain-form .result) (form-ends (c .plain-form .ensures) (plain-read finish 4 (ready (c .before .before .before)) refl refl refl))
+    (c .plain-form .result) (form-ends (c .plain-form .ensures) (plain-read finish (finishKind .number) (ready (c .before .before .before)) refl refl refl))
 
 returns-5 : tie.Need-returns-5
 unfolding formOf
@@ -184,7 +185,7 @@ returns-6 : tie.Need-returns-6
 unfolding formOf rowOf elementsOf itemsOf Table.row noCell
 returns-6 c =
     of-kind (c .before .before .before) EXIT (ap kindOf (c .before .enum-told6 .given .1))
-    (c .plain-form2 .result) (form-ends (c .plain-form2 .ensures) (plain-read finish 4 (ready (c .before .before .before)) refl refl refl))
+    (c .plain-form2 .result) (form-ends (c .plain-form2 .ensures) (plain-read finish (finishKind .number) (ready (c .before .before .before)) refl refl refl))
 
 returns-7 : tie.Need-returns-7
 unfolding formOf
@@ -250,13 +251,13 @@ returns-15 : tie.Need-returns-15
 unfolding formOf rowOf elementsOf itemsOf Table.row noCell
 returns-15 c =
     of-kind (c .before .before .before) ENDROUTINE (ap kindOf (c .before .enum-told15 .given .1))
-    (c .plain-form3 .result) (form-ends (c .plain-form3 .ensures) (plain-read return 12 (ready (c .before .before .before)) refl refl refl))
+    (c .plain-form3 .result) (form-ends (c .plain-form3 .ensures) (plain-read return (returnKind .number) (ready (c .before .before .before)) refl refl refl))
 
 returns-16 : tie.Need-returns-16
 unfolding formOf rowOf elementsOf itemsOf Table.row noCell
 returns-16 c =
     of-kind (c .before .before .before) RETURN (ap kindOf (c .before .enum-told16 .given .1))
-    (c .plain-form4 .result) (form-ends (c .plain-form4 .ensures) (plain-read return 12 (ready (c .before .before .before)) refl refl refl))
+    (c .plain-form4 .result) (form-ends (c .plain-form4 .ensures) (plain-read return (returnKind .number) (ready (c .before .before .before)) refl refl refl))
 
 returns-17 : tie.Need-returns-17
 unfolding formOf
