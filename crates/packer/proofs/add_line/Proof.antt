@@ -2,6 +2,7 @@
 -- Assumes nothing.
 use Rattle.packer.proofs.Parts.{added, text-fits}
 use borrow.Author.Needs.{needs}
+use Rattle.packer.specs.Packs.{longestText}
 use native.Mathlib.Omega.{arith}
 use Rattle.packer.proofs.add_line.Statement.{statement}
 use Rattle.packer.proofs.add_line.Tie as tie
