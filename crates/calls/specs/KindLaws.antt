@@ -129,7 +129,7 @@ module _ {A : Type 0} where
       (λ _ e. read-found other ks k t c e) h
 
   -- a kind that is found passes a test that all pass
-  found-passes : (f : Kind A → Bool) (ks : List (Kind A)) (n : ℕ) (k : Kind A) → all f ks ≡ true → kindIn ks n ≡ some k → f k ≡ true
+  pub found-passes : (f : Kind A → Bool) (ks : List (Kind A)) (n : ℕ) (k : Kind A) → all f ks ≡ true → kindIn ks n ≡ some k → f k ≡ true
   unfolding kindIn all
   found-passes f [] n k h e = absurd (none-some e)
   found-passes f (l ∷ ks) n k h e =
@@ -144,6 +144,20 @@ module _ {A : Type 0} where
   found-number (l ∷ ks) n k e =
       test-cases (λ b. eqb n (l .number) ≡ b → cond b (some l) (kindIn ks n) ≡ some k → n ≡ k .number) (eqb n (l .number))
       (λ _ h g. eqb-true n (l .number) h ∙ ap (λ (m : Kind A). m .number) (some-same g)) (λ _ h g. found-number ks n k g) refl e
+
+  -- and what it makes is spelled by it
+  pub found-respells : (spell : A → Spelled A) (ks : List (Kind A)) (n : ℕ) (k : Kind A) → Respells spell ks → kindIn ks n ≡ some k
+      → (p : ℕ) (v : Payload (k .valuing)) → spell (k .make p v) ≡ spelled k (placeFor (k .counting) p) v
+  unfolding kindIn
+  found-respells spell [] n k r e = absurd (none-some e)
+  found-respells spell (l ∷ ks) n k r e =
+      test-cases
+      (λ b. cond b (some l) (kindIn ks n) ≡ some k
+      → (p : ℕ) (v : Payload (k .valuing)) → spell (k .make p v) ≡ spelled k (placeFor (k .counting) p) v)
+      (eqb n (l .number))
+      (λ _ g.
+      subst (λ (m : Kind A). (p : ℕ) (v : Payload (m .valuing)) → spell (m .make p v) ≡ spelled m (placeFor (m .counting) p) v) (some-same g) (r .0))
+      (λ _ g. found-respells spell ks n k (r .1) g) e
 
   pub found-small : (ks : List (Kind A)) (n : ℕ) (k : Kind A) → all (λ k. ltb (k .number) 256) ks ≡ true → kindIn ks n ≡ some k
       → k .number < 256
