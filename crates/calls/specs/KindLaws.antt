@@ -167,10 +167,13 @@ module _ {A : Type 0} where
   unfoldable pub isPlain : List (Kind A) → Bool
   isPlain ks = all (λ k. hasNone (k .valuing)) ks
 
+  pub found-none : (ks : List (Kind A)) (n : ℕ) (k : Kind A) → isPlain ks ≡ true → kindIn ks n ≡ some k → hasNone (k .valuing) ≡ true
+  unfolding isPlain
+  found-none ks n k h e = found-passes (λ k. hasNone (k .valuing)) ks n k h e
+
   pub found-plain : (ks : List (Kind A)) (n : ℕ) (k : Kind A) → isPlain ks ≡ true → kindIn ks n ≡ some k → (w : Payload (k .valuing))
       → literalOf (k .valuing) w ≡ []
-  unfolding isPlain
-  found-plain ks n k h e w = no-literal (k .valuing) w (found-passes (λ k. hasNone (k .valuing)) ks n k h e)
+  found-plain ks n k h e w = no-literal (k .valuing) w (found-none ks n k h e)
 
 -- each class, kind by kind
 pub part-class : Class (partKinds parts) (spellPart parts)
