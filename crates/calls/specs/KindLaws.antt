@@ -253,7 +253,7 @@ pub record RowSpells (s : SpelledRow) (x : Statement) : Type 0 where
   pub makes : s .kind .make (s .flag) (s .steps) (s .left) (s .right) ≡ x
 
 -- a row whose kind is found is read by it
-abbrev rowBy : RowKind → List ℕ → Row → Statement
+abbrev pub rowBy : RowKind → List ℕ → Row → Statement
 rowBy k t r = k .make (flagIn (k .flagging) (r .flag)) (stepsIn (k .stepping) r) (leftIn (k .lefting) (r .left)) (rightIn t (k .righting) (r .right))
 
 pub row-found : (ks : List RowKind) (k : RowKind) (t : List ℕ) (r : Row) → rowIn ks (r .kind) ≡ some k → readRow ks t r ≡ rowBy k t r
@@ -280,8 +280,8 @@ row-spells (write xs) = record { finds = refl; makes = refl }
 row-spells (execute k) = record { finds = refl; makes = refl }
 row-spells return = record { finds = refl; makes = refl }
 
--- their numbers are bytes
-pub row-small : (x : Statement) → spellStatement x .kind .number < 256
+-- their numbers go up to 81
+pub row-small : (x : Statement) → spellStatement x .kind .number < 82
 unfolding spellStatement
 row-small (setNumber i x) = omega arith
 row-small (setString p xs) = omega arith
@@ -304,6 +304,32 @@ RowsRespell (k ∷ ks) =
     ((f : Flag (k .flagging)) (s : Steps (k .stepping)) (l : Left (k .lefting)) (r : Right (k .righting))
     → spellStatement (k .make f s l r) ≡ spelledRow k f s l r)
     × RowsRespell ks
+
+pub row-respells : (ks : List RowKind) (n : ℕ) (k : RowKind) → RowsRespell ks → rowIn ks n ≡ some k
+    → (f : Flag (k .flagging)) (s : Steps (k .stepping)) (l : Left (k .lefting)) (r : Right (k .righting))
+    → spellStatement (k .make f s l r) ≡ spelledRow k f s l r
+unfolding rowIn
+row-respells [] n k g e = absurd (none-some e)
+row-respells (m ∷ ks) n k g e =
+    test-cases
+    (λ b. cond b (some m) (rowIn ks n) ≡ some k
+    → (f : Flag (k .flagging)) (s : Steps (k .stepping)) (l : Left (k .lefting)) (r : Right (k .righting))
+    → spellStatement (k .make f s l r) ≡ spelledRow k f s l r)
+    (eqb n (m .number))
+    (λ _ h.
+    subst
+    (λ (k : RowKind). (f : Flag (k .flagging)) (s : Steps (k .stepping)) (l : Left (k .lefting)) (r : Right (k .righting))
+    → spellStatement (k .make f s l r) ≡ spelledRow k f s l r)
+    (some-same h) (g .0))
+    (λ _ h. row-respells ks n k (g .1) h) e
+
+-- a kind of row that is found has the number by which it is found
+pub row-number : (ks : List RowKind) (n : ℕ) (k : RowKind) → rowIn ks n ≡ some k → n ≡ k .number
+unfolding rowIn
+row-number [] n k e = absurd (none-some e)
+row-number (m ∷ ks) n k e =
+    test-cases (λ b. eqb n (m .number) ≡ b → cond b (some m) (rowIn ks n) ≡ some k → n ≡ k .number) (eqb n (m .number))
+    (λ _ h g. eqb-true n (m .number) h ∙ ap (λ (l : RowKind). l .number) (some-same g)) (λ _ h g. row-number ks n k g) refl e
 
 pub rows-respell : RowsRespell rowKinds
 unfolding spellStatement rowKinds
