@@ -59,7 +59,8 @@ stretch-of-requires-3 : tie.Need-stretch-of-requires-3
 stretch-of-requires-3 c κs = search needs
 
 returns : tie.Need-returns
-returns c t = set-number (rowMeaning (c .before .before .before .args .r)) t (c .stretch-of .result) (c .before .match .keys1) (c .stretch-of .ensures)
+returns c t =
+    set-number (rowMeaning (c .before .before .before .args .r)) t (c .stretch-of .result) (c .before .match .keys1) (c .stretch-of .ensures)
 
 returns-2 : tie.Need-returns-2
 returns-2 c t =
@@ -81,7 +82,8 @@ returns-6 : tie.Need-returns-6
 returns-6 c t = returns-there (rowMeaning (c .before .before .args .r)) t (c .match .keys6)
 
 returns-7 : tie.Need-returns-7
-returns-7 c t = tests-null (rowMeaning (c .before .before .before .args .r)) t (c .branch-of .result) (c .before .match .keys7) (c .branch-of .ensures)
+returns-7 c t =
+    tests-null (rowMeaning (c .before .before .before .args .r)) t (c .branch-of .result) (c .before .match .keys7) (c .branch-of .ensures)
 
 returns-8 : tie.Need-returns-8
 returns-8 c t =
@@ -114,7 +116,8 @@ returns-12 c t =
     (part .ensures) (branch .ensures)
 
 returns-13 : tie.Need-returns-13
-returns-13 c t = writes (rowMeaning (c .before .before .before .args .r)) t (c .stretch-of3 .result) (c .before .match .keys13) (c .stretch-of3 .ensures)
+returns-13 c t =
+    writes (rowMeaning (c .before .before .before .args .r)) t (c .stretch-of3 .result) (c .before .match .keys13) (c .stretch-of3 .ensures)
 
 returns-14 : tie.Need-returns-14
 unfolding statementOfRow
