@@ -128,6 +128,16 @@ module _ {A : Type 0} where
       (λ _ e. ap (λ (m : Kind A). m .make (c .place) (payloadIn t (m .valuing) (c .value))) (some-same e))
       (λ _ e. read-found other ks k t c e) h
 
+  -- what kinds under f are read as is f of what the kinds are read as
+  pub read-under : {B : Type 0} (f : A → B) (other : A) (ks : List (Kind A)) (t : List ℕ) (c : Cell)
+      → readCell (f other) (map (under f) ks) t c ≡ f (readCell other ks t c)
+  unfolding readCell
+  read-under f other [] t c = refl
+  read-under {B} f other (k ∷ ks) t c =
+      let made = k .make (c .place) (payloadIn t (k .valuing) (c .value)) in
+      test-cases (λ b. cond b (f made) (readCell (f other) (map (under f) ks) t c) ≡ f (cond b made (readCell other ks t c)))
+      (eqb (c .kind) (k .number)) (λ _. refl) (λ _. read-under f other ks t c)
+
   -- a kind that is found passes a test that all pass
   pub found-passes : (f : Kind A → Bool) (ks : List (Kind A)) (n : ℕ) (k : Kind A) → all f ks ≡ true → kindIn ks n ≡ some k → f k ≡ true
   unfolding kindIn all
