@@ -55,6 +55,20 @@ pub places-same : {e e' i i' l l' : ℕ} → e ≡ e' → i ≡ i' → l ≡ l' 
 unfolding places
 places-same e i l = λ k. record { elements = e k; items = i k; literals = l k }
 
+module _ (n : Counts) where
+  -- the tests of stretches one by one
+  pub stretches-tests : (p : Places) (r : Righting) (s : Stretches) → stretchesTest n p r s ≡ true
+      → (s .more ≤ mostMore r) × (s .first ≤ 20) × (p .elements + s .first + s .more ≤ n .elements) × (p .items + s .items ≤ n .items)
+  unfolding stretchesTest
+  stretches-tests p r s h =
+      let f = four (leb (s .more) (mostMore r)) (leb (s .first) 20) (leb (p .elements + s .first + s .more) (n .elements))
+      (leb (p .items + s .items) (n .items)) h in (
+        leb-true (s .more) (mostMore r) (f .0),
+        leb-true (s .first) 20 (f .1),
+        leb-true (p .elements + s .first + s .more) (n .elements) (f .2),
+        leb-true (p .items + s .items) (n .items) (f .3),
+      )
+
 module _ (n : Counts) (few : Few n) where
   abbrev itemsOk : List Item → Bool
   itemsOk = all (itemHolds current (n .strings) (n .numbers) (n .steps))
@@ -123,19 +137,6 @@ module _ (n : Counts) (few : Few n) where
           record { left = eqb-true ends (numbersLeft r) (both .0); roles = both .1; is = sym e })
           (λ _ h e small. absurd (omega (arith, ap (λ (x : Places). x .literals) e, small))) refl
 
-    -- the tests of stretches one by one
-    stretches-tests : (p : Places) (r : Righting) (s : Stretches) → stretchesTest n p r s ≡ true
-        → (s .more ≤ mostMore r) × (s .first ≤ 20) × (p .elements + s .first + s .more ≤ n .elements) × (p .items + s .items ≤ n .items)
-    unfolding stretchesTest
-    stretches-tests p r s h =
-        let f = four (leb (s .more) (mostMore r)) (leb (s .first) 20) (leb (p .elements + s .first + s .more) (n .elements))
-        (leb (p .items + s .items) (n .items)) h in (
-          leb-true (s .more) (mostMore r) (f .0),
-          leb-true (s .first) 20 (f .1),
-          leb-true (p .elements + s .first + s .more) (n .elements) (f .2),
-          leb-true (p .items + s .items) (n .items) (f .3),
-        )
-
     -- a range cell by its numbers
     range-is : (p : Places) (c : Cell) (from count more : ℕ) → cellTest (n .strings) (n .numbers) rangeNumber rangeNumber c ≡ true
         → rangeFrom (c .value) ≡ from → rangeCount (c .value) ≡ count → rangeMore (c .value) ≡ more → rangeCell from count more ≡ c
@@ -181,7 +182,7 @@ module _ (n : Counts) (few : Few n) where
         let v = c .value in
         let s = stretches 0 (rangeMore v) (rangeCount v) in
         let own = cells-back p itemsRight reference s q e small in
-        let tests = stretches-tests p itemsRight s fits in
+        let tests = stretches-tests n p itemsRight s fits in
         let back = items-back (n .strings) (n .numbers) (n .steps) t bytes room (p .items) 0 (rangeCount v) (omega (arith, tests .3, few .items)) (own .left) in
         let from = eqb-true (rangeFrom v) (p .items) start in
         let xs = itemsFrom t (p .items) (rangeCount v) in
@@ -204,7 +205,7 @@ module _ (n : Counts) (few : Few n) where
         let k = p .elements in
         let s = stretches (rangeCount v) (rangeMore v) 0 in
         let own = cells-back p elementsRight reference s q e small in
-        let tests = stretches-tests p elementsRight s fits in
+        let tests = stretches-tests n p elementsRight s fits in
         let more : rangeMore v ≡ 0 = omega (arith, tests .0) in
         let last : secondEnd p elementsRight reference s ≡ firstEnd p elementsRight reference s =
         ap (elementsEnd (n .strings) (n .numbers) (n .steps) 95 t (k + rangeCount v) (firstEnd p elementsRight reference s)) more in
@@ -228,7 +229,7 @@ module _ (n : Counts) (few : Few n) where
         let k = p .elements in
         let s = stretches (rangeCount v) (rangeMore v) 0 in
         let own = cells-back p patternRight reference s q e small in
-        let tests = stretches-tests p patternRight s fits in
+        let tests = stretches-tests n p patternRight s fits in
         let more : rangeMore v ≡ 0 = omega (arith, tests .0) in
         let last : secondEnd p patternRight reference s ≡ firstEnd p patternRight reference s =
         ap (elementsEnd (n .strings) (n .numbers) (n .steps) 95 t (k + rangeCount v) (firstEnd p patternRight reference s)) more in
@@ -251,7 +252,7 @@ module _ (n : Counts) (few : Few n) where
         let k = p .elements in
         let s = stretches (rangeCount v) (rangeMore v) 0 in
         let own = cells-back p replacingRight reference s q e small in
-        let tests = stretches-tests p replacingRight s fits in
+        let tests = stretches-tests n p replacingRight s fits in
         let middle = firstEnd p replacingRight reference s in
         let second =
         values-back (k + rangeCount v) middle (rangeMore v) (secondEnd p replacingRight reference s) (omega (arith, tests .2, few .elements)) refl

@@ -1,6 +1,6 @@
 -- The tests that the code makes of a table beside those of cells: of a row by what its kind says of each field, of the steps with their
 -- running places, and of the bytes that hold nothing. Assumes nothing.
-use mathlib.Core.Bool.{Bool, true, cond, not, _&&_, _||_}
+use mathlib.Core.Bool.{Bool, true, false, cond, not, _&&_, _||_}
 use mathlib.Core.List.{List}
 use Prim.Native.Nat.{ℕ, zero, suc, _+_, _*_, _-_, _/_, _%_, _≤_, _<_, _^_}
 use lib.Dec.{leb, ltb, eqb}
@@ -74,14 +74,18 @@ mostMore elementsRight = 0
 mostMore patternRight = 0
 mostMore replacingRight = Limits.row
 
--- the last kind of the first elements
+-- the first elements are those of a pattern; their last kind
+unfoldable pub isPattern : Righting → Bool
+isPattern noRight = false
+isPattern operandRight = false
+isPattern itemsRight = false
+isPattern elementsRight = false
+isPattern patternRight = true
+isPattern replacingRight = true
+
 unfoldable pub lastKind : Righting → ℕ
-lastKind noRight = 95
-lastKind operandRight = 95
-lastKind itemsRight = 95
-lastKind elementsRight = 95
-lastKind patternRight = 111
-lastKind replacingRight = 111
+unfolding isPattern
+lastKind r = cond (isPattern r) 111 95
 
 -- how many numbers are left of a row's items
 unfoldable pub numbersLeft : Righting → ℕ
@@ -94,12 +98,8 @@ numbersLeft replacingRight = 0
 
 -- the roles of a pattern
 unfoldable pub patternTest : Righting → List ℕ → (reference k count : ℕ) → Bool
-patternTest noRight t r k m = true
-patternTest operandRight t r k m = true
-patternTest itemsRight t r k m = true
-patternTest elementsRight t r k m = true
-patternTest patternRight t r k m = rolesTest t r (replicate 256 0) k m
-patternTest replacingRight t r k m = rolesTest t r (replicate 256 0) k m
+unfolding isPattern
+patternTest right t r k m = cond (isPattern right) (rolesTest t r (replicate 256 0) k m) true
 
 -- a program with these counts
 module _ (n : Counts) where
