@@ -9,7 +9,7 @@ use Rattle.rules.specs.CellTests.{told}
 use Rattle.rules.specs.Codes.{values, placeDigit, valueDigit, codeOf, codeIn, cellCode, cellCodes, codeAt}
 
 -- all that these facts compute
-unfoldable computed : Unit {0}
+unfoldable pub computed : Unit {0}
 unfolding told values placeDigit valueDigit codeOf codeIn cellCode cellCodes codeAt kindIn all partKinds operandKinds itemKinds elementKinds
     patternKinds operatorNumber signNumber
 computed = tt

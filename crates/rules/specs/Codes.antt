@@ -1,13 +1,14 @@
 -- The tables that the code looks kinds up in: for each number of a cell or a row one number, whose digits say what its fields hold, 0 where no
 -- kind has the number. Assumes nothing.
-use mathlib.Core.Bool.{Bool, true, false, cond, _&&_}
+use mathlib.Core.Bool.{Bool, true, false, cond, _&&_, true≢false}
 use mathlib.Core.List.{List, [], _∷_}
 use mathlib.Core.Option.{Option, none, some}
 use mathlib.Core.Path.{_≡_, refl, sym, _∙_, ap}
 use Prim.Native.Nat.{ℕ, zero, suc, _+_, _*_, _/_, _%_, _≤_, _<_}
 use native.Mathlib.Nat.{not-suc-le-zero}
 use native.Mathlib.Omega.{arith}
-use lib.Dec.{eqb}
+use lib.Dec.{leb, eqb}
+use borrow.Author.Tests.{le-leb, ne-eqb}
 use lib.ListN.{getD, length}
 use Rattle.calls.specs.KindLaws.{kindIn, rowIn}
 use Rattle.calls.specs.Kinds.{Counting, noPlace, ofString, ofNumber, Valuing, noValue, natural, signed, placed, spelt, Kind}
@@ -208,3 +209,19 @@ digits k =
       left = ap leftingOf left ∙ smallLeft .0;
       right = ap rightingOf right ∙ smallRight .0;
     }
+
+-- a digit out of a range is none of its numbers, and one that is none of the others says that there is no right cell
+pub outside : (low d k : ℕ) → (leb low d && leb d 5) ≡ false → low ≤ k → k ≤ 5 → d ≡ k → ⊥
+outside low d k h least most e =
+    true≢false (sym (ap (λ (j : ℕ). leb low j && leb j 5) e ∙ rw (le-leb low k least, le-leb k 5 most)) ∙ h)
+
+pub no-right : (d : ℕ) → (d ≡ 1 → ⊥) → (d ≡ 2 → ⊥) → (leb 3 d && leb d 5) ≡ false → rightingOf d ≡ noRight
+unfolding rightingOf
+no-right d one two h =
+    rw (
+      ne-eqb d 1 one,
+      ne-eqb d 2 two,
+      ne-eqb d 3 (outside 3 d 3 h (omega arith) (omega arith)),
+      ne-eqb d 4 (outside 3 d 4 h (omega arith) (omega arith)),
+      ne-eqb d 5 (outside 3 d 5 h (omega arith) (omega arith)),
+    )

@@ -98,17 +98,28 @@ module _ (strings numbers steps : ℕ) where
   unfolding elementTest
   element-tests t high at c h = both-true (cellTest strings numbers 64 high c) (literalTest (codeAt (c .kind)) at (c .value)) h
 
-  pub element-end-small : (high at : ℕ) (c : Cell) → elementEnd high at c ≤ 65_536
-  unfolding elementEnd elementTest literalTest
-  element-end-small high at c =
+  -- the place behind an element that passes, and one that doesn't
+  pub element-ends : (high at : ℕ) (c : Cell)
+      → (cellTest strings numbers 64 high c && literalTest (codeAt (c .kind)) at (c .value)) ≡ true
+      → elementEnd high at c ≡ at + ownLength (codeAt (c .kind)) (c .value)
+  unfolding elementEnd elementTest
+  element-ends high at c h = rw h
+
+  pub element-breaks : (high at : ℕ) (c : Cell)
+      → (cellTest strings numbers 64 high c && literalTest (codeAt (c .kind)) at (c .value)) ≡ false → elementEnd high at c ≡ broken
+  unfolding elementEnd elementTest
+  element-breaks high at c h = rw h
+
+  pub element-inside : (high at : ℕ) (c : Cell)
+      → (cellTest strings numbers 64 high c && literalTest (codeAt (c .kind)) at (c .value)) ≡ true
+      → at + ownLength (codeAt (c .kind)) (c .value) ≤ 4096
+  unfolding literalTest
+  element-inside high at c h =
       let code = codeAt (c .kind) in
       let own = ownLength code (c .value) in
       let spells = cond (eqb (code % 10) 4) (leb 1 own && eqb (c .value) (at + 65_536 * own)) true in
       let passes = cellTest strings numbers 64 high c in
-      test-cases (λ b. (passes && (spells && leb (at + own) 4096)) ≡ b → cond b (at + own) broken ≤ 65_536)
-      (passes && (spells && leb (at + own) 4096))
-      (λ _ h. omega (arith, leb-true (at + own) 4096 (both-true spells (leb (at + own) 4096) (both-true passes (spells && leb (at + own) 4096) h .1) .1)))
-      (λ _ h. omega arith) refl
+      leb-true (at + own) 4096 (both-true spells (leb (at + own) 4096) (both-true passes (spells && leb (at + own) 4096) h .1) .1)
 
   -- broken stays broken
   elements-broken : (high : ℕ) (t : List ℕ) (k m : ℕ) → elementsEnd high t k broken m ≡ broken

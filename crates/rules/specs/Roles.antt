@@ -3,12 +3,12 @@
 use mathlib.Core.Bool.{Bool, true, false, cond, _&&_, _||_, not}
 use mathlib.Core.List.{List, [], _∷_, _++_, map}
 use mathlib.Core.Path.{_≡_, refl, sym, _∙_, ap, ap₂, subst}
-use Prim.Native.Nat.{ℕ, zero, suc, _+_, _*_, _^_, _≤_, _<_}
+use Prim.Native.Nat.{ℕ, zero, suc, _+_, _*_, _-_, _^_, _≤_, _<_}
 use native.Mathlib.Omega.{arith}
 use lib.Dec.{ltb, eqb}
 use lib.ListN.{length, getD, set, replicate, length-set, getD-replicate}
 use lib.Seq.{getD-set-same, getD-set-other}
-use borrow.Author.Tests.{eqb-true, eqb-false, eq-eqb, ne-eqb}
+use borrow.Author.Tests.{eqb-true, eqb-false, le-ltb, lt-ltb}
 use Rattle.base.specs.Choice.{test-cases}
 use Rattle.base.specs.Lists.{any}
 use Rattle.language.specs.Program.{constantly, numbered, Part, whole, first, Element, literal, part, text, PatternElement, value, freeFiller, fixedFiller}
@@ -114,3 +114,48 @@ same-cells t bytes k at (x ∷ xs) same =
     let kinds = byte-read t place (c .kind) (c .place ∷ value) stands in
     let places = byte-read t (place + 1) (c .place) value (stands-back t (c .kind ∷ []) (c .place ∷ value) stands) in
     (at, kinds, places, omega (arith, places, bytes (place + 1)), same-cells t bytes (k + 1) (at + length (literalIn x)) xs (same .2))
+
+-- what the code's loop does: one element more, and none left
+module _ (t : List ℕ) (r : ℕ) where
+  pub roles-turn : (hold role : Bool) (marks after : List ℕ) (k i count kind place : ℕ) → cellAt t (elementsAt + 8 * (k + i)) .kind ≡ kind
+      → cellAt t (elementsAt + 8 * (k + i)) .place ≡ place → role ≡ roleTest r kind place (getD marks place 0) → after ≡ marksAfter marks kind place
+      → i < count
+      → ((hold && role) && rolesTest t r after (k + (i + 1)) (count - (i + 1))) ≡ (hold && rolesTest t r marks (k + i) (count - i))
+  roles-turn hold role marks after k i count kind place e f is marked h =
+      let size : count - i ≡ suc (count - (i + 1)) = omega arith in
+      let at : k + i + 1 ≡ k + (i + 1) = omega arith in
+      let next = roles-next t r marks (k + i) (count - (i + 1)) e f in
+      let one : (role && rolesTest t r after (k + (i + 1)) (count - (i + 1))) ≡ rolesTest t r marks (k + i) (count - i) =
+      ap₂ (λ (a : Bool) (l : List ℕ). a && rolesTest t r l (k + (i + 1)) (count - (i + 1))) is marked
+      ∙ ap (λ (j : ℕ). roleTest r kind place (getD marks place 0) && rolesTest t r (marksAfter marks kind place) j (count - (i + 1))) (sym at)
+      ∙ sym next
+      ∙ ap (rolesTest t r marks (k + i)) (sym size) in
+      and-assoc hold role (rolesTest t r after (k + (i + 1)) (count - (i + 1))) ∙ ap (λ (b : Bool). hold && b) one
+    where
+      and-assoc : (a b c : Bool) → ((a && b) && c) ≡ (a && (b && c))
+      and-assoc true b c = refl
+      and-assoc false b c = refl
+
+  pub roles-done : (hold : Bool) (marks : List ℕ) (k i count : ℕ) → count ≤ i → (hold && rolesTest t r marks (k + i) (count - i)) ≡ hold
+  unfolding rolesTest
+  roles-done hold marks k i count h =
+      let size : count - i ≡ 0 = omega arith in
+      ap (λ (m : ℕ). hold && rolesTest t r marks (k + i) m) size ∙ and-true hold
+    where
+      and-true : (a : Bool) → (a && true) ≡ a
+      and-true true = refl
+      and-true false = refl
+
+-- a filler is marked, anything else isn't
+pub marks-filler : (marks : List ℕ) (k p : ℕ) → 96 ≤ k → set marks p 1 ≡ marksAfter marks k p
+unfolding marksAfter
+marks-filler marks k p h = rw (le-ltb k 96 h)
+
+pub marks-other : (marks : List ℕ) (k p : ℕ) → k < 96 → marks ≡ marksAfter marks k p
+unfolding marksAfter
+marks-other marks k p h = rw (lt-ltb k 96 h)
+
+pub marks-size : (marks : List ℕ) (k p : ℕ) → length (marksAfter marks k p) ≡ length marks
+unfolding marksAfter
+marks-size marks k p =
+    test-cases (λ b. length (cond b marks (set marks p 1)) ≡ length marks) (ltb k 96) (λ _. refl) (λ _. length-set marks p 1)

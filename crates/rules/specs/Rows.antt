@@ -29,11 +29,11 @@ use Rattle.rows.specs.declared.Counts.{Counts}
 use Rattle.rules.specs.Tests.{flagTest, stepsTest, leftTest}
 
 -- a number from one to so many, by each of them
-abbrev UpTo : (ℕ → Type 0) → ℕ → ℕ → Type 0
+abbrev pub UpTo : (ℕ → Type 0) → ℕ → ℕ → Type 0
 UpTo P k zero = Unit {0}
 UpTo P k (suc m) = P k × UpTo P (k + 1) m
 
-up-to : (P : ℕ → Type 0) (k m : ℕ) → UpTo P k m → (j : ℕ) → k ≤ j → j < k + m → P j
+pub up-to : (P : ℕ → Type 0) (k m : ℕ) → UpTo P k m → (j : ℕ) → k ≤ j → j < k + m → P j
 up-to P k zero b j low high = absurd (omega arith)
 up-to P k (suc m) b j low high =
     test-cases (λ _. P j) (eqb j k) (λ e. subst P (sym (eqb-true j k e)) (b .0))

@@ -1,22 +1,24 @@
 -- What the code's loops and branches do, in the words of the tests: an element, an item and a step more, or none left. Assumes nothing.
-use mathlib.Core.Bool.{Bool, true, false, cond, _&&_}
+use mathlib.Core.Bool.{Bool, true, false, cond, _&&_, _||_}
 use mathlib.Core.List.{List}
 use mathlib.Core.Path.{_≡_, refl, sym, _∙_, ap, ap₂}
 use Prim.Native.Nat.{ℕ, suc, _+_, _*_, _-_, _%_, _≤_, _<_}
 use native.Mathlib.Omega.{arith}
-use lib.Dec.{leb}
-use borrow.Author.Tests.{leb-true, le-leb}
-use Rattle.base.specs.Choice.{cond-cases}
-use Rattle.calls.specs.Kinds.{Righting}
+use lib.Dec.{leb, eqb}
+use borrow.Author.Tests.{leb-true, le-leb, eqb-true, eqb-false, ne-eqb}
+use Rattle.base.specs.Choice.{test-cases, cond-cases, both-true}
+use Rattle.calls.specs.Kinds.{Righting, noRight, operandRight, itemsRight, elementsRight, patternRight, replacingRight}
 use Rattle.calls.specs.Table.{Cell, Row, stepsAt, elementsAt, itemsAt}
-use Rattle.calls.specs.TableReading.{cellAt, rowAt}
+use Rattle.calls.specs.TableReading.{cellAt, rowAt, rangeFrom, rangeCount, rangeMore}
 use Rattle.rows.specs.declared.Counts.{Counts}
 use Rattle.rules.specs.CellTests.{cellTest}
-use Rattle.rules.specs.Codes.{rowCodeAt, rightingOf}
+use Rattle.rules.specs.Codes.{rowCodeAt, rightingOf, outside, no-right}
 use Rattle.rules.specs.Conjunctions.{seven}
 use Rattle.rules.specs.Elements.{elementEnd, elementsEnd}
 use Rattle.rules.specs.Items.{broken, itemUsed, itemTest, itemEnd, itemsEnd, item-tests}
 use Rattle.rules.specs.Rights.{stretches-tests}
+use Rattle.rules.specs.Rows.{UpTo, up-to}
+use Rattle.rules.specs.Tests.{rightTest, isPattern, lastKind, mostMore, numbersLeft, patternTest, stretches, places}
 use Rattle.rules.specs.Tests.{Few, Room, Inside, stretchesOf, startTest, stretchesTest, rowTest, cellsEnd, stepTest, stepEnd, stepsEnd, countsTest, lost}
 use Rattle.rules.specs.declared.steps.Places.{Places}
 use Rattle.rules.specs.declared.steps.Stretches.{Stretches}
@@ -74,10 +76,115 @@ module _ (strings numbers steps : ℕ) where
   unfolding itemsEnd
   items-walk t = record { none = λ k known. refl; next = λ k m known. refl }
 
+-- the digit of a right cell with a range, and one of elements
+ranges : (P : ℕ → Type 0) (k m : ℕ) → UpTo P k m → (d : ℕ) → (leb k d && leb d (k + m - 1)) ≡ true → 1 ≤ m → P d
+ranges P k m each d h some =
+    let g = both-true (leb k d) (leb d (k + m - 1)) h in
+    up-to P k m each d (leb-true k d (g .0)) (omega (arith, leb-true d (k + m - 1) (g .1)))
+
+pub range-right : (n : Counts) (c : Cell) (d : ℕ) → (leb 2 d && leb d 5) ≡ true
+    → rightTest n (rightingOf d) c ≡ cellTest (n .strings) (n .numbers) 112 112 c
+unfolding rightTest rightingOf
+range-right n c d h =
+    ranges (λ j. rightTest n (rightingOf j) c ≡ cellTest (n .strings) (n .numbers) 112 112 c) 2 4 (refl, (refl, (refl, (refl, tt)))) d h (omega arith)
+
+pub elements-stretches : (v d : ℕ) → (leb 3 d && leb d 5) ≡ true → stretchesOf (rightingOf d) v ≡ stretches (rangeCount v) (rangeMore v) 0
+unfolding stretchesOf rightingOf
+elements-stretches v d h =
+    ranges (λ j. stretchesOf (rightingOf j) v ≡ stretches (rangeCount v) (rangeMore v) 0) 3 3 (refl, (refl, (refl, tt))) d h (omega arith)
+
+pub elements-start : (p : Places) (v d : ℕ) → (leb 3 d && leb d 5) ≡ true → startTest p (rightingOf d) v ≡ eqb (rangeFrom v) (p .elements)
+unfolding startTest rightingOf
+elements-start p v d h =
+    ranges (λ j. startTest p (rightingOf j) v ≡ eqb (rangeFrom v) (p .elements)) 3 3 (refl, (refl, (refl, tt))) d h (omega arith)
+
+-- a digit of no range
+pub none-stretches : (v d : ℕ) → (d ≡ 2 → ⊥) → (leb 3 d && leb d 5) ≡ false → stretchesOf (rightingOf d) v ≡ stretches 0 0 0
+unfolding stretchesOf rightingOf
+none-stretches v d two h =
+    test-cases (λ b. eqb d 1 ≡ b → stretchesOf (rightingOf d) v ≡ stretches 0 0 0) (eqb d 1)
+    (λ _ e. ap (λ (j : ℕ). stretchesOf (rightingOf j) v) (eqb-true d 1 e))
+    (λ _ e. ap (λ (r : Righting). stretchesOf r v) (no-right d (eqb-false d 1 e) two h)) refl
+
+pub none-start : (p : Places) (v d : ℕ) → (d ≡ 2 → ⊥) → (leb 3 d && leb d 5) ≡ false → startTest p (rightingOf d) v ≡ true
+unfolding startTest rightingOf
+none-start p v d two h =
+    test-cases (λ b. eqb d 1 ≡ b → startTest p (rightingOf d) v ≡ true) (eqb d 1)
+    (λ _ e. ap (λ (j : ℕ). startTest p (rightingOf j) v) (eqb-true d 1 e))
+    (λ _ e. ap (λ (r : Righting). startTest p r v) (no-right d (eqb-false d 1 e) two h)) refl
+
+pub none-right : (n : Counts) (c : Cell) (d : ℕ) → (d ≡ 1 → ⊥) → (leb 2 d && leb d 5) ≡ false
+    → rightTest n (rightingOf d) c ≡ cellTest (n .strings) (n .numbers) 0 0 c
+unfolding rightTest rightingOf
+none-right n c d one h =
+    rw (
+      ne-eqb d 1 one,
+      ne-eqb d 2 (outside 2 d 2 h (omega arith) (omega arith)),
+      ne-eqb d 3 (outside 2 d 3 h (omega arith) (omega arith)),
+      ne-eqb d 4 (outside 2 d 4 h (omega arith) (omega arith)),
+      ne-eqb d 5 (outside 2 d 5 h (omega arith) (omega arith)),
+    )
+
+-- whether a digit is that of a pattern, and what else it says of a row
+pub pattern-told : (d : ℕ) → isPattern (rightingOf d) ≡ eqb d 4 || eqb d 5
+unfolding isPattern rightingOf
+pattern-told d =
+    test-cases (λ b. eqb d 1 ≡ b → isPattern (rightingOf d) ≡ eqb d 4 || eqb d 5) (eqb d 1)
+    (λ _ e. ap (λ (j : ℕ). isPattern (rightingOf j)) (eqb-true d 1 e) ∙ sym (ap (λ (j : ℕ). eqb j 4 || eqb j 5) (eqb-true d 1 e)))
+    (λ _ e1. test-cases (λ b. eqb d 2 ≡ b → isPattern (rightingOf d) ≡ eqb d 4 || eqb d 5) (eqb d 2)
+    (λ _ e. ap (λ (j : ℕ). isPattern (rightingOf j)) (eqb-true d 2 e) ∙ sym (ap (λ (j : ℕ). eqb j 4 || eqb j 5) (eqb-true d 2 e)))
+    (λ _ e2. test-cases (λ b. eqb d 3 ≡ b → isPattern (rightingOf d) ≡ eqb d 4 || eqb d 5) (eqb d 3)
+    (λ _ e. ap (λ (j : ℕ). isPattern (rightingOf j)) (eqb-true d 3 e) ∙ sym (ap (λ (j : ℕ). eqb j 4 || eqb j 5) (eqb-true d 3 e)))
+    (λ _ e3. test-cases (λ b. eqb d 4 ≡ b → isPattern (rightingOf d) ≡ b || eqb d 5) (eqb d 4) (λ _ e4. rw (e1, e2, e3, e4))
+    (λ _ e4. test-cases (λ b. eqb d 5 ≡ b → isPattern (rightingOf d) ≡ b) (eqb d 5) (λ _ e5. rw (e1, e2, e3, e4, e5)) (λ _ e5. rw (e1, e2, e3, e4, e5)) refl) refl)
+    refl) refl) refl
+
+pub more-told : (d : ℕ) → mostMore (rightingOf d) ≡ cond (eqb d 5) 20 0
+unfolding mostMore rightingOf
+more-told d =
+    test-cases (λ b. eqb d 5 ≡ b → mostMore (rightingOf d) ≡ cond b 20 0) (eqb d 5)
+    (λ _ e. ap (λ (j : ℕ). mostMore (rightingOf j)) (eqb-true d 5 e))
+    (λ _ e5. by d e5) refl
+  where
+    by : (d : ℕ) → eqb d 5 ≡ false → mostMore (rightingOf d) ≡ 0
+    by d e5 =
+        rw e5
+        (test-cases (λ b. mostMore (cond b operandRight (cond (eqb d 2) itemsRight (cond (eqb d 3) elementsRight (cond (eqb d 4) patternRight noRight)))) ≡ 0)
+        (eqb d 1) (λ _. refl)
+        (λ _. test-cases (λ b. mostMore (cond b itemsRight (cond (eqb d 3) elementsRight (cond (eqb d 4) patternRight noRight))) ≡ 0) (eqb d 2) (λ _. refl)
+        (λ _. test-cases (λ b. mostMore (cond b elementsRight (cond (eqb d 4) patternRight noRight)) ≡ 0) (eqb d 3) (λ _. refl)
+        (λ _. test-cases (λ b. mostMore (cond b patternRight noRight) ≡ 0) (eqb d 4) (λ _. refl) (λ _. refl)))))
+
+pub left-told : (d : ℕ) → numbersLeft (rightingOf d) ≡ cond (eqb d 2) 1 0
+unfolding numbersLeft rightingOf
+left-told d =
+    test-cases (λ b. eqb d 2 ≡ b → numbersLeft (rightingOf d) ≡ cond b 1 0) (eqb d 2)
+    (λ _ e. ap (λ (j : ℕ). numbersLeft (rightingOf j)) (eqb-true d 2 e))
+    (λ _ e2.
+    rw e2
+    (test-cases (λ b. numbersLeft (cond b operandRight (cond (eqb d 3) elementsRight (cond (eqb d 4) patternRight (cond (eqb d 5) replacingRight noRight)))) ≡ 0)
+    (eqb d 1) (λ _. refl)
+    (λ _. test-cases (λ b. numbersLeft (cond b elementsRight (cond (eqb d 4) patternRight (cond (eqb d 5) replacingRight noRight))) ≡ 0) (eqb d 3) (λ _. refl)
+    (λ _. test-cases (λ b. numbersLeft (cond b patternRight (cond (eqb d 5) replacingRight noRight)) ≡ 0) (eqb d 4) (λ _. refl)
+    (λ _. test-cases (λ b. numbersLeft (cond b replacingRight noRight) ≡ 0) (eqb d 5) (λ _. refl) (λ _. refl)))))) refl
+
 module _ (n : Counts) where
   pub steps-walk : (t : List ℕ) → Walks (λ k p. stepEnd n t k p) (λ k p m. stepsEnd n t k p m)
   unfolding stepsEnd
   steps-walk t = record { none = λ k p. refl; next = λ k m p. refl }
+
+  -- the places behind a row's cells, by the numbers that its items leave and the roles of its pattern
+  pub cells-told : (t : List ℕ) (p : Places) (right : Righting) (r : ℕ) (s : Stretches) {known left : ℕ} {roles holds : Bool}
+      → known ≡ itemsEnd (n .strings) (n .numbers) (n .steps) t (p .items) 0 (s .items) → left ≡ numbersLeft right
+      → roles ≡ patternTest right t r (p .elements) (s .first) → (eqb known left && roles) ≡ holds
+      → cellsEnd n t p right r s
+      ≡ cond holds
+      (places (p .elements + s .first + s .more) (p .items + s .items)
+      (elementsEnd (n .strings) (n .numbers) (n .steps) 95 t (p .elements + s .first)
+      (elementsEnd (n .strings) (n .numbers) (n .steps) (lastKind right) t (p .elements) (p .literals) (s .first)) (s .more)))
+      lost
+  unfolding cellsEnd
+  cells-told t p right r s reads wants has holds = rw (← reads, ← wants, ← has, holds)
 
   -- the places behind a step, by its row and the tests of it
   module _ (t : List ℕ) (k : ℕ) (p : Places) {r : Row} {code : ℕ} {s : Stretches} {row start stretches : Bool} (reads : r ≡ rowAt t (stepsAt + 24 * k))
