@@ -186,7 +186,7 @@ module _ (e : Edition) (strings numbers steps : ℕ) (short : strings ≤ 32) (f
         row =
             λ element item.
             record {
-              kind = row-small s;
+              kind = omega (arith, row-small s);
               flag = flag-small (k .flagging) (x .flag);
               left = left-small (k .lefting) (x .left) leftTrue;
               right = right-small left reference (k .righting) (x .right) rightTrue element item;

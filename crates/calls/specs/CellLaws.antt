@@ -94,10 +94,9 @@ pub record SmallCell (c : Cell) : Type 0 where
 nothing-stands : (t : List ℕ) (at : ℕ) {bs : List ℕ} → bs ≡ [] → Stands t at bs
 nothing-stands t at e = record { behind = drop at t; here = ap (λ (l : List ℕ). l ++ drop at t) (sym e) }
 
--- what is in range in a program of so many strings, numbers and steps
-module _ (e : Edition) (strings numbers steps : ℕ) (few : numbers ≤ 32) where
+module _ (e : Edition) (strings numbers steps : ℕ) where
   -- where a cell's value holds, so does what comes before it
-  value-front : (b : Bool) (v : Valuing) (w : Payload v) → valueHolds e strings numbers steps b v w ≡ true → b ≡ true
+  pub value-front : (b : Bool) (v : Valuing) (w : Payload v) → valueHolds e strings numbers steps b v w ≡ true → b ≡ true
   unfolding valueHolds
   value-front b noValue w h = h
   value-front b natural w h = both-true b (isInRange e w && not (isNegative w)) h .0
@@ -105,6 +104,8 @@ module _ (e : Edition) (strings numbers steps : ℕ) (few : numbers ≤ 32) wher
   value-front b placed w h = both-true b (ltb w numbers) h .0
   value-front b spelt w h = both-true b (not (isNil w)) h .0
 
+-- what is in range in a program of so many strings, numbers and steps
+module _ (e : Edition) (strings numbers steps : ℕ) (few : numbers ≤ 32) where
   place-small : strings ≤ 32 → (c : Counting) (p : ℕ) → placeHolds e strings numbers steps c p ≡ true → p < 256
   unfolding placeHolds
   place-small short noPlace p h = omega (arith, eqb-true p 0 h)
@@ -122,7 +123,7 @@ module _ (e : Edition) (strings numbers steps : ℕ) (few : numbers ≤ 32) wher
         kind = found-small ks (k .number) k (class .small) (class .spells x .finds);
         place =
             place-small short (k .counting) (s .place)
-            (value-front (placeHolds e strings numbers steps (k .counting) (s .place)) (k .valuing) (s .payload) h);
+            (value-front e strings numbers steps (placeHolds e strings numbers steps (k .counting) (s .place)) (k .valuing) (s .payload) h);
       }
 
   module _ (limit : e .limit < bias) where

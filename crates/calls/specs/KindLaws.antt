@@ -128,8 +128,18 @@ module _ {A : Type 0} where
       (λ _ e. ap (λ (m : Kind A). m .make (c .place) (payloadIn t (m .valuing) (c .value))) (some-same e))
       (λ _ e. read-found other ks k t c e) h
 
+  -- what kinds under f are read as is f of what the kinds are read as
+  pub read-under : {B : Type 0} (f : A → B) (other : A) (ks : List (Kind A)) (t : List ℕ) (c : Cell)
+      → readCell (f other) (map (under f) ks) t c ≡ f (readCell other ks t c)
+  unfolding readCell
+  read-under f other [] t c = refl
+  read-under {B} f other (k ∷ ks) t c =
+      let made = k .make (c .place) (payloadIn t (k .valuing) (c .value)) in
+      test-cases (λ b. cond b (f made) (readCell (f other) (map (under f) ks) t c) ≡ f (cond b made (readCell other ks t c)))
+      (eqb (c .kind) (k .number)) (λ _. refl) (λ _. read-under f other ks t c)
+
   -- a kind that is found passes a test that all pass
-  found-passes : (f : Kind A → Bool) (ks : List (Kind A)) (n : ℕ) (k : Kind A) → all f ks ≡ true → kindIn ks n ≡ some k → f k ≡ true
+  pub found-passes : (f : Kind A → Bool) (ks : List (Kind A)) (n : ℕ) (k : Kind A) → all f ks ≡ true → kindIn ks n ≡ some k → f k ≡ true
   unfolding kindIn all
   found-passes f [] n k h e = absurd (none-some e)
   found-passes f (l ∷ ks) n k h e =
@@ -145,6 +155,20 @@ module _ {A : Type 0} where
       test-cases (λ b. eqb n (l .number) ≡ b → cond b (some l) (kindIn ks n) ≡ some k → n ≡ k .number) (eqb n (l .number))
       (λ _ h g. eqb-true n (l .number) h ∙ ap (λ (m : Kind A). m .number) (some-same g)) (λ _ h g. found-number ks n k g) refl e
 
+  -- and what it makes is spelled by it
+  pub found-respells : (spell : A → Spelled A) (ks : List (Kind A)) (n : ℕ) (k : Kind A) → Respells spell ks → kindIn ks n ≡ some k
+      → (p : ℕ) (v : Payload (k .valuing)) → spell (k .make p v) ≡ spelled k (placeFor (k .counting) p) v
+  unfolding kindIn
+  found-respells spell [] n k r e = absurd (none-some e)
+  found-respells spell (l ∷ ks) n k r e =
+      test-cases
+      (λ b. cond b (some l) (kindIn ks n) ≡ some k
+      → (p : ℕ) (v : Payload (k .valuing)) → spell (k .make p v) ≡ spelled k (placeFor (k .counting) p) v)
+      (eqb n (l .number))
+      (λ _ g.
+      subst (λ (m : Kind A). (p : ℕ) (v : Payload (m .valuing)) → spell (m .make p v) ≡ spelled m (placeFor (m .counting) p) v) (some-same g) (r .0))
+      (λ _ g. found-respells spell ks n k (r .1) g) e
+
   pub found-small : (ks : List (Kind A)) (n : ℕ) (k : Kind A) → all (λ k. ltb (k .number) 256) ks ≡ true → kindIn ks n ≡ some k
       → k .number < 256
   found-small ks n k h e = ltb-true (k .number) 256 (found-passes (λ k. ltb (k .number) 256) ks n k h e)
@@ -153,10 +177,13 @@ module _ {A : Type 0} where
   unfoldable pub isPlain : List (Kind A) → Bool
   isPlain ks = all (λ k. hasNone (k .valuing)) ks
 
+  pub found-none : (ks : List (Kind A)) (n : ℕ) (k : Kind A) → isPlain ks ≡ true → kindIn ks n ≡ some k → hasNone (k .valuing) ≡ true
+  unfolding isPlain
+  found-none ks n k h e = found-passes (λ k. hasNone (k .valuing)) ks n k h e
+
   pub found-plain : (ks : List (Kind A)) (n : ℕ) (k : Kind A) → isPlain ks ≡ true → kindIn ks n ≡ some k → (w : Payload (k .valuing))
       → literalOf (k .valuing) w ≡ []
-  unfolding isPlain
-  found-plain ks n k h e w = no-literal (k .valuing) w (found-passes (λ k. hasNone (k .valuing)) ks n k h e)
+  found-plain ks n k h e w = no-literal (k .valuing) w (found-none ks n k h e)
 
 -- each class, kind by kind
 pub part-class : Class (partKinds parts) (spellPart parts)
@@ -236,7 +263,7 @@ pub record RowSpells (s : SpelledRow) (x : Statement) : Type 0 where
   pub makes : s .kind .make (s .flag) (s .steps) (s .left) (s .right) ≡ x
 
 -- a row whose kind is found is read by it
-abbrev rowBy : RowKind → List ℕ → Row → Statement
+abbrev pub rowBy : RowKind → List ℕ → Row → Statement
 rowBy k t r = k .make (flagIn (k .flagging) (r .flag)) (stepsIn (k .stepping) r) (leftIn (k .lefting) (r .left)) (rightIn t (k .righting) (r .right))
 
 pub row-found : (ks : List RowKind) (k : RowKind) (t : List ℕ) (r : Row) → rowIn ks (r .kind) ≡ some k → readRow ks t r ≡ rowBy k t r
@@ -263,8 +290,8 @@ row-spells (write xs) = record { finds = refl; makes = refl }
 row-spells (execute k) = record { finds = refl; makes = refl }
 row-spells return = record { finds = refl; makes = refl }
 
--- their numbers are bytes
-pub row-small : (x : Statement) → spellStatement x .kind .number < 256
+-- their numbers go up to 81
+pub row-small : (x : Statement) → spellStatement x .kind .number < 82
 unfolding spellStatement
 row-small (setNumber i x) = omega arith
 row-small (setString p xs) = omega arith
@@ -287,6 +314,32 @@ RowsRespell (k ∷ ks) =
     ((f : Flag (k .flagging)) (s : Steps (k .stepping)) (l : Left (k .lefting)) (r : Right (k .righting))
     → spellStatement (k .make f s l r) ≡ spelledRow k f s l r)
     × RowsRespell ks
+
+pub row-respells : (ks : List RowKind) (n : ℕ) (k : RowKind) → RowsRespell ks → rowIn ks n ≡ some k
+    → (f : Flag (k .flagging)) (s : Steps (k .stepping)) (l : Left (k .lefting)) (r : Right (k .righting))
+    → spellStatement (k .make f s l r) ≡ spelledRow k f s l r
+unfolding rowIn
+row-respells [] n k g e = absurd (none-some e)
+row-respells (m ∷ ks) n k g e =
+    test-cases
+    (λ b. cond b (some m) (rowIn ks n) ≡ some k
+    → (f : Flag (k .flagging)) (s : Steps (k .stepping)) (l : Left (k .lefting)) (r : Right (k .righting))
+    → spellStatement (k .make f s l r) ≡ spelledRow k f s l r)
+    (eqb n (m .number))
+    (λ _ h.
+    subst
+    (λ (k : RowKind). (f : Flag (k .flagging)) (s : Steps (k .stepping)) (l : Left (k .lefting)) (r : Right (k .righting))
+    → spellStatement (k .make f s l r) ≡ spelledRow k f s l r)
+    (some-same h) (g .0))
+    (λ _ h. row-respells ks n k (g .1) h) e
+
+-- a kind of row that is found has the number by which it is found
+pub row-number : (ks : List RowKind) (n : ℕ) (k : RowKind) → rowIn ks n ≡ some k → n ≡ k .number
+unfolding rowIn
+row-number [] n k e = absurd (none-some e)
+row-number (m ∷ ks) n k e =
+    test-cases (λ b. eqb n (m .number) ≡ b → cond b (some m) (rowIn ks n) ≡ some k → n ≡ k .number) (eqb n (m .number))
+    (λ _ h g. eqb-true n (m .number) h ∙ ap (λ (l : RowKind). l .number) (some-same g)) (λ _ h g. row-number ks n k g) refl e
 
 pub rows-respell : RowsRespell rowKinds
 unfolding spellStatement rowKinds

@@ -2,7 +2,7 @@
 use mathlib.Core.Bool.{Bool, true, _&&_}
 use mathlib.Core.List.{List, []}
 use mathlib.Core.Option.{Option, none, some}
-use mathlib.Core.Path.{_≡_, refl}
+use mathlib.Core.Path.{_≡_, refl, sym, _∙_, ap}
 use Prim.Native.Nat.{ℕ, _<_}
 use lib.Dec.{leb, ltb}
 use lib.ListN.{length}
@@ -13,12 +13,14 @@ use Rattle.base.specs.Limits as Limits
 use Rattle.base.specs.Lists.{all}
 use Rattle.language.specs.Program.{Length, constantly, numbered, Part, whole, first, numberOf, text, fixedFiller, Item, Element, PatternElement, Direction, Test, isNull, isNumeric, compares, Branch}
 use Rattle.language.specs.Program.{setNumber, ifTest, scan}
+use Rattle.calls.specs.CellLaws.{part-cell-place}
+use Rattle.calls.specs.Kinds as Kinds
 use Rattle.calls.specs.Kinds.{natural, signed, placed}
 use Rattle.calls.specs.Kinds.{Stepping, noStep, oneStep, bothSteps, Steps, Righting, noRight, operandRight, itemsRight, elementsRight}
 use Rattle.calls.specs.Kinds.{patternRight, replacingRight, Right, spellStatement}
 use Rattle.calls.specs.Rules.{partHolds, itemHolds, patternHolds, patternsHold, rowHolds, branchHolds, balanced, placeOf, rolesHold}
 use Rattle.calls.specs.Rules.{valueHolds, elementHolds, operandHolds, leftHolds, rightHolds, stepsHold, leftPlace, statementHolds}
-use Rattle.calls.specs.Table.{replacementOf}
+use Rattle.calls.specs.Table.{partCell, replacementOf}
 
 -- in a program of so many strings, numbers and steps
 module _ (e : Edition) (strings numbers steps : ℕ) where
@@ -46,10 +48,13 @@ module _ (e : Edition) (strings numbers steps : ℕ) where
       patterns = all (patternHolds e strings numbers steps) xs
 
       roles : Bool
-      roles = rolesHold (placeOf p) [] xs
+      roles = rolesHold (partCell Kinds.parts p .place) [] xs
 
       branch : Bool
       branch = branchHolds e strings numbers steps b
+
+      named : roles ≡ true → rolesHold (placeOf p) [] xs ≡ true
+      named h = ap (λ (i : ℕ). rolesHold i [] xs) (sym (part-cell-place Kinds.parts p)) ∙ h
 
       parts : (r : Option (List Element)) → statementHolds e strings numbers steps (scan d p xs r b) ≡ true → ScanParts p xs r b
       parts none g =
@@ -57,7 +62,7 @@ module _ (e : Edition) (strings numbers steps : ℕ) where
           let two = both-true part (few && (patterns && roles)) (one .0) in
           let three = both-true few (patterns && roles) (two .1) in
           let four = both-true patterns roles (three .1) in
-          record { part = two .0; few = three .0; patterns = four .0; roles = four .1; row = refl; branch = one .1 }
+          record { part = two .0; few = three .0; patterns = four .0; roles = named (four .1); row = refl; branch = one .1 }
       parts (some ys) g =
           let row = rowHolds e strings numbers steps ys in
           let one = both-true (part && ((few && (patterns && roles)) && row)) branch g in
@@ -65,13 +70,13 @@ module _ (e : Edition) (strings numbers steps : ℕ) where
           let three = both-true (few && (patterns && roles)) row (two .1) in
           let four = both-true few (patterns && roles) (three .0) in
           let five = both-true patterns roles (four .1) in
-          record { part = two .0; few = four .0; patterns = five .0; roles = five .1; row = three .1; branch = one .1 }
+          record { part = two .0; few = four .0; patterns = five .0; roles = named (five .1); row = three .1; branch = one .1 }
 
   pub scan-holds : (d : Direction) {p : Part} {xs : List PatternElement} (r : Option (List Element)) {b : Branch} → ScanParts p xs r b
       → statementHolds e strings numbers steps (scan d p xs r b) ≡ true
   unfolding statementHolds patternsHold replacementOf
-  scan-holds d none s = rw (s .part, s .few, s .patterns, s .roles, s .branch)
-  scan-holds d (some ys) s = rw (s .part, s .few, s .patterns, s .roles, s .row, s .branch)
+  scan-holds d {p} none s = rw (s .part, s .few, s .patterns, part-cell-place Kinds.parts p, s .roles, s .branch)
+  scan-holds d {p} (some ys) s = rw (s .part, s .few, s .patterns, part-cell-place Kinds.parts p, s .roles, s .row, s .branch)
 
   -- a length without a sign, and one with a sign, in what has one
   unfoldable pub lengthHolds : Length → Bool

@@ -38,7 +38,7 @@ use Rattle.calls.specs.Kinds.{Spelled, spellPart, spellOperand, spellIte
 use Rattle.calls.specs.Kinds.{Stepping, noStep, oneStep, bothSteps, Steps, Lefting, noLeft, numberLeft, stringLeft, partLeft}
 use Rattle.calls.specs.Kinds.{operandLeft, Left, Righting, noRight, operandRight, itemsRight, elementsRight, patternRight}
 use Rattle.calls.specs.Kinds.{replacingRight, Right}
-use Rattle.calls.specs.Table.{image, allElements, allItems, allLiterals}
+use Rattle.calls.specs.Table.{image, leftCell, allElements, allItems, allLiterals}
 use Rattle.calls.specs.TableReading.{programIn}
 
 -- the most numbers that an expression keeps waiting for an operator
@@ -73,13 +73,10 @@ rolesHold r fs (value x ∷ xs) = not (isAmong fs (namedBy x)) && rolesHold r fs
 rolesHold r fs (freeFiller s ∷ xs) = not (eqb s r) && rolesHold r (s ∷ fs) xs
 rolesHold r fs (fixedFiller s n ∷ xs) = not (eqb s r) && rolesHold r (s ∷ fs) xs
 
--- the string that a left cell names, 0 if it names none
+-- the place that a left cell names: of a scan that of its reference
 unfoldable pub leftPlace : (l : Lefting) → Left l → ℕ
-leftPlace noLeft u = 0
-leftPlace numberLeft i = 0
-leftPlace stringLeft s = s
-leftPlace partLeft p = placeOf p
-leftPlace operandLeft a = 0
+unfolding leftCell
+leftPlace l w = leftCell l w .place
 
 -- the strings, numbers and steps that a program has
 module _ (e : Edition) (strings numbers steps : ℕ) where

@@ -30,6 +30,7 @@ use base::least;
 use calls::NUMBERS_AT;
 use calls::STATE_SIZE;
 use calls::WAITING;
+use calls::cell_kinds;
 use convert::Int;
 use convert::Number;
 use convert::Text;
@@ -42,9 +43,6 @@ use rows::Operator;
 use rows::Part;
 use rows::Sign;
 use rows::Stretch;
-
-// the last of the kinds that operands have in a cell
-const LAST_OPERAND: usize = calls::cell_kinds::LAST_OPERAND as usize;
 
 // where bytes of the store lie, with the notes made on the way
 pub struct Ends {
@@ -350,7 +348,7 @@ pub fn numeric_value(table: &[u8], store: &[u8], state: &[u64; STATE_SIZE], s: S
         (numericIn current (memoryIn (now (store .entry)) (now (state .entry))) (itemsMeaning (now (table .entry)) s)) ⌝ }
 {
     if s.count == 3 {
-        if rows::item_kind(table, s.from + 1) <= LAST_OPERAND {
+        if cell_kinds::CONSTANT <= rows::item_kind(table, s.from + 1) {
             return pair_value(table, store, state, s);
         }
     }

@@ -17,9 +17,9 @@ use Rattle.calls.specs.Table.{stepsAt, elementsAt, itemsAt, literalsAt, format,
 use Rattle.calls.specs.TableLaws.{InRange, in-range, length-filledTo, length-elementRows, length-itemRows, keeps-image, length-stepRows}
 use Rattle.calls.specs.TableReading.{programIn}
 use Rattle.rows.specs.Kept.{step-count}
-use Rattle.rules.specs.Same.{SameSteps, all-elements, all-literals, all-items}
+use Rattle.rules.specs.Same.{SameSteps, all-elements, all-items}
 use Rattle.rules.specs.Same.{literals-written, items-written, elements-written, steps-written}
-use Rattle.rules.specs.Split.{piece-split, filled-split, items-same, elements-same, literals-same, steps-same}
+use Rattle.rules.specs.Split.{piece-split, filled-split, items-same, elements-same, steps-same}
 use Rattle.rules.specs.Written.{piece, piece-add, piece-stands, piece-first, number-written}
 
 -- so many zeros from a place on
@@ -95,7 +95,7 @@ image-written t bytes room c =
     let cells = elements-written t 0 0 es (all-elements t 0 0 0 0 ss same) ∙ ap (λ (n : ℕ). piece t 6208 (8 * n)) (c .elements) in
     let items = items-written t 0 (allItems ss) (all-items t 0 0 0 0 ss same) ∙ ap (λ (n : ℕ). piece t 14400 (8 * n)) (c .items) in
     let texts =
-    literals-written t 0 0 es (all-elements t 0 0 0 0 ss same) (all-literals t 0 0 0 0 ss same) (omega arith) ∙ ap (piece t 22592) (c .literals) in
+    literals-written t 0 0 es (all-elements t 0 0 0 0 ss same) ∙ ap (piece t 22592) (c .literals) in
     let one = filled-written t 0 64 14 (header p) (header-written t bytes room c) (omega arith) (omega arith) (c .headerZeros) in
     let two = filled-written t 64 6144 (24 * numberAt 2 t 2) (stepRows 0 0 ss) rows (omega arith) (omega arith) (c .stepsZeros) in
     let three = filled-written t 6208 8192 (8 * numberAt 2 t 8) (elementRows 0 es) cells (omega (arith, c .elements, ok .elements)) (omega (arith, c .elements, ok .elements)) (c .elementsZeros) in
@@ -179,10 +179,8 @@ keeps-checked t room h =
     let fifth =
     filled-split t 22592 6080 (numberAt 2 t 12) texts (d .1) (counted .literals) (omega (arith, counted .literals, ok .literals)) (omega arith) in
     let same =
-    elements-same t 0 0 es (third .0 ∙ ap (λ (n : ℕ). piece t 6208 (8 * n)) (sym (counted .elements))) (omega (arith, ok .elements)) in
-    let literals =
-    literals-same t 0 0 es same (fifth .0 ∙ ap (piece t 22592) (sym (counted .literals))) (omega (arith, ok .literals))
-    (omega (arith, ok .literals)) in
+    elements-same t 0 0 es (third .0 ∙ ap (λ (n : ℕ). piece t 6208 (8 * n)) (sym (counted .elements))) (omega (arith, ok .elements))
+    (fifth .0 ∙ ap (piece t 22592) (sym (counted .literals))) (omega (arith, ok .literals)) in
     let own =
     items-same t 0 (allItems ss) (fourth .0 ∙ ap (λ (n : ℕ). piece t 14400 (8 * n)) (sym (counted .items))) (omega (arith, ok .items)) in
     record {
@@ -193,7 +191,7 @@ keeps-checked t room h =
       items = counted .items;
       literals = counted .literals;
       steps =
-          steps-same t 0 0 0 0 ss (second .0 ∙ ap (λ (n : ℕ). piece t 64 (24 * n)) (sym count)) (omega (arith, ok .steps)) same literals own;
+          steps-same t 0 0 0 0 ss (second .0 ∙ ap (λ (n : ℕ). piece t 64 (24 * n)) (sym count)) (omega (arith, ok .steps)) same own;
       headerZeros = first .1;
       stepsZeros = second .1;
       elementsZeros = third .1;

@@ -6,20 +6,20 @@ use Prim.Native.Nat.{ℕ, _+_, _*_, _≤_, _<_}
 use native.Mathlib.Omega.{arith}
 use lib.Dec.{leb, ltb, eqb}
 use lib.ListN.{length, getD, set, replicate, length-replicate}
-use borrow.Author.Tests.{leb-false, ltb-false, ne-eqb, not-false}
+use borrow.Author.Tests.{leb-false, ltb-false, eqb-true, ne-eqb, not-false}
+use Rattle.base.specs.Choice.{cond-cases}
 use Rattle.base.specs.Current.{current, tableSize}
-use Rattle.rules.specs.Kinds.{From, from}
 use Rattle.base.specs.Lists.{isNil}
 use Rattle.calls.specs.BufferLaws.{Good, image-good, fresh-image}
 use Rattle.calls.specs.Buffers.{returnsIn, storeImage, stateIn, stateKeeps, stateSize, statusOf, storeKeeps, storeSize}
 use Rattle.calls.specs.Calls.{Buffers, carried, givenIn, outOfRange, stepCall, stepRefusal, buffers}
 use Rattle.calls.specs.GivenLaws.{StateInRange, state-in-range, given-holds, returns-count, refusal-none}
 use Rattle.calls.specs.Holding.{Holding}
+use Rattle.calls.specs.Kinds as Kinds
 use Rattle.calls.specs.Numerals.{numberAt}
-use Rattle.calls.specs.RowLaws.{return-row}
 use Rattle.calls.specs.Rules.{keepsRules}
 use Rattle.calls.specs.StepLaws.{Tabled, call-held}
-use Rattle.calls.specs.Table.{Row, row, stepsAt}
+use Rattle.calls.specs.Table.{Row, stepsAt}
 use Rattle.calls.specs.TableReading.{programIn, rowAt, statementOfRow}
 use Rattle.carry.specs.Carrying.{Carries, Standing, Unmoved, machineIn}
 use Rattle.carry.specs.Laws.{stops, scans}
@@ -220,21 +220,45 @@ module _ {table input : List ℕ} {b : Buffers} {next : ℕ} {x : Statement} (g 
 
 -- what the kind of a row tells of the returns that its statement takes
 module _ (t rs : List ℕ) (r : Row) where
-  pub plain-lacks : r .kind < 11 → lacksReturn (statementOfRow t r) rs ≡ false
-  unfolding lacksReturn statementOfRow row
-  plain-lacks low =
-      let P : ℕ → Type 0 =
-      λ k. lacksReturn (statementOfRow t (row k (r .flag) (r .success) (r .failure) (r .left) (r .right))) rs ≡ false in
-      let each : From P 0 11 = (refl, (refl, (refl, (refl, (refl, (refl, (refl, (refl, (refl, (refl, (refl, tt))))))))))) in
-      from P 0 11 each (r .kind) (omega arith) low
-
-  pub execute-lacks : r .kind ≡ 11 → lacksReturn (statementOfRow t r) rs ≡ leb 16 (length rs)
+  pub execute-lacks : r .kind ≡ Kinds.executeKind .number → lacksReturn (statementOfRow t r) rs ≡ leb 16 (length rs)
   unfolding lacksReturn statementOfRow mostReturns
   execute-lacks h = rw h
 
-  pub return-lacks : 11 < r .kind → lacksReturn (statementOfRow t r) rs ≡ isNil rs
-  unfolding lacksReturn
-  return-lacks high = ap (λ s. lacksReturn s rs) (return-row t r high)
+  pub return-lacks : r .kind ≡ Kinds.returnKind .number → lacksReturn (statementOfRow t r) rs ≡ isNil rs
+  unfolding lacksReturn statementOfRow
+  return-lacks h = rw h
+
+  -- a row of any other kind takes none
+  pub plain-lacks : (r .kind ≡ Kinds.executeKind .number → ⊥) → (r .kind ≡ Kinds.returnKind .number → ⊥)
+      → lacksReturn (statementOfRow t r) rs ≡ false
+  unfolding lacksReturn statementOfRow
+  plain-lacks enters leaves =
+      let P : Program.Statement → Type 0 = λ s. lacksReturn s rs ≡ false in
+      cond-cases P (eqb (r .kind) (Kinds.setNumberKind .number)) (λ _. refl)
+      (λ _.
+      cond-cases P (eqb (r .kind) (Kinds.setStringKind .number)) (λ _. refl)
+      (λ _.
+      cond-cases P (eqb (r .kind) (Kinds.gotoKind .number)) (λ _. refl)
+      (λ _.
+      cond-cases P (eqb (r .kind) (Kinds.finishKind .number)) (λ _. refl)
+      (λ _.
+      cond-cases P (eqb (r .kind) (Kinds.executeKind .number)) (λ h. absurd (enters (eqb-true (r .kind) (Kinds.executeKind .number) h)))
+      (λ _.
+      cond-cases P (eqb (r .kind) (Kinds.returnKind .number)) (λ h. absurd (leaves (eqb-true (r .kind) (Kinds.returnKind .number) h)))
+      (λ _.
+      cond-cases P (eqb (r .kind) (Kinds.nullKind .number)) (λ _. refl)
+      (λ _.
+      cond-cases P (eqb (r .kind) (Kinds.numericKind .number)) (λ _. refl)
+      (λ _.
+      cond-cases P (eqb (r .kind) (Kinds.compareKind .number)) (λ _. refl)
+      (λ _.
+      cond-cases P (eqb (r .kind) (Kinds.scanKind .number)) (λ _. refl)
+      (λ _.
+      cond-cases P (eqb (r .kind) (Kinds.replaceKind .number)) (λ _. refl)
+      (λ _.
+      cond-cases P (eqb (r .kind) (Kinds.readKind .number)) (λ _. refl)
+      (λ _.
+      cond-cases P (eqb (r .kind) (Kinds.writeKind .number)) (λ _. refl) (λ _. refl)))))))))))))
 
 -- returns are enough where none is lacking
 pub enough-returns : (t : List ℕ) (x : Statement) (rs : List ℕ) (held : ℕ) → length rs ≡ held → lacksReturn (statementMeaning t x) rs ≡ false

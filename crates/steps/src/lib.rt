@@ -21,25 +21,21 @@ use base::LONGEST;
 use base::RETURNS;
 use calls::STATE_SIZE;
 use calls::TABLE_SIZE;
+use calls::step_kinds;
 use rows::Statement;
 use scanning::ANSWER_SIZE;
 use scanning::NOTES_AT;
 use statements::Did;
 
-// the kind of a step that is an EXECUTE; what is above it returns
-const EXECUTE: usize = calls::step_kinds::EXECUTE as usize;
-
 // whether a step of this kind lacks the return that it goes to, or room for the one that it holds
-fn lacks_return(kind: usize, held: usize) -> bool
+fn lacks_return(kind: u8, held: usize) -> bool
     ensures { λ r. ⌜ ((t rs : List ℕ) (row : Row) → row .kind ≡ kind → length rs ≡ held → r ≡ lacksReturn (statementOfRow t row) rs) ⌝ }
 {
-    if kind < EXECUTE {
-        return false;
+    match kind {
+        step_kinds::EXECUTE => RETURNS <= held,
+        step_kinds::RETURN => held == 0,
+        _ => false,
     }
-    if kind == EXECUTE {
-        return RETURNS <= held;
-    }
-    held == 0
 }
 
 // carries a statement out, with the buffers that its work takes; the answer, which must say that nothing was scanned, gets what a scan found

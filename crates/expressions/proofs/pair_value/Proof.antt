@@ -5,7 +5,7 @@ use mathlib.Core.Path.{sym, ap, subst, _∙_}
 use native.Mathlib.Omega.{arith}
 use lib.IntN.{ℤ}
 use Rattle.base.specs.Current.{current}
-use Rattle.calls.specs.TableReading.{operatorOfKind}
+use Rattle.rows.specs.Reading.{operatorOfKind}
 use Rattle.convert.specs.Laws.{number-is, number-range, number-stops}
 use Rattle.convert.specs.Numbers.{Answers}
 use Rattle.language.specs.Program.{Operator}
