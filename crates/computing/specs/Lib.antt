@@ -367,24 +367,54 @@ unfolding
     Rattle.calls.specs.Demands.ListClaim
     Rattle.calls.specs.Demands.AllRefused
     Rattle.calls.specs.Demands.Linked
+    Rattle.calls.specs.KindLaws.kindIn
+    Rattle.calls.specs.KindLaws.placeFor
+    Rattle.calls.specs.KindLaws.hasNone
+    Rattle.calls.specs.KindLaws.isPlain
+    Rattle.calls.specs.KindLaws.rowIn
+    Rattle.calls.specs.Kinds.partKinds
+    Rattle.calls.specs.Kinds.spellPart
+    Rattle.calls.specs.Kinds.operatorNumber
+    Rattle.calls.specs.Kinds.signNumber
+    Rattle.calls.specs.Kinds.operandKinds
+    Rattle.calls.specs.Kinds.spellOperand
+    Rattle.calls.specs.Kinds.itemKinds
+    Rattle.calls.specs.Kinds.spellItem
+    Rattle.calls.specs.Kinds.elementKinds
+    Rattle.calls.specs.Kinds.spellElement
+    Rattle.calls.specs.Kinds.patternKinds
+    Rattle.calls.specs.Kinds.spellPattern
+    Rattle.calls.specs.Kinds.rowKinds
+    Rattle.calls.specs.Kinds.spellStatement
     Rattle.calls.specs.Numerals.inBytes
     Rattle.calls.specs.Numerals.numberAt
     Rattle.calls.specs.Numerals.bias
     Rattle.calls.specs.Numerals.biased
     Rattle.calls.specs.Numerals.unbiased
+    Rattle.calls.specs.RuleLaws.lengthHolds
+    Rattle.calls.specs.RuleLaws.signedLengthHolds
+    Rattle.calls.specs.RuleLaws.testHolds
     Rattle.calls.specs.Rules.mostWaiting
     Rattle.calls.specs.Rules.balanced
     Rattle.calls.specs.Rules.placeOf
-    Rattle.calls.specs.Rules.signedLengthHolds
-    Rattle.calls.specs.Rules.lengthHolds
+    Rattle.calls.specs.Rules.namedBy
+    Rattle.calls.specs.Rules.isAmong
+    Rattle.calls.specs.Rules.rolesHold
+    Rattle.calls.specs.Rules.leftPlace
+    Rattle.calls.specs.Rules.placeHolds
+    Rattle.calls.specs.Rules.valueHolds
+    Rattle.calls.specs.Rules.holds
     Rattle.calls.specs.Rules.partHolds
     Rattle.calls.specs.Rules.operandHolds
     Rattle.calls.specs.Rules.itemHolds
     Rattle.calls.specs.Rules.elementHolds
     Rattle.calls.specs.Rules.patternHolds
     Rattle.calls.specs.Rules.rowHolds
+    Rattle.calls.specs.Rules.patternsHold
     Rattle.calls.specs.Rules.branchHolds
-    Rattle.calls.specs.Rules.testHolds
+    Rattle.calls.specs.Rules.leftHolds
+    Rattle.calls.specs.Rules.rightHolds
+    Rattle.calls.specs.Rules.stepsHold
     Rattle.calls.specs.Rules.statementHolds
     Rattle.calls.specs.Rules.stepHolds
     Rattle.calls.specs.Rules.isProgram
@@ -403,26 +433,32 @@ unfolding
     Rattle.calls.specs.Table.cell
     Rattle.calls.specs.Table.noCell
     Rattle.calls.specs.Table.cellBytes
-    Rattle.calls.specs.Table.lengthCell
+    Rattle.calls.specs.Table.range
+    Rattle.calls.specs.Table.valueOf
+    Rattle.calls.specs.Table.literalOf
+    Rattle.calls.specs.Table.cellFor
     Rattle.calls.specs.Table.partCell
     Rattle.calls.specs.Table.operandCell
-    Rattle.calls.specs.Table.operatorKind
-    Rattle.calls.specs.Table.signKind
     Rattle.calls.specs.Table.itemCell
-    Rattle.calls.specs.Table.range
     Rattle.calls.specs.Table.elementCell
     Rattle.calls.specs.Table.patternCell
     Rattle.calls.specs.Table.literalIn
-    Rattle.calls.specs.Table.replacementOf
+    Rattle.calls.specs.Table.rightElements
+    Rattle.calls.specs.Table.rightItems
     Rattle.calls.specs.Table.elementsOf
     Rattle.calls.specs.Table.itemsOf
+    Rattle.calls.specs.Table.replacementOf
     Rattle.calls.specs.Table.rowBytes
     Rattle.calls.specs.Table.row
     Rattle.calls.specs.Table.rangeCell
     Rattle.calls.specs.Table.comparisonNumber
     Rattle.calls.specs.Table.directionNumber
-    Rattle.calls.specs.Table.replacementFlag
-    Rattle.calls.specs.Table.testRow
+    Rattle.calls.specs.Table.flagNumber
+    Rattle.calls.specs.Table.successOf
+    Rattle.calls.specs.Table.failureOf
+    Rattle.calls.specs.Table.leftCell
+    Rattle.calls.specs.Table.rightCell
+    Rattle.calls.specs.Table.rowFor
     Rattle.calls.specs.Table.rowOf
     Rattle.calls.specs.Table.stepRows
     Rattle.calls.specs.Table.allElements
@@ -442,11 +478,10 @@ unfolding
     Rattle.calls.specs.TableReading.rangeFrom
     Rattle.calls.specs.TableReading.rangeCount
     Rattle.calls.specs.TableReading.rangeMore
-    Rattle.calls.specs.TableReading.lengthOfCell
+    Rattle.calls.specs.TableReading.payloadIn
+    Rattle.calls.specs.TableReading.readCell
     Rattle.calls.specs.TableReading.partOfCell
     Rattle.calls.specs.TableReading.operandOfCell
-    Rattle.calls.specs.TableReading.operatorOfKind
-    Rattle.calls.specs.TableReading.signOfKind
     Rattle.calls.specs.TableReading.itemOfCell
     Rattle.calls.specs.TableReading.elementOfCell
     Rattle.calls.specs.TableReading.patternOfCell
@@ -455,12 +490,12 @@ unfolding
     Rattle.calls.specs.TableReading.patternFrom
     Rattle.calls.specs.TableReading.comparisonOf
     Rattle.calls.specs.TableReading.rowAt
-    Rattle.calls.specs.TableReading.branchOf
-    Rattle.calls.specs.TableReading.testOf
-    Rattle.calls.specs.TableReading.elementsOfRow
-    Rattle.calls.specs.TableReading.patternOfRow
-    Rattle.calls.specs.TableReading.replacementOfRow
     Rattle.calls.specs.TableReading.directionOf
+    Rattle.calls.specs.TableReading.flagIn
+    Rattle.calls.specs.TableReading.stepsIn
+    Rattle.calls.specs.TableReading.leftIn
+    Rattle.calls.specs.TableReading.rightIn
+    Rattle.calls.specs.TableReading.readRow
     Rattle.calls.specs.TableReading.statementOfRow
     Rattle.calls.specs.TableReading.stepIn
     Rattle.calls.specs.TableReading.stepsFrom
