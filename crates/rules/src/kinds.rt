@@ -29,6 +29,9 @@ const BIAS: usize = calls::BIAS as usize;
 
 const LIMIT: usize = convert::LIMIT as usize;
 
+// one past the greatest constant
+const PAST: usize = BIAS + LIMIT + 1;
+
 // a value has 6 bytes
 const VALUES: usize = 281_474_976_710_656;
 
@@ -200,10 +203,10 @@ fn value_bound(code: usize, n: Counts) -> usize
 {
     let value = code % 10;
     if value == NATURAL {
-        return BIAS + LIMIT + 1;
+        return PAST;
     }
     if value == SIGNED {
-        return BIAS + LIMIT + 1;
+        return PAST;
     }
     if value == PLACED {
         return n.numbers;
