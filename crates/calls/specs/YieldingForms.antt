@@ -246,7 +246,7 @@ module _ {K : Naming → Type 0} {z : Sizes} (e : Edition) {at : Places} (placed
             omega (arith, ap length elements, length-append xs ys, length-map (replacementOf r) value),
             omega (arith, ap length (scan-items d p xs r b)),
             omega
-            (arith, ap (λ zs. length (allLiterals zs)) elements, ap length (literals-append xs ys), length-append (allLiterals xs) (allLiterals ys)),
+                (arith, ap (λ zs. length (allLiterals zs)) elements, ap length (literals-append xs ys), length-append (allLiterals xs) (allLiterals ys)),
             λ clash.
                 let roles = roles-hold K at distinct n (ref .3) [] none-known xs (t .roles) (u .roles ++ []) (pat .3) clash in
                 scan-holds e (z .strings) (z .numbers) (z .steps) d r (record {

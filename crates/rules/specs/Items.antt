@@ -156,8 +156,7 @@ module _ (strings numbers steps : ℕ) where
   unfolding itemHolds itemCell
   item-passes few x h =
       let s = spellItem x in
-      let empty = found-plain itemKinds (s .kind .number) (s .kind) item-plain (item-class .spells x .finds) (s .payload) in
-      (
+      let empty = found-plain itemKinds (s .kind .number) (s .kind) item-plain (item-class .spells x .finds) (s .payload) in (
         class-forth strings numbers steps item-class 16 48 63 items-told (omega arith) items-within 0 x h (rw empty (omega arith)) .0,
         item-kept current strings numbers steps few current-limit x h .small,
       )

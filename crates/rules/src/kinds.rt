@@ -221,7 +221,9 @@ fn value_bound(code: usize, n: Counts) -> usize
 fn fits(code: usize, c: Cell, n: Counts) -> bool
     ensures { λ r. ⌜ r ≡ fitTest (n .strings) (n .numbers) code (cellMeaning c) ⌝ }
 {
-    (c.place < place_bound(code, n)) & (value_low(code) <= c.value) & (c.value < value_bound(code, n))
+    (c.place < place_bound(code, n))
+        & (value_low(code) <= c.value)
+        & (c.value < value_bound(code, n))
 }
 
 // Whether a cell is of a kind from low to high, with a place and a value as the kind asks for.
@@ -286,7 +288,13 @@ pub fn elements_end(
     let mut end: usize = at;
     let mut i: usize = 0;
     while i < count {
-        end = element_end(codes, rows::cell_at(t, ELEMENTS_AT + TABLE_CELL * (k + i)), high, end, n);
+        end = element_end(
+            codes,
+            rows::cell_at(t, ELEMENTS_AT + TABLE_CELL * (k + i)),
+            high,
+            end,
+            n,
+        );
         i += 1;
     }
     end
@@ -367,7 +375,12 @@ pub fn items_end(t: &[u8], codes: &[usize; KINDS], k: usize, count: usize, n: Co
     let mut known: usize = 0;
     let mut i: usize = 0;
     while i < count {
-        known = item_end(codes, rows::cell_at(t, calls::ITEMS_AT + TABLE_CELL * (k + i)), known, n);
+        known = item_end(
+            codes,
+            rows::cell_at(t, calls::ITEMS_AT + TABLE_CELL * (k + i)),
+            known,
+            n,
+        );
         i += 1;
     }
     known

@@ -9,12 +9,12 @@ ghost use Rattle.rows.specs.Meaning.{cellMeaning, rowMeaning};
 ghost use Rattle.rules.specs.Codes.{cellCodes, rowCodes, rowCodeAt, flaggingOf, steppingOf, leftingOf, rightingOf};
 ghost use Rattle.rules.specs.Tests.{Few, Short, Room, Inside, flagTest, stepsTest, leftTest, rightTest, stretchesOf, startTest, mostMore, stretchesTest, rowTest, isPattern, lastKind, numbersLeft, patternTest, cellsEnd, stepTest, stepEnd, stepsEnd, start};
 use crate::kinds;
+use crate::kinds::KINDS;
 use base::ROW;
 use calls::RANGE_MORE;
 use calls::RANGE_STEP;
 use calls::STEP_ROW;
 use calls::step_kinds;
-use crate::kinds::KINDS;
 use rows::Cell;
 use rows::Counts;
 use rows::Row;
@@ -377,7 +377,10 @@ fn step_end(
     let range = r.right.value;
     let digit = code % 10;
     let s = stretches_of(digit, range);
-    if row_holds(cells, code, r, n) & start_holds(digit, range, p) & stretches_hold(digit, s, p, n) {
+    if row_holds(cells, code, r, n)
+        & start_holds(digit, range, p)
+        & stretches_hold(digit, s, p, n)
+    {
         return cells_end(t, cells, digit, r.left.place, s, p, n);
     }
     Places {

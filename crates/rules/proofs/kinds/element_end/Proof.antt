@@ -35,8 +35,7 @@ returns c =
     let holds =
     sym (ap₂ (λ (x y : Bool). x && y) (tests .before .cell-holds .ensures) (tests .literal-holds .ensures ∙ ap (λ (k : ℕ). literalTest k (a .at) (a .c .value)) code))
     ∙ c .before .if1 .taken in
-    let size = c .own-length .ensures .0 ∙ ap (λ (k : ℕ). ownLength k (a .c .value)) code in
-    (
+    let size = c .own-length .ensures .0 ∙ ap (λ (k : ℕ). ownLength k (a .c .value)) code in (
       sym (element-ends (a .n .strings) (a .n .numbers) (a .n .steps) (a .high) (a .at) (cellMeaning (a .c)) holds ∙ ap (λ (m : ℕ). a .at + m) (sym size)),
       omega (arith, size, element-inside (a .n .strings) (a .n .numbers) (a .n .steps) (a .high) (a .at) (cellMeaning (a .c)) holds),
     )

@@ -16,7 +16,7 @@ value-bound-requires c κs = search needs
 
 returns : tie.Need-returns
 unfolding fitTest
-returns c = 
+returns c =
     let low = c .before .before .before in
     rw (low .before .before .place-bound .ensures, low .value-low .ensures, c .before .value-bound .ensures)
 

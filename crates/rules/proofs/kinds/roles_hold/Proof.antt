@@ -79,13 +79,12 @@ loop-again c =
     let a = turn .before .before .before .args in
     let marked : c .if1 .marks ≡ marksAfter (l .marks) (kind .result) (place .result) =
     ⊎-elim (λ w. w .1 ∙ marks-filler (l .marks) (kind .result) (place .result) (w .0 .taken))
-    (λ w. w .1 ∙ marks-other (l .marks) (kind .result) (place .result) (w .0 .left)) (c .if1 .came) in
-    (
+    (λ w. w .1 ∙ marks-other (l .marks) (kind .result) (place .result) (w .0 .left)) (c .if1 .came) in (
       ap length marked ∙ marks-size (l .marks) (kind .result) (place .result) ∙ l .inv .0,
       omega arith,
       roles-turn (a .t .now) (a .reference) (l .hold) (role .result) (l .marks) (c .if1 .marks) (a .k) (l .i) (a .count) (kind .result) (place .result)
           (sym (kind .ensures .0)) (sym (place .ensures .0)) (role .ensures) marked (turn .loop-test .taken)
-      ∙ l .inv .2,
+          ∙ l .inv .2,
     )
 
 returns : tie.Need-returns Inv-loop μ-loop

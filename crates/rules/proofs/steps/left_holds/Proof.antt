@@ -40,7 +40,7 @@ cell-holds-requires-5 c κs = search needs
 
 returns-5 : tie.Need-returns-5
 unfolding leftTest leftingOf
-returns-5 c = 
+returns-5 c =
     let if4 = c .before in
     let if3 = if4 .before in
     let if2 = if3 .before in

@@ -19,7 +19,7 @@ right-holds-requires c κs = search needs
 
 returns : tie.Need-returns
 unfolding rowTest
-returns c = 
+returns c =
     let branch = c .before .before in
     rw (c .right-holds .ensures, c .before .left-holds .ensures, branch .branch-holds .ensures, branch .before .flags-hold .ensures)
 
