@@ -5,6 +5,9 @@
 
 enum { LEFT = 8, RIGHT = 16 }; /* the cells of a row */
 
+/* Where the ranges of kinds begin that a place for a cell takes; each ends where the next one begins. */
+enum { OPERATORS = 16, SIGNS = 24, OPERANDS = 32, PARTS = 64, OTHERS = 80, FILLERS = 96, RANGES = 112 };
+
 int is_scan(enum step_kind kind)
 {
     return kind == SCANS || kind == REPLACES;
@@ -248,7 +251,7 @@ static int roles_hold(const struct rules *k, uint64_t from, uint64_t count, uint
 {
     for (uint64_t i = from; i < from + count; i++) {
         const uint8_t *filler = element_at(k, i);
-        if (!kind_in(filler, FILLERS, RANGE_CELL)) continue;
+        if (!kind_in(filler, FILLERS, RANGES)) continue;
         if (place_of(filler) == searched) return 0;
         for (uint64_t j = i + 1; j < from + count; j++)
             if (kind_in(element_at(k, j), PARTS, OTHERS) && place_of(element_at(k, j)) == place_of(filler)) return 0;
@@ -290,7 +293,7 @@ static int scan_holds(struct rules *k, const uint8_t *row)
     uint64_t from = k->elements_seen, count = range_count(cell), more = range_more(cell);
     if (row[1] < 1 || row[1] > 2 || !range_follows(cell, RANGE_CELL, &k->elements_seen, k->elements)) return 0;
     if (row[0] == SCANS && more != 0) return 0;
-    return elements_hold(k, from, count, RANGE_CELL) && roles_hold(k, from, count, place_of(row + LEFT)) &&
+    return elements_hold(k, from, count, RANGES) && roles_hold(k, from, count, place_of(row + LEFT)) &&
            elements_hold(k, from + count, more, FILLERS);
 }
 
