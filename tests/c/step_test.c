@@ -352,18 +352,21 @@ static int make_scan(int which, struct oracle_program *p, int *keeps)
 }
 
 #define ROW_AT(i) (STEPS_AT + (i) * ROW_SIZE)
+#define FLAG_AT(i) (ROW_AT(i) + 1)
 #define LEFT_AT(i) (ROW_AT(i) + CELL)
 #define RIGHT_AT(i) (ROW_AT(i) + 2 * CELL)
 #define ELEMENT_AT(i) (ELEMENTS_AT + (i) * CELL)
 #define ITEM_AT(i) (ITEMS_AT + (i) * CELL)
 
-/* Bytes of the rich deck's table that hold a kind: the kind that stands there, and all others with which the table keeps the rules. Most of those
-   are right because a place or value of 0 says something else with each of them. */
-static const struct { int at; uint8_t kept[5]; } kinds[] = {
+/* Bytes of the rich deck's table that hold a kind or a flag: the one that stands there, and all others with which the table keeps the rules. Kinds of
+   cells are many where place and value have a meaning with each of them. */
+static const struct { int at; uint8_t kept[6]; } kinds[] = {
     {ROW_AT(0), {SET_NUMBER}}, {ROW_AT(2), {SET_STRING}}, {ROW_AT(5), {IF_NULL, IF_NUMERIC, READS}}, {ROW_AT(6), {IF_NUMERIC, READS}},
     {ROW_AT(10), {IF_COMPARES}}, {ROW_AT(11), {REPLACES}}, {ROW_AT(12), {SCANS, REPLACES}}, {ROW_AT(13), {REPLACES, SCANS}},
     {ROW_AT(16), {READS, IF_NULL, IF_NUMERIC}}, {ROW_AT(17), {WRITES}}, {ROW_AT(18), {EXECUTES, GOES}},
     {ROW_AT(20), {RETURNS, FINISHES, GOES, EXECUTES}}, {ROW_AT(23), {GOES, EXECUTES}}, {ROW_AT(24), {FINISHES}},
+    {FLAG_AT(7), {AT_MOST, EQUAL, UNEQUAL, LESS, GREATER, AT_LEAST}}, {FLAG_AT(11), {1, 2}}, {FLAG_AT(12), {2, 1}}, {FLAG_AT(13), {1, 2}},
+    {FLAG_AT(5), {0}}, {FLAG_AT(16), {0}}, {FLAG_AT(17), {0}}, {FLAG_AT(24), {0}},
     {LEFT_AT(1), {NUMBER_CELL}}, {LEFT_AT(5), {STRING_CELL}}, {LEFT_AT(11), {STRING_CELL, VARIABLE_PART}}, {LEFT_AT(12), {CONSTANT_PART}},
     {LEFT_AT(15), {VARIABLE_PART, STRING_CELL}}, {LEFT_AT(8), {LENGTH_CELL, NUMBER_CELL, VALUE_CELL, VARIABLE_VALUE}},
     {RIGHT_AT(7), {CONSTANT_CELL}}, {RIGHT_AT(8), {VARIABLE_VALUE}}, {RIGHT_AT(9), {CONSTANT_VALUE}},
@@ -390,7 +393,7 @@ static void try_kinds(const struct oracle_program *rich_program)
         for (int value = 0; value < BYTES; value++) {
             int keeps = value == kinds[i].kept[0] || (value != 0 && memchr(kinds[i].kept, value, sizeof kinds[i].kept) != NULL);
             table[kinds[i].at] = (uint8_t)value;
-            if (oracle_keeps(table) != keeps) fail("the oracle's own judgement of kind %d", value);
+            if (oracle_keeps(table) != keeps) fail("the oracle's own judgement of %d", value);
         }
         table[kinds[i].at] = kinds[i].kept[0];
     }

@@ -44,15 +44,16 @@ static void change_byte(struct draws *d, uint8_t *byte)
     }
 }
 
-/* Turns a kind into one beside it, and the other way: those of a row have the same cells, those of a cell the same place, most of them also the
-   same value. The table mostly stays sound and its program does what no deck can say. */
+/* Turns one kind of a pair into the other: rows of the same cells, cells with a place and value of the same form, which often leaves the table sound
+   and lets its program do what no deck can say; or a constant and a number, where the value falls out of range. */
 static void change_kind(struct draws *d, uint8_t *table)
 {
     static const uint8_t rows[][2] = {{GOES, EXECUTES}, {FINISHES, RETURNS}, {IF_NUMERIC, READS}, {IF_NULL, IF_NUMERIC}, {SCANS, REPLACES}};
     static const uint8_t cells[][2] = {{STRING_CELL, FREE_CELL}, {CONSTANT_PART, CONSTANT_FIXED}, {VARIABLE_PART, VARIABLE_FIXED},
-                                       {LENGTH_CELL, VALUE_CELL}, {CONSTANT_CELL, NUMBER_CELL}, {CONSTANT_VALUE, VARIABLE_VALUE},
-                                       {CONSTANT_TEXT, VARIABLE_TEXT}, {ADD_CELL, SUBTRACT_CELL}, {SUBTRACT_CELL, MULTIPLY_CELL},
-                                       {MULTIPLY_CELL, DIVIDE_CELL}, {DIVIDE_CELL, ADD_CELL}, {PLUS_CELL, MINUS_CELL}};
+                                       {LENGTH_CELL, VALUE_CELL}, {LENGTH_CELL, NUMBER_CELL}, {CONSTANT_CELL, NUMBER_CELL},
+                                       {CONSTANT_VALUE, VARIABLE_VALUE}, {CONSTANT_TEXT, VARIABLE_TEXT}, {ADD_CELL, SUBTRACT_CELL},
+                                       {SUBTRACT_CELL, MULTIPLY_CELL}, {MULTIPLY_CELL, DIVIDE_CELL}, {DIVIDE_CELL, ADD_CELL},
+                                       {PLUS_CELL, MINUS_CELL}};
     enum { ROWS = sizeof rows / sizeof rows[0], CELLS = sizeof cells / sizeof cells[0] };
     static const enum count with_kinds[] = {STEP_COUNT, ELEMENT_COUNT, ITEM_COUNT};
     enum count region = with_kinds[draw(d, 3)];
