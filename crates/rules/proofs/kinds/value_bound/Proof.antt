@@ -6,21 +6,9 @@ use borrow.Author.Needs.{needs}
 use Rattle.rules.proofs.kinds.value_bound.Statement.{statement}
 use Rattle.rules.proofs.kinds.value_bound.Tie as tie
 
-add-result : tie.Need-add-result
-add-result c = search needs
-
-add-result-2 : tie.Need-add-result-2
-add-result-2 c = search needs
-
 returns : tie.Need-returns
 unfolding valueBound
 returns c = rw (c .if1 .taken)
-
-add-result-3 : tie.Need-add-result-3
-add-result-3 c = search needs
-
-add-result-4 : tie.Need-add-result-4
-add-result-4 c = search needs
 
 returns-2 : tie.Need-returns-2
 unfolding valueBound
@@ -42,11 +30,7 @@ pub value-bound-spec : {M : Type 1} → statement M
 value-bound-spec =
     tie.close
     (tie.spec
-    add-result
-    add-result-2
     returns
-    add-result-3
-    add-result-4
     returns-2
     returns-3
     returns-4
