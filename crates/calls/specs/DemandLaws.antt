@@ -1,5 +1,5 @@
 -- The claim about lists of calls that keep their equations, proved of every table that keeps its rules; the customer's third demand is the case
--- of an accepted deck's table. Assumes nothing; every edition whose sizes fit is covered, and edition 1 is one.
+-- of an accepted deck's table. Assumes nothing; every edition whose sizes fit is covered, and the current one is among them.
 use mathlib.Core.Bool.{true, false, not, _&&_, and-eq-true-iff}
 use mathlib.Core.List.{List, [], _∷_, _++_}
 use mathlib.Core.Logic.{⊎-elim}
@@ -382,7 +382,7 @@ module _ (e : Edition) (limit : e .limit < bias) (wide : longestString ≤ e .li
         small = sound .small;
       }
 
--- edition 1: its numbers fit their places
+-- the current edition: its numbers fit their places
 pub current-limit : current .limit < bias
 unfolding current bias
 current-limit = lit< tt
