@@ -9,7 +9,7 @@
 #include <stdlib.h>
 #include <string.h>
 
-enum { VECTOR_OUTPUT = 300, SEEDS = 3000, MOST_LIST = 80, CHANGES = 32 };
+enum { VECTOR_OUTPUT = 300, SEEDS = 3000, MOST_LIST = 80, CHANGES = 32, BYTES = 256 };
 
 static struct lent lent;
 static enum side side;
@@ -164,10 +164,16 @@ static const char rich[] =
     "BACKSCAN A$4[B,(C)]/,E|SCAN A$N[]=|BACKSCAN A[STRING(N)]=\"Q\"|READ(60)A$N/,E|READ A|PRINT A,\"!\"|EXECUTE R|"
     "ROUTINE R|RETURN|ENDROUTINE|E:EXIT|GOTO L|END|";
 
-/* The values that a byte is changed to, one after the other. */
-static uint8_t changed(struct draws *d, uint8_t was, int time)
+/* The kinds of rows and cells: the regions that have them begin at a multiple of 8 and have rows of 24 or 8 bytes. */
+static int is_kind(int at)
 {
-    if (time < 25) return (uint8_t)time;
+    return at >= STEPS_AT && at < LITERALS_AT && at % CELL == 0;
+}
+
+/* The values that a byte is changed to, one after the other: all of them, or many. */
+static uint8_t changed(struct draws *d, uint8_t was, int time, int times)
+{
+    if (time < 25 || times == BYTES) return (uint8_t)time;
     if (time < 27) return (uint8_t)(time == 25 ? was + 1 : was - 1);
     return (uint8_t)draw(d, 256);
 }
@@ -200,7 +206,8 @@ static void try_sizes(void)
         }
 }
 
-/* Its states, and every byte of its table changed: those in use to many values, the others to one. The byte's place is told as the seed. */
+/* Its states, and every byte of its table changed: kinds in use to all values, other bytes in use to many, the rest to one. The byte's place is told
+   as the seed. */
 static void try_rich(void)
 {
     static struct oracle_program p;
@@ -214,10 +221,11 @@ static void try_rich(void)
         int used = at < COUNTS_END || (at >= STEPS_AT && at < STEPS_AT + ROW_SIZE * p.steps) ||
                    (at >= ELEMENTS_AT && at < ELEMENTS_AT + CELL * p.elements) || (at >= ITEMS_AT && at < ITEMS_AT + CELL * p.items) ||
                    (at >= LITERALS_AT && at < LITERALS_AT + p.literals);
+        int times = used && is_kind(at) ? BYTES : CHANGES;
         uint8_t *byte = lent.b[TABLE].at + at, was = *byte;
         doing.seed = (uint64_t)at;
-        for (int time = used ? 0 : CHANGES - 1; time < CHANGES; time++) {
-            *byte = changed(&d, was, time);
+        for (int time = used ? 0 : times - 1; time < times; time++) {
+            *byte = changed(&d, was, time, times);
             try_table(&d);
         }
         *byte = was;
@@ -252,7 +260,7 @@ static void one_row(struct oracle_program *p, enum step_kind kind, int count, in
     memset(p, 0, sizeof *p);
     p->steps = 2;
     p->strings = p->numbers = 2;
-    p->step[0] = (struct step){.kind = kind, .count = count, .more = more, .replaces = more > 0};
+    p->step[0] = (struct step){.kind = kind, .count = count, .more = more};
     p->step[1].kind = FINISHES;
     if (kind == SET_NUMBER) {
         p->items = count;
@@ -276,11 +284,12 @@ static int make_program(int which, struct oracle_program *p, int *keeps)
 {
     static const struct { enum step_kind kind; int count, more; enum element_kind elements; int keeps; } rows[] = {
         {WRITES, 20, 0, ELEMENT_PART, 1},    {WRITES, 21, 0, ELEMENT_PART, 0},     {SET_STRING, 20, 0, ELEMENT_LITERAL, 1},
-        {SET_STRING, 21, 0, ELEMENT_PART, 0}, {SCANS, 20, 0, ELEMENT_FREE, 1},      {SCANS, 20, 20, ELEMENT_FIXED, 1},
-        {SCANS, 21, 0, ELEMENT_FREE, 0},     {SCANS, 20, 21, ELEMENT_FREE, 0},     {WRITES, 1, 0, ELEMENT_FREE, 0},
+        {SET_STRING, 21, 0, ELEMENT_PART, 0}, {SCANS, 20, 0, ELEMENT_FREE, 1},      {REPLACES, 20, 20, ELEMENT_FIXED, 1},
+        {SCANS, 21, 0, ELEMENT_FREE, 0},     {REPLACES, 20, 21, ELEMENT_FREE, 0},  {WRITES, 1, 0, ELEMENT_FREE, 0},
         {SET_STRING, 1, 0, ELEMENT_FIXED, 0}, {SET_NUMBER, 127, 0, ELEMENT_PART, 1}, {SET_NUMBER, 129, 0, ELEMENT_PART, 0},
         {SET_NUMBER, 1, 0, ELEMENT_PART, 1}, {SET_NUMBER, 0, 0, ELEMENT_PART, 0},  {SET_NUMBER, 2, 0, ELEMENT_PART, 0},
-        {WRITES, 1, 1, ELEMENT_PART, 0},     {SCANS, 0, 0, ELEMENT_PART, 1},
+        {WRITES, 1, 1, ELEMENT_PART, 0},     {SCANS, 0, 0, ELEMENT_PART, 1},       {REPLACES, 0, 0, ELEMENT_PART, 1},
+        {REPLACES, 1, 0, ELEMENT_FREE, 1},   {REPLACES, 1, 1, ELEMENT_FREE, 1},    {SCANS, 1, 1, ELEMENT_FREE, 0},
     };
     enum { ROWS = sizeof rows / sizeof rows[0] };
     if (which < ROWS) {
@@ -288,7 +297,7 @@ static int make_program(int which, struct oracle_program *p, int *keeps)
         *keeps = rows[which].keeps;
         return 1;
     }
-    one_row(p, SCANS, 3, 2, ELEMENT_FREE);
+    one_row(p, REPLACES, 3, 2, ELEMENT_FREE);
     *keeps = 0;
     switch (which - ROWS) {
     case 0: *keeps = 1; break;
@@ -298,7 +307,7 @@ static int make_program(int which, struct oracle_program *p, int *keeps)
     case 4: p->elements = 6; break;
     case 5: p->literals = 1; break;
     case 6: p->items = 1; break;
-    case 7: p->step[0].replaces = 0; break;
+    case 7: p->step[0].kind = SCANS; break;
     case 8: p->step[0].success = 2; break;
     case 9: p->step[0].failure = 2; break;
     case 10: p->steps = 0; break;
@@ -318,18 +327,91 @@ static int make_program(int which, struct oracle_program *p, int *keeps)
     return 1;
 }
 
+/* Scans at the edges of rule 11. No deck has a string behind a filler of its name: the string is read as G, and then every G is made F. */
+static int make_scan(int which, struct oracle_program *p, int *keeps)
+{
+    static const struct { const char *scan; int keeps; } scans[] = {
+        {"SCAN S[(F),G]", 0},             {"SCAN S[(F),G$1]", 0},         {"BACKSCAN S[(F),G$N]", 0},      {"SCAN S[(F$1),G]", 0},
+        {"SCAN S[(F$N),G$1]", 0},         {"SCAN S[(F),\"A\",S,G]", 0},   {"SCAN S[G,(F),G]", 0},          {"SCAN S$1[(F),G]=F", 0},
+        {"SCAN S[(F)]|SCAN S[(F),G]", 0}, {"SCAN S[F,(F)]", 1},           {"BACKSCAN S[F$1,F$N,(F)]", 1},  {"SCAN S[F,(F$1),(F)]", 1},
+        {"SCAN S[(F),S]", 1},             {"SCAN S[(F),STRING(1,M)]", 1}, {"SCAN S[(F),STRING(M,M)]=", 1}, {"SCAN S[(F)]=F,F$1,F$N", 1},
+        {"SCAN S[(F)]=", 1},              {"SCAN S[(F)]|SCAN S[F]", 1},   {"SCAN S[(F)]=F|SCAN S[F]=", 1}, {"SCAN S[(F)]|PRINT F", 1},
+    };
+    enum { SCAN_COUNT = sizeof scans / sizeof scans[0], F = 1, G = 2 };
+    static struct deck d;
+    char lines[100];
+    uint32_t card;
+    if (which >= SCAN_COUNT) return 0;
+    snprintf(lines, sizeof lines, "PROGRAM P|NUMBER N,M|S=F,G|%s|END|", scans[which].scan);
+    short_deck(lines, &d);
+    if (oracle_read(d.bytes, d.length, p, &card) != 0) fail("%s is refused", scans[which].scan);
+    for (int i = 0; i < p->elements; i++)
+        if (p->element[i].part.string == G) p->element[i].part.string = F;
+    *keeps = scans[which].keeps;
+    return 1;
+}
+
+#define ROW_AT(i) (STEPS_AT + (i) * ROW_SIZE)
+#define FLAG_AT(i) (ROW_AT(i) + 1)
+#define LEFT_AT(i) (ROW_AT(i) + CELL)
+#define RIGHT_AT(i) (ROW_AT(i) + 2 * CELL)
+#define ELEMENT_AT(i) (ELEMENTS_AT + (i) * CELL)
+#define ITEM_AT(i) (ITEMS_AT + (i) * CELL)
+
+/* Bytes of the rich deck's table that hold a kind or a flag: the one that stands there, and all others with which the table keeps the rules. Kinds of
+   cells are many where place and value have a meaning with each of them. */
+static const struct { int at; uint8_t kept[6]; } kinds[] = {
+    {ROW_AT(0), {SET_NUMBER}}, {ROW_AT(2), {SET_STRING}}, {ROW_AT(5), {IF_NULL, IF_NUMERIC, READS}}, {ROW_AT(6), {IF_NUMERIC, READS}},
+    {ROW_AT(10), {IF_COMPARES}}, {ROW_AT(11), {REPLACES}}, {ROW_AT(12), {SCANS, REPLACES}}, {ROW_AT(13), {REPLACES, SCANS}},
+    {ROW_AT(16), {READS, IF_NULL, IF_NUMERIC}}, {ROW_AT(17), {WRITES}}, {ROW_AT(18), {EXECUTES, GOES}},
+    {ROW_AT(20), {RETURNS, FINISHES, GOES, EXECUTES}}, {ROW_AT(23), {GOES, EXECUTES}}, {ROW_AT(24), {FINISHES}},
+    {FLAG_AT(7), {AT_MOST, EQUAL, UNEQUAL, LESS, GREATER, AT_LEAST}}, {FLAG_AT(11), {1, 2}}, {FLAG_AT(12), {2, 1}}, {FLAG_AT(13), {1, 2}},
+    {FLAG_AT(5), {0}}, {FLAG_AT(16), {0}}, {FLAG_AT(17), {0}}, {FLAG_AT(24), {0}},
+    {LEFT_AT(1), {NUMBER_CELL}}, {LEFT_AT(5), {STRING_CELL}}, {LEFT_AT(11), {STRING_CELL, VARIABLE_PART}}, {LEFT_AT(12), {CONSTANT_PART}},
+    {LEFT_AT(15), {VARIABLE_PART, STRING_CELL}}, {LEFT_AT(8), {LENGTH_CELL, NUMBER_CELL, VALUE_CELL, VARIABLE_VALUE}},
+    {RIGHT_AT(7), {CONSTANT_CELL}}, {RIGHT_AT(8), {VARIABLE_VALUE}}, {RIGHT_AT(9), {CONSTANT_VALUE}},
+    {RIGHT_AT(10), {NUMBER_CELL, LENGTH_CELL, VALUE_CELL, VARIABLE_VALUE}}, {RIGHT_AT(0), {RANGE_CELL}}, {RIGHT_AT(12), {RANGE_CELL}},
+    {LEFT_AT(17), {NO_CELL}}, {RIGHT_AT(16), {NO_CELL}}, {LEFT_AT(22), {NO_CELL}}, {RIGHT_AT(23), {NO_CELL}},
+    {ELEMENT_AT(0), {LITERAL_CELL}}, {ELEMENT_AT(1), {STRING_CELL, VARIABLE_PART, VARIABLE_TEXT}}, {ELEMENT_AT(2), {CONSTANT_PART, CONSTANT_TEXT}},
+    {ELEMENT_AT(5), {CONSTANT_TEXT}}, {ELEMENT_AT(8), {FREE_CELL, VARIABLE_FIXED, STRING_CELL, VARIABLE_PART, VARIABLE_TEXT}},
+    {ELEMENT_AT(10), {CONSTANT_FIXED, CONSTANT_PART}}, {ELEMENT_AT(11), {VARIABLE_FIXED}}, {ELEMENT_AT(12), {CONSTANT_PART, CONSTANT_FIXED}},
+    {ELEMENT_AT(13), {STRING_CELL, VARIABLE_PART, VARIABLE_TEXT}}, {ELEMENT_AT(16), {FREE_CELL, VARIABLE_FIXED, STRING_CELL, VARIABLE_PART}},
+    {ELEMENT_AT(17), {CONSTANT_TEXT, CONSTANT_PART}}, {ELEMENT_AT(19), {STRING_CELL, VARIABLE_PART, VARIABLE_TEXT}},
+    {ITEM_AT(0), {NUMBER_CELL, LENGTH_CELL, VALUE_CELL, VARIABLE_VALUE}}, {ITEM_AT(1), {MINUS_CELL, PLUS_CELL}},
+    {ITEM_AT(2), {CONSTANT_CELL, CONSTANT_VALUE}}, {ITEM_AT(5), {SUBTRACT_CELL, ADD_CELL, MULTIPLY_CELL, DIVIDE_CELL}},
+    {ITEM_AT(12), {CONSTANT_VALUE}}, {ITEM_AT(14), {VARIABLE_VALUE, NUMBER_CELL, LENGTH_CELL, VALUE_CELL}},
+};
+
+/* Each of them changed to every value. Its place is told as the seed. */
+static void try_kinds(const struct oracle_program *rich_program)
+{
+    uint8_t *table = lent.b[TABLE].at;
+    doing.part = "kinds";
+    oracle_table(rich_program, table);
+    for (size_t i = 0; i < sizeof kinds / sizeof kinds[0]; i++) {
+        doing.seed = (uint64_t)kinds[i].at;
+        for (int value = 0; value < BYTES; value++) {
+            int keeps = value == kinds[i].kept[0] || (value != 0 && memchr(kinds[i].kept, value, sizeof kinds[i].kept) != NULL);
+            table[kinds[i].at] = (uint8_t)value;
+            if (oracle_keeps(table) != keeps) fail("the oracle's own judgement of %d", value);
+        }
+        table[kinds[i].at] = kinds[i].kept[0];
+    }
+}
+
 /* The change's place is told as the seed. */
 static void try_rules(void)
 {
     static struct oracle_program rich_program, p;
     struct draws d;
-    int keeps, made = 0;
+    int keeps, made = 0, scans = 0;
     begin_seed(&d, 1968);
     prepare_rich(&rich_program);
+    try_kinds(&rich_program);
     doing.part = "rules";
     for (int which = 0;; which++) {
         p = rich_program;
-        if (!change_program(which, &p, &keeps) && !make_program(made++, &p, &keeps)) return;
+        if (!change_program(which, &p, &keeps) && !make_program(made++, &p, &keeps) && !make_scan(scans++, &p, &keeps)) return;
         doing.seed = (uint64_t)which;
         oracle_table(&p, lent.b[TABLE].at);
         if (oracle_keeps(lent.b[TABLE].at) != keeps) fail("the oracle's own judgement");

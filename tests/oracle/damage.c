@@ -3,7 +3,7 @@
 
 #include <string.h>
 
-enum { LONG_REFERENCE = 64 };
+enum { LONG_REFERENCE = 64, PAST_KINDS = 128 };
 
 /* The regions of a table, by what they count. */
 static const struct { uint32_t at, row, most; } regions[COUNTS] = {
@@ -33,22 +33,28 @@ static uint32_t a_place(struct draws *d, const uint8_t *table)
 
 static void change_byte(struct draws *d, uint8_t *byte)
 {
-    switch (draw(d, 6)) {
+    switch (draw(d, 7)) {
     case 0: *byte = (uint8_t)draw(d, 256); break;
     case 1: *byte = (uint8_t)(*byte + 1); break;
     case 2: *byte = (uint8_t)(*byte - 1); break;
     case 3: *byte = 0; break;
     case 4: *byte = (uint8_t)draw(d, 24); break;
+    case 5: *byte = (uint8_t)draw(d, PAST_KINDS); break;
     default: *byte = (uint8_t)(*byte ^ (1u << draw(d, 8))); break;
     }
 }
 
-/* Turns a kind into one that has the same cells: the table mostly stays sound and its program does what no deck can say. */
+/* Turns one kind of a pair into the other: rows of the same cells, cells with a place and value of the same form, which often leaves the table sound
+   and lets its program do what no deck can say; or a constant and a number, where the value falls out of range. */
 static void change_kind(struct draws *d, uint8_t *table)
 {
-    static const uint8_t rows[][2] = {{3, 11}, {11, 3}, {4, 12}, {12, 4}, {6, 9}, {9, 6}, {5, 6}};
-    static const uint8_t cells[][2] = {{1, 19}, {19, 1}, {2, 20}, {20, 2}, {3, 21}, {21, 3}, {6, 7}, {7, 6}, {5, 4},
-                                       {10, 11}, {11, 12}, {12, 13}, {13, 10}, {14, 15}, {15, 14}, {8, 9}, {17, 18}};
+    static const uint8_t rows[][2] = {{GOES, EXECUTES}, {FINISHES, RETURNS}, {IF_NUMERIC, READS}, {IF_NULL, IF_NUMERIC}, {SCANS, REPLACES}};
+    static const uint8_t cells[][2] = {{STRING_CELL, FREE_CELL}, {CONSTANT_PART, CONSTANT_FIXED}, {VARIABLE_PART, VARIABLE_FIXED},
+                                       {LENGTH_CELL, VALUE_CELL}, {LENGTH_CELL, NUMBER_CELL}, {CONSTANT_CELL, NUMBER_CELL},
+                                       {CONSTANT_VALUE, VARIABLE_VALUE}, {CONSTANT_TEXT, VARIABLE_TEXT}, {ADD_CELL, SUBTRACT_CELL},
+                                       {SUBTRACT_CELL, MULTIPLY_CELL}, {MULTIPLY_CELL, DIVIDE_CELL}, {DIVIDE_CELL, ADD_CELL},
+                                       {PLUS_CELL, MINUS_CELL}};
+    enum { ROWS = sizeof rows / sizeof rows[0], CELLS = sizeof cells / sizeof cells[0] };
     static const enum count with_kinds[] = {STEP_COUNT, ELEMENT_COUNT, ITEM_COUNT};
     enum count region = with_kinds[draw(d, 3)];
     uint32_t count = used(table, region);
@@ -56,9 +62,9 @@ static void change_kind(struct draws *d, uint8_t *table)
     if (count == 0) return;
     kind = table + regions[region].at + draw(d, count) * regions[region].row;
     for (uint32_t tries = 0; tries < 40; tries++) {
-        const uint8_t *change = region == STEP_COUNT ? rows[draw(d, 7)] : cells[draw(d, 17)];
-        if (*kind == change[0]) {
-            *kind = change[1];
+        const uint8_t *pair = region == STEP_COUNT ? rows[draw(d, ROWS)] : cells[draw(d, CELLS)];
+        if (*kind == pair[0] || *kind == pair[1]) {
+            *kind = *kind == pair[0] ? pair[1] : pair[0];
             return;
         }
     }

@@ -374,7 +374,7 @@ static int scan_step(struct work *w, const struct step *s, struct answer *a)
         }
         at += a->lengths[i];
     }
-    if (s->replaces) replace(w, s, reference, n, a->start, at);
+    if (s->kind == REPLACES) replace(w, s, reference, n, a->start, at);
     return s->success;
 }
 
@@ -465,7 +465,7 @@ static int carry_out(struct work *w, const struct step *s, int next, struct answ
     case IF_NULL: return w->m.strings[s->part.string].length == 0 ? s->success : s->failure;
     case IF_NUMERIC: return numeric_part(w, s) ? s->success : s->failure;
     case IF_COMPARES: return is_true(w, s) ? s->success : s->failure;
-    case SCANS: return scan_step(w, s, a);
+    case SCANS: case REPLACES: return scan_step(w, s, a);
     case READS: return read_step(w, s);
     case WRITES: return write_step(w, s, next);
     case EXECUTES: w->m.returns[w->m.held++] = (uint64_t)next; return s->success;

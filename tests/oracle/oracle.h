@@ -33,6 +33,15 @@ enum {
     SCAN_ROW = 12, SCAN_FIRST_AT = 4, SCAN_SECOND_AT = 8,
     SLOTS_AT = 1024, SLOT_SIZE = 28
 };
+
+/* The kinds of a table's cells. */
+enum cell_kind {
+    NO_CELL, ADD_CELL = 16, SUBTRACT_CELL, MULTIPLY_CELL, DIVIDE_CELL, PLUS_CELL = 24, MINUS_CELL,
+    CONSTANT_CELL = 32, NUMBER_CELL, LENGTH_CELL, VALUE_CELL = 36, CONSTANT_VALUE, VARIABLE_VALUE,
+    STRING_CELL = 64, CONSTANT_PART, VARIABLE_PART, LITERAL_CELL = 80, CONSTANT_TEXT, VARIABLE_TEXT,
+    FREE_CELL = 96, CONSTANT_FIXED, VARIABLE_FIXED, RANGE_CELL = 112
+};
+
 enum count { STEP_COUNT, STRING_COUNT, NUMBER_COUNT, ELEMENT_COUNT, ITEM_COUNT, LITERAL_COUNT, COUNTS };
 #define BIAS ((int64_t)1 << 47)
 
@@ -55,9 +64,10 @@ struct item { enum item_kind kind; struct operand operand; };
 enum element_kind { ELEMENT_LITERAL, ELEMENT_PART, ELEMENT_TEXT, ELEMENT_FREE, ELEMENT_FIXED };
 struct element { enum element_kind kind; int from, length; struct part part; int number; enum bound bound; int32_t n; };
 
-/* The kinds of steps, with the numbers of docs/TABLE.md. */
+/* The kinds of steps, with the numbers of docs/TABLE.md. SCANS has no replacement, REPLACES is a scan that has one. */
 enum step_kind {
-    SET_NUMBER = 1, SET_STRING, GOES, FINISHES, IF_NULL, IF_NUMERIC, IF_COMPARES, SCANS, READS, WRITES, EXECUTES, RETURNS
+    SET_NUMBER = 16, SET_STRING, GOES = 32, FINISHES, EXECUTES, RETURNS, IF_NULL = 48, IF_NUMERIC, IF_COMPARES, SCANS = 64, REPLACES,
+    READS = 80, WRITES
 };
 enum comparison { EQUAL = 1, UNEQUAL, LESS, GREATER, AT_MOST, AT_LEAST };
 
@@ -70,7 +80,7 @@ struct step {
     struct part part;
     struct operand left, right;
     enum comparison comparison;
-    int backwards, replaces;
+    int backwards;
     int first, count, more;
 };
 
@@ -104,8 +114,10 @@ struct scan_element { enum scan_kind kind; int length; const uint8_t *bytes; };
 /* reader.c: the number and card of a deck: 0 with its program, 1, or 3 to 12. */
 int oracle_read(const uint8_t *deck, size_t n, struct oracle_program *p, uint32_t *card);
 
-/* table.c: a number of so many bytes, the low byte first; a count of a table. The table of a program; whether bytes keep the rules of a table;
-   the program of a table that keeps them. */
+/* table.c: whether a step of this kind is a scan, and whether it has a string or substring. A number of so many bytes, the low byte first; a count
+   of a table. The table of a program; whether bytes keep the rules of a table; the program of a table that keeps them. */
+int is_scan(enum step_kind kind);
+int has_part(enum step_kind kind);
 void put_number(uint8_t *at, int bytes, uint64_t n);
 uint64_t get_number(const uint8_t *at, int bytes);
 uint64_t count_in(const uint8_t *table, enum count count);

@@ -472,11 +472,10 @@ static int read_test(void)
 static int read_scan(int backwards)
 {
     struct step *s = &r.now.step;
-    s->kind = SCANS;
     s->backwards = backwards;
     if (!read_part(&s->part) || !take('[') || !read_row(1, &s->count) || !take(']')) return 0;
-    s->replaces = take('=');
-    if (s->replaces && !read_row(0, &s->more)) return 0;
+    s->kind = take('=') ? REPLACES : SCANS;
+    if (s->kind == REPLACES && !read_row(0, &s->more)) return 0;
     return read_optional_branch();
 }
 
@@ -635,7 +634,7 @@ static int is_filler(struct element e)
 static int clashes(void)
 {
     const struct element *e = r.now.element;
-    if (r.now.step.kind != SCANS) return 0;
+    if (!is_scan(r.now.step.kind)) return 0;
     for (int i = 0; i < r.now.step.count; i++) {
         if (!is_filler(e[i])) continue;
         if (e[i].part.string == r.now.step.part.string) return 1;
@@ -742,7 +741,7 @@ static void add_step(void)
         s.number = r.symbol[s.number].place;
         s.count = r.now.items;
     }
-    if (s.kind == SET_STRING || s.kind == IF_NULL || s.kind == IF_NUMERIC || s.kind == SCANS || s.kind == READS) place_part(&s.part);
+    if (has_part(s.kind)) place_part(&s.part);
     if (s.kind == IF_COMPARES) {
         place_operand(&s.left);
         place_operand(&s.right);
@@ -841,7 +840,7 @@ static void resolve(void)
 {
     for (int i = 0; i < r.program->steps; i++) {
         struct step *s = &r.program->step[i];
-        int tests = s->kind == IF_NULL || s->kind == IF_NUMERIC || s->kind == IF_COMPARES || s->kind == SCANS || s->kind == READS;
+        int tests = s->kind == IF_NULL || s->kind == IF_NUMERIC || s->kind == IF_COMPARES || is_scan(s->kind) || s->kind == READS;
         int leads = tests || s->kind == EXECUTES || s->kind == GOES;
         if (!r.is_routine[i]) s->success = leads ? step_of(s->success, i + 1) : 0;
         s->failure = tests ? step_of(s->failure, i + 1) : 0;

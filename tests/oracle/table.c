@@ -5,12 +5,18 @@
 
 enum { LEFT = 8, RIGHT = 16 }; /* the cells of a row */
 
-/* The kinds of cells. */
-enum {
-    NO_CELL, STRING_CELL, CONSTANT_PART, VARIABLE_PART, CONSTANT_CELL, NUMBER_CELL, LENGTH_CELL, VALUE_CELL, CONSTANT_VALUE, VARIABLE_VALUE,
-    ADD_CELL, SUBTRACT_CELL, MULTIPLY_CELL, DIVIDE_CELL, PLUS_CELL, MINUS_CELL, LITERAL_CELL, CONSTANT_TEXT, VARIABLE_TEXT, FREE_CELL,
-    CONSTANT_FIXED, VARIABLE_FIXED, RANGE_CELL
-};
+/* Where the ranges of kinds begin that a place for a cell takes; each ends where the next one begins. */
+enum { OPERATORS = 16, SIGNS = 24, OPERANDS = 32, PARTS = 64, OTHERS = 80, FILLERS = 96, RANGES = 112 };
+
+int is_scan(enum step_kind kind)
+{
+    return kind == SCANS || kind == REPLACES;
+}
+
+int has_part(enum step_kind kind)
+{
+    return kind == SET_STRING || kind == IF_NULL || kind == IF_NUMERIC || is_scan(kind) || kind == READS;
+}
 
 void put_number(uint8_t *at, int bytes, uint64_t n)
 {
@@ -91,7 +97,7 @@ static void put_element(uint8_t *at, struct element e)
 static int flag_of(const struct step *s)
 {
     if (s->kind == IF_COMPARES) return (int)s->comparison;
-    if (s->kind == SCANS) return 1 + s->backwards + 2 * s->replaces;
+    if (is_scan(s->kind)) return 1 + s->backwards;
     return 0;
 }
 
@@ -102,16 +108,13 @@ static void put_step(uint8_t *row, const struct step *s)
     put_number(row + CARD_AT, 2, s->card);
     put_number(row + SUCCESS_AT, 2, (uint64_t)s->success);
     put_number(row + FAILURE_AT, 2, (uint64_t)s->failure);
-    switch (s->kind) {
-    case SET_NUMBER: put_cell(row + LEFT, NUMBER_CELL, s->number, 0); break;
-    case SET_STRING: case IF_NULL: case IF_NUMERIC: case SCANS: case READS: put_part(row + LEFT, s->part); break;
-    case IF_COMPARES:
+    if (s->kind == SET_NUMBER) put_cell(row + LEFT, NUMBER_CELL, s->number, 0);
+    if (has_part(s->kind)) put_part(row + LEFT, s->part);
+    if (s->kind == IF_COMPARES) {
         put_operand(row + LEFT, s->left);
         put_operand(row + RIGHT, s->right);
-        break;
-    default: break;
     }
-    if (s->kind == SET_NUMBER || s->kind == SET_STRING || s->kind == SCANS || s->kind == WRITES)
+    if (s->kind == SET_NUMBER || s->kind == SET_STRING || is_scan(s->kind) || s->kind == WRITES)
         put_range(row + RIGHT, RANGE_CELL, s->first, s->count, s->more);
 }
 
@@ -163,7 +166,7 @@ static int constant_in(const uint8_t *cell, int64_t lowest, int64_t highest)
     return z >= lowest && z <= highest;
 }
 
-/* What place and value a cell of each kind may have (rules 1, 5, 6, 7), but for the ranges. */
+/* What place and value a cell of each kind may have (rules 1, 5, 6, 7), but for the ranges. Other numbers are no kinds (rule 3). */
 static int cell_holds(const struct rules *k, const uint8_t *cell)
 {
     int of_string = place_of(cell) < k->strings, of_number = place_of(cell) < k->numbers, none = place_of(cell) == 0;
@@ -182,19 +185,20 @@ static int cell_holds(const struct rules *k, const uint8_t *cell)
     }
 }
 
-static int kind_between(const uint8_t *cell, int first, int last)
+/* A number from `first` on and under `end`; it need not be a kind. */
+static int kind_in(const uint8_t *cell, int first, int end)
 {
-    return kind_of(cell) >= first && kind_of(cell) <= last;
+    return kind_of(cell) >= first && kind_of(cell) < end;
 }
 
-static int is_part(const struct rules *k, const uint8_t *cell)
+static int part_holds(const struct rules *k, const uint8_t *cell)
 {
-    return kind_between(cell, STRING_CELL, VARIABLE_PART) && cell_holds(k, cell);
+    return kind_in(cell, PARTS, OTHERS) && cell_holds(k, cell);
 }
 
-static int is_operand(const struct rules *k, const uint8_t *cell)
+static int operand_holds(const struct rules *k, const uint8_t *cell)
 {
-    return kind_between(cell, CONSTANT_CELL, VARIABLE_VALUE) && cell_holds(k, cell);
+    return kind_in(cell, OPERANDS, PARTS) && cell_holds(k, cell);
 }
 
 static int is_nothing(const uint8_t *cell)
@@ -221,20 +225,37 @@ static uint64_t range_more(const uint8_t *cell)
     return get_number(cell + 6, 2);
 }
 
-/* One element of an expression, or of a pattern that searches the string `searched` (rules 3, 9, 10, 11). */
-static int element_holds(struct rules *k, const uint8_t *cell, int in_pattern, uint64_t searched)
+static const uint8_t *element_at(const struct rules *k, uint64_t i)
+{
+    return k->table + ELEMENTS_AT + i * CELL;
+}
+
+/* One element, of a kind under `end` (rules 3, 9, 10). */
+static int element_holds(struct rules *k, const uint8_t *cell, int end)
 {
     if (kind_of(cell) == LITERAL_CELL)
         return range_follows(cell, LITERAL_CELL, &k->literals_seen, k->literals) && range_count(cell) >= 1 && range_more(cell) == 0;
-    if (kind_between(cell, FREE_CELL, VARIABLE_FIXED)) return in_pattern && cell_holds(k, cell) && place_of(cell) != searched;
-    return (kind_between(cell, STRING_CELL, VARIABLE_PART) || kind_between(cell, CONSTANT_TEXT, VARIABLE_TEXT)) && cell_holds(k, cell);
+    return kind_in(cell, PARTS, end) && cell_holds(k, cell);
 }
 
-static int elements_hold(struct rules *k, uint64_t from, uint64_t count, int in_pattern, uint64_t searched)
+static int elements_hold(struct rules *k, uint64_t from, uint64_t count, int end)
 {
     if (count > MOST_ROW) return 0;
     for (uint64_t i = from; i < from + count; i++)
-        if (!element_holds(k, k->table + ELEMENTS_AT + i * CELL, in_pattern, searched)) return 0;
+        if (!element_holds(k, element_at(k, i), end)) return 0;
+    return 1;
+}
+
+/* No filler of a pattern is the string searched, and no string stands at the place of a filler left of it (rule 11). */
+static int roles_hold(const struct rules *k, uint64_t from, uint64_t count, uint64_t searched)
+{
+    for (uint64_t i = from; i < from + count; i++) {
+        const uint8_t *filler = element_at(k, i);
+        if (!kind_in(filler, FILLERS, RANGES)) continue;
+        if (place_of(filler) == searched) return 0;
+        for (uint64_t j = i + 1; j < from + count; j++)
+            if (kind_in(element_at(k, j), PARTS, OTHERS) && place_of(element_at(k, j)) == place_of(filler)) return 0;
+    }
     return 1;
 }
 
@@ -244,10 +265,10 @@ static int items_hold(const struct rules *k, uint64_t from, uint64_t count)
     int waiting = 0;
     for (uint64_t i = from; i < from + count; i++) {
         const uint8_t *cell = k->table + ITEMS_AT + i * CELL;
-        if (!kind_between(cell, CONSTANT_CELL, MINUS_CELL) || !cell_holds(k, cell)) return 0;
-        if (kind_between(cell, CONSTANT_CELL, VARIABLE_VALUE)) {
+        if (!kind_in(cell, OPERATORS, PARTS) || !cell_holds(k, cell)) return 0;
+        if (kind_in(cell, OPERANDS, PARTS)) {
             waiting++;
-        } else if (kind_between(cell, ADD_CELL, DIVIDE_CELL)) {
+        } else if (kind_in(cell, OPERATORS, SIGNS)) {
             if (waiting < 2) return 0;
             waiting--;
         } else if (waiting < 1) {
@@ -263,17 +284,17 @@ static int expression_holds(struct rules *k, const uint8_t *cell)
 {
     uint64_t from = k->elements_seen;
     return range_follows(cell, RANGE_CELL, &k->elements_seen, k->elements) && range_more(cell) == 0 &&
-           elements_hold(k, from, range_count(cell), 0, 0);
+           elements_hold(k, from, range_count(cell), FILLERS);
 }
 
 static int scan_holds(struct rules *k, const uint8_t *row)
 {
-    uint64_t from = k->elements_seen, searched = place_of(row + LEFT);
     const uint8_t *cell = row + RIGHT;
-    if (row[1] < 1 || row[1] > 4 || !range_follows(cell, RANGE_CELL, &k->elements_seen, k->elements)) return 0;
-    if (row[1] <= 2 && range_more(cell) != 0) return 0;
-    return elements_hold(k, from, range_count(cell), 1, searched) &&
-           elements_hold(k, from + range_count(cell), range_more(cell), 0, 0);
+    uint64_t from = k->elements_seen, count = range_count(cell), more = range_more(cell);
+    if (row[1] < 1 || row[1] > 2 || !range_follows(cell, RANGE_CELL, &k->elements_seen, k->elements)) return 0;
+    if (row[0] == SCANS && more != 0) return 0;
+    return elements_hold(k, from, count, RANGES) && roles_hold(k, from, count, place_of(row + LEFT)) &&
+           elements_hold(k, from + count, more, FILLERS);
 }
 
 static int number_holds(struct rules *k, const uint8_t *cell)
@@ -293,13 +314,13 @@ static int row_holds(struct rules *k, const uint8_t *row)
     switch (row[0]) {
     case SET_NUMBER:
         return no_flag && no_branch && kind_of(left) == NUMBER_CELL && cell_holds(k, left) && number_holds(k, right);
-    case SET_STRING: return no_flag && no_branch && is_part(k, left) && expression_holds(k, right);
+    case SET_STRING: return no_flag && no_branch && part_holds(k, left) && expression_holds(k, right);
     case GOES: case EXECUTES: return no_flag && leads && no_failure && is_nothing(left) && is_nothing(right);
     case FINISHES: case RETURNS: return no_flag && no_branch && is_nothing(left) && is_nothing(right);
     case IF_NULL: return no_flag && branches && kind_of(left) == STRING_CELL && cell_holds(k, left) && is_nothing(right);
-    case IF_NUMERIC: case READS: return no_flag && branches && is_part(k, left) && is_nothing(right);
-    case IF_COMPARES: return row[1] >= 1 && row[1] <= 6 && branches && is_operand(k, left) && is_operand(k, right);
-    case SCANS: return branches && is_part(k, left) && scan_holds(k, row);
+    case IF_NUMERIC: case READS: return no_flag && branches && part_holds(k, left) && is_nothing(right);
+    case IF_COMPARES: return row[1] >= 1 && row[1] <= 6 && branches && operand_holds(k, left) && operand_holds(k, right);
+    case SCANS: case REPLACES: return branches && part_holds(k, left) && scan_holds(k, row);
     case WRITES: return no_flag && no_branch && is_nothing(left) && expression_holds(k, right);
     default: return 0;
     }
@@ -367,7 +388,8 @@ static struct operand operand_in(const uint8_t *cell)
 static struct item item_in(const uint8_t *cell)
 {
     struct item i = {ITEM_OPERAND, {OPERAND_CONSTANT, 0, 0, {0, WHOLE, 0}}};
-    if (kind_of(cell) < ADD_CELL) i.operand = operand_in(cell);
+    if (kind_of(cell) >= OPERANDS) i.operand = operand_in(cell);
+    else if (kind_of(cell) >= SIGNS) i.kind = (enum item_kind)(ITEM_PLUS + kind_of(cell) - PLUS_CELL);
     else i.kind = (enum item_kind)(ITEM_ADD + kind_of(cell) - ADD_CELL);
     return i;
 }
@@ -384,7 +406,7 @@ static struct element element_in(const uint8_t *cell)
         e.kind = ELEMENT_TEXT;
         e.number = (int)place_of(cell);
         e.bound = bound_of(cell, CONSTANT_TEXT - 1, &e.n);
-    } else if (kind_of(cell) >= FREE_CELL) {
+    } else if (kind_of(cell) >= FILLERS) {
         e.kind = kind_of(cell) == FREE_CELL ? ELEMENT_FREE : ELEMENT_FIXED;
         e.part = part_in(cell, FREE_CELL);
     } else {
@@ -403,17 +425,13 @@ static struct step step_in(const uint8_t *row)
     s.success = (int)get_number(row + SUCCESS_AT, 2);
     s.failure = (int)get_number(row + FAILURE_AT, 2);
     if (s.kind == SET_NUMBER) s.number = (int)place_of(row + LEFT);
-    if (s.kind == SET_STRING || s.kind == IF_NULL || s.kind == IF_NUMERIC || s.kind == SCANS || s.kind == READS)
-        s.part = part_in(row + LEFT, STRING_CELL);
+    if (has_part(s.kind)) s.part = part_in(row + LEFT, STRING_CELL);
     if (s.kind == IF_COMPARES) {
         s.comparison = (enum comparison)row[1];
         s.left = operand_in(row + LEFT);
         s.right = operand_in(row + RIGHT);
     }
-    if (s.kind == SCANS) {
-        s.backwards = row[1] == 2 || row[1] == 4;
-        s.replaces = row[1] >= 3;
-    }
+    if (is_scan(s.kind)) s.backwards = row[1] == 2;
     if (kind_of(row + RIGHT) == RANGE_CELL) {
         s.first = (int)get_number(row + RIGHT + 2, 2);
         s.count = (int)range_count(row + RIGHT);

@@ -43,6 +43,10 @@ parentheses = 16
 abbrev pub returns : ℕ
 returns = 16
 
+-- Q1 "The deck exceeds 32,768 bytes"
+abbrev pub longestDeck : ℕ
+longestDeck = 32_768
+
 -- Q3 "a line exceeds 80"
 abbrev pub line : ℕ
 line = 80

@@ -33,10 +33,10 @@ pub const DEEPEST: usize = 16;
 // the most returns held
 pub const RETURNS: usize = 16;
 
-// the longest line of a deck; and the longest deck, as calls/Calls has it
-pub const LINE: usize = 80;
-
+// the longest deck, and the longest line of one
 pub const DECK: usize = 32_768;
+
+pub const LINE: usize = 80;
 
 pub fn wide(b: u8) -> usize
     ensures { λ r. ⌜ (r ≡ b) × (r < 256) ⌝ }

@@ -8,10 +8,11 @@ use lib.Dec.{ltb}
 use lib.ListN.{length, take, getD, length-take}
 use lib.Seq.{take-all, take-append-le}
 use borrow.Author.Tests.{le-ltb, ne-eqb}
-use Rattle.base.specs.Edition.{edition1}
+use Rattle.base.specs.Current.{current}
+use Rattle.base.specs.Limits.{longestDeck}
 use Rattle.base.specs.Text.{bytes}
 use Rattle.calls.specs.Buffers.{storeSize, stateIn}
-use Rattle.calls.specs.Calls.{longestDeck, ReadCalled, readBy, readJudged, readCall, StartCalled, startCall, Buffers, buffers, givenIn}
+use Rattle.calls.specs.Calls.{ReadCalled, readBy, readJudged, readCall, StartCalled, startCall, Buffers, buffers, givenIn}
 use Rattle.calls.specs.Calls.{RunReturned, outcomeNumber, resultNumbers}
 use Rattle.calls.specs.Demands.{observedRun, RunClaim, ListClaim, Linked, History, Demand3}
 use Rattle.calls.specs.Promises.{readBack, RunPromise}
@@ -73,47 +74,47 @@ line-of o number steps notes = ap (λ (x : Outcome). closingLine x number steps 
 
 -- of a deck of which no more is there than is kept
 printed-kept : (deck input : List ℕ) → length deck ≤ keptDeck
-    → printed edition1 deck input
-    ≡ cond (ltb longestDeck (length deck)) (closingLine REFUSED 1 0 0) (printedFor edition1 (take keptInput input) (judge edition1 deck))
+    → printed current deck input
+    ≡ cond (ltb longestDeck (length deck)) (closingLine REFUSED 1 0 0) (printedFor current (take keptInput input) (judge current deck))
 unfolding printed
 printed-kept deck input kept =
-    ap (λ (d : List ℕ). cond (ltb longestDeck (length d)) (closingLine REFUSED 1 0 0) (printedFor edition1 (take keptInput input) (judge edition1 d)))
+    ap (λ (d : List ℕ). cond (ltb longestDeck (length d)) (closingLine REFUSED 1 0 0) (printedFor current (take keptInput input) (judge current d)))
     (take-all keptDeck deck kept)
 
 -- a deck that the deck call refuses, given a table that is large enough: too long a one, or one that is judged so
-refused-by : (input table : List ℕ) (long : Bool) (j : Judgement) (back : ReadCalled) → back ≡ readBy edition1 table long false j
+refused-by : (input table : List ℕ) (long : Bool) (j : Judgement) (back : ReadCalled) → back ≡ readBy current table long false j
     → ¬ (back .number ≡ 0)
-    → cond long (closingLine REFUSED 1 0 0) (printedFor edition1 input j) ≡ closingLine REFUSED (back .number) (back .card) 0
+    → cond long (closingLine REFUSED 1 0 0) (printedFor current input j) ≡ closingLine REFUSED (back .number) (back .card) 0
 unfolding readJudged printedFor
 refused-by input table true j back e h = ap (λ (b : ReadCalled). closingLine REFUSED (b .number) (b .card) 0) (sym e)
 refused-by input table false (accepted p) back e h = absurd (h (ap (λ (b : ReadCalled). b .number) e))
 refused-by input table false (refused n card) back e h = ap (λ (b : ReadCalled). closingLine REFUSED (b .number) (b .card) 0) (sym e)
 
-pub refused-printed : (deck input table : List ℕ) → length deck ≤ keptDeck → (back : ReadCalled) → back ≡ readCall edition1 deck table
-    → edition1 .tableSize ≤ length table → ¬ (back .number ≡ 0)
-    → printed edition1 deck input ≡ closingLine REFUSED (back .number) (back .card) 0
+pub refused-printed : (deck input table : List ℕ) → length deck ≤ keptDeck → (back : ReadCalled) → back ≡ readCall current deck table
+    → current .tableSize ≤ length table → ¬ (back .number ≡ 0)
+    → printed current deck input ≡ closingLine REFUSED (back .number) (back .card) 0
 unfolding readCall
 refused-printed deck input table kept back does large refuses =
     let long = ltb longestDeck (length deck) in
-    let sized = does ∙ ap (λ (t : Bool). readBy edition1 table long t (judge edition1 deck)) (le-ltb (length table) (edition1 .tableSize) large) in
-    printed-kept deck input kept ∙ refused-by (take keptInput input) table long (judge edition1 deck) back sized refuses
+    let sized = does ∙ ap (λ (t : Bool). readBy current table long t (judge current deck)) (le-ltb (length table) (current .tableSize) large) in
+    printed-kept deck input kept ∙ refused-by (take keptInput input) table long (judge current deck) back sized refuses
 
 -- a deck that is accepted prints what its run leaves
 accepted-printed : (deck input : List ℕ) (p : Program) → length deck ≤ longestDeck → length input ≤ keptInput
-    → judge edition1 deck ≡ accepted p → printed edition1 deck input ≡ printedBy (run edition1 p lentOutput mostSteps (fresh input))
-unfolding printedFor longestDeck keptDeck
+    → judge current deck ≡ accepted p → printed current deck input ≡ printedBy (run current p lentOutput mostSteps (fresh input))
+unfolding printedFor keptDeck
 accepted-printed deck input p short kept judged =
     printed-kept deck input (omega arith)
-    ∙ ap (λ (t : Bool). cond t (closingLine REFUSED 1 0 0) (printedFor edition1 (take keptInput input) (judge edition1 deck)))
+    ∙ ap (λ (t : Bool). cond t (closingLine REFUSED 1 0 0) (printedFor current (take keptInput input) (judge current deck)))
     (le-ltb longestDeck (length deck) short)
-    ∙ ap₂ (λ (i : List ℕ) (j : Judgement). printedFor edition1 i j) (take-all keptInput input kept) judged
+    ∙ ap₂ (λ (i : List ℕ) (j : Judgement). printedFor current i j) (take-all keptInput input kept) judged
 
 -- The calls of a deck that is accepted: it was read into the table, a store was started, and a run of so many steps was made.
 module _ (deck before table store input output : List ℕ) (card : ℕ) (start : StartCalled) (back : RunReturned)
-    (read : readBack 0 card table ≡ readCall edition1 deck before) (started : start ≡ startCall store)
-    (promise : RunPromise edition1 table input mostSteps (behindStart start output) back) where
+    (read : readBack 0 card table ≡ readCall current deck before) (started : start ≡ startCall store)
+    (promise : RunPromise current table input mostSteps (behindStart start output) back) where
   -- nothing came behind the start but this run
-  history : History edition1 table input (behindStart start output)
+  history : History current table input (behindStart start output)
   unfolding Linked
   history =
       record {
@@ -130,21 +131,21 @@ module _ (deck before table store input output : List ℕ) (card : ℕ) (start :
       }
 
   -- demand 3, of the list that this run alone is
-  demand : Demand3 edition1 table input history (observedRun mostSteps (behindStart start output) back)
+  demand : Demand3 current table input history (observedRun mostSteps (behindStart start output) back)
   demand = promise .list history
 
-  accepts : judge edition1 deck ≡ accepted (demand .program)
+  accepts : judge current deck ≡ accepted (demand .program)
   unfolding history
   accepts = demand .accepts
 
   module _ (large : storeSize ≤ length store) (lent : length output ≡ lentOutput) where
-    claim : RunClaim edition1 (demand .program) table input (length output) mostSteps (fresh input) (behindStart start output) back
+    claim : RunClaim current (demand .program) table input (length output) mostSteps (fresh input) (behindStart start output) back
     unfolding history ListClaim
     claim = demand .claim large .0
 
     -- the run that the paper's machine makes of the deck
     paperRun : Ran
-    paperRun = run edition1 (demand .program) (length output) mostSteps (fresh input)
+    paperRun = run current (demand .program) (length output) mostSteps (fresh input)
 
     -- the records are as many bytes of the output as the state says
     records : take (getD (back .left .state) 4 0) (back .left .output) ≡ paperRun .state .output
@@ -154,15 +155,15 @@ module _ (deck before table store input output : List ℕ) (card : ℕ) (start :
     closing : lineOf (back .result) ≡ closingLine (paperRun .outcome) (paperRun .number) (paperRun .steps) (paperRun .notes)
     unfolding paperRun
     closing =
-        let r = run edition1 (demand .program) (length output) mostSteps (fresh input) in
+        let r = run current (demand .program) (length output) mostSteps (fresh input) in
         ap lineOf (claim .result) ∙ line-of (r .outcome) (r .number) (r .steps) (r .notes)
 
     printed-run : length input ≤ keptInput
-        → printed edition1 deck input ≡ take (getD (back .left .state) 4 0) (back .left .output) ++ lineOf (back .result)
+        → printed current deck input ≡ take (getD (back .left .state) 4 0) (back .left .output) ++ lineOf (back .result)
     unfolding paperRun printedBy
     printed-run kept =
-        accepted-printed deck input (demand .program) (read-short edition1 deck before (sym (ap (λ (x : ReadCalled). x .number) read))) kept accepts
-        ∙ ap (λ (n : ℕ). printedBy (run edition1 (demand .program) n mostSteps (fresh input))) (sym lent)
+        accepted-printed deck input (demand .program) (read-short current deck before (sym (ap (λ (x : ReadCalled). x .number) read))) kept accepts
+        ∙ ap (λ (n : ℕ). printedBy (run current (demand .program) n mostSteps (fresh input))) (sym lent)
         ∙ sym (ap₂ {C = List ℕ} _++_ records closing)
 
     -- so the state says no more than the output has
@@ -175,11 +176,11 @@ module _ (deck before table store input output : List ℕ) (card : ℕ) (start :
 -- what a run left is what is printed: the records, and the closing line of its result
 pub record RunPrints (deck input : List ℕ) (back : RunReturned) : Type 0 where
   pub within : getD (back .left .state) 4 0 ≤ length (back .left .output)
-  pub bytes : printed edition1 deck input ≡ take (getD (back .left .state) 4 0) (back .left .output) ++ lineOf (back .result)
+  pub bytes : printed current deck input ≡ take (getD (back .left .state) 4 0) (back .left .output) ++ lineOf (back .result)
 
 pub run-printed : {deck table input : List ℕ} {start : StartCalled} {back : RunReturned} (before store output : List ℕ) (card : ℕ)
-    → readBack 0 card table ≡ readCall edition1 deck before → start ≡ startCall store
-    → RunPromise edition1 table input mostSteps (behindStart start output) back
+    → readBack 0 card table ≡ readCall current deck before → start ≡ startCall store
+    → RunPromise current table input mostSteps (behindStart start output) back
     → storeSize ≤ length store → length output ≡ lentOutput → length input ≤ keptInput → RunPrints deck input back
 run-printed {deck} {table} {input} {start} {back} before store output card read started promise large lent kept =
     record {

@@ -5,7 +5,7 @@ use mathlib.Core.Path.{_≡_}
 use Prim.Native.Nat.{ℕ, _+_, _≤_}
 use lib.Dec.{eqb}
 use lib.ListN.{length, take, getD}
-use Rattle.base.specs.Edition.{edition1}
+use Rattle.base.specs.Current.{current}
 use Rattle.calls.specs.Strigol.{keptDeck, keptInput, lentOutput, closingLine, printed}
 use Rattle.machine.specs.Run.{Outcome, FINISHED, STOPPED, SPENT, REFUSED}
 
@@ -34,4 +34,4 @@ pub record Lent (deck input out : List ℕ) : Type 0 where
 -- L15 the first r bytes are what the program prints
 pub record Prints (deck input out : List ℕ) (r : ℕ) : Type 0 where
   pub within : r ≤ length out
-  pub bytes : take r out ≡ printed edition1 deck input
+  pub bytes : take r out ≡ printed current deck input

@@ -5,7 +5,7 @@ use mathlib.Core.Logic.{⊎-elim}
 use mathlib.Core.Path.{_≡_, refl, sym, ap, ap₂, subst, _∙_}
 use Prim.Native.Nat.{ℕ}
 use lib.ListN.{drop}
-use Rattle.base.specs.Edition.{edition1}
+use Rattle.base.specs.Current.{current}
 use Rattle.base.specs.Lists.{begins, all}
 use Rattle.base.specs.Text.{bytes}
 use Rattle.language.specs.Forms.{labelName, branch}
@@ -113,13 +113,13 @@ module _ (known bs : List ℕ) where
   targets-broken e h = chosen _ _ e ∙ then-broken _ h
 
   -- the branch field behind `/`
-  branch-is : branch edition1 (numberIn known) (placesIn known) bs
+  branch-is : branch current (numberIn known) (placesIn known) bs
       ≡ (skip (bytes "/") bs >>= λ (_, rest). targets known rest)
   unfolding branch targets failingTo labelName targetIn
   branch-is = refl
 
   pub branch-broken : begins (47 ∷ []) bs ≡ false
-      → branch edition1 (numberIn known) (placesIn known) bs ≡ broken
+      → branch current (numberIn known) (placesIn known) bs ≡ broken
   unfolding bytes
   branch-broken e = branch-is ∙ skip-broken (47 ∷ []) bs _ e
 
@@ -156,7 +156,7 @@ module _ (known : List ℕ) {text keys tags : List ℕ} {c : Cursor} where
 
   pub branch-targets : begins (47 ∷ []) (drop (c .at) text) ≡ true → (r : Branching) {b : Cursor} {k t : List ℕ} → b ≡ moved c 1
       → BranchingRead text keys tags b (targets known (drop (b .at) text)) r k t
-      → BranchingRead text keys tags c (branch edition1 (numberIn known) (placesIn known) (drop (c .at) text)) r k t
+      → BranchingRead text keys tags c (branch current (numberIn known) (placesIn known) (drop (c .at) text)) r k t
   unfolding bytes
   branch-targets e r m a =
       branching-same

@@ -6,7 +6,7 @@ use mathlib.Core.Path.{_≡_}
 use Prim.Native.Nat.{ℕ}
 use lib.Dec.{eqb}
 use lib.ListN.{drop}
-use Rattle.base.specs.Edition.{edition1}
+use Rattle.base.specs.Current.{current}
 use Rattle.base.specs.Lists.{begins}
 use Rattle.base.specs.Text.{bytes}
 use Rattle.language.specs.Forms.{branch}
@@ -88,4 +88,4 @@ TargetsRead text known keys tags c = BranchingRead text keys tags c (targets kno
 
 abbrev pub BranchRead : (text known keys tags : List ℕ) (c : Cursor) → Branching → (keys′ tags′ : List ℕ) → Type 0
 BranchRead text known keys tags c =
-    BranchingRead text keys tags c (branch edition1 (numberIn known) (placesIn known) (drop (c .at) text))
+    BranchingRead text keys tags c (branch current (numberIn known) (placesIn known) (drop (c .at) text))

@@ -6,12 +6,13 @@ use Prim.Native.Nat.{ℕ, suc, _+_, _<_}
 use native.Mathlib.Omega.{arith}
 use lib.ListN.{length, drop, getD, length-drop}
 use lib.Seq.{drop-drop}
-use Rattle.base.specs.Edition.{edition1}
+use Rattle.base.specs.Current.{current}
 use Rattle.base.specs.ListLaws.{begins-room}
 use Rattle.base.specs.Lists.{begins}
 use Rattle.base.specs.Text.{bytes}
+use Rattle.calls.specs.Kinds.{parts, nullKind, numericKind, compareKind}
 use Rattle.calls.specs.Table as Table
-use Rattle.calls.specs.Table.{partCell, operandCell, comparisonNumber, testRow, noCell}
+use Rattle.calls.specs.Table.{partCell, operandCell, comparisonNumber, rowOf, noCell}
 use Rattle.cards.specs.Bytes.{isDigit}
 use Rattle.language.specs.Numeric.{calledOrNumber, comparison, ifOperand, test}
 use Rattle.language.specs.Program as Program
@@ -37,13 +38,13 @@ use Rattle.branches.specs.declared.tests.Sign.{Sign}
 -- an operand of IF
 module _ (p : Places) {text keys tags : List ℕ} {c : Cursor} where
   pub if-signed : {r : Operand} → (isDigit (getD (drop (c .at) text) 0 0) || isSign (drop (c .at) text)) ≡ true → SignedRead text keys tags c r
-      → CellRead operandCell text keys tags c (ifOperand edition1 p (drop (c .at) text)) r keys tags
+      → CellRead operandCell text keys tags c (ifOperand current p (drop (c .at) text)) r keys tags
   unfolding ifOperand operandCell
   if-signed {r} e a = cell-same (chosen _ _ e) (cell-made Program.constant operandCell r (λ _. refl) a)
 
   pub if-called : {r : Operand} {k t : List ℕ} → (isDigit (getD (drop (c .at) text) 0 0) || isSign (drop (c .at) text)) ≡ false
-      → CellRead operandCell text keys tags c (calledOrNumber edition1 p (drop (c .at) text)) r k t
-      → CellRead operandCell text keys tags c (ifOperand edition1 p (drop (c .at) text)) r k t
+      → CellRead operandCell text keys tags c (calledOrNumber current p (drop (c .at) text)) r k t
+      → CellRead operandCell text keys tags c (ifOperand current p (drop (c .at) text)) r k t
   unfolding ifOperand
   if-called e a = cell-same (chosen _ _ e) a
 
@@ -113,28 +114,30 @@ module _ (p : Places) (a : Program.Operand) where
 
   module _ {text : List ℕ} (c : Cursor) {r : Sign} (s : SignStands text (c .at) r) {b : Cursor} (m : b ≡ moved c (r .size)) where
     compared-is : comparedTo p a (drop (c .at) text)
-        ≡ (ifOperand edition1 p (drop (b .at) text) >>= λ (b, rest). give (compares a (s .which) b) rest)
+        ≡ (ifOperand current p (drop (b .at) text) >>= λ (b, rest). give (compares a (s .which) b) rest)
     unfolding comparedTo
     compared-is =
-        let next : Comparison × List ℕ → Read Test = λ (w, rest). ifOperand edition1 p rest >>= λ (b, rest). give (compares a w b) rest in
+        let next : Comparison × List ℕ → Read Test = λ (w, rest). ifOperand current p rest >>= λ (b, rest). give (compares a w b) rest in
         ap (λ (y : Read Comparison). y >>= next) (s .is)
         ∙ give-then (s .which) (drop (c .at + r .size) text) next
         ∙ ap (λ (z : Cursor). next (s .which, drop (z .at) text)) (sym m)
 
-    pub compared-broken : ifOperand edition1 p (drop (b .at) text) ≡ broken → comparedTo p a (drop (c .at) text) ≡ broken
+    pub compared-broken : ifOperand current p (drop (b .at) text) ≡ broken → comparedTo p a (drop (c .at) text) ≡ broken
     compared-broken e = compared-is ∙ then-broken _ e
 
     pub compared-got : (left right : Cell) {keys tags : List ℕ} {k t : List ℕ} {d : Cursor} → operandCell a ≡ meaning left
-        → Gets operandCell (meaning right) text keys tags b (ifOperand edition1 p (drop (b .at) text)) k t d
-        → Gets testAlone (Table.row 7 (r .number) 0 0 (meaning left) (meaning right)) text keys tags c (comparedTo p a (drop (c .at) text)) k t d
-    unfolding testRow
+        → Gets operandCell (meaning right) text keys tags b (ifOperand current p (drop (b .at) text)) k t d
+        → Gets testAlone (Table.row (compareKind .number) (r .number) 0 0 (meaning left) (meaning right)) text keys tags c
+        (comparedTo p a (drop (c .at) text)) k t d
+    unfolding rowOf
     compared-got left right {keys} {tags} {k} {t} {d} e g =
-        let row = Table.row 7 (r .number) 0 0 (meaning left) (meaning right) in
+        let compare : ℕ → Table.Cell → Table.Cell → Table.Row = λ n x y. Table.row (compareKind .number) n 0 0 x y in
+        let row = compare (r .number) (meaning left) (meaning right) in
         subst (λ y. Gets testAlone row text keys tags c y k t d) (sym compared-is)
         (gets-skip (r .size) (skipped c (r .size) m)
         (gets-give _ testAlone row (compares a (s .which) (g .value)) g refl
-        (ap (λ n. Table.row 7 n 0 0 (operandCell a) (operandCell (g .value))) (s .made)
-        ∙ ap₂ (λ (x y : Table.Cell). Table.row 7 (r .number) 0 0 x y) e (g .made))))
+        (ap (λ n. compare n (operandCell a) (operandCell (g .value))) (s .made)
+        ∙ ap₂ (λ (x y : Table.Cell). compare (r .number) x y) e (g .made))))
 
 -- a draft behind another reading
 pub draft-then : {A B C : Type 0} {f : A → C} {v : C} (h : B → Table.Row) {text keys tags : List ℕ} {c : Cursor} {x : Read A} {k t : List ℕ}
@@ -146,13 +149,13 @@ draft-then h next DraftCode.the-variants.Broken ready a b = record { answer = go
 -- two operands and a sign
 module _ (p : Places) {text keys tags : List ℕ} {c : Cursor} where
   pub comparing-then : (left : Cell) {k t : List ℕ} {d : Cursor} → Ready text keys tags c
-      → Gets operandCell (meaning left) text keys tags c (ifOperand edition1 p (drop (c .at) text)) k t d → (r : Draft) {k′ t′ : List ℕ}
+      → Gets operandCell (meaning left) text keys tags c (ifOperand current p (drop (c .at) text)) k t d → (r : Draft) {k′ t′ : List ℕ}
       → ((a : Program.Operand) → operandCell a ≡ meaning left → DraftRead testAlone text k t d (comparedTo p a (drop (d .at) text)) r k′ t′)
       → DraftRead testAlone text keys tags c (comparingAt p (drop (c .at) text)) r k′ t′
   unfolding comparingAt
   comparing-then left ready a r b = draft-then testAlone _ r ready a (b (a .value) (a .made))
 
-pub comparing-broken : (p : Places) (bs : List ℕ) → ifOperand edition1 p bs ≡ broken → comparingAt p bs ≡ broken
+pub comparing-broken : (p : Places) (bs : List ℕ) → ifOperand current p bs ≡ broken → comparingAt p bs ≡ broken
 unfolding comparingAt
 comparing-broken p bs e = then-broken _ e
 
@@ -181,29 +184,30 @@ module _ {A : Type 0} {f : A → Table.Cell} (g : A → Test) (kind : ℕ) (same
 
 module _ (p : Places) {text keys tags : List ℕ} {c : Cursor} {k t : List ℕ} where
   pub test-null : {d : Cursor} → d ≡ moved c 5 → begins (bytes "NULL(") (drop (c .at) text) ≡ true → (q : Place)
-      → PlaceRead text keys tags d (stringName edition1 p (roleOf 0) (drop (d .at) text)) q k t
-      → DraftRead testAlone text keys tags c (test edition1 p (drop (c .at) text)) (testedBy text 5 (placedIn 1 0 q)) k t
-  unfolding test testRow roleOf noRole
+      → PlaceRead text keys tags d (stringName current p (roleOf 0) (drop (d .at) text)) q k t
+      → DraftRead testAlone text keys tags c (test current p (drop (c .at) text)) (testedBy text (nullKind .number) (placedIn parts 0 q)) k t
+  unfolding test rowOf partCell roleOf noRole
   test-null s e q a =
       let closes : List ℕ → Read Test =
-      λ l. stringName edition1 p noRole l >>= λ (s, rest). skip (bytes ")") rest >>= λ (_, rest). give (isNull s) rest in
+      λ l. stringName current p noRole l >>= λ (s, rest). skip (bytes ")") rest >>= λ (_, rest). give (isNull s) rest in
       draft-same (chosen _ _ e ∙ ap closes (sym (drop-moved text c 5 s)))
-      (tested-cell isNull 5 (λ _. refl) (placedIn 1 0 q) (cell-skip 5 (placedIn 1 0 q) (skipped c 5 s) (place-cell 1 0 q a)))
+      (tested-cell isNull (nullKind .number) (λ _. refl) (placedIn parts 0 q)
+      (cell-skip 5 (placedIn parts 0 q) (skipped c 5 s) (place-cell parts 0 q a)))
 
   pub test-numeric : {d : Cursor} → d ≡ moved c 8 → begins (bytes "NULL(") (drop (c .at) text) ≡ false
       → begins (bytes "NUMERIC(") (drop (c .at) text) ≡ true → (q : Operand)
-      → CellRead (partCell 0) text keys tags d (partName edition1 p (roleOf 0) (drop (d .at) text)) q k t
-      → DraftRead testAlone text keys tags c (test edition1 p (drop (c .at) text)) (testedBy text 6 q) k t
-  unfolding test testRow roleOf noRole
+      → CellRead (partCell parts) text keys tags d (partName current p (roleOf 0) (drop (d .at) text)) q k t
+      → DraftRead testAlone text keys tags c (test current p (drop (c .at) text)) (testedBy text (numericKind .number) q) k t
+  unfolding test rowOf roleOf noRole
   test-numeric s e₁ e q a =
       let closes : List ℕ → Read Test =
-      λ l. partName edition1 p noRole l >>= λ (s, rest). skip (bytes ")") rest >>= λ (_, rest). give (isNumeric s) rest in
+      λ l. partName current p noRole l >>= λ (s, rest). skip (bytes ")") rest >>= λ (_, rest). give (isNumeric s) rest in
       draft-same (chosen _ _ e₁ ∙ chosen _ _ e ∙ ap closes (sym (drop-moved text c 8 s)))
-      (tested-cell isNumeric 6 (λ _. refl) q (cell-skip 8 q (skipped c 8 s) a))
+      (tested-cell isNumeric (numericKind .number) (λ _. refl) q (cell-skip 8 q (skipped c 8 s) a))
 
   pub test-compares : begins (bytes "NULL(") (drop (c .at) text) ≡ false → begins (bytes "NUMERIC(") (drop (c .at) text) ≡ false → (r : Draft)
       → DraftRead testAlone text keys tags c (comparingAt p (drop (c .at) text)) r k t
-      → DraftRead testAlone text keys tags c (test edition1 p (drop (c .at) text)) r k t
+      → DraftRead testAlone text keys tags c (test current p (drop (c .at) text)) r k t
   unfolding test comparingAt comparedTo
   test-compares e₁ e₂ r a = draft-same (chosen _ _ e₁ ∙ chosen _ _ e₂) a
 

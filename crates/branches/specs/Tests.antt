@@ -4,14 +4,15 @@ use mathlib.Core.List.{List, [], _∷_}
 use mathlib.Core.Path.{_≡_}
 use Prim.Native.Nat.{ℕ, _+_, _≤_}
 use lib.ListN.{length, drop}
-use Rattle.base.specs.Edition.{edition1}
+use Rattle.base.specs.Current.{current}
 use Rattle.base.specs.Lists.{begins}
+use Rattle.calls.specs.Kinds.{constantKind}
 use Rattle.calls.specs.Numerals.{biased}
 use Rattle.calls.specs.Table as Table
-use Rattle.calls.specs.Table.{operandCell, comparisonNumber, testRow}
+use Rattle.calls.specs.Table.{operandCell, comparisonNumber, rowOf}
 use Rattle.language.specs.Numeric.{comparison, ifOperand, test}
 use Rattle.language.specs.Program as Program
-use Rattle.language.specs.Program.{Comparison, compares, Test}
+use Rattle.language.specs.Program.{Comparison, compares, Test, ifTest}
 use Rattle.language.specs.Reading.{Read, broken, _>>=_, give}
 use Rattle.language.specs.Words.{Places, signed}
 use Rattle.met.specs.Known.{placesIn}
@@ -42,7 +43,7 @@ abbrev pub nowhere : Program.Branch
 nowhere = record { success = 0; failure = 0 }
 
 abbrev pub testAlone : Test → Table.Row
-testAlone t = testRow t nowhere
+testAlone t = rowOf 0 0 (ifTest t nowhere)
 
 -- a test of one cell, its cursor behind `)`
 abbrev pub testedBy : List ℕ → ℕ → Operand → Draft
@@ -59,21 +60,21 @@ testedBy text kind OperandCode.the-variants.Broken = DraftCode.the-variants.Brok
 unfoldable pub comparedTo : (p : Places) → Program.Operand → List ℕ → Read Test
 comparedTo p a bs = do
   (c, rest) ← comparison bs
-  (b, rest) ← ifOperand edition1 p rest
+  (b, rest) ← ifOperand current p rest
   give (compares a c b) rest
 
 unfoldable pub comparingAt : (p : Places) → List ℕ → Read Test
 comparingAt p bs = do
-  (a, rest) ← ifOperand edition1 p bs
+  (a, rest) ← ifOperand current p bs
   comparedTo p a rest
 
 -- each reader at the cursor
 abbrev pub SignedRead : (text keys tags : List ℕ) (c : Cursor) → Operand → Type 0
 SignedRead text keys tags c r =
-    CellRead (λ z. Table.cell 4 0 (biased z)) text keys tags c (signed edition1 (drop (c .at) text)) r keys tags
+    CellRead (λ z. Table.cell (constantKind .number) 0 (biased z)) text keys tags c (signed current (drop (c .at) text)) r keys tags
 
 abbrev pub IfOperandRead : (text known keys tags : List ℕ) (c : Cursor) → Operand → (keys′ tags′ : List ℕ) → Type 0
-IfOperandRead text known keys tags c = CellRead operandCell text keys tags c (ifOperand edition1 (placesIn known) (drop (c .at) text))
+IfOperandRead text known keys tags c = CellRead operandCell text keys tags c (ifOperand current (placesIn known) (drop (c .at) text))
 
 abbrev pub ComparedRead : (text known keys tags : List ℕ) (c : Cursor) (left : Cell) → Draft → (keys′ tags′ : List ℕ) → Type 0
 ComparedRead text known keys tags c left r keys′ tags′ =
@@ -84,4 +85,4 @@ abbrev pub ComparingRead : (text known keys tags : List ℕ) (c : Cursor) → Dr
 ComparingRead text known keys tags c = DraftRead testAlone text keys tags c (comparingAt (placesIn known) (drop (c .at) text))
 
 abbrev pub TestRead : (text known keys tags : List ℕ) (c : Cursor) → Draft → (keys′ tags′ : List ℕ) → Type 0
-TestRead text known keys tags c = DraftRead testAlone text keys tags c (test edition1 (placesIn known) (drop (c .at) text))
+TestRead text known keys tags c = DraftRead testAlone text keys tags c (test current (placesIn known) (drop (c .at) text))

@@ -28,6 +28,7 @@ ghost use lib.ListN.{length};
 ghost use Rattle.branches.specs.Tests.{ComparisonAt, SignedRead, IfOperandRead, testedBy, ComparedRead, ComparingRead, TestRead};
 ghost use Rattle.met.specs.Known.{Counted};
 ghost use Rattle.numeric.specs.Operands.{Ready, Inside};
+ghost use Rattle.packer.specs.Packs.{longestText};
 
 // the sign of a comparison at a place: its number, 0 for none, and how many bytes it has
 struct Sign {
@@ -62,7 +63,7 @@ fn comparison(text: &[u8], at: usize) -> Sign
 
 // a constant that may have a sign
 fn signed_constant(text: &[u8], c: Cursor) -> Operand
-    requires { ⌜ (c .at ≤ length (now text)) × (length (now text) ≤ 32768) ⌝ }
+    requires { ⌜ (c .at ≤ length (now text)) × (length (now text) ≤ longestText) ⌝ }
     ensures { λ r. ⌜ ((keys tags : List ℕ) → Ready (now (text .entry)) keys tags c → SignedRead (now (text .entry)) keys tags c r) ⌝ }
 {
     let at = c.at;
@@ -206,7 +207,15 @@ pub fn read_test(
         return tested(
             text,
             step_kinds::NUMERIC,
-            read_part(text, known, keys, tags, skip(c, 8), 0, STRING),
+            read_part(
+                text,
+                known,
+                keys,
+                tags,
+                skip(c, 8),
+                cell_kinds::STRING,
+                STRING,
+            ),
         );
     }
     comparing(text, known, keys, tags, c)

@@ -10,10 +10,10 @@ use borrow.Author.Tests.{lt-ltb, le-leb, ne-eqb}
 use Rattle.base.specs.Choice.{test-cases, both-pass}
 use Rattle.base.specs.Edition.{Edition}
 use Rattle.base.specs.Limits as Limits
+use Rattle.base.specs.Limits.{longestDeck}
 use Rattle.base.specs.Lists.{same, any, all, total}
 use Rattle.base.specs.ListLaws.{same-true, same-refl}
-use Rattle.cards.specs.Cards.{Entry, entries}
-use Rattle.cards.specs.Packing.{packed}
+use Rattle.cards.specs.Entries.{Entry, entries}
 use Rattle.judgement.specs.Deck.{indexOf, placesOf, stepRead, stepsFrom, programOf, accepted, judge}
 use Rattle.judgement.specs.Known.{Known, nothingKnown, strings, numbers, namesFor, isStep, learn}
 use Rattle.judgement.specs.Laws.{not10-few, accepted-counts, accepted-finishes}
@@ -27,10 +27,12 @@ use Rattle.language.specs.Keywords.{leading}
 use Rattle.language.specs.Placed.{Each, PlacedBy}
 use Rattle.language.specs.Program.{Statement, Step, Program}
 use Rattle.language.specs.Reading.{string, Met, Read, got}
+use Rattle.calls.specs.Literals.{TextWhole, entries-whole}
 use Rattle.calls.specs.Rules.{statementHolds, stepHolds, isProgram}
 use Rattle.calls.specs.Table.{elementsOf, itemsOf, allElements, allItems, allLiterals}
 use Rattle.calls.specs.Yielding.{viewOf, Fit}
-use Rattle.calls.specs.YieldingForms.{FormedOrNone, Distinct, literals-append, statement-yields}
+use Rattle.calls.specs.YieldingForms.{FormedOrNone, literals-append, statement-yields}
+use Rattle.calls.specs.YieldingRoles.{Distinct}
 
 -- names that stand at one place in a list are equal
 index-injective : (ws : List (List ℕ)) (m n : List ℕ) → any (same m) ws ≡ true → any (same n) ws ≡ true → indexOf m ws ≡ indexOf n ws
@@ -105,23 +107,24 @@ statement-sound e whole false (some a) m rest card n el it li more step h not8 s
 
 -- entries that pass make steps that hold, with as many elements, items and literal bytes as were counted
 again-sound : {e : Edition} {whole k : Known} {es : List Entry}
-    → ((n : ℕ) → PlacedBy (NamesOf whole) (deckSizes whole) (placesOf whole n)) → Again e whole k es
+    → ((n : ℕ) → PlacedBy (NamesOf whole) (deckSizes whole) (placesOf whole n)) → Each TextWhole es → Again e whole k es
     → Sound e whole (k .steps) (k .elements) (k .items) (k .literals) (stepsFrom e whole (k .steps) es)
-unfolding stepsFrom learn placesOf allElements allItems allLiterals all
-again-sound placed ends =
+unfolding stepsFrom learn placesOf allElements allItems allLiterals all Each
+again-sound placed texts ends =
     record { all-steps = omega arith; all-elements = omega arith; all-items = omega arith; all-literals = omega arith; holds = refl }
-again-sound placed (past j) = again-sound placed j
-again-sound {e} {whole} placed (reads {k} {card} {label} {text} {es} s m rest q step p used next j) =
-    let kind = leading (packed text) .kind in
+again-sound placed texts (past j) = again-sound placed (texts .1) j
+again-sound {e} {whole} placed texts (reads {k} {card} {label} {complete} {text} {es} s m rest q step p used next j) =
+    let kind = leading text .kind in
     let fit : Fit (NamesOf whole) m = record { used = used; rows = not10-few (learn k kind m) m (p .not10) .1 } in
-    let form = statement-yields e (placed (suc (k .steps))) _ label text s m rest next (places-distinct whole (suc (k .steps))) q fit in
+    let form =
+    statement-yields e (placed (suc (k .steps))) _ label complete text (texts .0) s m rest next (places-distinct whole (suc (k .steps))) q fit in
     subst
     (λ (read : Read (Option Statement)).
     Sound e whole (k .steps) (k .elements) (k .items) (k .literals)
     (stepRead card read ++ stepsFrom e whole (elim (stepRead card read) [ [] ↦ k .steps | s ∷ ss ↦ suc (k .steps) ]) es))
     (sym q)
     (statement-sound e whole (isStep kind) s m rest card (k .steps) (k .elements) (k .items) (k .literals) (λ n. stepsFrom e whole n es)
-    step form (p .not8) (again-sound placed j))
+    step form (p .not8) (again-sound placed (texts .1) j))
 
 -- a program's totals and statements are in range
 pub record Totals (e : Edition) (p : Program) : Type 0 where
@@ -137,7 +140,7 @@ accepted-totals e deck p q =
     accepted-program e deck p q (Totals e) (λ k j _ _.
     let again = passed-again j in
     let few = deck-counts j in
-    let sound = again-sound (again .0) (again .1) in
+    let sound = again-sound (again .0) (entries-whole e deck) (again .1) in
     let ss = stepsFrom e k 0 (entries e deck) in
     let count : k .steps ≡ length ss = omega arith in
     record {
@@ -148,7 +151,7 @@ accepted-totals e deck p q =
     })
 
 -- steps hold where their cards are below 2 ^ 16 and their statements hold
-steps-hold : (e : Edition) (s n k size : ℕ) → size ≤ 32768 → (ss : List Step) → Each (λ (a : Step). a .card ≤ size) ss
+steps-hold : (e : Edition) (s n k size : ℕ) → size ≤ longestDeck → (ss : List Step) → Each (λ (a : Step). a .card ≤ size) ss
     → StatementsHold e s n k ss → all (stepHolds e s n k) ss ≡ true
 unfolding all stepHolds Each
 steps-hold e s n k size short [] cards h = refl
@@ -158,7 +161,7 @@ steps-hold e s n k size short (a ∷ ss) cards h =
     both-pass (both-pass (lt-ltb (a .card) (2 ^ 16) (omega arith)) (parts .0)) (steps-hold e s n k size short ss (cards .1) (parts .1))
 
 -- the program of every accepted deck is in range
-pub accepted-isProgram : (e : Edition) (deck : List ℕ) (p : Program) → length deck ≤ 32768 → judge e deck ≡ accepted p
+pub accepted-isProgram : (e : Edition) (deck : List ℕ) (p : Program) → length deck ≤ longestDeck → judge e deck ≡ accepted p
     → isProgram e p ≡ true
 unfolding isProgram
 accepted-isProgram e deck p short q =

@@ -35,14 +35,14 @@ use Rattle.calls.specs.Splices.{splice, append-splice, splice-append, sp
 
 -- a store that a step may be given
 pub record Good (store : List ℕ) : Type 0 where
-  pub size : 32832 ≤ length store
+  pub size : storeSize ≤ length store
   pub keeps : storeKeeps store ≡ true
 
 pub keeps-good : (store : List ℕ) → storeKeeps store ≡ true → Good store
-unfolding storeKeeps storeSize
+unfolding storeKeeps
 keeps-good store e =
     record {
-      size = leb-true _ _ (and-eq-true-iff (leb 32832 (length store)) (cellsKeep store 0 mostStrings) .0 e .0);
+      size = leb-true _ _ (and-eq-true-iff (leb storeSize (length store)) (cellsKeep store 0 mostStrings) .0 e .0);
       keeps = e;
     }
 
@@ -259,9 +259,9 @@ module _ (store : List ℕ) (g : Good store) where
   good-short = strings-short store 0 32 (g .size) cells-keep
 
   pub good-image : storeImage (stringsIn store) ++ drop storeSize store ≡ store
-  unfolding stringsIn storeSize mostStrings
+  unfolding stringsIn mostStrings
   good-image =
-      ap (λ (l : List ℕ). l ++ drop 32832 store) (cells-image store 0 32 (g .size) cells-keep) ∙ take-append-drop 32832 store
+      ap (λ (l : List ℕ). l ++ drop storeSize store) (cells-image store 0 32 (g .size) cells-keep) ∙ take-append-drop storeSize store
 
 -- a store has 32 strings, and each is that of its cell
 pub count-strings : (store : List ℕ) → length (stringsIn store) ≡ 32
@@ -288,16 +288,16 @@ module _ (vs : List (List ℕ)) (rest : List ℕ) (all-there : length vs ≡ 32)
       ap (stringsFrom (storeImage vs ++ rest) 0) (sym all-there) ∙ image-held (storeImage vs ++ rest) rest vs 0 short refl .0
 
   pub image-good : Good (storeImage vs ++ rest)
-  unfolding storeKeeps mostStrings storeSize
+  unfolding storeKeeps mostStrings
   image-good =
-      let size : 32832 ≤ length (storeImage vs ++ rest) =
+      let size : storeSize ≤ length (storeImage vs ++ rest) =
       omega (arith, length-append (storeImage vs) rest, length-images vs short) in
       let keep : cellsKeep (storeImage vs ++ rest) 0 32 ≡ true =
       ap (cellsKeep (storeImage vs ++ rest) 0) (sym all-there) ∙ image-held (storeImage vs ++ rest) rest vs 0 short refl .1 in
       record {
         size = size;
         keeps =
-            and-eq-true-iff (leb 32832 (length (storeImage vs ++ rest))) (cellsKeep (storeImage vs ++ rest) 0 32) .1
+            and-eq-true-iff (leb storeSize (length (storeImage vs ++ rest))) (cellsKeep (storeImage vs ++ rest) 0 32) .1
             (le-leb _ _ size, keep);
       }
 

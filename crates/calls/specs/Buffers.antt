@@ -18,8 +18,8 @@ use Rattle.calls.specs.Numerals.{inBytes, numberAt, biased, unbiased}
 unfoldable pub cellSize : ℕ
 cellSize = 1026
 
-unfoldable pub storeSize : ℕ
-storeSize = 32832
+abbrev pub storeSize : ℕ
+storeSize = 32_832
 
 unfoldable pub cellImage : List ℕ → List ℕ
 cellImage v = inBytes 2 (length v) ++ (v ++ replicate (longestString - length v) 0)
@@ -56,7 +56,7 @@ storeKeeps store = leb storeSize (length store) && cellsKeep store 0 mostStrings
 
 -- The state is 64 numbers: the status (0 running, 1 finished, any other stopped), the next step, how many returns are held, the input
 -- place, the output length, 16 returns, the oldest first, 32 numbers with the bias added; the others don't count and stay.
-unfoldable pub stateSize : ℕ
+abbrev pub stateSize : ℕ
 stateSize = 64
 
 unfoldable pub returnsAt : ℕ

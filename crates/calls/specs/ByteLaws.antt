@@ -1,32 +1,31 @@
 -- The table of a program in range is made of bytes, where the literals are. Assumes nothing.
-use mathlib.Core.Bool.{Bool, true, _&&_, not, and-eq-true-iff}
+use mathlib.Core.Bool.{Bool, true, _&&_, and-eq-true-iff}
 use mathlib.Core.List.{List, [], _∷_, _++_, map}
-use mathlib.Core.Option.{Option}
 use mathlib.Core.Path.{_≡_}
 use Prim.Native.Nat.{ℕ, zero, suc, _+_, _-_, _^_, _≤_, _<_}
 use native.Mathlib.Omega.{arith}
-use lib.Dec.{leb, ltb, eqb}
+use lib.Dec.{leb, ltb}
 use lib.ListN.{length, replicate}
-use borrow.Author.Tests.{ltb-true, leb-true}
 use Rattle.base.specs.Choice.{both-true}
 use Rattle.base.specs.Edition.{Edition}
 use Rattle.base.specs.Lists.{all}
 use Rattle.language.specs.Placed.{Each, each-join}
-use Rattle.language.specs.Program.{Part, whole, first, Operand, constant, number, lengthOf, numberOf}
-use Rattle.language.specs.Program.{plus, minus, times, over, positive, negative, Item, operand, operator, sign}
-use Rattle.language.specs.Program.{Element, literal, part, text, PatternElement, value, freeFiller, fixedFiller}
-use Rattle.language.specs.Program.{Comparison, Test, isNull, isNumeric, compares}
-use Rattle.language.specs.Program.{Direction, Branch, Statement, setNumber, setString, goto, finish, ifTest, scan}
-use Rattle.language.specs.Program.{read, write, execute, return, Step, Program}
-use Rattle.calls.specs.CellLaws.{length-kinds, length-place, part-kinds, part-cell-place}
+use Rattle.language.specs.Program.{whole, number, Item, Element, PatternElement, value, Statement, Step, Program}
+use Rattle.language.specs.Program.{equal, unequal, less, greater, atMost, atLeast, forward, backward}
+use Rattle.calls.specs.CellLaws.{SmallCell, class-small}
+use Rattle.calls.specs.KindLaws.{part-class, operand-class, item-class, element-class, pattern-class, row-small}
+use Rattle.calls.specs.Kinds.{Flagging, noFlag, ofComparison, ofDirection, Flag}
+use Rattle.calls.specs.Kinds.{Lefting, noLeft, numberLeft, stringLeft, partLeft, operandLeft, Left}
+use Rattle.calls.specs.Kinds.{Righting, noRight, operandRight, itemsRight, elementsRight, patternRight, replacingRight, Right}
+use Rattle.calls.specs.Kinds.{spellStatement}
 use Rattle.calls.specs.Numerals.{inBytes}
-use Rattle.calls.specs.RowLaws.{comparison-flag, scan-flag}
-use Rattle.calls.specs.RuleLaws.{scan-parts, number-parts}
-use Rattle.calls.specs.Rules.{signedLengthHolds, lengthHolds, partHolds, operandHolds, itemHolds, elementHolds, patternHolds}
-use Rattle.calls.specs.Rules.{rowHolds, branchHolds, testHolds, placeOf, statementHolds, stepHolds, isProgram}
-use Rattle.calls.specs.Table.{Cell, cell, noCell, cellBytes, partCell, operandCell, operatorKind, signKind, itemCell}
-use Rattle.calls.specs.Table.{elementCell, patternCell, replacementOf, elementsOf, itemsOf, Row, rowBytes, row, rangeCell}
-use Rattle.calls.specs.Table.{comparisonNumber, directionNumber, replacementFlag, testRow, rowOf, stepRows, allElements, allItems}
+use Rattle.calls.specs.RuleLaws.{patterns-all, steps-front, right-front}
+use Rattle.calls.specs.Rules.{partHolds, operandHolds, itemHolds, elementHolds, patternHolds, rowHolds, patternsHold, balanced}
+use Rattle.calls.specs.Rules.{leftHolds, rightHolds, leftPlace, statementHolds, stepHolds, isProgram}
+use Rattle.calls.specs.Table.{Cell, cell, noCell, cellBytes, partCell, operandCell, itemCell, patternCell}
+use Rattle.calls.specs.Table.{rightElements, rightItems, elementsOf, itemsOf, Row, rowBytes, row, rangeCell}
+use Rattle.calls.specs.Table.{comparisonNumber, directionNumber, flagNumber, leftCell, rightCell, rowFor, rowOf, stepRows}
+use Rattle.calls.specs.Table.{allElements, allItems}
 use Rattle.calls.specs.Table.{allLiterals, literalIn, elementRows, itemRows, filledTo, stepsAt, elementsAt, itemsAt}
 use Rattle.calls.specs.Table.{literalsAt, format, header, image}
 use Rattle.calls.specs.TableLaws.{in-range}
@@ -62,11 +61,6 @@ filled-bytes n bs h = each-join IsByte bs (replicate (n - length bs) 0) h (zeros
 region-bytes : (n : ℕ) (bs rest : List ℕ) → Each IsByte bs → Each IsByte rest → Each IsByte (filledTo n bs ++ rest)
 region-bytes n bs rest h g = each-join IsByte (filledTo n bs) rest (filled-bytes n bs h) g
 
--- the kind and the place of a cell are bytes
-record SmallCell (c : Cell) : Type 0 where
-  kind : c .kind < 256
-  place : c .place < 256
-
 -- such a cell is made of bytes
 cell-bytes : (c : Cell) → SmallCell c → Each IsByte (cellBytes c)
 unfolding inBytes cellBytes Each
@@ -84,17 +78,18 @@ row-bytes : (card : ℕ) (r : Row) → SmallRow r → Each IsByte (rowBytes card
 unfolding rowBytes inBytes cellBytes Each
 row-bytes card r s = omega arith
 
--- the number of a sign of comparison is a byte
-comparison-small : (c : Comparison) → comparisonNumber c < 256
-comparison-small c =
-    let n = comparisonNumber c in
-    omega (arith, leb-true n 6 (both-true (leb 1 n) (leb n 6) (comparison-flag c) .1))
-
--- and so is the flag of a scan
-flag-small : (d : Direction) (r : Option (List Element)) → directionNumber d + replacementFlag r < 256
-flag-small d r =
-    let n = directionNumber d + replacementFlag r in
-    omega (arith, leb-true n 4 (both-true (leb 1 n) (leb n 4) (scan-flag d r) .1))
+-- the flag of a row is a byte
+flag-small : (f : Flagging) (w : Flag f) → flagNumber f w < 256
+unfolding flagNumber comparisonNumber directionNumber
+flag-small noFlag w = omega arith
+flag-small ofComparison equal = omega arith
+flag-small ofComparison unequal = omega arith
+flag-small ofComparison less = omega arith
+flag-small ofComparison greater = omega arith
+flag-small ofComparison atMost = omega arith
+flag-small ofComparison atLeast = omega arith
+flag-small ofDirection forward = omega arith
+flag-small ofDirection backward = omega arith
 
 -- the kind and the place of an element's cell are bytes, wherever its literal bytes stand
 abbrev SmallElement : PatternElement → Type 0
@@ -118,107 +113,87 @@ record SmallSteps (ss : List Step) : Type 0 where
 
 -- what is in range in a program of so many strings, numbers and steps
 module _ (e : Edition) (strings numbers steps : ℕ) (short : strings ≤ 32) (few : numbers ≤ 32) where
-  -- the kinds and the places of cells that hold something in range
-  part-small : (shift : ℕ) → shift ≤ 6 → (p : Part) → partHolds e strings numbers steps p ≡ true → SmallCell (partCell shift p)
-  unfolding partHolds placeOf
-  part-small shift low p h =
-      let kinds = part-kinds shift p in
-      let place = part-cell-place shift p in
-      let inside = placed p h in
-      omega arith
-    where
-      placed : (p : Part) → partHolds e strings numbers steps p ≡ true → placeOf p < strings
-      placed (whole s) h = ltb-true s strings h
-      placed (first s n) h = ltb-true s strings (and-eq-true-iff (ltb s strings) (lengthHolds e strings numbers steps n) .0 h .0)
+  -- the kind and the place of a row's cells
+  left-small : (l : Lefting) (w : Left l) → leftHolds e strings numbers steps l w ≡ true → SmallCell (leftCell l w)
+  unfolding leftHolds leftCell partHolds operandHolds partCell operandCell noCell cell
+  left-small noLeft w h = record { kind = omega arith; place = omega arith }
+  left-small numberLeft w h = class-small e strings numbers steps few short operand-class 0 (number w) h
+  left-small stringLeft w h = class-small e strings numbers steps few short part-class 0 (whole w) h
+  left-small partLeft w h = class-small e strings numbers steps few short part-class 0 w h
+  left-small operandLeft w h = class-small e strings numbers steps few short operand-class 0 w h
 
-  operand-small : (a : Operand) → operandHolds e strings numbers steps a ≡ true → SmallCell (operandCell a)
-  unfolding operandHolds operandCell cell
-  operand-small (constant z) h = omega arith
-  operand-small (number i) h = omega (arith, ltb-true i numbers h)
-  operand-small (lengthOf s) h = omega (arith, ltb-true s strings h)
-  operand-small (numberOf p) h = part-small 6 (omega arith) p h
+  right-small : (b : Bool) (reference : ℕ) (r : Righting) (w : Right r) → rightHolds e strings numbers steps b reference r w ≡ true
+      → (element item : ℕ) → SmallCell (rightCell element item r w)
+  unfolding rightHolds rightCell operandHolds operandCell noCell rangeCell cell
+  right-small b reference noRight w h element item = record { kind = omega arith; place = omega arith }
+  right-small b reference operandRight w h element item =
+      class-small e strings numbers steps few short operand-class 0 w (both-true b (operandHolds e strings numbers steps w) h .1)
+  right-small b reference itemsRight w h element item = record { kind = omega arith; place = omega arith }
+  right-small b reference elementsRight w h element item = record { kind = omega arith; place = omega arith }
+  right-small b reference patternRight w h element item = record { kind = omega arith; place = omega arith }
+  right-small b reference replacingRight w h element item = record { kind = omega arith; place = omega arith }
 
-  item-small : (x : Item) → itemHolds e strings numbers steps x ≡ true → SmallCell (itemCell x)
-  unfolding itemHolds itemCell operatorKind signKind cell
-  item-small (operand a) h = operand-small a h
-  item-small (operator plus) h = omega arith
-  item-small (operator minus) h = omega arith
-  item-small (operator times) h = omega arith
-  item-small (operator over) h = omega arith
-  item-small (sign positive) h = omega arith
-  item-small (sign negative) h = omega arith
+  -- its items and its elements
+  items-small : (xs : List Item) → all (itemHolds e strings numbers steps) xs ≡ true → Each SmallItem xs
+  unfolding itemHolds itemCell
+  items-small xs h = all-tested SmallItem (itemHolds e strings numbers steps) (class-small e strings numbers steps few short item-class 0) xs h
 
-  element-small : (x : Element) → elementHolds e strings numbers steps x ≡ true → (at : ℕ) → SmallCell (elementCell at x)
-  unfolding elementHolds elementCell cell
-  element-small (literal w) h at = omega arith
-  element-small (part p) h at = part-small 0 (omega arith) p h
-  element-small (text n m) h at =
-      let holds = and-eq-true-iff (signedLengthHolds e strings numbers steps n) (ltb m numbers) .0 h in
-      omega (arith, length-kinds 17 m n, length-place 17 m n, ltb-true m numbers (holds .1))
+  patterns-small : (xs : List PatternElement) → all (patternHolds e strings numbers steps) xs ≡ true → Each SmallElement xs
+  unfolding patternHolds patternCell
+  patterns-small xs h =
+      all-tested SmallElement (patternHolds e strings numbers steps)
+      (λ x g at. class-small e strings numbers steps few short pattern-class at x g) xs h
 
-  pattern-small : (reference : ℕ) (x : PatternElement) → patternHolds e strings numbers steps reference x ≡ true → SmallElement x
-  unfolding patternHolds patternCell cell
-  pattern-small r (value x) h at = element-small x h at
-  pattern-small r (freeFiller s) h at = omega (arith, ltb-true s strings (and-eq-true-iff (ltb s strings) (not (eqb s r)) .0 h .0))
-  pattern-small r (fixedFiller s n) h at =
-      let holds = and-eq-true-iff (ltb s strings) (not (eqb s r) && lengthHolds e strings numbers steps n) .0 h in
-      omega (arith, length-kinds 20 s n, length-place 20 s n, ltb-true s strings (holds .0))
+  elements-small : (xs : List Element) → rowHolds e strings numbers steps xs ≡ true → Each SmallElement (map value xs)
+  unfolding rowHolds elementHolds patternCell
+  elements-small xs h =
+      let holds = both-true (leb (length xs) 20) (all (elementHolds e strings numbers steps) xs) h in
+      all-map SmallElement value xs
+      (all-tested (λ x. SmallElement (value x)) (elementHolds e strings numbers steps)
+      (λ x g at. class-small e strings numbers steps few short element-class at x g) xs (holds .1))
 
-  -- the elements of a row that holds
-  row-elements-small : (xs : List Element) → rowHolds e strings numbers steps xs ≡ true → Each SmallElement (map value xs)
-  unfolding rowHolds patternCell
-  row-elements-small xs h =
-      let holds = and-eq-true-iff (leb (length xs) 20) (all (elementHolds e strings numbers steps) xs) .0 h in
-      all-map SmallElement value xs (all-tested (λ x. SmallElement (value x)) (elementHolds e strings numbers steps) element-small xs (holds .1))
-
-  -- the row of a test that holds
-  test-small : (x : Test) (b : Branch) → testHolds e strings numbers steps x ≡ true → SmallRow (testRow x b)
-  unfolding testHolds testRow row noCell cell
-  test-small (isNull s) b h = omega (arith, ltb-true s strings h)
-  test-small (isNumeric p) b h = let left = part-small 0 (omega arith) p h in omega arith
-  test-small (compares x c y) b h =
-      let holds = and-eq-true-iff (operandHolds e strings numbers steps x) (operandHolds e strings numbers steps y) .0 h in
-      let left = operand-small x (holds .0) in
-      let right = operand-small y (holds .1) in
-      omega (arith, comparison-small c)
+  right-elements-small : (b : Bool) (reference : ℕ) (r : Righting) (w : Right r) → rightHolds e strings numbers steps b reference r w ≡ true
+      → Each SmallElement (rightElements r w) × Each SmallItem (rightItems r w)
+  unfolding rightHolds rightElements rightItems Each
+  right-elements-small b reference noRight w h = (tt, tt)
+  right-elements-small b reference operandRight w h = (tt, tt)
+  right-elements-small b reference itemsRight w h =
+      let items = all (itemHolds e strings numbers steps) w in
+      (tt, items-small w (both-true (balanced 0 w) items (both-true b (balanced 0 w && items) h .1) .1))
+  right-elements-small b reference elementsRight w h = (elements-small w (both-true b (rowHolds e strings numbers steps w) h .1), tt)
+  right-elements-small b reference patternRight w h =
+      (patterns-small w (patterns-all e strings numbers steps reference w (both-true b (patternsHold e strings numbers steps reference w) h .1)), tt)
+  right-elements-small b reference replacingRight w h =
+      let pattern = patternsHold e strings numbers steps reference (w .0) in
+      let row = rowHolds e strings numbers steps (w .1) in
+      let holds = both-true pattern row (both-true b (pattern && row) h .1) in
+      let xs = patterns-small (w .0) (patterns-all e strings numbers steps reference (w .0) (holds .0)) in
+      (each-join SmallElement (w .0) (map value (w .1)) xs (elements-small (w .1) (holds .1)), tt)
 
   -- what a statement that holds gives
   statement-small : (s : Statement) → statementHolds e strings numbers steps s ≡ true → SmallStatement s
-  unfolding statementHolds elementsOf itemsOf rowOf row rangeCell noCell cell Each
-  statement-small (setNumber i x) h =
-      let holds = number-parts e strings numbers steps i x h in
+  unfolding statementHolds elementsOf itemsOf rowOf rowFor row
+  statement-small s h =
+      let x = spellStatement s in
+      let k = x .kind in
+      let reference = leftPlace (k .lefting) (x .left) in
+      let left = leftHolds e strings numbers steps (k .lefting) (x .left) in
+      let right = rightHolds e strings numbers steps left reference (k .righting) (x .right) in
+      let rightTrue = steps-front e strings numbers steps right (k .stepping) (x .steps) h in
+      let leftTrue = right-front e strings numbers steps left reference (k .righting) (x .right) rightTrue in
+      let own = right-elements-small left reference (k .righting) (x .right) rightTrue in
       record {
-        row = λ element item. omega (arith, ltb-true i numbers (holds .0));
-        elements = tt;
-        items = all-tested SmallItem (itemHolds e strings numbers steps) item-small x (holds .2);
+        row =
+            λ element item.
+            record {
+              kind = omega (arith, row-small s);
+              flag = flag-small (k .flagging) (x .flag);
+              left = left-small (k .lefting) (x .left) leftTrue;
+              right = right-small left reference (k .righting) (x .right) rightTrue element item;
+            };
+        elements = own .0;
+        items = own .1;
       }
-  statement-small (setString p xs) h =
-      let holds = and-eq-true-iff (partHolds e strings numbers steps p) (rowHolds e strings numbers steps xs) .0 h in
-      let left = part-small 0 (omega arith) p (holds .0) in
-      record { row = λ element item. omega arith; elements = row-elements-small xs (holds .1); items = tt }
-  statement-small (goto k) h = record { row = λ element item. omega arith; elements = tt; items = tt }
-  statement-small finish h = record { row = λ element item. omega arith; elements = tt; items = tt }
-  statement-small (ifTest x b) h =
-      let holds = and-eq-true-iff (testHolds e strings numbers steps x) (branchHolds e strings numbers steps b) .0 h in
-      record { row = λ element item. test-small x b (holds .0); elements = tt; items = tt }
-  statement-small (scan d p xs r b) h =
-      let more = replacementOf r in
-      let holds = scan-parts e strings numbers steps d p xs r b h in
-      let left = part-small 0 (omega arith) p (holds .part) in
-      let pattern =
-      all-tested SmallElement (patternHolds e strings numbers steps (placeOf p)) (pattern-small (placeOf p)) xs (holds .patterns) in
-      record {
-        row = λ element item. omega (arith, flag-small d r);
-        elements = each-join SmallElement xs (map value more) pattern (row-elements-small more (holds .row));
-        items = tt;
-      }
-  statement-small (read p b) h =
-      let holds = and-eq-true-iff (partHolds e strings numbers steps p) (branchHolds e strings numbers steps b) .0 h in
-      let left = part-small 0 (omega arith) p (holds .0) in
-      record { row = λ element item. omega arith; elements = tt; items = tt }
-  statement-small (write xs) h = record { row = λ element item. omega arith; elements = row-elements-small xs h; items = tt }
-  statement-small (execute k) h = record { row = λ element item. omega arith; elements = tt; items = tt }
-  statement-small return h = record { row = λ element item. omega arith; elements = tt; items = tt }
 
   -- what steps that hold give
   steps-small : (ss : List Step) → all (stepHolds e strings numbers steps) ss ≡ true → SmallSteps ss

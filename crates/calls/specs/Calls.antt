@@ -6,19 +6,17 @@ use Prim.Native.Nat.{ℕ, zero, suc, _+_}
 use lib.Dec.{ltb, eqb}
 use lib.ListN.{length, drop, getD, replicate}
 use Rattle.base.specs.Edition.{Edition}
+use Rattle.base.specs.Limits.{longestDeck}
 use Rattle.judgement.specs.Deck.{Judgement, accepted, refused, judge}
 use Rattle.machine.specs.Run.{Outcome, FINISHED, STOPPED, SPENT, REFUSED}
 use Rattle.machine.specs.State.{State}
 use Rattle.machine.specs.Step.{Stepped, step, turnedDownBy}
 use Rattle.scanning.specs.Call.{answerNumbers, noAnswer}
+use Rattle.values.specs.Work.{stopsStep}
 use Rattle.calls.specs.Buffers.{storeSize, storeKeeps, stateKeeps, stateIn, storeLeft, stateLeft, outputLeft, firstState}
 use Rattle.calls.specs.Rules.{keepsRules}
 use Rattle.calls.specs.Table.{image}
 use Rattle.calls.specs.TableReading.{programIn}
-
--- Q1 "The deck exceeds 32,768 bytes"
-unfoldable pub longestDeck : ℕ
-longestDeck = 32768
 
 -- the deck call: number, card, and the table left
 pub record ReadCalled : Type 0 where
@@ -166,7 +164,7 @@ withStep s r =
 -- a run behind a step, from how the step ended and what the rest of the run would come to
 unfoldable pub runBehind : StepCalled → RunCalled → RunCalled
 runBehind s rest =
-    cond (ltb 16 (s .number)) (withStep s (runEnded STOPPED (s .number) (s .left)))
+    cond (stopsStep (s .number)) (withStep s (runEnded STOPPED (s .number) (s .left)))
     (cond (ltb 0 (s .number)) (runEnded REFUSED (s .number) (s .left))
     (cond (eqb (getD (s .left .state) 0 0) 1) (withStep s (runEnded FINISHED 0 (s .left)))
     (withStep s rest)))

@@ -1,5 +1,5 @@
--- The customer's third demand, proved of every list of calls that keep their equations. Assumes nothing; every edition whose sizes fit is
--- covered, and edition 1 is one.
+-- The claim about lists of calls that keep their equations, proved of every table that keeps its rules; the customer's third demand is the case
+-- of an accepted deck's table. Assumes nothing; every edition whose sizes fit is covered, and the current one is among them.
 use mathlib.Core.Bool.{true, false, not, _&&_, and-eq-true-iff}
 use mathlib.Core.List.{List, [], _∷_, _++_}
 use mathlib.Core.Logic.{⊎-elim}
@@ -12,7 +12,9 @@ use lib.ListN.{length, getD, set, length-set, List·getD-eq-default}
 use lib.Seq.{getD-set-same, getD-set-other}
 use borrow.Author.Tests.{ltb-true, ltb-false, lt-ltb, eqb-true, eqb-false, not-true}
 use Rattle.base.specs.Choice.{test-cases, both-true}
-use Rattle.base.specs.Edition.{Edition, edition1}
+use Rattle.base.specs.Current.{current}
+use Rattle.base.specs.Edition.{Edition}
+use Rattle.base.specs.Limits.{longestDeck}
 use Rattle.base.specs.Lists.{all}
 use Rattle.judgement.specs.Deck.{accepted, judge}
 use Rattle.language.specs.Program as Program
@@ -26,17 +28,17 @@ use Rattle.machine.specs.Step.{carrying, statementAt, turnedDownBy, concluded, 
 use Rattle.values.specs.Conversion.{longestString}
 use Rattle.calls.specs.Accepted.{accepted-isProgram}
 use Rattle.calls.specs.Buffers.{storeSize, stateIn}
-use Rattle.calls.specs.Calls.{longestDeck, readCall, Buffers, givenIn}
+use Rattle.calls.specs.Calls.{readCall, StartCalled, startCall, Buffers, givenIn}
 use Rattle.calls.specs.Calls.{StepCalled, carried, stepCall, buffersAfter, RunReturned, resultNumbers, returned, runEnded, runCall}
 use Rattle.calls.specs.Demands.{LeftBy, Scans, IsFiller, Fails, Observed, observedStep, observedRun, stepsTried}
-use Rattle.calls.specs.Demands.{StepClaim, RunClaim, ListClaim, AllRefused, Linked, History, Demand3}
+use Rattle.calls.specs.Demands.{StepClaim, RunClaim, ListClaim, AllRefused, Linked, TableClaim, History, Demand3}
 use Rattle.calls.specs.GivenLaws.{held-written}
 use Rattle.calls.specs.Holding.{Holding}
 use Rattle.calls.specs.Invariant.{Sound, returns-enough, next-sound, step-sound, fresh-sound}
 use Rattle.calls.specs.ProgramLaws.{Runs, statement-holds, program-runs}
 use Rattle.calls.specs.Numerals.{bias}
-use Rattle.calls.specs.RuleLaws.{scan-parts}
-use Rattle.calls.specs.Rules.{lengthHolds, elementHolds, patternHolds, statementHolds, placeOf, isProgram}
+use Rattle.calls.specs.RuleLaws.{scan-parts, lengthHolds, fixed-holds}
+use Rattle.calls.specs.Rules.{patternHolds, statementHolds, placeOf, namedBy, isAmong, rolesHold, isProgram, keepsRules}
 use Rattle.calls.specs.ScanLaws.{concluded-scans}
 use Rattle.calls.specs.RunLaws.{call-numbers, run-same, run-left, small-run}
 use Rattle.calls.specs.StartLaws.{read-accepted, read-short, read-tabled, startedWith, started-small, started-holds}
@@ -52,24 +54,18 @@ null-apart s place m h =
     getD-set-other (m .strings) s place [] [] (λ q. eqb-false s place (not-true (eqb s place) h) (sym q))
 
 -- fillers made null leave a string that is none of them
-fillers-apart : (e : Edition) (strings numbers steps place : ℕ) (xs : List PatternElement) (m : Memory)
-    → all (patternHolds e strings numbers steps place) xs ≡ true → stringAt (withoutFillers xs m) place ≡ stringAt m place
-unfolding all patternHolds withoutFillers stringAt withString
-fillers-apart e strings numbers steps place [] m h = refl
-fillers-apart e strings numbers steps place (value x ∷ xs) m h =
-    fillers-apart e strings numbers steps place xs m
-    (both-true (elementHolds e strings numbers steps x) (all (patternHolds e strings numbers steps place) xs) h .1)
-fillers-apart e strings numbers steps place (freeFiller s ∷ xs) m h =
-    let both = and-eq-true-iff (ltb s strings && not (eqb s place)) (all (patternHolds e strings numbers steps place) xs) .0 h in
-    let apart = and-eq-true-iff (ltb s strings) (not (eqb s place)) .0 (both .0) .1 in
-    fillers-apart e strings numbers steps place xs (withString m s []) (both .1) ∙ null-apart s place m apart
-fillers-apart e strings numbers steps place (fixedFiller s n ∷ xs) m h =
-    let length = lengthHolds e strings numbers steps n in
-    let both =
-    and-eq-true-iff (ltb s strings && (not (eqb s place) && length)) (all (patternHolds e strings numbers steps place) xs) .0 h in
-    let inner = and-eq-true-iff (ltb s strings) (not (eqb s place) && length) .0 (both .0) .1 in
-    let apart = and-eq-true-iff (not (eqb s place)) length .0 inner .0 in
-    fillers-apart e strings numbers steps place xs (withString m s []) (both .1) ∙ null-apart s place m apart
+fillers-apart : (place : ℕ) (fs : List ℕ) (xs : List PatternElement) (m : Memory) → rolesHold place fs xs ≡ true
+    → stringAt (withoutFillers xs m) place ≡ stringAt m place
+unfolding rolesHold withoutFillers stringAt withString
+fillers-apart place fs [] m h = refl
+fillers-apart place fs (value x ∷ xs) m h =
+    fillers-apart place fs xs m (both-true (not (isAmong fs (namedBy x))) (rolesHold place fs xs) h .1)
+fillers-apart place fs (freeFiller s ∷ xs) m h =
+    let both = both-true (not (eqb s place)) (rolesHold place (s ∷ fs) xs) h in
+    fillers-apart place (s ∷ fs) xs (withString m s []) (both .1) ∙ null-apart s place m (both .0)
+fillers-apart place fs (fixedFiller s n ∷ xs) m h =
+    let both = both-true (not (eqb s place)) (rolesHold place (s ∷ fs) xs) h in
+    fillers-apart place (s ∷ fs) xs (withString m s []) (both .1) ∙ null-apart s place m (both .0)
 
 -- a null string stays null when another, or the same, is made null
 null-with : (s t : ℕ) (m : Memory) → stringAt m s ≡ [] → stringAt (withString m t []) s ≡ []
@@ -92,7 +88,7 @@ null-stays s (freeFiller t ∷ xs) m h = null-stays s xs (withString m t []) (nu
 null-stays s (fixedFiller t n ∷ xs) m h = null-stays s xs (withString m t []) (null-with s t m h)
 
 -- a filler of a pattern is made null
-module _ (e : Edition) (strings numbers steps place : ℕ) where
+module _ (e : Edition) (strings numbers steps : ℕ) where
   made-null : (s t : ℕ) (xs : List PatternElement) (m : Memory) → s ≡ t → t < length (m .strings)
       → stringAt (withoutFillers xs (withString m t [])) s ≡ []
   unfolding stringAt withString
@@ -100,21 +96,26 @@ module _ (e : Edition) (strings numbers steps place : ℕ) where
       subst (λ (i : ℕ). stringAt (withoutFillers xs (withString m t [])) i ≡ []) (sym same)
       (null-stays t xs (withString m t []) (getD-set-same (m .strings) t [] [] inside))
 
+  free-holds : (t : ℕ) → patternHolds e strings numbers steps (freeFiller t) ≡ true → ltb t strings ≡ true
+  unfolding patternHolds
+  free-holds t h = h
+
   filler-null : (s : ℕ) (xs : List PatternElement) (m : Memory) → strings ≤ length (m .strings)
-      → all (patternHolds e strings numbers steps place) xs ≡ true → IsFiller s xs → stringAt (withoutFillers xs m) s ≡ []
-  unfolding all patternHolds withoutFillers withString IsFiller
+      → all (patternHolds e strings numbers steps) xs ≡ true → IsFiller s xs → stringAt (withoutFillers xs m) s ≡ []
+  unfolding all withoutFillers withString IsFiller
   filler-null s [] m enough h f = absurd f
   filler-null s (value x ∷ xs) m enough h f =
-      filler-null s xs m enough (both-true (elementHolds e strings numbers steps x) (all (patternHolds e strings numbers steps place) xs) h .1) f
+      filler-null s xs m enough
+      (both-true (patternHolds e strings numbers steps (value x)) (all (patternHolds e strings numbers steps) xs) h .1) f
   filler-null s (freeFiller t ∷ xs) m enough h f =
-      let both = both-true (ltb t strings && not (eqb t place)) (all (patternHolds e strings numbers steps place) xs) h in
-      let inside = ltb-true t strings (both-true (ltb t strings) (not (eqb t place)) (both .0) .0) in
+      let both = both-true (patternHolds e strings numbers steps (freeFiller t)) (all (patternHolds e strings numbers steps) xs) h in
+      let inside = ltb-true t strings (free-holds t (both .0)) in
       ⊎-elim (λ same. made-null s t xs m same (omega arith))
       (λ later. filler-null s xs (withString m t []) (omega (arith, length-set (m .strings) t [])) (both .1) later) f
   filler-null s (fixedFiller t n ∷ xs) m enough h f =
-      let others = not (eqb t place) && lengthHolds e strings numbers steps n in
-      let both = both-true (ltb t strings && others) (all (patternHolds e strings numbers steps place) xs) h in
-      let inside = ltb-true t strings (both-true (ltb t strings) others (both .0) .0) in
+      let both = both-true (patternHolds e strings numbers steps (fixedFiller t n)) (all (patternHolds e strings numbers steps) xs) h in
+      let length = lengthHolds e strings numbers steps n in
+      let inside = ltb-true t strings (both-true (ltb t strings) length (sym (fixed-holds e strings numbers steps t n) ∙ both .0) .0) in
       ⊎-elim (λ same. made-null s t xs m same (omega arith))
       (λ later. filler-null s xs (withString m t []) (omega (arith, length-set (m .strings) t [])) (both .1) later) f
 
@@ -163,7 +164,7 @@ module _ (e : Edition) (limit : e .limit < bias) (wide : longestString ≤ e .li
         let steps = length (p .steps) in
         let holds = statement-holds e (p .strings) (p .numbers) steps (p .steps) (c .next) (runs .hold) in
         let scan-holds = subst (λ (x : Program.Statement). statementHolds e (p .strings) (p .numbers) steps x ≡ true) is holds in
-        let patterns = scan-parts e (p .strings) (p .numbers) steps d q xs r f scan-holds .patterns in
+        let parts = scan-parts e (p .strings) (p .numbers) steps d q xs r f scan-holds in
         let few : p .strings ≤ 32 =
         subst (λ (x : Program). x .strings ≤ 32) (t .reads) (in-range e (programIn table) (keeps-image e table (t .keeps) .0) .strings) in
         let enough : p .strings ≤ length (c .memory .strings) = omega (arith, s .memory .strings) in
@@ -171,10 +172,10 @@ module _ (e : Edition) (limit : e .limit < bias) (wide : longestString ≤ e .li
           fillers =
               λ i filler.
               ap (λ (x : Memory). stringAt x i) left
-              ∙ filler-null e (p .strings) (p .numbers) steps (placeOf q) i xs (c .memory) enough patterns filler;
+              ∙ filler-null e (p .strings) (p .numbers) steps i xs (c .memory) enough (parts .patterns) filler;
           reference =
               ap (λ (x : Memory). stringAt x (placeOf q)) left
-              ∙ fillers-apart e (p .strings) (p .numbers) steps (placeOf q) xs (c .memory) patterns;
+              ∙ fillers-apart (placeOf q) [] xs (c .memory) (parts .roles);
         }
 
     -- the claim of a step on such buffers
@@ -195,18 +196,18 @@ module _ (e : Edition) (limit : e .limit < bias) (wide : longestString ≤ e .li
 
   -- calls one behind the other: buffers b that hold a machine c in range, so the buffers left hold the machine left
   module _ (lent : ℕ) where
-    record Behind (c : State) (b : Buffers) : Type 0 where
-      sound : Sound e p lent input c
-      holds : Holding e p lent input c b
+    pub record Behind (c : State) (b : Buffers) : Type 0 where
+      pub sound : Sound e p lent input c
+      pub holds : Holding e p lent input c b
 
-    behind-step : (c : State) (b : Buffers) → Behind c b → Behind (step e p lent c .state) (stepCall e table input b .left)
+    pub behind-step : (c : State) (b : Buffers) → Behind c b → Behind (step e p lent c .state) (stepCall e table input b .left)
     behind-step c b k =
         record {
           sound = step-sound e wide p runs lent input c (k .sound);
           holds = step-holds e p table input t limit wide runs lent c b (k .sound) (k .holds);
         }
 
-    behind-steps : (k : ℕ) (c : State) (b : Buffers) → Behind c b → Behind (after e p lent k c) (buffersAfter e table input k b)
+    pub behind-steps : (k : ℕ) (c : State) (b : Buffers) → Behind c b → Behind (after e p lent k c) (buffersAfter e table input k b)
     unfolding after buffersAfter
     behind-steps zero c b h = h
     behind-steps (suc k) c b h = behind-steps k (step e p lent c .state) (stepCall e table input b .left) (behind-step c b h)
@@ -246,6 +247,16 @@ module _ (e : Edition) (limit : e .limit < bias) (wide : longestString ≤ e .li
         let next = subst (Behind (after e p lent (stepsTried back) c)) (sym (claim .left-is)) (behind-steps (stepsTried back) c given here) in
         (claim, list-claim calls (after e p lent (stepsTried back) c) (back .left) z next (linked .2))
 
+    -- what starting leaves with a large enough store, and the machine before its first step
+    pub behind-start : (store output : List ℕ) → length output ≡ lent → storeSize ≤ length store → Behind (fresh input) (startedWith store output)
+    behind-start store output is large =
+        record {
+          sound = fresh-sound e wide p runs lent input;
+          holds =
+              subst (λ n. Holding e p n input (fresh input) (startedWith store output)) is
+              (started-holds e limit wide p runs store input output large);
+        }
+
   -- with a store too small every call is turned down, and leaves it so
   list-small : (calls : List Observed) (b z : Buffers) → length (b .store) < storeSize → Linked e table input b calls z → AllRefused calls
   unfolding AllRefused Linked returned runEnded runCall
@@ -275,67 +286,113 @@ linked-more e table input (observedStep given back ∷ calls) more b m z h g =
 linked-more e table input (observedRun count given back ∷ calls) more b m z h g =
     (h .0, h .1, linked-more e table input calls more (back .left) m z (h .2) g)
 
+-- numbers fit their places, and a string's length is a number
+module _ (e : Edition) (limit : e .limit < bias) (wide : longestString ≤ e .limit) where
+  -- R10 "It is one claim about the list": of every list of calls, each of which took all that the last one left (R8), from the store and state
+  -- of starting, one input and one output lent (R7), on any table that has its size and keeps its rules; the statements, strings and numbers
+  -- (R9) are those of the program that it holds
+  pub sound-table-claim : (table input store output : List ℕ) (start : StartCalled) → e .tableSize ≤ length table → keepsRules e table ≡ true
+      → start ≡ startCall store → (calls : List Observed) (left : Buffers)
+      → Linked e table input (record { store = start .store; state = start .state; output = output }) calls left
+      → TableClaim e table input store output calls
+  unfolding startedWith
+  sound-table-claim table input store output start size keeps starts calls left linked =
+      let p = programIn table in
+      let runs = program-runs e p (keeps-image e table keeps .0) in
+      let t : Tabled e p table = record { size = size; keeps = keeps; reads = refl } in
+      let lent = length output in
+      let first : Buffers = record { store = start .store; state = start .state; output = output } in
+      let started : first ≡ startedWith store output = ap (λ x. record { store = x .store; state = x .state; output = output }) starts in
+      record {
+        claim =
+            λ large.
+            list-claim e limit wide p runs table input t lent calls (fresh input) first left
+            (subst (Behind e limit wide p runs table input t lent (fresh input)) (sym started)
+            (behind-start e limit wide p runs table input t lent store output refl large))
+            linked;
+        small =
+            λ less.
+            let stays = started-small store output (lt-ltb (length store) storeSize less) in
+            let still : length (first .store) < storeSize =
+            subst (λ (l : List ℕ). length l < storeSize) (sym (ap (λ (x : Buffers). x .store) started ∙ stays)) less in
+            list-small e limit wide p runs table input t calls first left still linked;
+      }
+
+-- a table that holds the program of an accepted deck, which is in range
+pub record Loaded (e : Edition) (deck table : List ℕ) : Type 0 where
+  pub program : Program
+  pub accepts : judge e deck ≡ accepted program
+  pub runs : Runs e program
+  pub tabled : Tabled e program table
+
 -- the program of a deck that the deck call accepts is in range
 accepted-inside : (e : Edition) (deck table : List ℕ) (p : Program) → judge e deck ≡ accepted p → readCall e deck table .number ≡ 0
     → isProgram e p ≡ true
-unfolding longestDeck
 accepted-inside e deck table p judged h = accepted-isProgram e deck p (read-short e deck table h) judged
 
--- numbers fit their places, and tables and string lengths their sizes
+-- and tables have their sizes
 module _ (e : Edition) (limit : e .limit < bias) (wide : longestString ≤ e .limit) (size : literalsAt + 4096 ≤ e .tableSize) where
   -- the table of an accepted deck holds its program
   pub accepted-tabled : (deck table : List ℕ) (p : Program) → judge e deck ≡ accepted p → readCall e deck table .number ≡ 0
       → Tabled e p (readCall e deck table .table)
   accepted-tabled deck table p judged h = read-tabled e limit size deck table p (accepted-inside e deck table p judged h) judged h
 
-  -- demand 3, of every list that ends with a call which kept its equation
-  pub demand3 : (table input : List ℕ) (b : Buffers) (h : History e table input b) (call : Observed) (left : Buffers)
-      → Linked e table input b (call ∷ []) left → Demand3 e table input h call
-  unfolding startedWith
-  demand3 table input b h call left kept =
-      let number : readCall e (h .deck) (h .before) .number ≡ 0 = sym (ap (λ x. x .number) (h .read)) in
-      let left-table : readCall e (h .deck) (h .before) .table ≡ table = sym (ap (λ x. x .table) (h .read)) in
-      let judged = read-accepted e (h .deck) (h .before) number in
+  -- the table that the deck call leaves with 0 is such a one
+  pub read-loaded : (deck table : List ℕ) → readCall e deck table .number ≡ 0 → Loaded e deck (readCall e deck table .table)
+  read-loaded deck table h =
+      let judged = read-accepted e deck table h in
       let p = judged .0 in
-      let runs = program-runs e p (accepted-inside e (h .deck) (h .before) p (judged .1) number) in
-      let t = subst (Tabled e p) left-table (accepted-tabled (h .deck) (h .before) p (judged .1) number) in
-      let lent = length (h .output) in
-      let first : Buffers = record { store = h .start .store; state = h .start .state; output = h .output } in
-      let started : first ≡ startedWith (h .store) (h .output) =
-      ap (λ x. record { store = x .store; state = x .state; output = h .output }) (h .started) in
-      let all-linked = linked-more e table input (h .calls) (call ∷ []) first b left (h .linked) kept in
       record {
         program = p;
         accepts = judged .1;
-        claim =
-            λ large.
-            list-claim e limit wide p runs table input t lent (h .calls ++ (call ∷ [])) (fresh input) first left
-            (record {
-              sound = fresh-sound e wide p runs lent input;
-              holds =
-                  subst (Holding e p lent input (fresh input)) (sym started)
-                  (started-holds e limit wide p runs (h .store) input (h .output) large);
-            })
-            all-linked;
-        small =
-            λ less.
-            let stays = started-small (h .store) (h .output) (lt-ltb (length (h .store)) storeSize less) in
-            let still : length (first .store) < storeSize =
-            subst (λ (l : List ℕ). length l < storeSize) (sym (ap (λ (x : Buffers). x .store) started ∙ stays)) less in
-            list-small e limit wide p runs table input t (h .calls ++ (call ∷ [])) first left still all-linked;
+        runs = program-runs e p (accepted-inside e deck table p (judged .1) h);
+        tabled = accepted-tabled deck table p (judged .1) h;
       }
 
--- edition 1: its numbers fit their places
-pub edition1-limit : edition1 .limit < bias
-unfolding edition1 bias
-edition1-limit = lit< tt
+  -- whatever happened before a call, and the call
+  module _ (table input : List ℕ) (b : Buffers) (h : History e table input b) where
+    pub history-loaded : Loaded e (h .deck) table
+    history-loaded =
+        let number : readCall e (h .deck) (h .before) .number ≡ 0 = sym (ap (λ x. x .number) (h .read)) in
+        let left-table : readCall e (h .deck) (h .before) .table ≡ table = sym (ap (λ x. x .table) (h .read)) in
+        subst (Loaded e (h .deck)) left-table (read-loaded (h .deck) (h .before) number)
+
+    pub history-linked : (call : Observed) (left : Buffers) → Linked e table input b (call ∷ []) left
+        → Linked e table input (record { store = h .start .store; state = h .start .state; output = h .output }) (h .calls ++ (call ∷ [])) left
+    history-linked call left kept =
+        let first : Buffers = record { store = h .start .store; state = h .start .state; output = h .output } in
+        linked-more e table input (h .calls) (call ∷ []) first b left (h .linked) kept
+
+  -- demand 3, of every list that ends with a call which kept its equation: R7 "the table of an accepted deck" is a sound one, which holds
+  -- the deck's program
+  pub demand3 : (table input : List ℕ) (b : Buffers) (h : History e table input b) (call : Observed) (left : Buffers)
+      → Linked e table input b (call ∷ []) left → Demand3 e table input h call
+  demand3 table input b h call left kept =
+      let l = history-loaded table input b h in
+      let t = l .tabled in
+      let calls = h .calls ++ (call ∷ []) in
+      let sound = sound-table-claim e limit wide table input (h .store) (h .output) (h .start) (t .size) (t .keeps) (h .started) calls left
+      (history-linked table input b h call left kept) in
+      record {
+        program = l .program;
+        accepts = l .accepts;
+        claim =
+            λ large.
+            subst (λ (x : Program). ListClaim e x table input (length (h .output)) calls (fresh input)) (t .reads) (sound .claim large);
+        small = sound .small;
+      }
+
+-- the current edition: its numbers fit their places
+pub current-limit : current .limit < bias
+unfolding current bias
+current-limit = lit< tt
 
 -- a string's length is one of them
-pub edition1-wide : longestString ≤ edition1 .limit
-unfolding edition1 longestString
-edition1-wide = lit≤ tt
+pub current-wide : longestString ≤ current .limit
+unfolding current longestString
+current-wide = lit≤ tt
 
 -- its tables have room for all literal bytes
-pub edition1-size : literalsAt + 4096 ≤ edition1 .tableSize
-unfolding edition1 literalsAt
-edition1-size = lit≤ tt
+pub current-size : literalsAt + 4096 ≤ current .tableSize
+unfolding current literalsAt
+current-size = lit≤ tt

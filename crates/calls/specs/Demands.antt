@@ -67,7 +67,7 @@ pub data Observed : Type 0 where
 unfoldable pub stepsTried : RunReturned → ℕ
 stepsTried back = getD (back .result) 2 0 + cond (eqb (getD (back .result) 0 0) (outcomeNumber REFUSED)) 1 0
 
--- The deck's program p, the table that it was read into, the input, and the length of the output lent.
+-- The program p, a deck's or what a sound table holds, that table, the input, and the length of the output lent.
 module _ (e : Edition) (p : Program) (table input : List ℕ) (lent : ℕ) where
   -- What a step is to satisfy: c is what the paper makes of deck, input and output before it, b what the step was given, back its number, its
   -- answer and what it left.
@@ -130,6 +130,12 @@ module _ (e : Edition) (table input : List ℕ) where
       (given ≡ b) × (back ≡ stepCall e table input given) × Linked (back .left) calls z
   Linked b (observedRun count given back ∷ calls) z =
       (given ≡ b) × (back ≡ returned (runCall e table input count given)) × Linked (back .left) calls z
+
+  -- R7 to R10 of a table alone, however it came to be: of a list of calls behind starting, with this store lent for it, and with this output. It
+  -- is one claim, about the program that the table holds; with a store too small, no step is made.
+  pub record TableClaim (store output : List ℕ) (calls : List Observed) : Type 0 where
+    pub claim : storeSize ≤ length store → ListClaim e (programIn table) table input (length output) calls (fresh input)
+    pub small : length store < storeSize → AllRefused calls
 
   -- Whatever happened before a call that is given the buffers b, "from a fresh start": a deck read, a start, and any list of calls.
   pub record History (b : Buffers) : Type 0 where

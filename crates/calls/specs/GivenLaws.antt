@@ -85,7 +85,7 @@ module _ (e : Edition) (p : Program) (input : List ℕ) (b : Buffers) (size : le
 
   -- strings and numbers are within their bounds
   given-bounded : Bounded e (stateIn (b .store) (b .state) input (b .output) .memory)
-  unfolding stateIn stringAt numberAt numbersIn isInRange mostStrings mostNumbers numbersAt stateSize longestString
+  unfolding stateIn stringAt numberAt numbersIn isInRange mostStrings mostNumbers numbersAt longestString
   given-bounded =
       let numbers = take 32 (drop 21 (b .state)) in
       let enough : 32 ≤ length (drop 21 (b .state)) = simp length-drop (omega arith) in

@@ -75,7 +75,7 @@ module _ (e : Edition) (limit : e .limit < bias) (p : Program) (lent : ℕ) (inp
   module _ (state : List ℕ) (size : length state ≡ stateSize) where
     -- all places for returns, held and not
     places : length (reverse (c .returns) ++ unheld state c) ≡ mostReturns
-    unfolding mostReturns returnsAt stateSize
+    unfolding mostReturns returnsAt
     places =
         let n = length (c .returns) in
         let few : n ≤ 16 = s .count in
@@ -100,7 +100,7 @@ module _ (e : Edition) (limit : e .limit < bias) (p : Program) (lent : ℕ) (inp
         ap (λ l. map unbiased (take mostNumbers l)) behind ∙ ap (map unbiased) these ∙ numbers-back numbers small
 
     state-length : length (stateLeft state input c) ≡ stateSize
-    unfolding stateLeft mostReturns stateSize numbersAt mostNumbers
+    unfolding stateLeft mostReturns numbersAt mostNumbers
     state-length =
         let whole : length (reverse (c .returns) ++ (unheld state c ++ numbersBehind state c)) ≡ 59 =
         ap length (sym (append-assoc (reverse (c .returns)) (unheld state c) (numbersBehind state c)))

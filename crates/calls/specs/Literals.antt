@@ -1,7 +1,7 @@
 -- Literals of a packed statement: where those of its text are whole, so are those of the bytes behind any word, and each literal read has
 -- a byte. Assumes nothing.
 use mathlib.Core.Bool.{Bool, true, false, cond, not, _&&_, true≢false, false≢true, and-eq-true-iff}
-use mathlib.Core.List.{List, [], _∷_}
+use mathlib.Core.List.{List, [], _∷_, map}
 use mathlib.Core.Path.{_≡_, refl, sym, _∙_, ap, subst}
 use Prim.Native.Nat.{ℕ, suc, _+_}
 use native.Mathlib.Numerals.{add-one}
@@ -10,9 +10,12 @@ use lib.ListN.{length, take, drop, getD}
 use lib.Seq.{length-take-le}
 use borrow.Author.Tests.{eqb-true, not-true}
 use Rattle.base.specs.Choice.{test-cases, cond-cases}
+use Rattle.base.specs.Edition.{Edition}
 use Rattle.base.specs.Lists.{same, begins, all, isNil}
 use Rattle.base.specs.Text.{bytes}
 use Rattle.cards.specs.Bytes.{between, isLetter, isDigit, isNameByte, isBlank, quote}
+use Rattle.cards.specs.Cards.{Unpacked, lines, unpackedFrom}
+use Rattle.cards.specs.Entries.{Entry, skipped, statement, packedEntry, entriesFrom, entries}
 use Rattle.cards.specs.Packing.{
   Place,
   outside,
@@ -28,6 +31,7 @@ use Rattle.cards.specs.Packing.{
 }
 use Rattle.language.specs.Fuel.{run-within}
 use Rattle.language.specs.Keywords.{Kind, UNKNOWN, keywords, Leading, longest, isReplacement, leading}
+use Rattle.language.specs.Placed.{Each}
 use Rattle.language.specs.Reading.{Read, got, aLiteral}
 use Rattle.language.specs.Strings.{literalAt}
 use Rattle.language.specs.Words.{run, nameLength}
@@ -63,10 +67,20 @@ pack-literals (b ∷ bs) doubled =
     (eqb b 34) (λ _. pack-literals bs outside) (λ _. refl)
 pack-literals (b ∷ bs) inside = pack-literals bs (placeAfter inside b)
 
--- the literals of a packed text are whole where those of the text are
-pub packed-whole : (bs : List ℕ) → literalsWhole bs ≡ true → Whole (packed bs)
-unfolding literalsWhole packed
-packed-whole bs h = pack-literals bs outside ∙ h
+-- the literals of a statement's text are whole where its entry says so
+abbrev pub TextWhole : Entry → Type 0
+TextWhole (skipped card sound) = Unit
+TextWhole (statement card sound label whole text) = whole ≡ true → Whole text
+
+-- so are those of a deck's statements
+pub entries-whole : (e : Edition) (deck : List ℕ) → Each TextWhole (entries e deck)
+unfolding entries entriesFrom packedEntry literalsWhole packed Each
+entries-whole e deck = each (unpackedFrom e 1 (lines deck))
+  where
+    each : (us : List Unpacked) → Each TextWhole (map packedEntry us)
+    each [] = tt
+    each (Unpacked.skipped card sound ∷ us) = (tt, each us)
+    each (Unpacked.statement card sound label text ∷ us) = ((λ h. pack-literals text outside ∙ h), each us)
 
 -- outside a literal a byte that is no quote may go
 whole-tail : (b : ℕ) (bs : List ℕ) → eqb b quote ≡ false → Whole (b ∷ bs) → Whole bs

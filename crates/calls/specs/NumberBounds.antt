@@ -1,7 +1,7 @@
 -- What the operands and numeric expressions of a program in range come to is in range. Assumes nothing.
 use mathlib.Core.Bool.{true, and-eq-true-iff}
 use mathlib.Core.List.{List, [], _∷_}
-use mathlib.Core.Path.{_≡_}
+use mathlib.Core.Path.{_≡_, refl}
 use Prim.Native.Nat.{ℕ, zero, suc, _≤_}
 use native.Mathlib.Omega.{arith}
 use lib.Dec.{eqb}
@@ -23,8 +23,9 @@ use Rattle.machine.specs.State.{Memory, stringAt}
 use Rattle.values.specs.Conversion as Conversion
 use Rattle.values.specs.Conversion.{longestString, signedBy, decimal, unsignedPart}
 use Rattle.values.specs.Numbers.{isInRange, held, sum, difference, product, quotient}
-use Rattle.values.specs.Work.{quietly}
-use Rattle.calls.specs.Rules.{operandHolds, itemHolds, testHolds}
+use Rattle.values.specs.Work.{quietly, stopsStep}
+use Rattle.calls.specs.RuleLaws.{testHolds}
+use Rattle.calls.specs.Rules.{operandHolds, itemHolds}
 
 -- a number in the range of the edition
 abbrev pub Ranged : Edition → ℤ → Type 0
@@ -37,9 +38,9 @@ ranged e z h = leb-true (natAbs z) (e .limit) h
 
 module _ (e : Edition) where
   held-ranged : (z : ℤ) → Ends (Ranged e) (held e z)
-  unfolding held
+  unfolding held stopsStep
   held-ranged z =
-      cond-cases (Ends (Ranged e)) (isInRange e z) (λ q. ends (ranged e z q)) (λ q. stops (omega arith) (omega arith))
+      cond-cases (Ends (Ranged e)) (isInRange e z) (λ q. ends (ranged e z q)) (λ q. stops refl)
 
   number-ranged : (s : List ℕ) → Ends (Ranged e) (Conversion.numberOf e s)
   unfolding Conversion.numberOf
@@ -49,12 +50,12 @@ module _ (e : Edition) where
       (λ q. ends (omega arith))
 
   operation-ranged : (o : Operator) (a b : ℤ) → Ends (Ranged e) (operation e o a b)
-  unfolding operation sum difference product quotient
+  unfolding operation sum difference product quotient stopsStep
   operation-ranged plus a b = held-ranged (a +ℤ b)
   operation-ranged minus a b = held-ranged (a -ℤ b)
   operation-ranged times a b = held-ranged (a *ℤ b)
   operation-ranged over a b =
-      cond-cases (Ends (Ranged e)) (eqb (natAbs b) 0) (λ q. stops (omega arith) (omega arith)) (λ q. held-ranged (quotZ a b))
+      cond-cases (Ends (Ranged e)) (eqb (natAbs b) 0) (λ q. stops refl) (λ q. held-ranged (quotZ a b))
 
   negative-ranged : (z : ℤ) → Ranged e z → Ranged e (negℤ z)
   negative-ranged (pos zero) h = h
@@ -98,7 +99,7 @@ module _ (e : Edition) (wide : longestString ≤ e .limit) (strings numbers step
 
   item-known : (known : List ℤ) (x : Item) → itemHolds e strings numbers steps x ≡ true → Known e known
       → Ends (Known e) (itemIn e m known x)
-  unfolding itemHolds itemIn quietly
+  unfolding itemHolds operandHolds itemIn quietly
   item-known known (operand a) h k = ends-bind (operand-ranged a h) (λ z g. ends (known-cons e z known g k))
   item-known known (operator o) h k = combined-known e o known k
   item-known known (sign s) h k = ends (sign-known e s known k)

@@ -12,7 +12,7 @@ use lib.ListN.{length, take, drop, getD}
 use lib.Seq.{getD-drop, drop-drop, drop-append-seam, take-append-seam}
 use borrow.Author.Tests.{ltb-true, ltb-false, lt-ltb, le-ltb, le-leb}
 use Rattle.base.specs.Choice.{cond-cases, test-cases}
-use Rattle.base.specs.Edition.{edition1}
+use Rattle.base.specs.Current.{current, limit}
 use Rattle.values.specs.Numbers.{isInRange}
 use Rattle.calls.specs.Numerals.{inBytes, numberAt, bias, biased, unbiased}
 
@@ -100,14 +100,14 @@ size-high n h = rw (le-ltb n (2 ^ 47) h)
 
 -- the words that keep the least number in range and the greatest, and those between them
 abbrev pub lowest : ℕ
-lowest = 2 ^ 47 - 8_388_607
+lowest = 2 ^ 47 - limit
 
 abbrev pub highest : ℕ
-highest = 2 ^ 47 + 8_388_607
+highest = 2 ^ 47 + limit
 
-pub number-between : (n : ℕ) → lowest ≤ n → n ≤ highest → isInRange edition1 (unbiased n) ≡ true
-unfolding isInRange edition1
+pub number-between : (n : ℕ) → lowest ≤ n → n ≤ highest → isInRange current (unbiased n) ≡ true
+unfolding isInRange current
 number-between n low high =
-    le-leb (natAbs (unbiased n)) 8_388_607
-    (test-cases (λ _. natAbs (unbiased n) ≤ 8_388_607) (ltb n (2 ^ 47)) (λ e. omega (arith, size-low n (ltb-true n (2 ^ 47) e)))
+    le-leb (natAbs (unbiased n)) limit
+    (test-cases (λ _. natAbs (unbiased n) ≤ limit) (ltb n (2 ^ 47)) (λ e. omega (arith, size-low n (ltb-true n (2 ^ 47) e)))
     (λ e. omega (arith, size-high n (ltb-false n (2 ^ 47) e))))

@@ -3,13 +3,14 @@ use mathlib.Core.List.{List}
 use mathlib.Core.Path.{_≡_, refl, sym, _∙_, ap, subst}
 use Prim.Native.Nat.{ℕ, _+_, _≤_, _<_}
 use lib.ListN.{length}
-use Rattle.base.specs.Edition.{Edition, edition1}
+use Rattle.base.specs.Current.{current}
+use Rattle.base.specs.Edition.{Edition}
 use Rattle.judgement.specs.Deck.{accepted}
 use Rattle.scanning.specs.Call.{noAnswer}
 use Rattle.values.specs.Conversion.{longestString}
 use Rattle.calls.specs.Buffers.{stateSize}
 use Rattle.calls.specs.Calls.{ReadCalled, readCall, Buffers, StepCalled, stepCall, RunReturned, returned, runCall}
-use Rattle.calls.specs.DemandLaws.{accepted-tabled, demand3, edition1-limit, edition1-wide, edition1-size}
+use Rattle.calls.specs.DemandLaws.{accepted-tabled, demand3, current-limit, current-wide, current-size}
 use Rattle.calls.specs.Demands.{Linked, observedRun, observedStep}
 use Rattle.calls.specs.Numerals.{bias}
 use Rattle.calls.specs.Promises.{HoldsProgram, ReadPromise, Keeps, StepPromise, RunPromise}
@@ -58,14 +59,14 @@ module _ (e : Edition) (limit : e .limit < bias) (wide : longestString ≤ e .li
         }
 
 -- of edition 1
-pub read-promise : {deck table : List ℕ} {back : ReadCalled} → back ≡ readCall edition1 deck table → ReadPromise edition1 deck table back
-read-promise {deck} {table} {back} = read-promised edition1 edition1-limit edition1-wide edition1-size deck table back
+pub read-promise : {deck table : List ℕ} {back : ReadCalled} → back ≡ readCall current deck table → ReadPromise current deck table back
+read-promise {deck} {table} {back} = read-promised current current-limit current-wide current-size deck table back
 
 module _ {table input : List ℕ} {b : Buffers} where
-  pub step-promise : {back : StepCalled} → length (b .state) ≡ stateSize → back ≡ stepCall edition1 table input b
-      → StepPromise edition1 table input b back
-  step-promise {back} = step-promised edition1 edition1-limit edition1-wide edition1-size table input b back
+  pub step-promise : {back : StepCalled} → length (b .state) ≡ stateSize → back ≡ stepCall current table input b
+      → StepPromise current table input b back
+  step-promise {back} = step-promised current current-limit current-wide current-size table input b back
 
   pub run-promise : {count : ℕ} {back : RunReturned} → (0 < count → length (b .state) ≡ stateSize)
-      → back ≡ returned (runCall edition1 table input count b) → RunPromise edition1 table input count b back
-  run-promise {count} {back} = run-promised edition1 edition1-limit edition1-wide edition1-size table input b count back
+      → back ≡ returned (runCall current table input count b) → RunPromise current table input count b back
+  run-promise {count} {back} = run-promised current current-limit current-wide current-size table input b count back

@@ -1,14 +1,15 @@
 -- What the calls promise: each is an equation with its definition, and what a customer is to know of it, for whatever is lent. (The scan
 -- call's promise is in scanning's Call.) Assumes nothing.
-use mathlib.Core.Bool.{true}
+use mathlib.Core.Bool.{true, false}
 use mathlib.Core.List.{List}
 use mathlib.Core.Path.{_≡_}
-use Prim.Native.Nat.{ℕ, suc, _≤_, _<_}
+use Prim.Native.Nat.{ℕ, suc, _<_}
 use lib.ListN.{drop, getD}
 use Rattle.base.specs.Edition.{Edition}
 use Rattle.judgement.specs.Deck.{accepted, judge}
 use Rattle.machine.specs.State.{stopped}
 use Rattle.scanning.specs.Call.{noAnswer}
+use Rattle.values.specs.Work.{stopsStep}
 use Rattle.calls.specs.Buffers.{statusNumber}
 use Rattle.calls.specs.Calls.{ReadCalled, readCall, StartCalled, startCall, Buffers, StepCalled, stepCall, buffersAfter}
 use Rattle.calls.specs.Calls.{RunReturned, returned, runCall}
@@ -50,8 +51,8 @@ pub record Keeps (b : Buffers) (number : ℕ) (left : Buffers) : Type 0 where
   pub state : ¬ (number ≡ 0) → drop 1 (left .state) ≡ drop 1 (b .state)
   pub output : ¬ (number ≡ 0) → left .output ≡ b .output
   -- D5 "A step turned down by 2 or 13 to 16 hands its state back unchanged"; Q17 "17 to 21 mark the state stopped, no more"
-  pub handed-back : 0 < number → number ≤ 16 → left ≡ b
-  pub marked : 16 < number → getD (left .state) 0 0 ≡ statusNumber stopped
+  pub handed-back : 0 < number → stopsStep number ≡ false → left ≡ b
+  pub marked : stopsStep number ≡ true → getD (left .state) 0 0 ≡ statusNumber stopped
 
 -- the step call, given the buffers b
 pub record StepPromise (e : Edition) (table input : List ℕ) (b : Buffers) (back : StepCalled) : Type 0 where

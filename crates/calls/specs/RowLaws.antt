@@ -1,35 +1,39 @@
 -- What a row of the table keeps is read back from it: the items and elements of a stretch, the statement of a step, the steps of a
 -- program. Assumes nothing.
-use mathlib.Core.Bool.{true, false, cond, _&&_, and-eq-true-iff}
-use mathlib.Core.List.{List, [], _∷_, _++_, map}
+use mathlib.Core.Bool.{Bool, true, false, cond, _&&_, and-eq-true-iff}
+use mathlib.Core.List.{List, [], _∷_, _++_, map, append-nil}
 use mathlib.Core.Option.{Option, none, some}
-use mathlib.Core.Path.{_≡_, refl, _∙_, ap, ap₂, subst}
+use mathlib.Core.Path.{_≡_, refl, sym, _∙_, ap, ap₂, subst}
 use Prim.Native.Nat.{ℕ, suc, _+_, _*_, _%_, _^_, _≤_, _<_}
 use native.Mathlib.Omega.{arith}
 use lib.Dec.{leb, ltb, eqb}
 use lib.ListN.{length, length-append, length-map}
-use borrow.Author.Tests.{ltb-true, lt-leb, ne-eqb}
+use borrow.Author.Tests.{ltb-true}
+use Rattle.base.specs.Choice.{both-true}
 use Rattle.base.specs.Edition.{Edition}
 use Rattle.base.specs.Lists.{all}
-use Rattle.language.specs.Program.{Item, Element, PatternElement, value}
-use Rattle.language.specs.Program.{Comparison, equal, unequal, less, greater, atMost, atLeast, Test, isNull, isNumeric, compares}
-use Rattle.language.specs.Program.{Direction, forward, backward, Branch, Statement, setNumber, setString, goto, finish, ifTest, scan}
-use Rattle.language.specs.Program.{read, write, execute, return, Step}
-use Rattle.calls.specs.CellLaws.{cell-read, range-read, Kept, kept-read, part-kept, operand-kept, item-kept}
+use Rattle.language.specs.Program.{Part, Item, Element, PatternElement, value, Test, isNull, isNumeric, compares, Branch, Statement}
+use Rattle.language.specs.Program.{ifTest, scan, Step}
+use Rattle.language.specs.Program.{Comparison, equal, unequal, less, greater, atMost, atLeast, Direction, forward, backward}
+use Rattle.calls.specs.CellLaws.{cell-read, RangeRead, range-read, Kept, kept-read, part-kept, operand-kept, item-kept}
 use Rattle.calls.specs.CellLaws.{element-kept, pattern-kept}
+use Rattle.calls.specs.KindLaws.{RowSpells, row-spells, row-found}
+use Rattle.calls.specs.Kinds.{Flagging, noFlag, ofComparison, ofDirection, Flag, Stepping, noStep, oneStep, bothSteps, Steps}
+use Rattle.calls.specs.Kinds.{Lefting, noLeft, numberLeft, stringLeft, partLeft, operandLeft, Left}
+use Rattle.calls.specs.Kinds.{Righting, noRight, operandRight, itemsRight, elementsRight, patternRight, replacingRight, Right}
+use Rattle.calls.specs.Kinds.{rowKinds, spellStatement}
 use Rattle.calls.specs.NumeralLaws.{Stands, stands-moved, stands-front, stands-back, byte-read, number-behind}
 use Rattle.calls.specs.Numerals.{inBytes, numberAt, bias}
-use Rattle.calls.specs.RuleLaws.{scan-parts, number-parts, branch-inside}
-use Rattle.calls.specs.Rules.{partHolds, operandHolds, itemHolds, elementHolds, patternHolds, rowHolds, branchHolds, testHolds}
-use Rattle.calls.specs.Rules.{placeOf, statementHolds, stepHolds}
-use Rattle.calls.specs.Table.{cell, noCell, cellBytes, itemCell, elementCell, patternCell, literalIn, replacementOf}
-use Rattle.calls.specs.Table.{elementsOf, itemsOf, Row, rowBytes, row, rangeCell, comparisonNumber, directionNumber}
-use Rattle.calls.specs.Table.{replacementFlag, testRow, rowOf, stepRows, allElements, allItems}
-use Rattle.calls.specs.Table.{range, stepsAt, elementsAt, itemsAt, literalsAt}
-use Rattle.calls.specs.TableReading.{rangeFrom, rangeCount, itemOfCell}
-use Rattle.calls.specs.TableReading.{elementOfCell, patternOfCell, itemsFrom, elementsFrom, patternFrom, comparisonOf, rowAt}
-use Rattle.calls.specs.TableReading.{branchOf, testOf, elementsOfRow, patternOfRow, replacementOfRow, directionOf, statementOfRow}
-use Rattle.calls.specs.TableReading.{stepIn, stepsFrom}
+use Rattle.calls.specs.RuleLaws.{branch-inside, patterns-all, steps-front, right-front}
+use Rattle.calls.specs.Rules.{operandHolds, itemHolds, elementHolds, patternHolds, rowHolds, patternsHold, rolesHold, branchHolds}
+use Rattle.calls.specs.Rules.{balanced, leftHolds, rightHolds, stepsHold, leftPlace, statementHolds, stepHolds}
+use Rattle.calls.specs.Table.{Cell, cell, noCell, cellBytes, partCell, operandCell, itemCell, elementCell, patternCell, literalIn}
+use Rattle.calls.specs.Table.{replacementOf, elementsOf, itemsOf, rightElements, rightItems, Row, rowBytes, row, rangeCell, comparisonNumber}
+use Rattle.calls.specs.Table.{directionNumber, flagNumber, successOf, failureOf, leftCell, rightCell, rowFor, rowOf, stepRows}
+use Rattle.calls.specs.Table.{allElements, allItems, range, stepsAt, elementsAt, itemsAt, literalsAt}
+use Rattle.calls.specs.TableReading.{rangeFrom, rangeCount, itemOfCell, elementOfCell, patternOfCell, itemsFrom, elementsFrom}
+use Rattle.calls.specs.TableReading.{patternFrom, comparisonOf, directionOf, rowAt, flagIn, stepsIn, leftIn, rightIn, readRow}
+use Rattle.calls.specs.TableReading.{statementOfRow, stepIn, stepsFrom}
 
 -- a property of an element of a row and its place
 module _ {A : Type 0} (P : ℕ → A → Type 0) where
@@ -61,23 +65,11 @@ pub record ElementStands (t : List ℕ) (at : ℕ) (x : PatternElement) : Type 0
   pub bytes : Stands t (literalsAt + literal) (literalIn x)
   pub small : literal + length (literalIn x) < 2 ^ 16
 
--- the direction of a scan is read from its flag
-direction-read : (d : Direction) (r : Option (List Element))
-    → cond (eqb ((directionNumber d + replacementFlag r) % 2) 1) forward backward ≡ d
-unfolding directionNumber replacementFlag
-direction-read forward none = refl
-direction-read forward (some xs) = refl
-direction-read backward none = refl
-direction-read backward (some xs) = refl
-
--- and so is whether there is a replacement
-replacement-read : (d : Direction) (r : Option (List Element))
-    → cond (leb (directionNumber d + replacementFlag r) 2) none (some (replacementOf r)) ≡ r
-unfolding directionNumber replacementFlag replacementOf
-replacement-read forward none = refl
-replacement-read forward (some xs) = refl
-replacement-read backward none = refl
-replacement-read backward (some xs) = refl
+-- the direction of a scan is read from its number
+direction-read : (d : Direction) → directionOf (directionNumber d) ≡ d
+unfolding directionOf directionNumber
+direction-read forward = refl
+direction-read backward = refl
 
 -- a sign of comparison is read from its number
 comparison-read : (c : Comparison) → comparisonOf (comparisonNumber c) ≡ c
@@ -88,6 +80,31 @@ comparison-read less = refl
 comparison-read greater = refl
 comparison-read atMost = refl
 comparison-read atLeast = refl
+
+-- an IF has no elements and no items, and a scan those of its pattern and its replacement
+pub test-elements : (t : Test) (b : Branch) → elementsOf (ifTest t b) ≡ []
+unfolding elementsOf
+test-elements (isNull s) b = refl
+test-elements (isNumeric p) b = refl
+test-elements (compares x c y) b = refl
+
+pub test-items : (t : Test) (b : Branch) → itemsOf (ifTest t b) ≡ []
+unfolding itemsOf
+test-items (isNull s) b = refl
+test-items (isNumeric p) b = refl
+test-items (compares x c y) b = refl
+
+pub scan-elements : (d : Direction) (p : Part) (xs : List PatternElement) (r : Option (List Element)) (b : Branch)
+    → elementsOf (scan d p xs r b) ≡ xs ++ map value (replacementOf r)
+unfolding elementsOf replacementOf
+scan-elements d p xs none b = sym (append-nil xs)
+scan-elements d p xs (some ys) b = refl
+
+pub scan-items : (d : Direction) (p : Part) (xs : List PatternElement) (r : Option (List Element)) (b : Branch)
+    → itemsOf (scan d p xs r b) ≡ []
+unfolding itemsOf
+scan-items d p xs none b = refl
+scan-items d p xs (some ys) b = refl
 
 -- the bytes of a row
 pub length-rowBytes : (card : ℕ) (r : Row) → length (rowBytes card r) ≡ 24
@@ -144,28 +161,28 @@ module _ (e : Edition) (limit : e .limit < bias) (strings numbers steps : ℕ) (
   items-read at [] h s = refl
   items-read at (x ∷ xs) h s =
       let holds = and-eq-true-iff (itemHolds e strings numbers steps x) (all (itemHolds e strings numbers steps) xs) .0 h in
-      let kept = item-kept e limit strings numbers steps few x (holds .0) in
+      let kept = item-kept e strings numbers steps few limit x (holds .0) in
       ap₂ {C = List Item} _∷_ (kept-read t (itemsAt + 8 * at) itemOfCell (itemCell x) x kept (s .0)) (items-read (at + 1) xs (holds .1) (s .1))
 
-  patterns-read : (reference at : ℕ) (xs : List PatternElement) → all (patternHolds e strings numbers steps reference) xs ≡ true
+  patterns-read : (at : ℕ) (xs : List PatternElement) → all (patternHolds e strings numbers steps) xs ≡ true
       → Each (ElementStands t) at xs → patternFrom t at (length xs) ≡ xs
   unfolding all patternFrom
-  patterns-read r at [] h s = refl
-  patterns-read r at (x ∷ xs) h s =
-      let holds = and-eq-true-iff (patternHolds e strings numbers steps r x) (all (patternHolds e strings numbers steps r) xs) .0 h in
+  patterns-read at [] h s = refl
+  patterns-read at (x ∷ xs) h s =
+      let holds = and-eq-true-iff (patternHolds e strings numbers steps x) (all (patternHolds e strings numbers steps) xs) .0 h in
       let l = s .0 .literal in
-      let kept = pattern-kept e limit strings numbers steps few r t l x (holds .0) (s .0 .bytes) (s .0 .small) in
+      let kept = pattern-kept e strings numbers steps few limit t l x (holds .0) (s .0 .bytes) (s .0 .small) in
       let head = kept-read t (elementsAt + 8 * at) (patternOfCell t) (patternCell l x) x kept (s .0 .cell) in
-      ap₂ {C = List PatternElement} _∷_ head (patterns-read r (at + 1) xs (holds .1) (s .1))
+      ap₂ {C = List PatternElement} _∷_ head (patterns-read (at + 1) xs (holds .1) (s .1))
 
   elements-read : (at : ℕ) (xs : List Element) → all (elementHolds e strings numbers steps) xs ≡ true
       → Each (ElementStands t) at (map value xs) → elementsFrom t at (length xs) ≡ xs
-  unfolding all elementsFrom patternCell
+  unfolding all elementsFrom patternCell elementCell
   elements-read at [] h s = refl
   elements-read at (x ∷ xs) h s =
       let holds = and-eq-true-iff (elementHolds e strings numbers steps x) (all (elementHolds e strings numbers steps) xs) .0 h in
       let l = s .0 .literal in
-      let kept = element-kept e limit strings numbers steps few t l x (holds .0) (s .0 .bytes) (s .0 .small) in
+      let kept = element-kept e strings numbers steps few limit t l x (holds .0) (s .0 .bytes) (s .0 .small) in
       let head = kept-read t (elementsAt + 8 * at) (elementOfCell t) (elementCell l x) x kept (s .0 .cell) in
       ap₂ {C = List Element} _∷_ head (elements-read (at + 1) xs (holds .1) (s .1))
 
@@ -174,84 +191,103 @@ module _ (e : Edition) (limit : e .limit < bias) (strings numbers steps : ℕ) (
   unfolding rowHolds
   row-elements-hold xs h = and-eq-true-iff (leb (length xs) 20) (all (elementHolds e strings numbers steps) xs) .0 h .1
 
-  -- the steps of a branch field that holds fit into their bytes
-  branch-fits : (b : Branch) → branchHolds e strings numbers steps b ≡ true → (b .success < 2 ^ 16) × (b .failure < 2 ^ 16)
-  branch-fits b h = omega (arith, branch-inside e strings numbers steps b h)
+  -- the stretch of a row fits its numbers
+  stretch-fits : (from : ℕ) (xs : List PatternElement) (ys : List Element) → from + length (xs ++ map value ys) < 2 ^ 16
+      → RangeRead from (length xs) (length ys)
+  stretch-fits from xs ys h =
+      let size = length-append xs (map value ys) in
+      let more = length-map ys value in
+      range-read from (length xs) (length ys) (omega arith) (omega arith) (omega arith)
 
-  -- a test that holds is kept by its row
-  test-kept : (x : Test) (b : Branch) → testHolds e strings numbers steps x ≡ true → branchHolds e strings numbers steps b ≡ true
-      → RowKept t (testRow x b) (ifTest x b)
-  unfolding testHolds testRow statementOfRow testOf branchOf row noCell cell
-  test-kept (isNull s) b h branch =
-      let targets = branch-fits b branch in
-      record { fits = omega arith; same = refl }
-  test-kept (isNumeric p) b h branch =
-      let targets = branch-fits b branch in
-      let kept = part-kept e limit strings numbers steps few 0 p h in
-      record { fits = omega arith; same = rw (kept .same) }
-  test-kept (compares x c y) b h branch =
-      let targets = branch-fits b branch in
-      let holds = and-eq-true-iff (operandHolds e strings numbers steps x) (operandHolds e strings numbers steps y) .0 h in
-      let left = operand-kept e limit strings numbers steps few x (holds .0) in
-      let right = operand-kept e limit strings numbers steps few y (holds .1) in
-      record { fits = omega arith; same = rw (left .same, right .same, comparison-read c) }
+  -- each field of a row is read back: the flag, the steps, the left cell, the right cell with its items and elements
+  flag-read : (f : Flagging) (w : Flag f) → flagIn f (flagNumber f w) ≡ w
+  unfolding flagIn flagNumber
+  flag-read noFlag w = refl
+  flag-read ofComparison w = comparison-read w
+  flag-read ofDirection w = direction-read w
 
-  -- a stretch of elements that hold is kept by its range
-  stretch-kept : (at : ℕ) (xs : List Element) → rowHolds e strings numbers steps xs ≡ true → Each (ElementStands t) at (map value xs)
-      → at + length (map value xs) < 2 ^ 16
-      → Kept (λ c. elementsFrom t (rangeFrom (c .value)) (rangeCount (c .value))) (rangeCell at (length xs) 0) xs
-  unfolding rangeCell cell
-  stretch-kept at xs h es small =
-      let count = length-map xs value in
-      let ranges = range-read at (length xs) 0 (omega arith) (omega arith) (omega arith) in
-      record { small = ranges .small; same = rw (ranges .first, ranges .second, elements-read at xs (row-elements-hold xs h) es) }
+  steps-fit : (b : Bool) (s : Stepping) (w : Steps s) → stepsHold e strings numbers steps b s w ≡ true
+      → (successOf s w < 2 ^ 16) × (failureOf s w < 2 ^ 16)
+  unfolding stepsHold successOf failureOf
+  steps-fit b noStep w h = omega arith
+  steps-fit b oneStep w h = omega (arith, ltb-true w steps (both-true b (ltb w steps) h .1))
+  steps-fit b bothSteps w h =
+      omega (arith, branch-inside e strings numbers steps w (both-true b (branchHolds e strings numbers steps w) h .1))
+
+  steps-back : (s : Stepping) (w : Steps s) (kind flag : ℕ) (left right : Cell)
+      → stepsIn s (row kind flag (successOf s w) (failureOf s w) left right) ≡ w
+  unfolding stepsIn successOf failureOf row
+  steps-back noStep w kind flag left right = refl
+  steps-back oneStep w kind flag left right = refl
+  steps-back bothSteps w kind flag left right = refl
+
+  left-kept : (l : Lefting) (w : Left l) → leftHolds e strings numbers steps l w ≡ true → Kept (leftIn l) (leftCell l w) w
+  unfolding leftHolds leftIn leftCell noCell cell operandCell partCell
+  left-kept noLeft w h = record { small = omega arith; same = refl }
+  left-kept numberLeft w h = record { small = omega arith; same = refl }
+  left-kept stringLeft w h = record { small = omega arith; same = refl }
+  left-kept partLeft w h = part-kept e strings numbers steps few limit w h
+  left-kept operandLeft w h = operand-kept e strings numbers steps few limit w h
+
+  right-kept : (b : Bool) (reference element item : ℕ) (r : Righting) (w : Right r)
+      → rightHolds e strings numbers steps b reference r w ≡ true → Each (ElementStands t) element (rightElements r w)
+      → Each (ItemStands t) item (rightItems r w) → element + length (rightElements r w) < 2 ^ 16
+      → item + length (rightItems r w) < 2 ^ 16 → Kept (rightIn t r) (rightCell element item r w) w
+  unfolding rightHolds rightElements rightItems rightIn rightCell rangeCell noCell cell patternsHold
+  right-kept b reference element item noRight w h es is fewElements fewItems = record { small = omega arith; same = refl }
+  right-kept b reference element item operandRight w h es is fewElements fewItems =
+      operand-kept e strings numbers steps few limit w (both-true b (operandHolds e strings numbers steps w) h .1)
+  right-kept b reference element item itemsRight w h es is fewElements fewItems =
+      let items = all (itemHolds e strings numbers steps) w in
+      let holds = both-true (balanced 0 w) items (both-true b (balanced 0 w && items) h .1) in
+      let ranges = range-read item (length w) 0 (omega arith) (omega arith) (omega arith) in
+      record { small = ranges .small; same = rw (ranges .first, ranges .second, items-read item w (holds .1) is) }
+  right-kept b reference element item elementsRight w h es is fewElements fewItems =
+      let own = row-elements-hold w (both-true b (rowHolds e strings numbers steps w) h .1) in
+      let count = length-map w value in
+      let ranges = range-read element (length w) 0 (omega arith) (omega arith) (omega arith) in
+      record { small = ranges .small; same = rw (ranges .first, ranges .second, elements-read element w own es) }
+  right-kept b reference element item patternRight w h es is fewElements fewItems =
+      let own = patterns-all e strings numbers steps reference w (both-true b (patternsHold e strings numbers steps reference w) h .1) in
+      let ranges = range-read element (length w) 0 (omega arith) (omega arith) (omega arith) in
+      record { small = ranges .small; same = rw (ranges .first, ranges .second, patterns-read element w own es) }
+  right-kept b reference element item replacingRight w h es is fewElements fewItems =
+      let xs = w .0 in
+      let ys = w .1 in
+      let pattern = patternsHold e strings numbers steps reference xs in
+      let row = rowHolds e strings numbers steps ys in
+      let holds = both-true pattern row (both-true b (pattern && row) h .1) in
+      let ranges = stretch-fits element xs ys fewElements in
+      let front = patterns-read element xs (patterns-all e strings numbers steps reference xs (holds .0)) (each-front (ElementStands t) element xs (map value ys) es) in
+      let back =
+      elements-read (element + length xs) ys (row-elements-hold ys (holds .1)) (each-back (ElementStands t) element xs (map value ys) es) in
+      record { small = ranges .small; same = rw (ranges .first, ranges .second, ranges .third, front, back) }
 
   -- a statement that holds is kept by its row, where its elements and items stand at their places
   statement-kept : (element item : ℕ) (s : Statement) → statementHolds e strings numbers steps s ≡ true
       → Each (ElementStands t) element (elementsOf s) → Each (ItemStands t) item (itemsOf s)
       → element + length (elementsOf s) < 2 ^ 16 → item + length (itemsOf s) < 2 ^ 16 → RowKept t (rowOf element item s) s
-  unfolding statementHolds elementsOf itemsOf rowOf statementOfRow elementsOfRow patternOfRow replacementOfRow directionOf branchOf row
-      rangeCell noCell cell
-  statement-kept element item (setNumber i x) h es is fewElements fewItems =
-      let items = number-parts e strings numbers steps i x h .2 in
-      let ranges = range-read item (length x) 0 (omega arith) (omega arith) (omega arith) in
-      record { fits = omega arith; same = rw (ranges .first, ranges .second, items-read item x items is) }
-  statement-kept element item (setString p xs) h es is fewElements fewItems =
-      let holds = and-eq-true-iff (partHolds e strings numbers steps p) (rowHolds e strings numbers steps xs) .0 h in
-      let kept = part-kept e limit strings numbers steps few 0 p (holds .0) in
-      let stretch = stretch-kept element xs (holds .1) es fewElements in
-      record { fits = omega arith; same = rw (kept .same, stretch .same) }
-  statement-kept element item (goto k) h es is fewElements fewItems = record { fits = omega (arith, ltb-true k steps h); same = refl }
-  statement-kept element item finish h es is fewElements fewItems = record { fits = omega arith; same = refl }
-  statement-kept element item (ifTest x b) h es is fewElements fewItems =
-      let holds = and-eq-true-iff (testHolds e strings numbers steps x) (branchHolds e strings numbers steps b) .0 h in
-      test-kept x b (holds .0) (holds .1)
-  statement-kept element item (scan d p xs r b) h es is fewElements fewItems =
-      let more = replacementOf r in
-      let holds = scan-parts e strings numbers steps d p xs r b h in
-      let count = length-append xs (map value more) in
-      let moreCount = length-map more value in
-      let targets = branch-fits b (holds .branch) in
-      let kept = part-kept e limit strings numbers steps few 0 p (holds .part) in
-      let ranges = range-read element (length xs) (length more) (omega arith) (omega arith) (omega arith) in
-      let front = each-front (ElementStands t) element xs (map value more) es in
-      let pattern = patterns-read (placeOf p) element xs (holds .patterns) front in
-      let back = each-back (ElementStands t) element xs (map value more) es in
-      let replacement = elements-read (element + length xs) more (row-elements-hold more (holds .row)) back in
+  unfolding statementHolds elementsOf itemsOf rowOf rowFor statementOfRow row
+  statement-kept element item s h es is fewElements fewItems =
+      let x = spellStatement s in
+      let k = x .kind in
+      let reference = leftPlace (k .lefting) (x .left) in
+      let left = leftHolds e strings numbers steps (k .lefting) (x .left) in
+      let right = rightHolds e strings numbers steps left reference (k .righting) (x .right) in
+      let rightTrue = steps-front e strings numbers steps right (k .stepping) (x .steps) h in
+      let targets = steps-fit right (k .stepping) (x .steps) h in
+      let lefts = left-kept (k .lefting) (x .left) (right-front e strings numbers steps left reference (k .righting) (x .right) rightTrue) in
+      let rights = right-kept left reference element item (k .righting) (x .right) rightTrue es is fewElements fewItems in
+      let spells = row-spells s in
+      let r = rowFor element item x in
+      let branches = steps-back (k .stepping) (x .steps) (k .number) (r .flag) (r .left) (r .right) in
       record {
-        fits = omega arith;
-        same = rw (direction-read d r, kept .same, ranges .first, ranges .second, ranges .third, pattern, replacement, replacement-read d r);
+        fits = record { success = targets .0; failure = targets .1; left = lefts .small; right = rights .small };
+        same =
+            row-found rowKinds k t r (spells .finds)
+            ∙ (λ i. k .make (flag-read (k .flagging) (x .flag) i) (branches i) (lefts .same i) (rights .same i))
+            ∙ spells .makes;
       }
-  statement-kept element item (read p b) h es is fewElements fewItems =
-      let holds = and-eq-true-iff (partHolds e strings numbers steps p) (branchHolds e strings numbers steps b) .0 h in
-      let targets = branch-fits b (holds .1) in
-      let kept = part-kept e limit strings numbers steps few 0 p (holds .0) in
-      record { fits = omega arith; same = rw (kept .same) }
-  statement-kept element item (write xs) h es is fewElements fewItems =
-      let stretch = stretch-kept element xs h es fewElements in
-      record { fits = omega arith; same = rw (stretch .same) }
-  statement-kept element item (execute k) h es is fewElements fewItems = record { fits = omega (arith, ltb-true k steps h); same = refl }
-  statement-kept element item return h es is fewElements fewItems = record { fits = omega arith; same = refl }
 
   -- a step whose row keeps its statement is read where the row's bytes stand
   step-read : (at : ℕ) (r : Row) (x : Step) → x .card < 2 ^ 16 → RowKept t r (x .statement) → Stands t at (rowBytes (x .card) r)
@@ -290,39 +326,3 @@ module _ (e : Edition) (limit : e .limit < bias) (strings numbers steps : ℕ) (
       let tail = steps-read (k + 1) (element + length own) (item + length ownItems) xs (holds .1) next back backItems in
       let head = step-read (stepsAt + 24 * k) r x (ltb-true (x .card) (2 ^ 16) (step .0)) kept here in
       ap₂ {C = List Step} _∷_ head (tail (omega arith) (omega arith))
-
--- a row of a kind above 11 is that of RETURN
-pub return-row : (t : List ℕ) (r : Row) → 11 < r .kind → statementOfRow t r ≡ return
-unfolding statementOfRow
-return-row t r high =
-    let kind = r .kind in
-    let other : (k : ℕ) → k ≤ 11 → eqb kind k ≡ false = λ k low. ne-eqb kind k (λ q. omega arith) in
-    rw (
-      other 1 (omega arith),
-      other 2 (omega arith),
-      other 3 (omega arith),
-      other 4 (omega arith),
-      lt-leb kind 7 (omega arith),
-      other 8 (omega arith),
-      other 9 (omega arith),
-      other 10 (omega arith),
-      other 11 (omega arith),
-    )
-
--- the flags of a comparison and of a scan
-pub comparison-flag : (c : Comparison) → (leb 1 (comparisonNumber c) && leb (comparisonNumber c) 6) ≡ true
-unfolding comparisonNumber
-comparison-flag equal = refl
-comparison-flag unequal = refl
-comparison-flag less = refl
-comparison-flag greater = refl
-comparison-flag atMost = refl
-comparison-flag atLeast = refl
-
-pub scan-flag : (d : Direction) (r : Option (List Element))
-    → (leb 1 (directionNumber d + replacementFlag r) && leb (directionNumber d + replacementFlag r) 4) ≡ true
-unfolding directionNumber replacementFlag
-scan-flag forward none = refl
-scan-flag forward (some xs) = refl
-scan-flag backward none = refl
-scan-flag backward (some xs) = refl

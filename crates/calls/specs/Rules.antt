@@ -1,5 +1,5 @@
 -- The table's rules (docs/TABLE.md): a table keeps them when it is the image of a program that is in range. Assumes nothing.
-use mathlib.Core.Bool.{Bool, true, not, _&&_}
+use mathlib.Core.Bool.{Bool, true, false, not, _&&_}
 use mathlib.Core.List.{List, [], _∷_}
 use mathlib.Core.Option.{Option, none, some}
 use Prim.Native.Nat.{ℕ, zero, suc, _-_, _^_}
@@ -8,19 +8,12 @@ use lib.IntN.{ℤ}
 use lib.ListN.{length, take}
 use Rattle.base.specs.Edition.{Edition}
 use Rattle.base.specs.Limits as Limits
-use Rattle.base.specs.Lists.{same, all, isNil}
+use Rattle.base.specs.Lists.{same, all, any, isNil}
 use Rattle.language.specs.Program.{
-  Length,
-  constantly,
-  numbered,
   Part,
   whole,
   first,
   Operand,
-  constant,
-  number,
-  lengthOf,
-  numberOf,
   Item,
   operand,
   operator,
@@ -33,28 +26,19 @@ use Rattle.language.specs.Program.{
   value,
   freeFiller,
   fixedFiller,
-  Test,
-  isNull,
-  isNumeric,
-  compares,
   Branch,
   Statement,
-  setNumber,
-  setString,
-  goto,
-  finish,
-  ifTest,
-  scan,
-  read,
-  write,
-  execute,
-  return,
   Step,
   Program,
   lastFinishes,
 }
 use Rattle.values.specs.Numbers.{isNegative, isInRange}
-use Rattle.calls.specs.Table.{image, replacementOf, allElements, allItems, allLiterals}
+use Rattle.calls.specs.Kinds.{Counting, noPlace, ofString, ofNumber, Valuing, noValue, natural, signed, placed, spelt, Payload}
+use Rattle.calls.specs.Kinds.{Spelled, spellPart, spellOperand, spellItem, spellElement, spellPattern, spellStatement, parts}
+use Rattle.calls.specs.Kinds.{Stepping, noStep, oneStep, bothSteps, Steps, Lefting, noLeft, numberLeft, stringLeft, partLeft}
+use Rattle.calls.specs.Kinds.{operandLeft, Left, Righting, noRight, operandRight, itemsRight, elementsRight, patternRight}
+use Rattle.calls.specs.Kinds.{replacingRight, Right}
+use Rattle.calls.specs.Table.{image, leftCell, allElements, allItems, allLiterals}
 use Rattle.calls.specs.TableReading.{programIn}
 
 -- the most numbers that an expression keeps waiting for an operator
@@ -72,66 +56,104 @@ unfoldable pub placeOf : Part → ℕ
 placeOf (whole s) = s
 placeOf (first s n) = s
 
+-- the string that an element of a pattern names, if it does
+unfoldable pub namedBy : Element → Option ℕ
+namedBy (literal w) = none
+namedBy (part p) = some (placeOf p)
+namedBy (text n m) = none
+
+unfoldable pub isAmong : List ℕ → Option ℕ → Bool
+isAmong ns none = false
+isAmong ns (some n) = any (eqb n) ns
+
+-- Q8 "The reference is also a filler, or a pattern string has the name of a filler left of it.": neither is so; fillers are those to the left
+unfoldable pub rolesHold : (reference : ℕ) (fillers : List ℕ) → List PatternElement → Bool
+rolesHold r fs [] = true
+rolesHold r fs (value x ∷ xs) = not (isAmong fs (namedBy x)) && rolesHold r fs xs
+rolesHold r fs (freeFiller s ∷ xs) = not (eqb s r) && rolesHold r (s ∷ fs) xs
+rolesHold r fs (fixedFiller s n ∷ xs) = not (eqb s r) && rolesHold r (s ∷ fs) xs
+
+-- the place that a left cell names: of a scan that of its reference
+unfoldable pub leftPlace : (l : Lefting) → Left l → ℕ
+unfolding leftCell
+leftPlace l w = leftCell l w .place
+
 -- the strings, numbers and steps that a program has
 module _ (e : Edition) (strings numbers steps : ℕ) where
-  unfoldable pub signedLengthHolds : Length → Bool
-  signedLengthHolds (constantly z) = isInRange e z
-  signedLengthHolds (numbered i) = ltb i numbers
+  unfoldable pub placeHolds : Counting → ℕ → Bool
+  placeHolds noPlace p = eqb p 0
+  placeHolds ofString p = ltb p strings
+  placeHolds ofNumber p = ltb p numbers
 
-  unfoldable pub lengthHolds : Length → Bool
-  lengthHolds (constantly z) = isInRange e z && not (isNegative z)
-  lengthHolds (numbered i) = ltb i numbers
+  -- the value holds as well as what comes before it
+  unfoldable pub valueHolds : Bool → (v : Valuing) → Payload v → Bool
+  valueHolds b noValue u = b
+  valueHolds b natural z = b && (isInRange e z && not (isNegative z))
+  valueHolds b signed z = b && isInRange e z
+  valueHolds b placed i = b && ltb i numbers
+  valueHolds b spelt w = b && not (isNil w)
+
+  unfoldable pub holds : {A : Type 0} → Spelled A → Bool
+  holds s = valueHolds (placeHolds (s .kind .counting) (s .place)) (s .kind .valuing) (s .payload)
 
   unfoldable pub partHolds : Part → Bool
-  partHolds (whole s) = ltb s strings
-  partHolds (first s n) = ltb s strings && lengthHolds n
+  unfolding holds valueHolds placeHolds spellPart
+  partHolds p = holds (spellPart parts p)
 
   unfoldable pub operandHolds : Operand → Bool
-  operandHolds (constant z) = isInRange e z
-  operandHolds (number i) = ltb i numbers
-  operandHolds (lengthOf s) = ltb s strings
-  operandHolds (numberOf p) = partHolds p
+  unfolding holds valueHolds placeHolds spellPart spellOperand
+  operandHolds a = holds (spellOperand a)
 
   unfoldable pub itemHolds : Item → Bool
-  itemHolds (operand a) = operandHolds a
-  itemHolds (operator o) = true
-  itemHolds (sign s) = true
+  unfolding holds valueHolds placeHolds spellPart spellOperand spellItem
+  itemHolds x = holds (spellItem x)
 
   unfoldable pub elementHolds : Element → Bool
-  elementHolds (literal w) = not (isNil w)
-  elementHolds (part p) = partHolds p
-  elementHolds (text n m) = signedLengthHolds n && ltb m numbers
+  unfolding holds valueHolds placeHolds spellPart spellElement
+  elementHolds x = holds (spellElement x)
 
-  -- Q8 "The reference is also a filler": it isn't
-  unfoldable pub patternHolds : (reference : ℕ) → PatternElement → Bool
-  patternHolds r (value x) = elementHolds x
-  patternHolds r (freeFiller s) = ltb s strings && not (eqb s r)
-  patternHolds r (fixedFiller s n) = ltb s strings && (not (eqb s r) && lengthHolds n)
+  unfoldable pub patternHolds : PatternElement → Bool
+  unfolding holds valueHolds placeHolds spellPart spellElement spellPattern
+  patternHolds x = holds (spellPattern x)
 
   unfoldable pub rowHolds : List Element → Bool
   rowHolds xs = leb (length xs) Limits.row && all elementHolds xs
 
+  -- a pattern by which this string is searched
+  unfoldable pub patternsHold : (reference : ℕ) → List PatternElement → Bool
+  patternsHold r xs = leb (length xs) Limits.row && (all patternHolds xs && rolesHold r [] xs)
+
   unfoldable pub branchHolds : Branch → Bool
   branchHolds b = ltb (b .success) steps && ltb (b .failure) steps
 
-  unfoldable pub testHolds : Test → Bool
-  testHolds (isNull s) = ltb s strings
-  testHolds (isNumeric p) = partHolds p
-  testHolds (compares a c b) = operandHolds a && operandHolds b
+  unfoldable pub leftHolds : (l : Lefting) → Left l → Bool
+  leftHolds noLeft u = true
+  leftHolds numberLeft i = ltb i numbers
+  leftHolds stringLeft s = ltb s strings
+  leftHolds partLeft p = partHolds p
+  leftHolds operandLeft a = operandHolds a
+
+  -- the right cell, or the steps, hold as well as what comes before them
+  unfoldable pub rightHolds : Bool → (reference : ℕ) (r : Righting) → Right r → Bool
+  rightHolds b reference noRight u = b
+  rightHolds b reference operandRight a = b && operandHolds a
+  rightHolds b reference itemsRight x = b && (balanced 0 x && all itemHolds x)
+  rightHolds b reference elementsRight xs = b && rowHolds xs
+  rightHolds b reference patternRight xs = b && patternsHold reference xs
+  rightHolds b reference replacingRight x = b && (patternsHold reference (x .0) && rowHolds (x .1))
+
+  unfoldable pub stepsHold : Bool → (s : Stepping) → Steps s → Bool
+  stepsHold b noStep u = b
+  stepsHold b oneStep k = b && ltb k steps
+  stepsHold b bothSteps f = b && branchHolds f
 
   unfoldable pub statementHolds : Statement → Bool
-  statementHolds (setNumber i x) = ltb i numbers && (balanced 0 x && all itemHolds x)
-  statementHolds (setString p xs) = partHolds p && rowHolds xs
-  statementHolds (goto k) = ltb k steps
-  statementHolds finish = true
-  statementHolds (ifTest t b) = testHolds t && branchHolds b
-  statementHolds (scan d p xs r b) =
-      partHolds p
-      && (leb (length xs) Limits.row && (all (patternHolds (placeOf p)) xs && (rowHolds (replacementOf r) && branchHolds b)))
-  statementHolds (read p b) = partHolds p && branchHolds b
-  statementHolds (write xs) = rowHolds xs
-  statementHolds (execute k) = ltb k steps
-  statementHolds return = true
+  unfolding leftHolds rightHolds stepsHold leftPlace spellStatement
+  statementHolds s =
+      let x = spellStatement s in
+      let left = leftHolds (x .kind .lefting) (x .left) in
+      let right = rightHolds left (leftPlace (x .kind .lefting) (x .left)) (x .kind .righting) (x .right) in
+      stepsHold right (x .kind .stepping) (x .steps)
 
   unfoldable pub stepHolds : Step → Bool
   stepHolds s = ltb (s .card) (2 ^ 16) && statementHolds (s .statement)

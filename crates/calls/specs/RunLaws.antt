@@ -24,7 +24,8 @@ use Rattle.scanning.specs.Call.{splitNumbers, answerNumbers, noAnswer}
 use Rattle.scanning.specs.Splits.{Split}
 use Rattle.scanning.specs.Trials.{Scanned}
 use Rattle.values.specs.Conversion.{longestString}
-use Rattle.values.specs.Work.{Work, done, stop}
+use Rattle.values.specs.Work.{Work, done, stop, stopsStep}
+use Rattle.values.specs.WorkLaws.{stops-some}
 use Rattle.calls.specs.Buffers.{storeSize, statusOf, stateIn}
 use Rattle.calls.specs.Calls.{Buffers, StepCalled, carried, stepCall, buffersAfter, RunCalled, runEnded, withStep, runBehind, runCall}
 use Rattle.calls.specs.Calls.{outcomeNumber, resultNumbers, returned}
@@ -67,7 +68,7 @@ module _ (e : Edition) (p : Program) (lent : ℕ) (input : List ℕ) (notes : �
   went-on : (x : Status) → ¬ (x ≡ stopped) → Holding e p lent input (with-status x) b
       → RunSame e p lent input (goingOn (record { answer = record { number = 0; notes = notes; scanned = scanned }; state = with-status x }) r)
       (runBehind (record { number = 0; answer = answer; left = b }) k)
-  unfolding goingOn runBehind counted withStep endedWith runEnded with-status stateIn
+  unfolding goingOn runBehind stopsStep counted withStep endedWith runEnded with-status stateIn
   went-on running alive h =
       let called : StepCalled = record { number = 0; answer = answer; left = b } in
       let n = getD (b .state) 0 0 in
@@ -119,7 +120,7 @@ module _ (e : Edition) (limit : e .limit < bias) (wide : longestString ≤ e .li
       either : Alive c (d .state) → ⊥
       either (inl same) = alive (sym same ∙ halted)
       either (inr ended) = let z : _≡_ {A = ℕ} 0 1 = cc in omega arith
-  concluded-alive c x (stop k) is (stops low high) alive none-met halted = omega arith
+  concluded-alive c x (stop k) is (stops h) alive none-met halted = stops-some h none-met
 
   -- nor has a step with no number
   step-alive : (c : State) → Sound e p lent input c → step e p lent c .answer .number ≡ 0 → ¬ (step e p lent c .state .status ≡ stopped)
@@ -189,7 +190,7 @@ module _ (e : Edition) (limit : e .limit < bias) (wide : longestString ≤ e .li
           let no-notes = call-numbers .1 ∙ undone-answer e p lent c some-met .0 in
           subst (λ (y : StepCalled). RunSame e p lent input (goingOn machine r) (runBehind y k))
           (λ i. record { number = sym (call-numbers .0) i; answer = called .answer; left = called .left })
-          (ended e p lent input n (machine .state) behind left no-notes _ _ (ltb 16 n) (ltb 0 n) (lt-ltb 0 n (omega (arith, some-met))))
+          (ended e p lent input n (machine .state) behind left no-notes _ _ (stopsStep n) (ltb 0 n) (lt-ltb 0 n (omega (arith, some-met))))
 
   -- a run of calls is the run of the machine
   pub run-same : (k : ℕ) (c : State) (b : Buffers) → Sound e p lent input c → Holding e p lent input c b
@@ -231,11 +232,12 @@ run-left e table input zero b = refl
 run-left e table input (suc k) b =
     let s = stepCall e table input b in
     let rest = runCall e table input k (s .left) in
-    behind-left e table input b rest (ltb 16 (s .number)) (ltb 0 (s .number)) (eqb (getD (s .left .state) 0 0) 1) (run-left e table input k (s .left))
+    behind-left e table input b rest (stopsStep (s .number)) (ltb 0 (s .number)) (eqb (getD (s .left .state) 0 0) 1)
+    (run-left e table input k (s .left))
 
 -- with a store too small a run is turned down
 pub small-run : (e : Edition) (p : Program) (table input : List ℕ) → Tabled e p table → (b : Buffers) → length (b .store) < storeSize → (k : ℕ)
     → runCall e table input (suc k) b ≡ runEnded REFUSED 14 b
-unfolding runCall runBehind
+unfolding runCall runBehind stopsStep
 small-run e p table input t b small k =
     ap (λ (s : StepCalled). runBehind s (runCall e table input k (s .left))) (small-called e p table input t b small)

@@ -19,6 +19,7 @@ use Rattle.scanning.specs.Laws.{fits-count}
 use Rattle.scanning.specs.Splits.{Element, Split, FirstFit, AnswersFirstFit}
 use Rattle.scanning.specs.Trials.{Scanned, scan}
 use Rattle.values.specs.Work.{Work, done, stop, quietly}
+use Rattle.values.specs.WorkLaws.{stops-some}
 use Rattle.calls.specs.Demands.{LeftBy, Scans}
 
 -- a split that has so many lengths is read back from the answer's numbers
@@ -99,4 +100,4 @@ concluded-scans e lent c d q xs r f (done k n) is ended zero =
     let same = done-value (parts .isBehind) in
     subst₂ (λ (a : Scanned) (m : Memory). Scans e (c .memory) d q xs r (answerNumbers n a) m) (ap (λ x. x .scanned) same)
     (ap (λ x. x .state .memory) same) (scanning-scans e (c .memory) d q xs r l (parts .frontNotes) n (parts .isFront))
-concluded-scans e lent c d q xs r f (stop k) is (stops low high) zero = absurd (omega arith)
+concluded-scans e lent c d q xs r f (stop k) is (stops h) zero = absurd (stops-some h zero)

@@ -9,6 +9,7 @@ use lib.Dec.{ltb}
 use lib.ListN.{length, drop, replicate, length-append, length-replicate}
 use borrow.Author.Tests.{ltb-false, le-ltb}
 use Rattle.base.specs.Edition.{Edition}
+use Rattle.base.specs.Limits.{longestDeck}
 use Rattle.judgement.specs.Deck.{Judgement, accepted, refused, judge}
 use Rattle.judgement.specs.Laws.{judge-answers}
 use Rattle.language.specs.Program as Program
@@ -17,7 +18,7 @@ use Rattle.machine.specs.State.{freshMemory, fresh, mostStrings}
 use Rattle.values.specs.Conversion.{longestString}
 use Rattle.calls.specs.BufferLaws.{fresh-image}
 use Rattle.calls.specs.Buffers.{storeSize, stateSize, storeLeft, stateLeft, outputLeft, firstState}
-use Rattle.calls.specs.Calls.{longestDeck, readJudged, readBy, readCall, StartCalled, startCall, Buffers, leftOf}
+use Rattle.calls.specs.Calls.{readJudged, readBy, readCall, StartCalled, startCall, Buffers, leftOf}
 use Rattle.calls.specs.Holding.{Holding, left-holds}
 use Rattle.calls.specs.Invariant.{fresh-sound}
 use Rattle.calls.specs.ProgramLaws.{Runs}
@@ -84,7 +85,7 @@ startedWith store output =
 
 -- R12 "32 cells of 1,026 bytes"
 cells-size : 1026 * mostStrings ≡ storeSize
-unfolding mostStrings storeSize
+unfolding mostStrings
 cells-size = refl
 
 -- what starting leaves is what is left of a machine before its first step
@@ -115,4 +116,4 @@ started-holds e limit wide p runs store input output large =
     let lent = length output in
     let base : Buffers = record { store = store; state = replicate stateSize 0; output = output } in
     subst (Holding e p lent input (fresh input)) (sym (started-left store input output large))
-    (left-holds e limit p lent input (fresh input) (fresh-sound e wide p runs lent input) base (length-replicate stateSize 0) refl)
+    (left-holds e limit p lent input (fresh input) (fresh-sound e wide p runs lent input) base (length-replicate {A = ℕ} stateSize 0) refl)

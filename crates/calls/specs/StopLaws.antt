@@ -1,6 +1,6 @@
 -- A step that is stopped leaves store and output byte for byte, and of the state changes the status alone; one that is refused leaves all. So
 -- does the last step of a run. Assumes nothing.
-use mathlib.Core.Bool.{Bool, true, false, cond, not}
+use mathlib.Core.Bool.{Bool, true, false, cond, not, true≢false}
 use mathlib.Core.List.{List, _∷_, _++_, reverse, reverse-reverse}
 use mathlib.Core.Path.{_≡_, refl, sym, _∙_, ap, ap₂}
 use Prim.Native.Nat.{ℕ, zero, suc, _+_, _-_, _≤_, _<_}
@@ -15,10 +15,12 @@ use Rattle.base.specs.ListLaws.{stretch-behind}
 use Rattle.calls.specs.NumeralLaws.{numbers-same}
 use Rattle.machine.specs.State.{Status, stopped, State, withStatus, mostNumbers}
 use Rattle.machine.specs.Run.{FINISHED, STOPPED, REFUSED}
-use Rattle.machine.specs.StepEnds.{stopped-step, step-high, turned-down-small, undone-answer}
+use Rattle.machine.specs.StepEnds.{stopped-step, step-stops, turned-down-unstopped, undone-answer}
 use Rattle.machine.specs.Step.{mostReturns, noScan, turnedDownBy, step}
 use Rattle.scanning.specs.Call.{answerNumbers, noAnswer, splitNumbers}
 use Rattle.values.specs.Conversion.{longestString}
+use Rattle.values.specs.Work.{stopsStep}
+use Rattle.values.specs.WorkLaws.{stops-some}
 use Rattle.calls.specs.BufferLaws.{good-image, keeps-good}
 use Rattle.calls.specs.Buffers.{storeKeeps, stateSize, returnsAt, numbersAt, statusNumber, returnsIn, numbersIn}
 use Rattle.calls.specs.Buffers.{stateKeeps, stateIn, storeLeft, stateLeft, outputLeft}
@@ -64,7 +66,7 @@ module _ (e : Edition) (steps : ℕ) (store state input output : List ℕ) (size
   held = stateIn store state input output
 
   state-same : (x : Status) → stateLeft state input (withStatus x held) ≡ statusNumber x ∷ drop 1 state
-  unfolding stateLeft withStatus held stateIn returnsIn numbersIn returnsAt numbersAt mostReturns mostNumbers stateSize
+  unfolding stateLeft withStatus held stateIn returnsIn numbersIn returnsAt numbersAt mostReturns mostNumbers
   state-same x =
       let n = getD state 2 0 in
       let behind = drop 5 state in
@@ -95,21 +97,22 @@ left-same e steps input b x size good range =
     let outputs = output-whole (b .output) (getD (b .state) 4 0) (withStatus x (stateIn (b .store) (b .state) input (b .output))) (facts .written) refl in
     λ i. record { store = stores i; state = states i; output = outputs i }
 
--- every refusal is 16 at most
-pub refusal-small : (small rules store bad : Bool) (n : ℕ) → n ≤ 16
-    → cond small 2 (cond (not rules) 13 (cond (not store) 14 (cond bad 15 n))) ≤ 16
-refusal-small true rules store bad n h = omega arith
-refusal-small false false store bad n h = omega arith
-refusal-small false true false bad n h = omega arith
-refusal-small false true true true n h = omega arith
-refusal-small false true true false n h = h
+-- what refuses a step doesn't stop it
+pub refusal-unstopped : (small rules store bad : Bool) (n : ℕ) → stopsStep n ≡ false
+    → stopsStep (cond small 2 (cond (not rules) 13 (cond (not store) 14 (cond bad 15 n)))) ≡ false
+unfolding stopsStep
+refusal-unstopped true rules store bad n h = refl
+refusal-unstopped false false store bad n h = refl
+refusal-unstopped false true false bad n h = refl
+refusal-unstopped false true true true n h = refl
+refusal-unstopped false true true false n h = h
 
 module _ (e : Edition) (table input : List ℕ) (b : Buffers) where
-  refused-small : stepRefusal e table input b ≤ 16
+  refused-unstopped : stopsStep (stepRefusal e table input b) ≡ false
   unfolding stepRefusal
-  refused-small =
-      refusal-small (ltb (length table) (e .tableSize)) (keepsRules e table) (storeKeeps (b .store)) (outOfRange e table input b)
-      (turnedDownBy (programIn table) (givenIn e table input b)) (turned-down-small (programIn table) (givenIn e table input b))
+  refused-unstopped =
+      refusal-unstopped (ltb (length table) (e .tableSize)) (keepsRules e table) (storeKeeps (b .store)) (outOfRange e table input b)
+      (turnedDownBy (programIn table) (givenIn e table input b)) (turned-down-unstopped (programIn table) (givenIn e table input b))
 
   -- a step is refused, and all stays, or is carried out
   by-refusal : (P : StepCalled → Type 0) → (¬ (stepRefusal e table input b ≡ 0) → P (record { number = stepRefusal e table input b; answer = noAnswer; left = b }))
@@ -134,16 +137,17 @@ module _ (e : Edition) (table input : List ℕ) (b : Buffers) where
 
   -- numbers fit their places, a string's length is a number, and the state has its size
   module _ (limit : e .limit < bias) (wide : longestString ≤ e .limit) (size : length (b .state) ≡ stateSize) where
-    -- a step that is carried out has no number up to 16
-    carried-high : (u : Unrefused e table input b)
-        → (let s = step e (programIn table) (length (b .output)) (givenIn e table input b) in ¬ (s .answer .number ≡ 0) → 16 < s .answer .number)
+    -- a step that is carried out has no number but one that stops
+    carried-stops : (u : Unrefused e table input b)
+        → (let s = step e (programIn table) (length (b .output)) (givenIn e table input b) in
+        ¬ (s .answer .number ≡ 0) → stopsStep (s .answer .number) ≡ true)
     unfolding givenIn
-    carried-high u =
+    carried-stops u =
         let p = programIn table in
         let c = givenIn e table input b in
         let sound = given-sound e p input b size (u .storeGood) (u .stateGood) in
         let runs = program-runs e p (keeps-image e table (u .tabled .keeps) .0) in
-        step-high e p (length (b .output)) c (u .goes)
+        step-stops e p (length (b .output)) c (u .goes)
         (next-sound e wide p runs (length (b .output)) input c sound (returns-enough p c (u .goes)))
 
     -- demand 1 "a refused or stopped step leaves store, numbers, input place and output as before it"
@@ -157,15 +161,15 @@ module _ (e : Edition) (table input : List ℕ) (b : Buffers) where
           state = λ _. refl;
           output = λ _. refl;
           handed-back = λ _ _. refl;
-          marked = λ high. let small = refused-small in absurd (omega arith);
+          marked = λ stops. absurd (true≢false (sym stops ∙ refused-unstopped));
         })
         (λ u.
         record {
           store = λ h. ap (λ x. x .store) (carried-stopped size u h);
           state = λ h. ap (λ x. drop 1 (x .state)) (carried-stopped size u h);
           output = λ h. ap (λ x. x .output) (carried-stopped size u h);
-          handed-back = λ some low. let high = carried-high u (λ z. omega arith) in absurd (omega arith);
-          marked = λ high. ap (λ x. getD (x .state) 0 0) (carried-stopped size u (λ z. omega arith));
+          handed-back = λ some turned. absurd (true≢false (sym (carried-stops u (λ z. omega arith)) ∙ turned));
+          marked = λ stops. ap (λ x. getD (x .state) 0 0) (carried-stopped size u (stops-some stops));
         })
 
     -- V12, V13: such a step answers nothing
@@ -237,6 +241,6 @@ run-keeps e table input limit wide (suc k) b size n =
     let s = stepCall e table input b in
     let rest = runCall e table input k (s .left) in
     let now = size (omega arith) in
-    behind-keeps e table input b rest (ltb 16 (s .number)) (ltb 0 (s .number)) (eqb (getD (s .left .state) 0 0) 1)
+    behind-keeps e table input b rest (stopsStep (s .number)) (ltb 0 (s .number)) (eqb (getD (s .left .state) 0 0) 1)
     (step-keeps e table input b limit wide now)
     (run-keeps e table input limit wide k (s .left) (λ _. step-size e table input b limit wide now)) n

@@ -5,13 +5,13 @@ use Prim.Native.Nat.{ℕ}
 use lib.Dec.{ltb}
 use lib.ListN.{length, take}
 use Rattle.base.specs.Edition.{Edition}
+use Rattle.base.specs.Limits.{longestDeck}
 use Rattle.base.specs.Text.{bytes}
 use Rattle.cards.specs.Bytes.{newline}
 use Rattle.judgement.specs.Deck.{Judgement, accepted, refused, judge}
 use Rattle.machine.specs.Run.{Outcome, FINISHED, STOPPED, SPENT, REFUSED, Ran, run}
 use Rattle.machine.specs.State.{fresh}
 use Rattle.values.specs.Conversion.{digits}
-use Rattle.calls.specs.Calls.{longestDeck}
 
 -- L15 "file `deck` (32,769 bytes kept; a missing file counts as empty), standard input (32,768 bytes kept)"
 unfoldable pub keptDeck : ℕ

@@ -1,5 +1,5 @@
 -- The table's layout (docs/TABLE.md): the bytes that hold a program. A header of counts, then four regions of rows: steps, elements,
--- items, literal bytes, each filled up with zeros. Assumes nothing.
+-- items, literal bytes, each filled up with zeros. What a cell or row holds is said in Kinds. Assumes nothing.
 use mathlib.Core.List.{List, [], _∷_, _++_, map}
 use mathlib.Core.Option.{Option, none, some}
 use Prim.Native.Nat.{ℕ, _+_, _*_, _-_, _^_}
@@ -8,37 +8,14 @@ use lib.ListN.{length, replicate}
 use Rattle.base.specs.Edition.{Edition}
 use Rattle.base.specs.Lists.{total}
 use Rattle.language.specs.Program.{
-  Length,
-  constantly,
-  numbered,
   Part,
   whole,
-  first,
   Operand,
-  constant,
   number,
-  lengthOf,
-  numberOf,
-  Operator,
-  plus,
-  minus,
-  times,
-  over,
-  Sign,
-  positive,
-  negative,
   Item,
-  operand,
-  operator,
-  sign,
   Element,
-  literal,
-  part,
-  text,
   PatternElement,
   value,
-  freeFiller,
-  fixedFiller,
   Comparison,
   equal,
   unequal,
@@ -46,28 +23,20 @@ use Rattle.language.specs.Program.{
   greater,
   atMost,
   atLeast,
-  Test,
-  isNull,
-  isNumeric,
-  compares,
   Direction,
   forward,
   backward,
-  Branch,
   Statement,
-  setNumber,
-  setString,
-  goto,
-  finish,
-  ifTest,
-  scan,
-  read,
-  write,
-  execute,
-  return,
   Step,
   Program,
 }
+use Rattle.calls.specs.Kinds.{Valuing, noValue, natural, signed, placed, spelt, Payload, Spelled}
+use Rattle.calls.specs.Kinds.{spellPart, spellOperand, spellItem, spellElement, spellPattern, parts, nothingNumber, rangeNumber}
+use Rattle.calls.specs.Kinds.{operatorNumber, signNumber}
+use Rattle.calls.specs.Kinds.{Flagging, noFlag, ofComparison, ofDirection, Flag, Stepping, noStep, oneStep, bothSteps, Steps}
+use Rattle.calls.specs.Kinds.{Lefting, noLeft, numberLeft, stringLeft, partLeft, operandLeft, Left}
+use Rattle.calls.specs.Kinds.{Righting, noRight, operandRight, itemsRight, elementsRight, patternRight, replacingRight, Right}
+use Rattle.calls.specs.Kinds.{SpelledRow, spellStatement}
 use Rattle.calls.specs.Numerals.{inBytes, biased}
 
 -- A cell of 8 bytes: its kind, a place of a string or number, and a value of 6 bytes.
@@ -80,95 +49,87 @@ unfoldable pub cell : ℕ → ℕ → ℕ → Cell
 cell k i v = record { kind = k; place = i; value = v }
 
 unfoldable pub noCell : Cell
-noCell = cell 0 0 0
+noCell = cell nothingNumber 0 0
 
 unfoldable pub cellBytes : Cell → List ℕ
 cellBytes c = c .kind ∷ (c .place ∷ inBytes 6 (c .value))
-
--- a kind with a length: the value is the constant, or for the next kind the place of the number
-unfoldable pub lengthCell : ℕ → ℕ → Length → Cell
-lengthCell kind i (constantly z) = cell kind i (biased z)
-lengthCell kind i (numbered n) = cell (kind + 1) i n
-
--- kinds 1 to 3: a string, a substring by a constant, by a number; shifted for NUMBER of one
-unfoldable pub partCell : ℕ → Part → Cell
-partCell shift (whole s) = cell (shift + 1) s 0
-partCell shift (first s n) = lengthCell (shift + 2) s n
-
--- kinds 4 to 9: a constant, a number, LENGTH, NUMBER of kinds 1 to 3
-unfoldable pub operandCell : Operand → Cell
-operandCell (constant z) = cell 4 0 (biased z)
-operandCell (number i) = cell 5 i 0
-operandCell (lengthOf s) = cell 6 s 0
-operandCell (numberOf p) = partCell 6 p
-
--- kinds 10 to 15: the operators and signs
-unfoldable pub operatorKind : Operator → ℕ
-operatorKind plus = 10
-operatorKind minus = 11
-operatorKind times = 12
-operatorKind over = 13
-
-unfoldable pub signKind : Sign → ℕ
-signKind positive = 14
-signKind negative = 15
-
-unfoldable pub itemCell : Item → Cell
-itemCell (operand a) = operandCell a
-itemCell (operator o) = cell (operatorKind o) 0 0
-itemCell (sign s) = cell (signKind s) 0 0
 
 -- two numbers of 2 bytes as one value, and three
 unfoldable pub range : (from count more : ℕ) → ℕ
 range from count more = from + 2 ^ 16 * (count + 2 ^ 16 * more)
 
--- kinds 16 to 18: a literal, whose bytes start at a place among all literal bytes; STRING with a constant, with a number
-unfoldable pub elementCell : ℕ → Element → Cell
-elementCell at (literal w) = cell 16 0 (range at (length w) 0)
-elementCell at (part p) = partCell 0 p
-elementCell at (text n m) = lengthCell 17 m n
+-- the value that a kind keeps, and the literal bytes it has beside it, whose place among all literal bytes is given
+unfoldable pub valueOf : (literal : ℕ) (v : Valuing) → Payload v → ℕ
+valueOf at noValue u = 0
+valueOf at natural z = biased z
+valueOf at signed z = biased z
+valueOf at placed i = i
+valueOf at spelt w = range at (length w) 0
 
--- kinds 19 to 21: a free filler, a fixed one by a constant, by a number
+unfoldable pub literalOf : (v : Valuing) → Payload v → List ℕ
+literalOf noValue u = []
+literalOf natural z = []
+literalOf signed z = []
+literalOf placed i = []
+literalOf spelt w = w
+
+unfoldable pub cellFor : {A : Type 0} → (literal : ℕ) → Spelled A → Cell
+cellFor at s = cell (s .kind .number) (s .place) (valueOf at (s .kind .valuing) (s .payload))
+
+-- a string or its first bytes, by the first of their kinds; an operand, an item, an element, and one of a pattern
+unfoldable pub partCell : ℕ → Part → Cell
+unfolding cellFor valueOf spellPart
+partCell kind p = cellFor 0 (spellPart kind p)
+
+unfoldable pub operandCell : Operand → Cell
+unfolding cellFor valueOf spellPart spellOperand
+operandCell a = cellFor 0 (spellOperand a)
+
+unfoldable pub itemCell : Item → Cell
+unfolding cellFor valueOf spellPart spellOperand spellItem operatorNumber signNumber
+itemCell x = cellFor 0 (spellItem x)
+
+unfoldable pub elementCell : ℕ → Element → Cell
+unfolding cellFor valueOf spellPart spellElement
+elementCell at x = cellFor at (spellElement x)
+
 unfoldable pub patternCell : ℕ → PatternElement → Cell
-patternCell at (value x) = elementCell at x
-patternCell at (freeFiller s) = cell 19 s 0
-patternCell at (fixedFiller s n) = lengthCell 20 s n
+unfolding cellFor valueOf spellPart spellElement spellPattern
+patternCell at x = cellFor at (spellPattern x)
 
 unfoldable pub literalIn : PatternElement → List ℕ
-literalIn (value (literal w)) = w
-literalIn (value (part p)) = []
-literalIn (value (text n m)) = []
-literalIn (freeFiller s) = []
-literalIn (fixedFiller s n) = []
+unfolding literalOf spellPart spellElement spellPattern
+literalIn x = literalOf (spellPattern x .kind .valuing) (spellPattern x .payload)
 
--- the elements and items of a statement, in the order of the deck
+-- the elements and items of a row's right cell, and of a statement, in the order of the deck
+unfoldable pub rightElements : (r : Righting) → Right r → List PatternElement
+rightElements noRight u = []
+rightElements operandRight a = []
+rightElements itemsRight x = []
+rightElements elementsRight xs = map value xs
+rightElements patternRight xs = xs
+rightElements replacingRight x = x .0 ++ map value (x .1)
+
+unfoldable pub rightItems : (r : Righting) → Right r → List Item
+rightItems noRight u = []
+rightItems operandRight a = []
+rightItems itemsRight x = x
+rightItems elementsRight xs = []
+rightItems patternRight xs = []
+rightItems replacingRight x = []
+
+unfoldable pub elementsOf : Statement → List PatternElement
+unfolding rightElements spellStatement
+elementsOf s = rightElements (spellStatement s .kind .righting) (spellStatement s .right)
+
+unfoldable pub itemsOf : Statement → List Item
+unfolding rightItems spellStatement
+itemsOf s = rightItems (spellStatement s .kind .righting) (spellStatement s .right)
+
+-- what a scan puts, nothing where it has no replacement
 unfoldable pub replacementOf : Option (List Element) → List Element
 replacementOf none = []
 replacementOf (some xs) = xs
-
-unfoldable pub elementsOf : Statement → List PatternElement
-elementsOf (setNumber i x) = []
-elementsOf (setString p xs) = map value xs
-elementsOf (goto k) = []
-elementsOf finish = []
-elementsOf (ifTest t b) = []
-elementsOf (scan d p xs r b) = xs ++ map value (replacementOf r)
-elementsOf (read p b) = []
-elementsOf (write xs) = map value xs
-elementsOf (execute k) = []
-elementsOf return = []
-
-unfoldable pub itemsOf : Statement → List Item
-itemsOf (setNumber i x) = x
-itemsOf (setString p xs) = []
-itemsOf (goto k) = []
-itemsOf finish = []
-itemsOf (ifTest t b) = []
-itemsOf (scan d p xs r b) = []
-itemsOf (read p b) = []
-itemsOf (write xs) = []
-itemsOf (execute k) = []
-itemsOf return = []
 
 -- A row of 24 bytes: its kind, a flag, the card, the steps of the branch field, two cells.
 pub record Row : Type 0 where
@@ -192,7 +153,7 @@ row kind flag success failure left right =
 
 -- a stretch of elements or items, from a place among all of them
 unfoldable pub rangeCell : (from count more : ℕ) → Cell
-rangeCell from count more = cell 22 0 (range from count more)
+rangeCell from count more = cell rangeNumber 0 (range from count more)
 
 unfoldable pub comparisonNumber : Comparison → ℕ
 comparisonNumber equal = 1
@@ -202,34 +163,49 @@ comparisonNumber greater = 4
 comparisonNumber atMost = 5
 comparisonNumber atLeast = 6
 
--- the flag of a scan: 1 forward or 2 backward, and 2 more with a replacement
 unfoldable pub directionNumber : Direction → ℕ
 directionNumber forward = 1
 directionNumber backward = 2
 
-unfoldable pub replacementFlag : Option (List Element) → ℕ
-replacementFlag none = 0
-replacementFlag (some xs) = 2
+-- each field of a row; elements and items start at these places among all of them
+unfoldable pub flagNumber : (f : Flagging) → Flag f → ℕ
+flagNumber noFlag u = 0
+flagNumber ofComparison c = comparisonNumber c
+flagNumber ofDirection d = directionNumber d
 
-unfoldable pub testRow : Test → Branch → Row
-testRow (isNull s) b = row 5 0 (b .success) (b .failure) (cell 1 s 0) noCell
-testRow (isNumeric p) b = row 6 0 (b .success) (b .failure) (partCell 0 p) noCell
-testRow (compares x c y) b = row 7 (comparisonNumber c) (b .success) (b .failure) (operandCell x) (operandCell y)
+unfoldable pub successOf : (s : Stepping) → Steps s → ℕ
+successOf noStep u = 0
+successOf oneStep k = k
+successOf bothSteps b = b .success
 
--- the row of a statement whose elements and items start at these places among all of them
+unfoldable pub failureOf : (s : Stepping) → Steps s → ℕ
+failureOf noStep u = 0
+failureOf oneStep k = 0
+failureOf bothSteps b = b .failure
+
+unfoldable pub leftCell : (l : Lefting) → Left l → Cell
+leftCell noLeft u = noCell
+leftCell numberLeft i = operandCell (number i)
+leftCell stringLeft s = partCell parts (whole s)
+leftCell partLeft p = partCell parts p
+leftCell operandLeft a = operandCell a
+
+unfoldable pub rightCell : (element item : ℕ) (r : Righting) → Right r → Cell
+rightCell element item noRight u = noCell
+rightCell element item operandRight a = operandCell a
+rightCell element item itemsRight x = rangeCell item (length x) 0
+rightCell element item elementsRight xs = rangeCell element (length xs) 0
+rightCell element item patternRight xs = rangeCell element (length xs) 0
+rightCell element item replacingRight x = rangeCell element (length (x .0)) (length (x .1))
+
+unfoldable pub rowFor : (element item : ℕ) → SpelledRow → Row
+rowFor element item s =
+    row (s .kind .number) (flagNumber (s .kind .flagging) (s .flag)) (successOf (s .kind .stepping) (s .steps))
+    (failureOf (s .kind .stepping) (s .steps)) (leftCell (s .kind .lefting) (s .left)) (rightCell element item (s .kind .righting) (s .right))
+
 unfoldable pub rowOf : (element item : ℕ) → Statement → Row
-rowOf element item (setNumber i x) = row 1 0 0 0 (cell 5 i 0) (rangeCell item (length x) 0)
-rowOf element item (setString p xs) = row 2 0 0 0 (partCell 0 p) (rangeCell element (length xs) 0)
-rowOf element item (goto k) = row 3 0 k 0 noCell noCell
-rowOf element item finish = row 4 0 0 0 noCell noCell
-rowOf element item (ifTest t b) = testRow t b
-rowOf element item (scan d p xs r b) =
-    row 8 (directionNumber d + replacementFlag r) (b .success) (b .failure) (partCell 0 p)
-    (rangeCell element (length xs) (length (replacementOf r)))
-rowOf element item (read p b) = row 9 0 (b .success) (b .failure) (partCell 0 p) noCell
-rowOf element item (write xs) = row 10 0 0 0 noCell (rangeCell element (length xs) 0)
-rowOf element item (execute k) = row 11 0 k 0 noCell noCell
-rowOf element item return = row 12 0 0 0 noCell noCell
+unfolding rowFor flagNumber successOf failureOf leftCell rightCell spellStatement
+rowOf element item s = rowFor element item (spellStatement s)
 
 unfoldable pub stepRows : (element item : ℕ) → List Step → List ℕ
 stepRows element item [] = []

@@ -6,37 +6,16 @@ use Prim.Native.Nat.{ℕ, zero, suc, _+_, _*_, _-_, _/_, _%_, _^_}
 use lib.Dec.{leb, eqb}
 use lib.ListN.{take, drop, getD}
 use Rattle.language.specs.Program.{
-  Length,
-  constantly,
-  numbered,
   Part,
   whole,
-  first,
   Operand,
-  constant,
-  number,
-  lengthOf,
   numberOf,
-  Operator,
-  plus,
-  minus,
-  times,
-  over,
-  Sign,
-  positive,
-  negative,
   Item,
   operand,
-  operator,
-  sign,
   Element,
-  literal,
   part,
-  text,
   PatternElement,
   value,
-  freeFiller,
-  fixedFiller,
   Comparison,
   equal,
   unequal,
@@ -44,28 +23,22 @@ use Rattle.language.specs.Program.{
   greater,
   atMost,
   atLeast,
-  Test,
-  isNull,
-  isNumeric,
-  compares,
   Direction,
   forward,
   backward,
   Branch,
   Statement,
-  setNumber,
-  setString,
-  goto,
   finish,
-  ifTest,
-  scan,
-  read,
-  write,
-  execute,
-  return,
   Step,
   Program,
 }
+use Rattle.calls.specs.Kinds.{Valuing, noValue, natural, signed, placed, spelt, Payload, Kind}
+use Rattle.calls.specs.Kinds.{partKinds, operandKinds, itemKinds, elementKinds, patternKinds, parts}
+use Rattle.calls.specs.Kinds.{operatorNumber, signNumber}
+use Rattle.calls.specs.Kinds.{Flagging, noFlag, ofComparison, ofDirection, Flag, Stepping, noStep, oneStep, bothSteps, Steps}
+use Rattle.calls.specs.Kinds.{Lefting, noLeft, numberLeft, stringLeft, partLeft, operandLeft, Left}
+use Rattle.calls.specs.Kinds.{Righting, noRight, operandRight, itemsRight, elementsRight, patternRight, replacingRight, Right}
+use Rattle.calls.specs.Kinds.{RowKind, rowKinds}
 use Rattle.calls.specs.Numerals.{numberAt, unbiased}
 use Rattle.calls.specs.Table.{Cell, Row, stepsAt, elementsAt, itemsAt, literalsAt}
 
@@ -82,43 +55,42 @@ rangeCount v = v / 2 ^ 16 % 2 ^ 16
 unfoldable pub rangeMore : ℕ → ℕ
 rangeMore v = v / 2 ^ 32
 
--- a length: of this kind a constant, of any other the place of a number
-unfoldable pub lengthOfCell : ℕ → Cell → Length
-lengthOfCell kind c = cond (eqb (c .kind) kind) (constantly (unbiased (c .value))) (numbered (c .value))
+-- the value that a kind keeps, given the table, where the literal bytes are
+unfoldable pub payloadIn : List ℕ → (v : Valuing) → ℕ → Payload v
+payloadIn t noValue n = tt
+payloadIn t natural n = unbiased n
+payloadIn t signed n = unbiased n
+payloadIn t placed n = n
+payloadIn t spelt n = take (rangeCount n) (drop (literalsAt + rangeFrom n) t)
+
+-- what a cell of one of these kinds stands for; a cell of no such kind for this other thing
+unfoldable pub readCell : {A : Type 0} → (other : A) → List (Kind A) → List ℕ → Cell → A
+readCell other [] t c = other
+readCell other (k ∷ ks) t c =
+    cond (eqb (c .kind) (k .number)) (k .make (c .place) (payloadIn t (k .valuing) (c .value))) (readCell other ks t c)
+
+abbrev pub otherPart : Part
+otherPart = whole 0
 
 unfoldable pub partOfCell : ℕ → Cell → Part
-partOfCell shift c = cond (eqb (c .kind) (shift + 1)) (whole (c .place)) (first (c .place) (lengthOfCell (shift + 2) c))
+unfolding readCell payloadIn partKinds
+partOfCell kind c = readCell otherPart (partKinds kind) [] c
 
 unfoldable pub operandOfCell : Cell → Operand
-operandOfCell c =
-    cond (eqb (c .kind) 4) (constant (unbiased (c .value)))
-    (cond (eqb (c .kind) 5) (number (c .place))
-    (cond (eqb (c .kind) 6) (lengthOf (c .place))
-    (numberOf (partOfCell 6 c))))
-
-unfoldable pub operatorOfKind : ℕ → Operator
-operatorOfKind k = cond (eqb k 10) plus (cond (eqb k 11) minus (cond (eqb k 12) times over))
-
-unfoldable pub signOfKind : ℕ → Sign
-signOfKind k = cond (eqb k 14) positive negative
+unfolding readCell payloadIn partKinds operandKinds
+operandOfCell c = readCell (numberOf otherPart) operandKinds [] c
 
 unfoldable pub itemOfCell : Cell → Item
-itemOfCell c =
-    cond (leb (c .kind) 9) (operand (operandOfCell c))
-    (cond (leb (c .kind) 13) (operator (operatorOfKind (c .kind)))
-    (sign (signOfKind (c .kind))))
+unfolding readCell payloadIn partKinds operandKinds itemKinds operatorNumber signNumber
+itemOfCell c = readCell (operand (numberOf otherPart)) itemKinds [] c
 
 unfoldable pub elementOfCell : List ℕ → Cell → Element
-elementOfCell t c =
-    cond (leb (c .kind) 3) (part (partOfCell 0 c))
-    (cond (eqb (c .kind) 16) (literal (take (rangeCount (c .value)) (drop (literalsAt + rangeFrom (c .value)) t)))
-    (text (lengthOfCell 17 c) (c .place)))
+unfolding readCell payloadIn partKinds elementKinds
+elementOfCell t c = readCell (part otherPart) elementKinds t c
 
 unfoldable pub patternOfCell : List ℕ → Cell → PatternElement
-patternOfCell t c =
-    cond (leb (c .kind) 18) (value (elementOfCell t c))
-    (cond (eqb (c .kind) 19) (freeFiller (c .place))
-    (fixedFiller (c .place) (lengthOfCell 20 c)))
+unfolding readCell payloadIn partKinds elementKinds patternKinds
+patternOfCell t c = readCell (value (part otherPart)) patternKinds t c
 
 -- so many of the rows of a region, from a place among them on
 unfoldable pub itemsFrom : List ℕ → ℕ → ℕ → List Item
@@ -148,42 +120,49 @@ rowAt t at =
       right = cellAt t (at + 16);
     }
 
-unfoldable pub branchOf : Row → Branch
-branchOf r = record { success = r .success; failure = r .failure }
+-- each field of a row
+unfoldable pub directionOf : ℕ → Direction
+directionOf k = cond (eqb k 1) forward backward
 
-unfoldable pub testOf : Row → Test
-testOf r =
-    cond (eqb (r .kind) 5) (isNull (r .left .place))
-    (cond (eqb (r .kind) 6) (isNumeric (partOfCell 0 (r .left)))
-    (compares (operandOfCell (r .left)) (comparisonOf (r .flag)) (operandOfCell (r .right))))
+unfoldable pub flagIn : (f : Flagging) → ℕ → Flag f
+flagIn noFlag n = tt
+flagIn ofComparison n = comparisonOf n
+flagIn ofDirection n = directionOf n
 
--- the elements of a row's stretch, and those of the replacement behind it
-unfoldable pub elementsOfRow : List ℕ → Row → List Element
-elementsOfRow t r = elementsFrom t (rangeFrom (r .right .value)) (rangeCount (r .right .value))
+unfoldable pub stepsIn : (s : Stepping) → Row → Steps s
+stepsIn noStep r = tt
+stepsIn oneStep r = r .success
+stepsIn bothSteps r = record { success = r .success; failure = r .failure }
 
-unfoldable pub patternOfRow : List ℕ → Row → List PatternElement
-patternOfRow t r = patternFrom t (rangeFrom (r .right .value)) (rangeCount (r .right .value))
+unfoldable pub leftIn : (l : Lefting) → Cell → Left l
+leftIn noLeft c = tt
+leftIn numberLeft c = c .place
+leftIn stringLeft c = c .place
+leftIn partLeft c = partOfCell parts c
+leftIn operandLeft c = operandOfCell c
 
-unfoldable pub replacementOfRow : List ℕ → Row → Option (List Element)
-replacementOfRow t r =
-    cond (leb (r .flag) 2) none
-    (some (elementsFrom t (rangeFrom (r .right .value) + rangeCount (r .right .value)) (rangeMore (r .right .value))))
+unfoldable pub rightIn : List ℕ → (r : Righting) → Cell → Right r
+rightIn t noRight c = tt
+rightIn t operandRight c = operandOfCell c
+rightIn t itemsRight c = itemsFrom t (rangeFrom (c .value)) (rangeCount (c .value))
+rightIn t elementsRight c = elementsFrom t (rangeFrom (c .value)) (rangeCount (c .value))
+rightIn t patternRight c = patternFrom t (rangeFrom (c .value)) (rangeCount (c .value))
+rightIn t replacingRight c = (
+  patternFrom t (rangeFrom (c .value)) (rangeCount (c .value)),
+  elementsFrom t (rangeFrom (c .value) + rangeCount (c .value)) (rangeMore (c .value)),
+)
 
-unfoldable pub directionOf : Row → Direction
-directionOf r = cond (eqb (r .flag % 2) 1) forward backward
+-- what a row of one of these kinds stands for; a row of no such kind finishes
+unfoldable pub readRow : List RowKind → List ℕ → Row → Statement
+readRow [] t r = finish
+readRow (k ∷ ks) t r =
+    cond (eqb (r .kind) (k .number))
+    (k .make (flagIn (k .flagging) (r .flag)) (stepsIn (k .stepping) r) (leftIn (k .lefting) (r .left)) (rightIn t (k .righting) (r .right)))
+    (readRow ks t r)
 
 unfoldable pub statementOfRow : List ℕ → Row → Statement
-statementOfRow t r =
-    cond (eqb (r .kind) 1) (setNumber (r .left .place) (itemsFrom t (rangeFrom (r .right .value)) (rangeCount (r .right .value))))
-    (cond (eqb (r .kind) 2) (setString (partOfCell 0 (r .left)) (elementsOfRow t r))
-    (cond (eqb (r .kind) 3) (goto (r .success))
-    (cond (eqb (r .kind) 4) finish
-    (cond (leb (r .kind) 7) (ifTest (testOf r) (branchOf r))
-    (cond (eqb (r .kind) 8) (scan (directionOf r) (partOfCell 0 (r .left)) (patternOfRow t r) (replacementOfRow t r) (branchOf r))
-    (cond (eqb (r .kind) 9) (read (partOfCell 0 (r .left)) (branchOf r))
-    (cond (eqb (r .kind) 10) (write (elementsOfRow t r))
-    (cond (eqb (r .kind) 11) (execute (r .success))
-    return))))))))
+unfolding readRow flagIn stepsIn leftIn rightIn rowKinds
+statementOfRow t r = readRow rowKinds t r
 
 unfoldable pub stepIn : List ℕ → ℕ → Step
 stepIn t at = record { card = numberAt 2 t (at + 2); statement = statementOfRow t (rowAt t at) }

@@ -11,10 +11,10 @@ use lib.ListN.{length, drop, length-append, length-map}
 use borrow.Author.Tests.{lt-ltb}
 use Rattle.base.specs.Choice.{test-cases, neither-true, both-pass}
 use Rattle.base.specs.Edition.{Edition}
-use Rattle.base.specs.Lists.{same, all, begins, total}
+use Rattle.base.specs.Lists.{all, begins, total}
 use Rattle.base.specs.Text.{bytes}
 use Rattle.cards.specs.Bytes.{quote}
-use Rattle.cards.specs.Packing.{packed, literalsFrom, literalsWhole}
+use Rattle.cards.specs.Packing.{literalsFrom}
 use Rattle.judgement.specs.Known.{isOneOf, isStep}
 use Rattle.judgement.specs.Refusals.{clashes, labelForm, labelled, readStatement}
 use Rattle.judgement.specs.Targets.{isInner}
@@ -50,13 +50,16 @@ use Rattle.language.specs.Program.{setNumber, setString, goto, finish, ifTest, 
 use Rattle.language.specs.Reading.{program, label, routine, number, string, Naming, Role, reference, sought, filler, declaring}
 use Rattle.language.specs.Reading.{Met, nothing, Read, got, broken, _>>=_}
 use Rattle.language.specs.Words.{Places, nameLength, nameAs}
-use Rattle.calls.specs.Literals.{Whole, isPlain, whole-behind, whole-leading, packed-whole}
-use Rattle.calls.specs.Rules.{patternHolds, rowHolds, branchHolds, statementHolds}
+use Rattle.calls.specs.Literals.{Whole, isPlain, whole-behind, whole-leading}
+use Rattle.calls.specs.RowLaws.{test-elements, test-items, scan-elements, scan-items}
+use Rattle.calls.specs.RuleLaws.{test-holds, scan-holds}
+use Rattle.calls.specs.Rules.{rolesHold, rowHolds, branchHolds, statementHolds}
 use Rattle.calls.specs.Table.{literalIn, replacementOf, elementsOf, itemsOf, allLiterals}
 use Rattle.calls.specs.Yielding.{View, viewOf, noView, join, Fit, Yields, yields, breaks, Plainly}
 use Rattle.calls.specs.Yielding.{yields-map, yields-next, yields-after, yields-give, yields-if, yields-skip, yields-finished}
 use Rattle.calls.specs.YieldingNumeric.{yields-numericExpression}
-use Rattle.calls.specs.YieldingStrings.{ElementRow, Inner, Apart, yields-listOf, yields-stringExpression, yields-pattern}
+use Rattle.calls.specs.YieldingRoles.{Distinct, roles-hold}
+use Rattle.calls.specs.YieldingStrings.{ElementRow, yields-listOf, yields-stringExpression, yields-pattern}
 use Rattle.calls.specs.YieldingWords.{yields-naming, yields-declaring, yields-numberName, yields-partName, yields-part}
 use Rattle.calls.specs.YieldingWords.{yields-test}
 
@@ -75,24 +78,6 @@ FormedOrNone e z (some a) s = Formed e z a s
 
 abbrev BranchHolds : Edition → Sizes → Branch → Type 0
 BranchHolds e z b = branchHolds e (z .strings) (z .numbers) (z .steps) b ≡ true
-
--- known strings of other names have other places
-abbrev pub Distinct : (Naming → Type 0) → Places → Type 0
-Distinct K at =
-    (m n : List ℕ) → K (record { purpose = string; name = m }) → K (record { purpose = string; name = n }) → same n m ≡ false
-    → eqb (at .string m) (at .string n) ≡ false
-
--- where they have, 8 keeps fillers apart from the reference
-fillers-apart : (K : Naming → Type 0) (at : Places) → Distinct K at → (n : List ℕ) → K (record { purpose = string; name = n })
-    → (fs : List (List ℕ)) (rs more : List Role) → Each (Inner K) rs → clashes n fs (rs ++ more) ≡ false → Each (Apart at (at .string n)) rs
-unfolding Each clashes
-fillers-apart K at distinct n known fs [] more inner h = tt
-fillers-apart K at distinct n known fs (reference m ∷ rs) more inner h = absurd (inner .0)
-fillers-apart K at distinct n known fs (sought m ∷ rs) more inner h =
-    (tt, fillers-apart K at distinct n known fs rs more (inner .1) (neither-true (isOneOf fs m) _ h .1))
-fillers-apart K at distinct n known fs (filler m ∷ rs) more inner h =
-    let parts = neither-true (same n m) (clashes n (m ∷ fs) (rs ++ more)) h in
-    (distinct m n (inner .0) known (parts .0), fillers-apart K at distinct n known (m ∷ fs) rs more (inner .1) (parts .1))
 
 -- the literal bytes of two rows
 pub literals-append : (xs ys : List PatternElement) → allLiterals (xs ++ ys) ≡ allLiterals xs ++ allLiterals ys
@@ -192,6 +177,11 @@ module _ {K : Naming → Type 0} {z : Sizes} (e : Edition) {at : Places} (placed
       (nameAs (declaring number)) (yields-declaring number) bs whole)
       (λ _ rest whole. yields-noStepEnd rest whole (λ s h. subst (λ s. FormedOrNone e z none (join s noView)) (sym h) (refl, refl, refl)))
 
+  -- of no names each is known
+  none-known : Each (λ (n : List ℕ). K (record { purpose = string; name = n })) []
+  unfolding Each
+  none-known = tt
+
   -- where the next step is one of the steps
   module _ (next : at .next < z .steps) where
     yields-branch : (bs : List ℕ) → Whole bs → Yields K (Plainly (BranchHolds e z)) (branch e isNumber at bs)
@@ -222,7 +212,12 @@ module _ {K : Naming → Type 0} {z : Sizes} (e : Edition) {at : Places} (placed
         yields-after _ (yields-test e placed rest whole) (λ t rest whole.
         yields-after _ (yields-skip (bytes ")") rest refl whole) (λ _ rest whole.
         yields-after _ (yields-branch rest whole) (λ b rest whole.
-        yields-stepEnd (ifTest t b) rest whole (λ b _ t _. (refl, refl, refl, λ _. both-pass t b))))))
+        yields-stepEnd (ifTest t b) rest whole (λ branch _ test _. (
+          ap length (sym (test-elements t b)),
+          ap length (sym (test-items t b)),
+          ap (λ xs. length (allLiterals xs)) (sym (test-elements t b)),
+          λ _. test-holds e (z .strings) (z .numbers) (z .steps) t b test branch,
+        ))))))
 
     yields-readForm : (bs : List ℕ) → Whole bs → Yields K (FormedOrNone e z) (readForm e isNumber at bs)
     unfolding readForm elementsOf itemsOf allLiterals statementHolds bytes all quote
@@ -246,15 +241,22 @@ module _ {K : Naming → Type 0} {z : Sizes} (e : Edition) {at : Places} (placed
           yields-stepEnd (scan d p xs r b) rest whole (λ branch u row _ t pat _ s ref.
           let n = ref .0 in
           let ys = map value (replacementOf r) in
+          let elements = scan-elements d p xs r b in
           subst (λ s. Formed e z (scan d p xs r b) (join s (join t (join u noView)))) (sym (ref .2)) (
-            omega (arith, length-append xs ys, length-map (replacementOf r) value),
-            omega arith,
-            omega (arith, ap length (literals-append xs ys), length-append (allLiterals xs) (allLiterals ys)),
+            omega (arith, ap length elements, length-append xs ys, length-map (replacementOf r) value),
+            omega (arith, ap length (scan-items d p xs r b)),
+            omega
+                (arith, ap (λ zs. length (allLiterals zs)) elements, ap length (literals-append xs ys), length-append (allLiterals xs) (allLiterals ys)),
             λ clash.
-                let apart = fillers-apart K at distinct n (ref .3) [] (t .roles) (u .roles ++ []) (pat .3) clash in
-                let filled = pat .5 (at .string n) apart in
-                let holds : ℕ → Bool = λ i. all (patternHolds e (z .strings) (z .numbers) (z .steps) i) xs in
-                both-pass (ref .4) (both-pass (pat .4) (both-pass (ap holds (ref .1) ∙ filled) (both-pass (row .3) branch))),
+                let roles = roles-hold K at distinct n (ref .3) [] none-known xs (t .roles) (u .roles ++ []) (pat .3) clash in
+                scan-holds e (z .strings) (z .numbers) (z .steps) d r (record {
+                  part = ref .4;
+                  few = pat .4;
+                  patterns = pat .5;
+                  roles = ap (λ i. rolesHold i [] xs) (ref .1) ∙ roles;
+                  row = row .3;
+                  branch = branch;
+                }),
           ))))))))
 
   -- the form of each kind, where the next step is one of the steps if another comes behind, and strings of other names have other places
@@ -302,16 +304,14 @@ yielded (yields whole p) fit = p fit
 
 -- a statement read, where the next step is one of the steps if another comes behind, and strings of other names have other places
 pub statement-yields : {K : Naming → Type 0} {z : Sizes} (e : Edition) {at : Places} → PlacedBy K z at → (isNumber : List ℕ → Bool)
-    (labelBytes text : List ℕ) (a : Option Statement) (m : Met) (rest : List ℕ)
-    → (isInner (leading (packed text) .kind) ≡ true → at .next < z .steps)
-    → Distinct K at → readStatement e isNumber at labelBytes text ≡ got a m rest → Fit K m → FormedOrNone e z a (viewOf m)
+    (labelBytes : List ℕ) (whole : Bool) (bs : List ℕ) → (whole ≡ true → Whole bs) → (a : Option Statement) (m : Met) (rest : List ℕ)
+    → (isInner (leading bs .kind) ≡ true → at .next < z .steps)
+    → Distinct K at → readStatement e isNumber at labelBytes whole bs ≡ got a m rest → Fit K m → FormedOrNone e z a (viewOf m)
 unfolding readStatement statementForm
-statement-yields {K} {z} e {at} placed isNumber labelBytes text a m rest next distinct q fit =
-    let bs = packed text in
-    let form : literalsWhole text ≡ true → Yields K (FormedOrNone e z) (statementForm e isNumber at bs) = λ h.
-    let whole = whole-leading bs (packed-whole text h) in
-    yields-formOf e placed isNumber (leading bs .kind) (drop (leading bs .size) bs) whole next distinct in
+statement-yields {K} {z} e {at} placed isNumber labelBytes whole bs h a m rest next distinct q fit =
+    let form : whole ≡ true → Yields K (FormedOrNone e z) (statementForm e isNumber at bs) = λ w.
+    yields-formOf e placed isNumber (leading bs .kind) (drop (leading bs .size) bs) (whole-leading bs (h w)) next distinct in
     yielded
     (subst (Yields K (FormedOrNone e z)) q
-    (yields-labelled (labelForm labelBytes) (literalsWhole text) (statementForm e isNumber at bs) (yields-label labelBytes) form))
+    (yields-labelled (labelForm labelBytes) whole (statementForm e isNumber at bs) (yields-label labelBytes) form))
     fit

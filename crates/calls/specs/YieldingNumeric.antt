@@ -21,7 +21,7 @@ use Rattle.language.specs.Program.{Operator, Sign, positive, negative, Item, op
 use Rattle.language.specs.Reading.{Naming, anItem}
 use Rattle.language.specs.Words.{Places, isSign}
 use Rattle.calls.specs.Literals.{Whole, whole-behind}
-use Rattle.calls.specs.Rules.{mostWaiting, balanced, itemHolds}
+use Rattle.calls.specs.Rules.{mostWaiting, balanced, operandHolds, itemHolds}
 use Rattle.calls.specs.Yielding.{View, view, viewOf, join, Yields, yields, breaks}
 use Rattle.calls.specs.Yielding.{yields-map, yields-next, yields-after, yields-give, yields-if, yields-skip}
 use Rattle.calls.specs.YieldingWords.{yields-plainFactor}
@@ -124,7 +124,7 @@ module _ {K : Naming → Type 0} {z : Sizes} (e : Edition) {at : Places} (placed
       )
 
   mutual
-    unfolding expressionAt bytes all quote itemHolds anItem viewOf total balanced mostWaiting deepest
+    unfolding expressionAt bytes all quote itemHolds operandHolds anItem viewOf total balanced mostWaiting deepest
 
     yields-expressionAt : (k d : ℕ) → d ≤ deepest → (bs : List ℕ) → Whole bs → Yields K (Adding e z d 3) (expressionAt e at k d bs)
     yields-expressionAt zero d deep bs whole = breaks

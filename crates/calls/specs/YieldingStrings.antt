@@ -1,7 +1,7 @@
--- What string expressions and patterns yield: as many elements and literal bytes as were met, all in range, and a filler's place is not
--- the reference's where the roles say so. Assumes nothing.
+-- What string expressions and patterns yield: as many elements and literal bytes as were met, all in range, and a pattern's roles are those
+-- of its elements. Assumes nothing.
 use mathlib.Core.Bool.{true, false, not, _||_}
-use mathlib.Core.List.{List, [], _∷_, _++_, map}
+use mathlib.Core.List.{List, [], _∷_, _++_, map, append-nil}
 use mathlib.Core.Path.{_≡_, refl, sym, _∙_, ap, subst}
 use Prim.Native.Nat.{ℕ, zero, suc, _+_, _≤_}
 use native.Mathlib.Omega.{arith}
@@ -22,8 +22,10 @@ use Rattle.language.specs.Strings.{nothingHere, moreOf, listOf, rowOf, textCall
 use Rattle.language.specs.Strings.{patternElement, pattern}
 use Rattle.language.specs.Words.{Places, isSign, noRole}
 use Rattle.values.specs.Numbers.{isInRange}
+use Rattle.calls.specs.CellLaws.{part-literal, fixed-literal}
 use Rattle.calls.specs.Literals.{Whole, whole-behind, LiteralRead, literalRead, literal-read}
-use Rattle.calls.specs.Rules.{signedLengthHolds, elementHolds, patternHolds, rowHolds}
+use Rattle.calls.specs.RuleLaws.{fixed-holds}
+use Rattle.calls.specs.Rules.{placeOf, partHolds, elementHolds, patternHolds, rowHolds}
 use Rattle.calls.specs.Table.{literalIn, allLiterals}
 use Rattle.calls.specs.Yielding.{View, view, viewOf, noView, join, Yields, yields}
 use Rattle.calls.specs.Yielding.{yields-next, yields-after, yields-give, yields-if, yields-skip}
@@ -61,31 +63,37 @@ module _ {K : Naming → Type 0} {A : Type 0} {One : A → View → Type 0} {Man
       yields-if (nothingHere bs) _ _ (λ _. yields-give [] bs whole none)
       (λ _. yields-next _ (yields-listOf bs whole) (λ xs rest whole. yields whole (λ fit s h. row xs s (fit .rows .0) h)))
 
--- a role that is no reference and no filler
-abbrev pub Sought : Role → Type 0
-Sought (reference n) = ⊥
-Sought (sought n) = Unit
-Sought (filler n) = ⊥
+-- what an element of a string expression makes of the roles of a name: those of the string that it names
+abbrev pub Played : (Naming → Type 0) → Places → (List ℕ → List Role) → Element → List Role → Type 0
+Played K at roles (literal w) rs = rs ≡ []
+Played K at roles (part p) rs =
+    (n : List ℕ) × (placeOf p ≡ at .string n) × K (record { purpose = string; name = n }) × (rs ≡ roles n)
+Played K at roles (text n m) rs = rs ≡ []
 
--- a role that is no reference, of a name that is known if it is a filler
-abbrev pub Inner : (Naming → Type 0) → Role → Type 0
-Inner K (reference n) = ⊥
-Inner K (sought n) = Unit
-Inner K (filler n) = K (record { purpose = string; name = n })
+-- the role of a string in a pattern, where it is sought, and of a filler
+abbrev pub soughtRole : List ℕ → List Role
+soughtRole n = sought n ∷ []
 
--- a filler whose place is not r
-abbrev pub Apart : Places → ℕ → Role → Type 0
-Apart at r (reference n) = Unit
-Apart at r (sought n) = Unit
-Apart at r (filler n) = eqb (at .string n) r ≡ false
+abbrev Filled : (Naming → Type 0) → Places → ℕ → List Role → Type 0
+Filled K at s rs = (n : List ℕ) × (s ≡ at .string n) × K (record { purpose = string; name = n }) × (rs ≡ filler n ∷ [])
+
+abbrev pub Plays : (Naming → Type 0) → Places → PatternElement → List Role → Type 0
+Plays K at (value x) rs = Played K at soughtRole x rs
+Plays K at (freeFiller s) rs = Filled K at s rs
+Plays K at (fixedFiller s n) rs = Filled K at s rs
+
+-- all elements of a pattern, one after the other
+abbrev pub AllPlay : (Naming → Type 0) → Places → List PatternElement → List Role → Type 0
+AllPlay K at [] rs = rs ≡ []
+AllPlay K at (x ∷ xs) rs = (own : List Role) × (rest : List Role) × (rs ≡ own ++ rest) × Plays K at x own × AllPlay K at xs rest
 
 -- an element, met with its literal bytes
-abbrev OneElement : Edition → Sizes → Element → View → Type 0
-OneElement e z x s =
+abbrev OneElement : (Naming → Type 0) → Edition → Sizes → Places → (List ℕ → List Role) → Element → View → Type 0
+OneElement K e z at roles x s =
     (s .elements ≡ 0)
     × (s .items ≡ 0)
     × (s .literals ≡ length (literalIn (value x)))
-    × Each Sought (s .roles)
+    × Played K at roles x (s .roles)
     × (elementHolds e (z .strings) (z .numbers) (z .steps) x ≡ true)
 
 -- some of them
@@ -110,8 +118,8 @@ OnePattern K e z at x s =
     (s .elements ≡ 0)
     × (s .items ≡ 0)
     × (s .literals ≡ length (literalIn x))
-    × Each (Inner K) (s .roles)
-    × ((r : ℕ) → Each (Apart at r) (s .roles) → patternHolds e (z .strings) (z .numbers) (z .steps) r x ≡ true)
+    × Plays K at x (s .roles)
+    × (patternHolds e (z .strings) (z .numbers) (z .steps) x ≡ true)
 
 -- some of them
 abbrev Patterns : (Naming → Type 0) → Edition → Sizes → Places → List PatternElement → View → Type 0
@@ -119,8 +127,8 @@ Patterns K e z at xs s =
     (s .elements ≡ 0)
     × (s .items ≡ 0)
     × (s .literals ≡ length (allLiterals xs))
-    × Each (Inner K) (s .roles)
-    × ((r : ℕ) → Each (Apart at r) (s .roles) → all (patternHolds e (z .strings) (z .numbers) (z .steps) r) xs ≡ true)
+    × AllPlay K at xs (s .roles)
+    × (all (patternHolds e (z .strings) (z .numbers) (z .steps)) xs ≡ true)
 
 -- a pattern, met with its elements, their literal bytes and their roles
 abbrev pub PatternRow : (Naming → Type 0) → Edition → Sizes → Places → List PatternElement → View → Type 0
@@ -128,9 +136,9 @@ PatternRow K e z at xs s =
     (s .elements ≡ length xs)
     × (s .items ≡ 0)
     × (s .literals ≡ length (allLiterals xs))
-    × Each (Inner K) (s .roles)
+    × AllPlay K at xs (s .roles)
     × (leb (length xs) Limits.row ≡ true)
-    × ((r : ℕ) → Each (Apart at r) (s .roles) → all (patternHolds e (z .strings) (z .numbers) (z .steps) r) xs ≡ true)
+    × (all (patternHolds e (z .strings) (z .numbers) (z .steps)) xs ≡ true)
 
 -- a literal has a byte
 yields-literal : {K : Naming → Type 0} {read : Read (List ℕ)} → LiteralRead read
@@ -140,70 +148,52 @@ yields-literal (literalRead nonempty whole) = yields whole (λ _. (refl, nonempt
 
 module _ {K : Naming → Type 0} {z : Sizes} (e : Edition) {at : Places} (placed : PlacedBy K z at) where
   -- a call of STRING
-  yields-textCall : (bs : List ℕ) → Whole bs → Yields K (OneElement e z) (textCall e at bs)
-  unfolding textCall literalIn elementHolds signedLengthHolds isInRange Each bytes all quote
+  yields-textCall : {roles : List ℕ → List Role} (bs : List ℕ) → Whole bs → Yields K (OneElement K e z at roles) (textCall e at bs)
+  unfolding textCall literalIn elementHolds isInRange bytes all quote
   yields-textCall bs whole =
       yields-if (isDigit (getD bs 0 0) || isSign bs) _ _
       (λ _. yields-after _ (yields-signed e bs whole) (λ n rest whole.
       yields-after _ (yields-skip (bytes ",") rest refl whole) (λ _ rest whole.
       yields-after _ (yields-numberName e placed rest whole) (λ m rest whole.
       yields-after _ (yields-skip (bytes ")") rest refl whole) (λ _ rest whole.
-      yields-give (text (constantly n) m) rest whole (λ _ m _ n. (refl, refl, refl, tt, both-pass n m)))))))
+      yields-give (text (constantly n) m) rest whole (λ _ m _ n. (refl, refl, refl, refl, both-pass m n)))))))
       (λ _. yields-after _ (yields-numberName e placed bs whole) (λ i rest whole.
       yields-if (begins (bytes ",") rest) _ _
       (λ h. yields-after _ (yields-numberName e placed (drop 1 rest) (whole-behind (bytes ",") rest refl h whole)) (λ m rest whole.
       yields-after _ (yields-skip (bytes ")") rest refl whole) (λ _ rest whole.
-      yields-give (text (numbered i) m) rest whole (λ _ m i. (refl, refl, refl, tt, both-pass i m)))))
+      yields-give (text (numbered i) m) rest whole (λ _ m i. (refl, refl, refl, refl, both-pass m i)))))
       (λ _. yields-after _ (yields-skip (bytes ")") rest refl whole) (λ _ rest whole.
       yields-give (text (constantly (pos 0)) i) rest whole (λ _ i.
-      (refl, refl, refl, tt, both-pass (le-leb 0 (e .limit) (omega arith)) i))))))
+      (refl, refl, refl, refl, both-pass i (le-leb 0 (e .limit) (omega arith))))))))
 
-  -- an element, whose name is at most sought
-  yields-element : (roles : List ℕ → List Role) → ((n : List ℕ) → Each Sought (roles n)) → (bs : List ℕ) → Whole bs
-      → Yields K (OneElement e z) (element e at roles bs)
-  unfolding element literalIn elementHolds Each bytes all quote
-  yields-element roles plain bs whole =
+  -- an element
+  yields-element : (roles : List ℕ → List Role) (bs : List ℕ) → Whole bs → Yields K (OneElement K e z at roles) (element e at roles bs)
+  unfolding element literalIn elementHolds partHolds bytes all quote
+  yields-element roles bs whole =
       yields-if (begins (bytes "\"") bs) _ _
       (λ h. yields-next _ (yields-literal (literal-read bs h whole)) (λ w rest whole.
       yields-give (literal w) rest whole (λ s h.
-      subst (λ s. OneElement e z (literal w) (join s noView)) (sym (h .0)) (refl, refl, omega arith, tt, ap not (h .1)))))
+      subst (λ s. OneElement K e z at roles (literal w) (join s noView)) (sym (h .0)) (refl, refl, omega arith, refl, ap not (h .1)))))
       (λ _. yields-if (begins (bytes "STRING(") bs) _ _
       (λ h. yields-textCall (drop 7 bs) (whole-behind (bytes "STRING(") bs refl h whole))
       (λ _. yields-next _ (yields-partName e placed roles bs whole) (λ p rest whole.
       yields-give (part p) rest whole (λ s h.
-      subst (λ s. OneElement e z (part p) (join s noView)) (sym (h .2))
-      (refl, refl, refl, each-join Sought (roles (h .0)) [] (plain (h .0)) tt, h .4)))))
+      subst (λ s. OneElement K e z at roles (part p) (join s noView)) (sym (h .2))
+      (refl, refl, ap length (sym (part-literal p)), (h .0, h .1, h .3, append-nil (roles (h .0))), h .4)))))
 
   -- a string expression
   pub yields-stringExpression : (bs : List ℕ) → Whole bs → Yields K (ElementRow e z) (stringExpression e at bs)
   unfolding stringExpression noRole Each all allLiterals rowHolds
   yields-stringExpression =
-      yields-rowOf {One = OneElement e z} {Many = Elements e z} (refl, refl, refl, refl)
+      yields-rowOf {One = OneElement K e z at noRole} {Many = Elements e z} (refl, refl, refl, refl)
       (λ x xs s t h g. (
         omega arith,
         omega arith,
         omega (arith, length-append (literalIn (value x)) (allLiterals (map value xs))),
         both-pass (h .4) (g .3),
       ))
-      (element e at noRole) (yields-element noRole (λ _. tt)) {Row = ElementRow e z} (refl, refl, refl, refl)
+      (element e at noRole) (yields-element noRole) {Row = ElementRow e z} (refl, refl, refl, refl)
       (λ xs s few h. (omega arith, omega arith, omega arith, both-pass (le-leb (length xs) Limits.row few) (h .3)))
-
-  -- a filler, whose place is not that of the reference where its role is apart
-  filler-yields : (x : PatternElement) (i : ℕ) (s : View) (n : List ℕ) → i ≡ at .string n → s ≡ view 0 0 0 (filler n ∷ [])
-      → K (record { purpose = string; name = n }) → literalIn x ≡ []
-      → ((r : ℕ) → ltb i (z .strings) ≡ true → not (eqb i r) ≡ true → patternHolds e (z .strings) (z .numbers) (z .steps) r x ≡ true)
-      → OnePattern K e z at x (join s noView)
-  unfolding Each
-  filler-yields x i s n place roles known nothing holds =
-      subst (λ s. OnePattern K e z at x (join s noView)) (sym roles) (
-        refl,
-        refl,
-        ap length (sym nothing),
-        (known, tt),
-        λ r apart.
-            holds r (string-below e placed i n place known)
-            (ap not (ap (λ j. eqb j r) place ∙ apart .0)),
-      )
 
   -- a filler in parentheses
   yields-fillerAt : (bs : List ℕ) → Whole bs → Yields K (OnePattern K e z at) (fillerAt e at bs)
@@ -214,50 +204,51 @@ module _ {K : Naming → Type 0} {z : Sizes} (e : Edition) {at : Places} (placed
       (λ h. yields-after _ (yields-bound e placed (drop 1 rest) (whole-behind (bytes "$") rest refl h whole)) (λ n rest whole.
       yields-after _ (yields-skip (bytes ")") rest refl whole) (λ _ rest whole.
       yields-give (fixedFiller i n) rest whole (λ _ l s h.
-      filler-yields (fixedFiller i n) i s (h .0) (h .1) (h .2) (h .3) refl (λ r below apart. both-pass below (both-pass apart l))))))
+      let below = string-below e placed i (h .0) (h .1) (h .3) in
+      subst (λ s. OnePattern K e z at (fixedFiller i n) (join s noView)) (sym (h .2)) (
+        refl,
+        refl,
+        ap length (sym (fixed-literal i n)),
+        (h .0, h .1, h .3, refl),
+        fixed-holds e (z .strings) (z .numbers) (z .steps) i n ∙ both-pass below l,
+      )))))
       (λ _. yields-after _ (yields-skip (bytes ")") rest refl whole) (λ _ rest whole.
       yields-give (freeFiller i) rest whole (λ _ s h.
-      filler-yields (freeFiller i) i s (h .0) (h .1) (h .2) (h .3) refl (λ r below apart. both-pass below apart)))))
+      subst (λ s. OnePattern K e z at (freeFiller i) (join s noView)) (sym (h .2))
+      (refl, refl, refl, (h .0, h .1, h .3, refl), string-below e placed i (h .0) (h .1) (h .3))))))
 
   -- an element of a pattern
   yields-patternElement : (bs : List ℕ) → Whole bs → Yields K (OnePattern K e z at) (patternElement e at bs)
-  unfolding patternElement patternHolds Each bytes all quote
+  unfolding patternElement patternHolds elementHolds bytes all quote
   yields-patternElement bs whole =
       yields-if (begins (bytes "(") bs) _ _ (λ h. yields-fillerAt (drop 1 bs) (whole-behind (bytes "(") bs refl h whole))
-      (λ _. yields-next _ (yields-element (λ n. sought n ∷ []) (λ _. (tt, tt)) bs whole) (λ x rest whole.
+      (λ _. yields-next _ (yields-element soughtRole bs whole) (λ x rest whole.
       yields-give (value x) rest whole (λ s h. (
         omega arith,
         omega arith,
         omega arith,
-        each-join (Inner K) (s .roles) [] (each-map sought-inner (s .roles) (h .3)) tt,
-        λ r _. h .4,
+        subst (Played K at soughtRole x) (sym (append-nil (s .roles))) (h .3),
+        h .4,
       ))))
-    where
-      sought-inner : (role : Role) → Sought role → Inner K role
-      sought-inner (reference n) h = h
-      sought-inner (sought n) h = tt
-      sought-inner (filler n) h = absurd h
 
   -- a pattern
   pub yields-pattern : (bs : List ℕ) → Whole bs → Yields K (PatternRow K e z at) (pattern e at bs)
   unfolding pattern Each all allLiterals
   yields-pattern =
-      yields-rowOf {One = OnePattern K e z at} {Many = Patterns K e z at} (refl, refl, refl, tt, λ _ _. refl)
+      yields-rowOf {One = OnePattern K e z at} {Many = Patterns K e z at} (refl, refl, refl, refl, refl)
       (λ x xs s t h g. (
         omega arith,
         omega arith,
         omega (arith, length-append (literalIn x) (allLiterals xs)),
-        each-join (Inner K) (s .roles) (t .roles ++ []) (h .3) (each-join (Inner K) (t .roles) [] (g .3) tt),
-        λ r apart.
-            let parts = each-part (Apart at r) (s .roles) (t .roles ++ []) apart in
-            both-pass (h .4 r (parts .0)) (g .4 r (each-part (Apart at r) (t .roles) [] (parts .1) .0)),
+        (s .roles, t .roles, ap (λ rs. s .roles ++ rs) (append-nil (t .roles)), h .3, g .3),
+        both-pass (h .4) (g .4),
       ))
-      (patternElement e at) yields-patternElement {Row = PatternRow K e z at} (refl, refl, refl, tt, refl, λ _ _. refl)
+      (patternElement e at) yields-patternElement {Row = PatternRow K e z at} (refl, refl, refl, refl, refl, refl)
       (λ xs s few h. (
         omega arith,
         omega arith,
         omega arith,
-        each-join (Inner K) (s .roles) [] (h .3) tt,
+        subst (AllPlay K at xs) (sym (append-nil (s .roles))) (h .3),
         le-leb (length xs) Limits.row few,
-        λ r apart. h .4 r (each-part (Apart at r) (s .roles) [] apart .0),
+        h .4,
       ))

@@ -24,7 +24,8 @@ use Rattle.language.specs.Words.{partOf, stringName, partName}
 use Rattle.values.specs.Laws.{abs-negative}
 use Rattle.values.specs.Numbers.{isNegative, isInRange}
 use Rattle.calls.specs.Literals.{Whole, whole-behind, whole-name, whole-digits}
-use Rattle.calls.specs.Rules.{placeOf, lengthHolds, partHolds, operandHolds, testHolds}
+use Rattle.calls.specs.RuleLaws.{lengthHolds, testHolds, first-holds, number-of-holds}
+use Rattle.calls.specs.Rules.{placeOf, partHolds, operandHolds}
 use Rattle.calls.specs.Yielding.{view, viewOf, noView, join, Yields, yields, breaks, Plainly}
 use Rattle.calls.specs.Yielding.{yields-map, yields-next, yields-after, yields-give, yields-if, yields-skip}
 
@@ -111,7 +112,7 @@ module _ {K : Naming → Type 0} {z : Sizes} (e : Edition) {at : Places} (placed
   yields-partOf s bs whole =
       yields-if (begins (bytes "$") bs) _ _
       (λ h. yields-after _ (yields-bound (drop 1 bs) (whole-behind (bytes "$") bs refl h whole)) (λ n rest whole.
-      yields-give (first s n) rest whole (λ n. (refl, (refl, λ s. both-pass s n)))))
+      yields-give (first s n) rest whole (λ l. (refl, (refl, λ h. first-holds e (z .strings) (z .numbers) (z .steps) s n ∙ both-pass h l)))))
       (λ _. yields-give (Part.whole s) bs whole (refl, (refl, λ s. s)))
 
   -- the place of a known string is one of the program's
@@ -176,7 +177,7 @@ module _ {K : Naming → Type 0} {z : Sizes} (e : Edition) {at : Places} (placed
       (λ _. yields-if (begins (bytes "NUMBER(") bs) _ _
       (λ h. yields-after _ (yields-part (drop 7 bs) (whole-behind (bytes "NUMBER(") bs refl h whole)) (λ p rest whole.
       yields-after _ (yields-skip (bytes ")") rest refl whole) (λ _ rest whole.
-      yields-give (numberOf p) rest whole (λ _ h. (refl, h)))))
+      yields-give (numberOf p) rest whole (λ _ h. (refl, number-of-holds e (z .strings) (z .numbers) (z .steps) p ∙ h)))))
       (λ _. yields-after _ (yields-numberName bs whole) (λ i rest whole. yields-give (Program.number i) rest whole (λ h. (refl, h)))))
 
   -- a factor that is no expression in parentheses

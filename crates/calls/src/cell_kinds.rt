@@ -1,48 +1,51 @@
-// The kinds of a table's cells, as specs/Table has them (docs/TABLE.md lists all). Where a length may be a constant or a number, the kind named is
-// that of a constant, and the next one is that of a number.
+// The kinds of a table's cells, as specs/Kinds has them (docs/TABLE.md lists all). Numbers leave room between classes, and each place where a
+// cell may stand takes one range of them. Where a length may be a constant or a number, the kind named is that of a constant, and the next
+// one is that of a number.
 pub const NOTHING: u8 = 0;
 
-// a string, and the first bytes of one
-pub const STRING: u8 = 1;
+// items, from PLUS to LAST_ITEM: operators, signs of a first term, operands from CONSTANT on
+pub const PLUS: u8 = 16;
 
-pub const FIRST: u8 = 2;
+pub const MINUS: u8 = 17;
 
-pub const CONSTANT: u8 = 4;
+pub const TIMES: u8 = 18;
 
-pub const NUMBER: u8 = 5;
+pub const OVER: u8 = 19;
 
-pub const LENGTH: u8 = 6;
+pub const POSITIVE: u8 = 24;
 
-// NUMBER of a string or of the first bytes of one is this much above their own kinds
-pub const NUMBER_OF: u8 = 6;
+pub const NEGATIVE: u8 = 25;
 
-pub const LAST_OPERAND: u8 = 9;
+pub const CONSTANT: u8 = 32;
 
-pub const PLUS: u8 = 10;
+pub const NUMBER: u8 = 33;
 
-pub const MINUS: u8 = 11;
+pub const LENGTH: u8 = 34;
 
-pub const TIMES: u8 = 12;
+// NUMBER of a string, and behind it of the first bytes of one
+pub const NUMBER_OF: u8 = 36;
 
-pub const OVER: u8 = 13;
+pub const LAST_ITEM: u8 = 63;
 
-// the signs of a first term
-pub const POSITIVE: u8 = 14;
+// a string, and behind it the first bytes of one; these go up to LAST_PART
+pub const STRING: u8 = 64;
 
-pub const NEGATIVE: u8 = 15;
+pub const LAST_PART: u8 = 79;
 
-pub const LITERAL: u8 = 16;
+// elements, from STRING to LAST_ELEMENT: strings, and these
+pub const LITERAL: u8 = 80;
 
 // STRING(n,m)
-pub const TEXT: u8 = 17;
+pub const TEXT: u8 = 81;
 
-pub const LAST_ELEMENT: u8 = 18;
+pub const LAST_ELEMENT: u8 = 95;
 
-// fillers, free and fixed
-pub const FREE: u8 = 19;
+// elements of a pattern, from STRING to LAST_FILLER: elements, and fillers, free and fixed
+pub const FREE: u8 = 96;
 
-pub const FIXED: u8 = 20;
+pub const FIXED: u8 = 97;
 
-pub const LAST_FILLER: u8 = 21;
+pub const LAST_FILLER: u8 = 111;
 
-pub const RANGE: u8 = 22;
+// a row's range of items or elements
+pub const RANGE: u8 = 112;

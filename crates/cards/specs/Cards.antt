@@ -19,11 +19,11 @@ unfoldable pub lines : List ℕ → List (List ℕ)
 lines [] = []
 lines (b ∷ deck) = elim (eqb b newline) [ true ↦ [] ∷ lines deck | false ↦ onFirst b (lines deck) ]
 
--- What the lines make up, each with the number of its first line as its card and whether 3 finds it sound: a comment or blank line, or
--- a statement with the bytes of its label and of all its columns 10-72.
-pub data Entry : Type 0 where
-  skipped : (card : ℕ) (sound : Bool) → Entry
-  statement : (card : ℕ) (sound : Bool) (label text : List ℕ) → Entry
+-- What the lines make up before it is packed, each with the number of its first line as its card and whether 3 finds it sound: a comment or
+-- blank line, or a statement with the bytes of its label and of all its columns 10-72.
+pub data Unpacked : Type 0 where
+  skipped : (card : ℕ) (sound : Bool) → Unpacked
+  statement : (card : ℕ) (sound : Bool) (label text : List ℕ) → Unpacked
 
 -- Q3 "A byte is refused, a line exceeds 80"
 unfoldable pub soundLine : List ℕ → Bool
@@ -54,17 +54,17 @@ module _ (e : Edition) where
   textOf line = drop 9 (e .columns line)
 
   -- C5, Q3: a line joined to the statement that comes behind it, whose label is ignored; "a joined line is a comment, blank or missing"
-  unfoldable pub joined : ℕ → List ℕ → List Entry → List Entry
+  unfoldable pub joined : ℕ → List ℕ → List Unpacked → List Unpacked
   joined n line [] = statement n false (labelOf line) (textOf line) ∷ []
   joined n line (skipped c s ∷ rest) = statement n false (labelOf line) (textOf line) ∷ (skipped c s ∷ rest)
   joined n line (statement c s label text ∷ rest) =
       statement n (soundLine line && s) (labelOf line) (textOf line ++ text) ∷ rest
 
   -- the lines from number n on; Q3 "column 9 is `/` outside a comment"
-  unfoldable pub entriesFrom : ℕ → List (List ℕ) → List Entry
-  entriesFrom n [] = []
-  entriesFrom n (line ∷ ls) =
-      let rest = entriesFrom (suc n) ls in
+  unfoldable pub unpackedFrom : ℕ → List (List ℕ) → List Unpacked
+  unpackedFrom n [] = []
+  unpackedFrom n (line ∷ ls) =
+      let rest = unpackedFrom (suc n) ls in
       cond (isComment line || isBlankLine line)
       (skipped n (soundLine line) ∷ rest)
       (cond (isBlank (column9 line))
@@ -72,7 +72,3 @@ module _ (e : Edition) where
       (cond (eqb (column9 line) slash)
       (statement n false (labelOf line) (textOf line) ∷ rest)
       (joined n line rest)))
-
-  -- D3 "that line as the card, counted from 1"
-  unfoldable pub entries : List ℕ → List Entry
-  entries deck = entriesFrom 1 (lines deck)

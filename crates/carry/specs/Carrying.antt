@@ -4,7 +4,7 @@ use mathlib.Core.List.{List}
 use mathlib.Core.Path.{_≡_}
 use Prim.Native.Nat.{ℕ}
 use lib.ListN.{length, getD, set}
-use Rattle.base.specs.Edition.{edition1}
+use Rattle.base.specs.Current.{current}
 use Rattle.calls.specs.Buffers.{storeKeeps, stateKeeps, stateIn}
 use Rattle.calls.specs.Calls.{Buffers, leftOf, buffers}
 use Rattle.expressions.specs.Memory.{memoryIn}
@@ -22,7 +22,7 @@ use Rattle.values.specs.Work.{Work, done, stop}
 pub record Standing (p : Program) (input : List ℕ) (b : Buffers) : Type 0 where
   pub store-good : storeKeeps (b .store) ≡ true
   pub size : length (b .state) ≡ 64
-  pub range : stateKeeps edition1 (length (p .steps)) (length input) (length (b .output)) (b .state) ≡ true
+  pub range : stateKeeps current (length (p .steps)) (length input) (length (b .output)) (b .state) ≡ true
   pub running : getD (b .state) 0 0 ≡ 0
 
 -- the machine that they hold
@@ -47,12 +47,12 @@ Carries (did.Stops k) input b left w = Unmoved b left k w
 -- a statement carried out on buffers that a step may be given
 abbrev pub Does : Statement → Did → (b left : Buffers) → (input : List ℕ) → Type 0
 Does x r b left input =
-    (p : Program) → Standing p input b → Carries r input b left (carrying edition1 (length (b .output)) x (machineIn input b))
+    (p : Program) → Standing p input b → Carries r input b left (carrying current (length (b .output)) x (machineIn input b))
 
 -- a branch taken by what a test came to: the IF that asks it is carried out, whatever the test and the buffers besides
 abbrev pub TakesBranch : Truth → Branch → Did → (state left : List ℕ) → Type 0
 TakesBranch t f r state left =
-    (store input output : List ℕ) (x : Test) → truthWorked t ≡ testIn edition1 (memoryIn store state) x
+    (store input output : List ℕ) (x : Test) → truthWorked t ≡ testIn current (memoryIn store state) x
     → Does (ifTest x f) r (buffers store state output) (buffers store left output) input
 
 -- the state moved on to a step, if a statement's work is done

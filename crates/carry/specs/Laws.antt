@@ -7,7 +7,7 @@ use native.Mathlib.Numerals.{add-one}
 use native.Mathlib.Omega.{arith}
 use lib.ListN.{length, take, drop, getD, set, take-append-drop, length-drop}
 use lib.Seq.{length-take-le, getD-set-same}
-use Rattle.base.specs.Edition.{edition1}
+use Rattle.base.specs.Current.{current}
 use Rattle.calls.specs.BufferLaws.{Good, keeps-good}
 use Rattle.calls.specs.Buffers.{stringsIn, numbersIn, statusOf, stateIn, storeImage, storeLeft, outputLeft, storeSize, stateSize}
 use Rattle.calls.specs.Calls.{Buffers, leftOf, buffers}
@@ -44,17 +44,17 @@ module _ (p : Program) (input : List ℕ) (b : Buffers) (s : Standing p input b)
   abbrev c : State
   c = machineIn input b
 
-  facts : StateInRange edition1 (length (p .steps)) (length input) (length (b .output)) (b .state)
-  facts = state-in-range edition1 (length (p .steps)) (length input) (length (b .output)) (b .state) (s .range)
+  facts : StateInRange current (length (p .steps)) (length input) (length (b .output)) (b .state)
+  facts = state-in-range current (length (p .steps)) (length input) (length (b .output)) (b .state) (s .range)
 
   pub good : Good (b .store)
   good = keeps-good (b .store) (s .store-good)
 
   -- its numbers
   pub given-leaves : Leaves (b .state) input c (b .state)
-  unfolding stateIn stateSize statusOf isRunning
+  unfolding stateIn statusOf isRunning
   given-leaves =
-      holding-leaves (given-holds edition1 p input b (s .size) (s .store-good) (s .range)) (ap (λ (n : ℕ). isRunning (statusOf n)) (s .running))
+      holding-leaves (given-holds current p input b (s .size) (s .store-good) (s .range)) (ap (λ (n : ℕ). isRunning (statusOf n)) (s .running))
 
   -- the output as it was
   pub output-same : (m : State) → m .output ≡ c .output → outputLeft (b .output) m ≡ b .output
@@ -91,7 +91,7 @@ module _ (p : Program) (input : List ℕ) (b : Buffers) (s : Standing p input b)
 
   -- GOTO
   pub goes : (k : ℕ) → Moved input b (buffers (b .store) (set (b .state) 1 k) (b .output)) 0
-      (carrying edition1 (length (b .output)) (Program.goto k) (machineIn input b))
+      (carrying current (length (b .output)) (Program.goto k) (machineIn input b))
   unfolding carrying moving quietly goingTo stateIn
   goes k =
       let m = goingTo k (c .memory) c in
@@ -99,16 +99,16 @@ module _ (p : Program) (input : List ℕ) (b : Buffers) (s : Standing p input b)
 
   -- END
   pub finishes : Moved input b (buffers (b .store) (set (b .state) 0 1) (b .output)) 0
-      (carrying edition1 (length (b .output)) Program.finish (machineIn input b))
+      (carrying current (length (b .output)) Program.finish (machineIn input b))
   unfolding carrying moving quietly withStatus stateIn
   finishes =
       record { machine = withStatus finished c; work = refl; left-is = stays-parts (withStatus finished c) _ refl refl (leaves-finished given-leaves) }
 
   -- a number set
   pub sets-number : (r : Did) (state : List ℕ) (place next : ℕ) (xs : List Program.Item) → place < 32 → next ≡ getD (b .state) 1 0 + 1
-      → Assigns r (b .state) state place (numericIn edition1 (memoryIn (b .store) (b .state)) xs)
+      → Assigns r (b .state) state place (numericIn current (memoryIn (b .store) (b .state)) xs)
       → Carries r input b (buffers (b .store) (movedOn r state next) (b .output))
-      (carrying edition1 (length (b .output)) (Program.setNumber place xs) (machineIn input b))
+      (carrying current (length (b .output)) (Program.setNumber place xs) (machineIn input b))
   unfolding carrying moving quietly goingTo withNumber stateIn
   sets-number (did.Done notes) state place next xs h e a =
       let z = a .value in
@@ -126,9 +126,9 @@ module _ (p : Program) (input : List ℕ) (b : Buffers) (s : Standing p input b)
 
   -- a string set
   pub sets-string : (r : Did) (store scratch out : List ℕ) (next : ℕ) (q : Part) (xs : List Program.Element) → next ≡ getD (b .state) 1 0 + 1
-      → Stored r (b .store) store (b .state) scratch out (setStringIn edition1 (memoryIn (b .store) (b .state)) q xs)
+      → Stored r (b .store) store (b .state) scratch out (setStringIn current (memoryIn (b .store) (b .state)) q xs)
       → Carries r input b (buffers store (movedOn r (b .state) next) (b .output))
-      (carrying edition1 (length (b .output)) (Program.setString q xs) (machineIn input b))
+      (carrying current (length (b .output)) (Program.setString q xs) (machineIn input b))
   unfolding carrying moving quietly goingTo stateIn
   sets-string (did.Done notes) store scratch out next q xs e a =
       let left = memoryOf store (numbersIn (b .state)) in
@@ -145,9 +145,9 @@ module _ (p : Program) (input : List ℕ) (b : Buffers) (s : Standing p input b)
 
   -- IF
   pub tests : (holds : Bool) (notes k : ℕ) (t : Program.Test) (f : Branch) → k ≡ chosen holds f
-      → testIn edition1 (memoryIn (b .store) (b .state)) t ≡ done holds notes
+      → testIn current (memoryIn (b .store) (b .state)) t ≡ done holds notes
       → Moved input b (buffers (b .store) (set (b .state) 1 k) (b .output)) notes
-      (carrying edition1 (length (b .output)) (Program.ifTest t f) (machineIn input b))
+      (carrying current (length (b .output)) (Program.ifTest t f) (machineIn input b))
   unfolding carrying moving quietly goingTo stateIn
   tests holds notes k t f e w =
       let m = goingTo (chosen holds f) (c .memory) c in
@@ -157,8 +157,8 @@ module _ (p : Program) (input : List ℕ) (b : Buffers) (s : Standing p input b)
         left-is = stays-parts m _ refl refl (rw e (leaves-going given-leaves (chosen holds f) (c .memory) refl));
       }
 
-  pub test-stops : (k : ℕ) (t : Program.Test) (f : Branch) → testIn edition1 (memoryIn (b .store) (b .state)) t ≡ stop k
-      → Unmoved b b k (carrying edition1 (length (b .output)) (Program.ifTest t f) (machineIn input b))
+  pub test-stops : (k : ℕ) (t : Program.Test) (f : Branch) → testIn current (memoryIn (b .store) (b .state)) t ≡ stop k
+      → Unmoved b b k (carrying current (length (b .output)) (Program.ifTest t f) (machineIn input b))
   unfolding carrying stateIn
   test-stops k t f w = record { work = stopped _ _ k w; same = refl }
 
@@ -169,7 +169,7 @@ module _ (p : Program) (input : List ℕ) (b : Buffers) (s : Standing p input b)
 
   pub reads : (takes : Bool) (store state : List ℕ) (q : Part) (f : Branch) → Moves takes (b .store) store (b .state) state input q
       → Moved input b (buffers store (set state 1 (chosen takes f)) (b .output)) 0
-      (carrying edition1 (length (b .output)) (Program.read q f) (machineIn input b))
+      (carrying current (length (b .output)) (Program.read q f) (machineIn input b))
   unfolding carrying moving quietly goingTo withInput stateIn
   reads takes store state q f a =
       let k = chosen takes f in
@@ -188,7 +188,7 @@ module _ (p : Program) (input : List ℕ) (b : Buffers) (s : Standing p input b)
       }
 
   pub read-stops : (k : ℕ) (store state : List ℕ) (q : Part) (f : Branch) → Halts (b .store) store (b .state) state input k q
-      → Unmoved b (buffers store state (b .output)) k (carrying edition1 (length (b .output)) (Program.read q f) (machineIn input b))
+      → Unmoved b (buffers store state (b .output)) k (carrying current (length (b .output)) (Program.read q f) (machineIn input b))
   unfolding carrying
   read-stops k store state q f a =
       record { work = a .work f c has-all; same = λ i. record { store = a .same i; state = a .state-same i; output = b .output } }
@@ -196,13 +196,13 @@ module _ (p : Program) (input : List ℕ) (b : Buffers) (s : Standing p input b)
   -- WRITE
   pub writes : (r : Did) (state output : List ℕ) (next : ℕ) (xs : List Program.Element) → next ≡ getD (b .state) 1 0 + 1
       → PutBy r (b .state) state (b .output) output
-      (λ m. stringIn edition1 (memoryIn (b .store) (b .state)) xs >>= λ v. shortened v >>= λ w. putting (length (b .output)) w m)
+      (λ m. stringIn current (memoryIn (b .store) (b .state)) xs >>= λ v. shortened v >>= λ w. putting (length (b .output)) w m)
       → Carries r input b (buffers (b .store) (movedOn r state next) output)
-      (carrying edition1 (length (b .output)) (Program.write xs) (machineIn input b))
+      (carrying current (length (b .output)) (Program.write xs) (machineIn input b))
   unfolding carrying moving quietly goingTo withOutput stateIn outputLeft
   writes (did.Done notes) state output next xs e a =
       let n = a .reaches in
-      let text = stringIn edition1 (memoryIn (b .store) (b .state)) xs in
+      let text = stringIn current (memoryIn (b .store) (b .state)) xs in
       let put : State → Work Done = λ d. moving (goingTo (suc (c .next)) (c .memory) d) in
       let d = withOutput (take n output) c in
       let m = goingTo (suc (c .next)) (c .memory) d in
@@ -222,7 +222,7 @@ module _ (p : Program) (input : List ℕ) (b : Buffers) (s : Standing p input b)
         left-is = left-parts m (b .store) _ output (stays-same (b .store) good) refl moved outputs;
       }
   writes (did.Stops k) state output next xs e a =
-      let text = stringIn edition1 (memoryIn (b .store) (b .state)) xs in
+      let text = stringIn current (memoryIn (b .store) (b .state)) xs in
       let put : State → Work Done = λ d. moving (goingTo (suc (c .next)) (c .memory) d) in
       let order : (text >>= λ v. shortened v >>= λ w. putting (length (b .output)) w c >>= put)
       ≡ (text >>= (λ v. shortened v >>= λ w. putting (length (b .output)) w c) >>= put) =
@@ -242,7 +242,7 @@ module _ (p : Program) (input : List ℕ) (b : Buffers) (s : Standing p input b)
   pub executes : (next k : ℕ) → next ≡ getD (b .state) 1 0 + 1 → getD (b .state) 2 0 < 16
       → Moved input b
       (buffers (b .store) (set (set (set (b .state) (5 + getD (b .state) 2 0) next) 2 (getD (b .state) 2 0 + 1)) 1 k) (b .output)) 0
-      (carrying edition1 (length (b .output)) (Program.execute k) (machineIn input b))
+      (carrying current (length (b .output)) (Program.execute k) (machineIn input b))
   unfolding carrying moving quietly goingTo withReturns stateIn
   executes next k e h =
       let m = withReturns (suc (c .next) ∷ c .returns) (goingTo k (c .memory) c) in
@@ -254,7 +254,7 @@ module _ (p : Program) (input : List ℕ) (b : Buffers) (s : Standing p input b)
   -- RETURN
   pub returns-to : (state : List ℕ) (k : ℕ) → Popped (b .state) k state → 0 < getD (b .state) 2 0
       → Moved input b (buffers (b .store) (set state 1 k) (b .output)) 0
-      (carrying edition1 (length (b .output)) Program.return (machineIn input b))
+      (carrying current (length (b .output)) Program.return (machineIn input b))
   unfolding carrying moving quietly stateIn
   returns-to state k a h =
       let m = returning (c .returns) c in

@@ -47,12 +47,12 @@ pub cells-none : (store : List ℕ) (at : ℕ) → cellsKeep store at 0 ≡ true
 unfolding cellsKeep
 cells-none store at = refl
 
-pub keeps-small : (store : List ℕ) → length store < 32832 → storeKeeps store ≡ false
-unfolding storeKeeps storeSize
+pub keeps-small : (store : List ℕ) → length store < storeSize → storeKeeps store ≡ false
+unfolding storeKeeps
 keeps-small store h = rw (lt-leb _ _ h)
 
-pub keeps-cells : (store : List ℕ) → 32832 ≤ length store → storeKeeps store ≡ cellsKeep store 0 32
-unfolding storeKeeps storeSize mostStrings
+pub keeps-cells : (store : List ℕ) → storeSize ≤ length store → storeKeeps store ≡ cellsKeep store 0 32
+unfolding storeKeeps mostStrings
 keeps-cells store h = rw (le-leb _ _ h)
 
 -- a store started
@@ -60,13 +60,13 @@ pub zeros-front : (d : List ℕ) (n : ℕ) → splice d 0 (replicate n 0) ≡ re
 unfolding splice
 zeros-front d n = ap (λ (i : ℕ). replicate n 0 ++ drop i d) (zero-add (length (replicate n 0)) ∙ length-replicate n 0)
 
-pub start-small : (store : List ℕ) → length store < 32832 → Started store 14 store
-unfolding startCall storeSize
+pub start-small : (store : List ℕ) → length store < storeSize → Started store 14 store
+unfolding startCall
 start-small store h = record { number-right = rw (lt-ltb _ _ h); left-right = rw (lt-ltb _ _ h) }
 
-pub start-large : (store left : List ℕ) → 32832 ≤ length store → left ≡ replicate storeSize 0 ++ drop storeSize store
+pub start-large : (store left : List ℕ) → storeSize ≤ length store → left ≡ replicate storeSize 0 ++ drop storeSize store
     → Started store 0 left
-unfolding startCall storeSize
+unfolding startCall
 start-large store left h e = record { number-right = rw (le-ltb _ _ h); left-right = rw (le-ltb _ _ h) e }
 
 -- the list behind a part of the first n elements

@@ -78,7 +78,7 @@ fn set_length(store: &mut [u8], at: usize, n: usize)
 // Ends a string anew: zeros where it was longer, and its length.
 fn set_end(store: &mut [u8], place: usize, old: usize, new: usize)
     requires { ⌜ (place < 32) × ((old ≤ 1024) × (new ≤ 1024)) ⌝ }
-    requires { ⌜ 32832 ≤ length (now store) ⌝ }
+    requires { ⌜ storeSize ≤ length (now store) ⌝ }
     ensures { λ _. ⌜ now (store .exit) ≡ ended (now (store .entry)) place old new ⌝ }
 {
     let start = string_start(place);
@@ -112,7 +112,7 @@ pub fn replace(store: &mut [u8], place: usize, from: usize, to: usize, v: &[u8])
 
 // Zeroes the store's cells.
 pub fn clear(store: &mut [u8])
-    requires { ⌜ 32832 ≤ length (now store) ⌝ }
+    requires { ⌜ storeSize ≤ length (now store) ⌝ }
     ensures { λ _. ⌜ now (store .exit) ≡ replicate storeSize 0 ++ drop storeSize (now (store .entry)) ⌝ }
 {
     spans::blank(store, 0, STORE_SIZE);

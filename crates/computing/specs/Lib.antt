@@ -2,6 +2,7 @@
 
 unfoldable pub everything : Unit {0}
 unfolding
+    Rattle.base.specs.Current.current
     Rattle.base.specs.Edition.edition1
     Rattle.base.specs.Lists.same
     Rattle.base.specs.Lists.begins
@@ -67,8 +68,10 @@ unfolding
     Rattle.cards.specs.Cards.labelOf
     Rattle.cards.specs.Cards.textOf
     Rattle.cards.specs.Cards.joined
-    Rattle.cards.specs.Cards.entriesFrom
-    Rattle.cards.specs.Cards.entries
+    Rattle.cards.specs.Cards.unpackedFrom
+    Rattle.cards.specs.Entries.packedEntry
+    Rattle.cards.specs.Entries.entriesFrom
+    Rattle.cards.specs.Entries.entries
     Rattle.cards.specs.Packing.placeAfter
     Rattle.cards.specs.Packing.isDropped
     Rattle.cards.specs.Packing.packFrom
@@ -145,6 +148,11 @@ unfolding
     Rattle.language.specs.Reading._>>=_
     Rattle.language.specs.Reading.skip
     Rattle.language.specs.Reading.finished
+    Rattle.language.specs.ScopeForms.goesOn
+    Rattle.language.specs.ScopeForms.StepLeads
+    Rattle.language.specs.ScopeForms.UseLeads
+    Rattle.language.specs.Scopes.Leads
+    Rattle.language.specs.Scopes.Nested
     Rattle.language.specs.Strings.literalAt
     Rattle.language.specs.Strings.nothingHere
     Rattle.language.specs.Strings.moreOf
@@ -170,6 +178,7 @@ unfolding
     Rattle.language.specs.Words.partOf
     Rattle.language.specs.Words.stringName
     Rattle.language.specs.Words.partName
+    Rattle.judgement.specs.Chains.Chained
     Rattle.judgement.specs.Deck.unplaced
     Rattle.judgement.specs.Deck.metBy
     Rattle.judgement.specs.Deck.judgeFrom
@@ -187,6 +196,7 @@ unfolding
     Rattle.judgement.specs.Deck.stepsFrom
     Rattle.judgement.specs.Deck.programOf
     Rattle.judgement.specs.Deck.concluded
+    Rattle.judgement.specs.Deck.judgeEntries
     Rattle.judgement.specs.Deck.judge
     Rattle.judgement.specs.Known.nothingKnown
     Rattle.judgement.specs.Known.sameNaming
@@ -218,6 +228,9 @@ unfolding
     Rattle.judgement.specs.Refusals.metNumber
     Rattle.judgement.specs.Refusals.formNumber
     Rattle.judgement.specs.Refusals.statementNumber
+    Rattle.judgement.specs.Standing.scopedStep
+    Rattle.judgement.specs.Standing.scopesOf
+    Rattle.judgement.specs.Standing.From
     Rattle.values.specs.Conversion.longestString
     Rattle.values.specs.Conversion.substring
     Rattle.values.specs.Conversion.isDigitOrBlank
@@ -240,6 +253,7 @@ unfolding
     Rattle.values.specs.Numbers.difference
     Rattle.values.specs.Numbers.product
     Rattle.values.specs.Numbers.quotient
+    Rattle.values.specs.Work.stopsStep
     Rattle.values.specs.Work.noting
     Rattle.values.specs.Work.quietly
     Rattle.values.specs.Work._>>=_
@@ -311,7 +325,6 @@ unfolding
     Rattle.machine.specs.Step.step
     Rattle.calls.specs.BufferLaws.storeWith
     Rattle.calls.specs.Buffers.cellSize
-    Rattle.calls.specs.Buffers.storeSize
     Rattle.calls.specs.Buffers.cellImage
     Rattle.calls.specs.Buffers.storeImage
     Rattle.calls.specs.Buffers.stringIn
@@ -320,7 +333,6 @@ unfolding
     Rattle.calls.specs.Buffers.cellKeeps
     Rattle.calls.specs.Buffers.cellsKeep
     Rattle.calls.specs.Buffers.storeKeeps
-    Rattle.calls.specs.Buffers.stateSize
     Rattle.calls.specs.Buffers.returnsAt
     Rattle.calls.specs.Buffers.numbersAt
     Rattle.calls.specs.Buffers.statusNumber
@@ -333,7 +345,6 @@ unfolding
     Rattle.calls.specs.Buffers.stateLeft
     Rattle.calls.specs.Buffers.outputLeft
     Rattle.calls.specs.Buffers.firstState
-    Rattle.calls.specs.Calls.longestDeck
     Rattle.calls.specs.Calls.readJudged
     Rattle.calls.specs.Calls.readCall
     Rattle.calls.specs.Calls.startCall
@@ -356,24 +367,54 @@ unfolding
     Rattle.calls.specs.Demands.ListClaim
     Rattle.calls.specs.Demands.AllRefused
     Rattle.calls.specs.Demands.Linked
+    Rattle.calls.specs.KindLaws.kindIn
+    Rattle.calls.specs.KindLaws.placeFor
+    Rattle.calls.specs.KindLaws.hasNone
+    Rattle.calls.specs.KindLaws.isPlain
+    Rattle.calls.specs.KindLaws.rowIn
+    Rattle.calls.specs.Kinds.partKinds
+    Rattle.calls.specs.Kinds.spellPart
+    Rattle.calls.specs.Kinds.operatorNumber
+    Rattle.calls.specs.Kinds.signNumber
+    Rattle.calls.specs.Kinds.operandKinds
+    Rattle.calls.specs.Kinds.spellOperand
+    Rattle.calls.specs.Kinds.itemKinds
+    Rattle.calls.specs.Kinds.spellItem
+    Rattle.calls.specs.Kinds.elementKinds
+    Rattle.calls.specs.Kinds.spellElement
+    Rattle.calls.specs.Kinds.patternKinds
+    Rattle.calls.specs.Kinds.spellPattern
+    Rattle.calls.specs.Kinds.rowKinds
+    Rattle.calls.specs.Kinds.spellStatement
     Rattle.calls.specs.Numerals.inBytes
     Rattle.calls.specs.Numerals.numberAt
     Rattle.calls.specs.Numerals.bias
     Rattle.calls.specs.Numerals.biased
     Rattle.calls.specs.Numerals.unbiased
+    Rattle.calls.specs.RuleLaws.lengthHolds
+    Rattle.calls.specs.RuleLaws.signedLengthHolds
+    Rattle.calls.specs.RuleLaws.testHolds
     Rattle.calls.specs.Rules.mostWaiting
     Rattle.calls.specs.Rules.balanced
     Rattle.calls.specs.Rules.placeOf
-    Rattle.calls.specs.Rules.signedLengthHolds
-    Rattle.calls.specs.Rules.lengthHolds
+    Rattle.calls.specs.Rules.namedBy
+    Rattle.calls.specs.Rules.isAmong
+    Rattle.calls.specs.Rules.rolesHold
+    Rattle.calls.specs.Rules.leftPlace
+    Rattle.calls.specs.Rules.placeHolds
+    Rattle.calls.specs.Rules.valueHolds
+    Rattle.calls.specs.Rules.holds
     Rattle.calls.specs.Rules.partHolds
     Rattle.calls.specs.Rules.operandHolds
     Rattle.calls.specs.Rules.itemHolds
     Rattle.calls.specs.Rules.elementHolds
     Rattle.calls.specs.Rules.patternHolds
     Rattle.calls.specs.Rules.rowHolds
+    Rattle.calls.specs.Rules.patternsHold
     Rattle.calls.specs.Rules.branchHolds
-    Rattle.calls.specs.Rules.testHolds
+    Rattle.calls.specs.Rules.leftHolds
+    Rattle.calls.specs.Rules.rightHolds
+    Rattle.calls.specs.Rules.stepsHold
     Rattle.calls.specs.Rules.statementHolds
     Rattle.calls.specs.Rules.stepHolds
     Rattle.calls.specs.Rules.isProgram
@@ -392,26 +433,32 @@ unfolding
     Rattle.calls.specs.Table.cell
     Rattle.calls.specs.Table.noCell
     Rattle.calls.specs.Table.cellBytes
-    Rattle.calls.specs.Table.lengthCell
+    Rattle.calls.specs.Table.range
+    Rattle.calls.specs.Table.valueOf
+    Rattle.calls.specs.Table.literalOf
+    Rattle.calls.specs.Table.cellFor
     Rattle.calls.specs.Table.partCell
     Rattle.calls.specs.Table.operandCell
-    Rattle.calls.specs.Table.operatorKind
-    Rattle.calls.specs.Table.signKind
     Rattle.calls.specs.Table.itemCell
-    Rattle.calls.specs.Table.range
     Rattle.calls.specs.Table.elementCell
     Rattle.calls.specs.Table.patternCell
     Rattle.calls.specs.Table.literalIn
-    Rattle.calls.specs.Table.replacementOf
+    Rattle.calls.specs.Table.rightElements
+    Rattle.calls.specs.Table.rightItems
     Rattle.calls.specs.Table.elementsOf
     Rattle.calls.specs.Table.itemsOf
+    Rattle.calls.specs.Table.replacementOf
     Rattle.calls.specs.Table.rowBytes
     Rattle.calls.specs.Table.row
     Rattle.calls.specs.Table.rangeCell
     Rattle.calls.specs.Table.comparisonNumber
     Rattle.calls.specs.Table.directionNumber
-    Rattle.calls.specs.Table.replacementFlag
-    Rattle.calls.specs.Table.testRow
+    Rattle.calls.specs.Table.flagNumber
+    Rattle.calls.specs.Table.successOf
+    Rattle.calls.specs.Table.failureOf
+    Rattle.calls.specs.Table.leftCell
+    Rattle.calls.specs.Table.rightCell
+    Rattle.calls.specs.Table.rowFor
     Rattle.calls.specs.Table.rowOf
     Rattle.calls.specs.Table.stepRows
     Rattle.calls.specs.Table.allElements
@@ -431,11 +478,10 @@ unfolding
     Rattle.calls.specs.TableReading.rangeFrom
     Rattle.calls.specs.TableReading.rangeCount
     Rattle.calls.specs.TableReading.rangeMore
-    Rattle.calls.specs.TableReading.lengthOfCell
+    Rattle.calls.specs.TableReading.payloadIn
+    Rattle.calls.specs.TableReading.readCell
     Rattle.calls.specs.TableReading.partOfCell
     Rattle.calls.specs.TableReading.operandOfCell
-    Rattle.calls.specs.TableReading.operatorOfKind
-    Rattle.calls.specs.TableReading.signOfKind
     Rattle.calls.specs.TableReading.itemOfCell
     Rattle.calls.specs.TableReading.elementOfCell
     Rattle.calls.specs.TableReading.patternOfCell
@@ -444,15 +490,17 @@ unfolding
     Rattle.calls.specs.TableReading.patternFrom
     Rattle.calls.specs.TableReading.comparisonOf
     Rattle.calls.specs.TableReading.rowAt
-    Rattle.calls.specs.TableReading.branchOf
-    Rattle.calls.specs.TableReading.testOf
-    Rattle.calls.specs.TableReading.elementsOfRow
-    Rattle.calls.specs.TableReading.patternOfRow
-    Rattle.calls.specs.TableReading.replacementOfRow
     Rattle.calls.specs.TableReading.directionOf
+    Rattle.calls.specs.TableReading.flagIn
+    Rattle.calls.specs.TableReading.stepsIn
+    Rattle.calls.specs.TableReading.leftIn
+    Rattle.calls.specs.TableReading.rightIn
+    Rattle.calls.specs.TableReading.readRow
     Rattle.calls.specs.TableReading.statementOfRow
     Rattle.calls.specs.TableReading.stepIn
     Rattle.calls.specs.TableReading.stepsFrom
     Rattle.calls.specs.TableReading.programIn
+    Rattle.calls.specs.TurnedDownLaws.GoesOn
+    Rattle.calls.specs.TurnedDownLaws.CallGoes
     Rattle.calls.specs.Yielding.viewOf
 everything = tt

@@ -11,11 +11,11 @@ use mir.Syntax.{w64}
 use mir.Val.{SFits, ofZ, toZ}
 use borrow.Author.Tests.{ltb-true, ltb-false, le-leb, lt-leb}
 use Rattle.base.specs.Choice.{cond-cases}
-use Rattle.base.specs.Edition.{edition1}
+use Rattle.base.specs.Current.{current, limit, limit-is}
 use Rattle.values.specs.Numbers.{isNegative, isInRange, held}
 use Rattle.values.specs.Work.{Work, done, stop}
-use Rattle.convert.specs.Laws.{limit-is, fits, plain}
-use Rattle.convert.specs.Numbers.{limit, Answers}
+use Rattle.convert.specs.Laws.{fits, plain}
+use Rattle.convert.specs.Numbers.{Answers}
 use Rattle.convert.specs.declared.Number.{Number}
 
 -- ---- how far results are from 0
@@ -87,14 +87,14 @@ not-negative (negsuc n) e = absurd (true≢false e)
 
 -- ---- the range
 
-pub held-in : (z : ℤ) → natAbs z ≤ limit → held edition1 z ≡ done z 0
+pub held-in : (z : ℤ) → natAbs z ≤ limit → held current z ≡ done z 0
 unfolding held isInRange
 held-in z h = rw (limit-is, le-leb (natAbs z) limit h)
 
-pub held-out : (z : ℤ) → limit < natAbs z → held edition1 z ≡ stop 19
+pub held-out : (z : ℤ) → limit < natAbs z → held current z ≡ stop 19
 unfolding held isInRange
 held-out z h = rw (limit-is, lt-leb (natAbs z) limit h)
 
 -- an answer for a number is one for the same number otherwise got
-pub held-as : {r : Number} {y z : ℤ} → y ≡ z → Answers r (held edition1 y) → Answers r (held edition1 z)
-held-as {r} e h = subst (λ (z : ℤ). Answers r (held edition1 z)) e h
+pub held-as : {r : Number} {y z : ℤ} → y ≡ z → Answers r (held current y) → Answers r (held current z)
+held-as {r} e h = subst (λ (z : ℤ). Answers r (held current z)) e h

@@ -9,14 +9,14 @@ use lib.IntN.{pos, negℤ, natAbs}
 use lib.ListN.{length, drop, getD, drop-of-length-le}
 use borrow.Author.Tests.{ltb-true, eq-eqb, ne-eqb, le-ltb, lt-ltb}
 use Rattle.base.specs.Choice.{test-cases, cond-cases}
-use Rattle.base.specs.Edition.{edition1}
+use Rattle.base.specs.Current.{current, limit}
 use Rattle.base.specs.ListLaws.{drop-next}
 use Rattle.base.specs.Lists.{same, begins, all, isNil}
 use Rattle.base.specs.Text.{bytes}
 use Rattle.values.specs.Conversion.{isDigitOrBlank, isSigned, unsignedPart, isNumeric, digitOf, decimal, signedBy, numberOf}
 use Rattle.values.specs.Numbers.{held}
 use Rattle.values.specs.Work.{Work, done, stop}
-use Rattle.convert.specs.Numbers.{limit, signLength}
+use Rattle.convert.specs.Numbers.{signLength}
 use Rattle.convert.proofs.Numbers.{negative-size, held-in, held-out}
 
 -- ---- one byte
@@ -90,7 +90,7 @@ decimal-grows v (b ∷ s) = omega (arith, decimal-grows (v * 10 + digitOf b) s)
 
 -- ---- NUMBER
 
-pub number-other : (s : List ℕ) → isNumeric s ≡ false → numberOf edition1 s ≡ done (pos 0) 1
+pub number-other : (s : List ℕ) → isNumeric s ≡ false → numberOf current s ≡ done (pos 0) 1
 unfolding numberOf
 number-other s e = rw e
 
@@ -99,7 +99,7 @@ module _ (s : List ℕ) (numeric : isNumeric s ≡ true) where
   value = decimal 0 (drop (signLength s) s)
 
   -- the value of the digits with the sign of the first byte
-  number-signed : numberOf edition1 s ≡ held edition1 (signedBy (eqb (getD s 0 0) 45) value)
+  number-signed : numberOf current s ≡ held current (signedBy (eqb (getD s 0 0) 45) value)
   unfolding numberOf bytes value
   number-signed =
       let some : length s ≡ 0 → ⊥ = λ empty. omega (arith, numeric-some s numeric) in
@@ -110,19 +110,19 @@ module _ (s : List ℕ) (numeric : isNumeric s ≡ true) where
   signed-size true n = negative-size (pos n)
   signed-size false n = refl
 
-  pub number-beyond : limit < decimal 0 (drop (signLength s) s) → numberOf edition1 s ≡ stop 19
+  pub number-beyond : limit < decimal 0 (drop (signLength s) s) → numberOf current s ≡ stop 19
   unfolding value
   number-beyond h =
       let negative = eqb (getD s 0 0) 45 in
       number-signed ∙ held-out (signedBy negative value) (rw (signed-size negative value) h)
 
   module _ (v : ℕ) (same : v ≡ decimal 0 (drop (signLength s) s)) (small : v ≤ limit) where
-    pub number-negative : getD s 0 0 ≡ 45 → numberOf edition1 s ≡ done (negℤ (pos v)) 0
+    pub number-negative : getD s 0 0 ≡ 45 → numberOf current s ≡ done (negℤ (pos v)) 0
     unfolding signedBy value
     number-negative e =
         number-signed
         ∙ rw (eq-eqb (getD s 0 0) 45 e, sym same) (held-in (negℤ (pos v)) (rw (negative-size (pos v)) small))
 
-    pub number-positive : (getD s 0 0 ≡ 45 → ⊥) → numberOf edition1 s ≡ done (pos v) 0
+    pub number-positive : (getD s 0 0 ≡ 45 → ⊥) → numberOf current s ≡ done (pos v) 0
     unfolding signedBy value
     number-positive f = number-signed ∙ rw (ne-eqb (getD s 0 0) 45 f, sym same) (held-in (pos v) small)

@@ -9,13 +9,14 @@ use lib.ListN.{length, take, length-append, length-replicate}
 use lib.Seq.{take-length}
 use borrow.Author.Tests.{eq-eqb, ne-eqb, lt-ltb, le-ltb, le-leb, lt-leb}
 use Rattle.base.specs.Choice.{cond-cases}
+use Rattle.base.specs.Current.{limit}
 use Rattle.base.specs.Text.{bytes}
 use Rattle.values.specs.Conversion.{signOf, digits, filled, textOf}
 use Rattle.values.specs.Laws.{digits-length}
 use Rattle.values.specs.Numbers.{isNegative}
 use Rattle.values.specs.Work.{Work, done, stop}
 use Rattle.convert.specs.Laws.{longest-is}
-use Rattle.convert.specs.Numbers.{limit, InRange}
+use Rattle.convert.specs.Numbers.{InRange}
 use Rattle.convert.specs.Text.{longest, filledText, Room, Stored, Written}
 use Rattle.convert.specs.declared.Int.{Int}
 use Rattle.convert.specs.declared.Text.the-variants.{Is}

@@ -11,25 +11,20 @@ use mir.Syntax.{w64}
 use mir.Val.{SFits, ofZ, toZ}
 use mir.ValLaws.{toZ-ofZ}
 use borrow.Author.Tests.{leb-true}
-use Rattle.base.specs.Edition.{edition1}
+use Rattle.base.specs.Current.{current, limit, limit-is}
 use Rattle.values.specs.Conversion.{longestString, textOf}
 use Rattle.values.specs.Numbers.{isInRange}
 use Rattle.values.specs.Work.{Work, done, stop}
 use Rattle.convert.specs.declared.Int.{Int}
 use Rattle.convert.specs.declared.Number as Number
 use Rattle.convert.specs.declared.Text as Text
-use Rattle.convert.specs.Numbers.{limit, InRange, worked, Within, Answers}
+use Rattle.convert.specs.Numbers.{InRange, worked, Within, Answers}
 use Rattle.convert.specs.Text.{longest, textWorked, Settled, Written}
 
--- the code's limit is that of edition 1
-pub limit-is : edition1 .limit ≡ limit
-unfolding edition1
-limit-is = refl
-
 -- a number that passes the test is in range
-pub in-range : (z : ℤ) → isInRange edition1 z ≡ true → natAbs z ≤ limit
+pub in-range : (z : ℤ) → isInRange current z ≡ true → natAbs z ≤ limit
 unfolding isInRange
-in-range z h = rw limit-is at (leb-true (natAbs z) (edition1 .limit) h)
+in-range z h = rw limit-is at (leb-true (natAbs z) (current .limit) h)
 
 -- the code's longest string is that of the definitions
 pub longest-is : longestString ≡ longest

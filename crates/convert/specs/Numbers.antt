@@ -4,6 +4,7 @@ use mathlib.Core.List.{List}
 use mathlib.Core.Path.{_≡_}
 use Prim.Native.Nat.{ℕ, _≤_, _<_}
 use lib.IntN.{ℤ, natAbs}
+use Rattle.base.specs.Current.{limit}
 use Rattle.language.specs.Program as Program
 use Rattle.values.specs.Conversion.{isSigned}
 use Rattle.values.specs.Work.{Work, done, stop}
@@ -14,9 +15,6 @@ use Rattle.convert.specs.declared.Comparison.{Comparison}
 use Rattle.convert.specs.declared.Comparison.the-variants.{Equal, Unequal, Less, Greater, AtMost, AtLeast}
 
 -- numbers run from -limit to limit
-abbrev pub limit : ℕ
-limit = 8_388_607
-
 abbrev pub InRange : Int → Type 0
 InRange z = natAbs (z .value) ≤ limit
 

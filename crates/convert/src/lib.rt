@@ -5,12 +5,12 @@ ghost use Prim.Native.Nat.{_+_, _≤_, _<_, _^_};
 ghost use mathlib.Core.Bool.{cond};
 ghost use lib.IntN.{pos, negℤ, natAbs};
 ghost use lib.ListN.{length, drop, replicate};
-ghost use Rattle.base.specs.Edition.{edition1};
+ghost use Rattle.base.specs.Current.{current, limit};
 ghost use Rattle.machine.specs.Expressions.{compared};
 ghost use Rattle.values.specs.Conversion.{digitOf, decimal, digits, isNumeric, numberOf, signOf};
 ghost use Rattle.values.specs.Numbers.{isNegative, sum, difference, product, quotient};
 ghost use Rattle.values.specs.Numbers as Numbers;
-ghost use Rattle.convert.specs.Numbers.{limit, InRange, BothInRange, Gives, Answers, signLength, Capped, comparison};
+ghost use Rattle.convert.specs.Numbers.{InRange, BothInRange, Gives, Answers, signLength, Capped, comparison};
 ghost use Rattle.convert.specs.Text.{longest, Stored, filledText, Room, Writable, Written};
 use base::LONGEST;
 use classes::is_digit_or_blank;
@@ -81,7 +81,7 @@ pub fn int_of(n: u64) -> Int
 // z if it is in range
 fn held(z: Int) -> Number
     requires { ⌜ natAbs (z .value) < 2 ^ 63 ⌝ }
-    ensures { λ r. ⌜ Answers r (Numbers.held edition1 (z .value)) ⌝ }
+    ensures { λ r. ⌜ Answers r (Numbers.held current (z .value)) ⌝ }
 {
     if size(z) <= LIMIT {
         Number::Is { value: z, notes: 0 }
@@ -92,7 +92,7 @@ fn held(z: Int) -> Number
 
 pub fn add(a: Int, b: Int) -> Number
     requires { ⌜ BothInRange a b ⌝ }
-    ensures { λ r. ⌜ Answers r (sum edition1 (a .value) (b .value)) ⌝ }
+    ensures { λ r. ⌜ Answers r (sum current (a .value) (b .value)) ⌝ }
 {
     held(Int {
         value: a.value + b.value,
@@ -101,7 +101,7 @@ pub fn add(a: Int, b: Int) -> Number
 
 pub fn subtract(a: Int, b: Int) -> Number
     requires { ⌜ BothInRange a b ⌝ }
-    ensures { λ r. ⌜ Answers r (difference edition1 (a .value) (b .value)) ⌝ }
+    ensures { λ r. ⌜ Answers r (difference current (a .value) (b .value)) ⌝ }
 {
     held(Int {
         value: a.value - b.value,
@@ -110,7 +110,7 @@ pub fn subtract(a: Int, b: Int) -> Number
 
 pub fn multiply(a: Int, b: Int) -> Number
     requires { ⌜ BothInRange a b ⌝ }
-    ensures { λ r. ⌜ Answers r (product edition1 (a .value) (b .value)) ⌝ }
+    ensures { λ r. ⌜ Answers r (product current (a .value) (b .value)) ⌝ }
 {
     held(Int {
         value: a.value * b.value,
@@ -120,7 +120,7 @@ pub fn multiply(a: Int, b: Int) -> Number
 // the fraction is dropped
 pub fn divide(a: Int, b: Int) -> Number
     requires { ⌜ BothInRange a b ⌝ }
-    ensures { λ r. ⌜ Answers r (quotient edition1 (a .value) (b .value)) ⌝ }
+    ensures { λ r. ⌜ Answers r (quotient current (a .value) (b .value)) ⌝ }
 {
     if b.value == 0 {
         return Number::Stops(18);
@@ -199,7 +199,7 @@ pub fn decimal_from(s: &[u8], start: usize) -> u64
 }
 
 pub fn number_of(s: &[u8]) -> Number
-    ensures { λ r. ⌜ Answers r (numberOf edition1 (now (s .entry))) ⌝ }
+    ensures { λ r. ⌜ Answers r (numberOf current (now (s .entry))) ⌝ }
 {
     if !is_numeric(s) {
         return Number::Is {

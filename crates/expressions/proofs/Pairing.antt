@@ -2,24 +2,23 @@
 use mathlib.Core.Bool.{true, false≢true, and-eq-true-iff}
 use mathlib.Core.List.{List, [], _∷_}
 use mathlib.Core.Path.{_≡_, refl, sym, ap, _∙_}
-use Prim.Native.Nat.{ℕ, suc, _+_, _*_, _≤_, _<_}
+use Prim.Native.Nat.{ℕ, suc, _+_, _*_}
 use native.Mathlib.Nat.{add-zero}
 use native.Mathlib.Omega.{arith}
-use lib.Dec.{leb, ltb}
+use lib.Dec.{ltb}
 use lib.IntN.{ℤ}
-use borrow.Author.Tests.{leb-true, leb-false}
-use Rattle.base.specs.Choice.{cond-cases}
-use Rattle.base.specs.Edition.{edition1}
+use Rattle.base.specs.Current.{current}
 use Rattle.calls.specs.Rules.{mostWaiting, balanced}
 use Rattle.calls.specs.Table.{itemsAt}
 use Rattle.calls.specs.Table as Table
-use Rattle.calls.specs.TableReading.{cellAt, operandOfCell, operatorOfKind, itemOfCell, itemsFrom}
+use Rattle.calls.specs.TableReading.{cellAt, operandOfCell, itemOfCell, itemsFrom}
 use Rattle.language.specs.Program.{Operand, Operator, Item, operand, operator}
 use Rattle.machine.specs.Expressions.{operandIn, operation, combined, itemIn, numericIn}
 use Rattle.machine.specs.State.{Memory}
 use Rattle.rows.specs.Holds.{ItemsHold, OperandHolds, Within}
 use Rattle.rows.specs.Meaning.{operandMeaning, itemsMeaning}
-use Rattle.rows.specs.Reading.{item-operand, item-operator}
+use Rattle.rows.specs.Reading.{operatorOfKind}
+use Rattle.rows.specs.ReadingLaws.{item-cases, item-behind}
 use Rattle.rows.specs.declared.Operand as rows
 use Rattle.rows.specs.declared.Item.the-variants as items
 use Rattle.rows.specs.declared.Stretch.{Stretch}
@@ -28,25 +27,18 @@ use Rattle.expressions.specs.Pairs.{PairAt}
 use Rattle.expressions.proofs.Working.{numericFrom, numeric-begins, numeric-more, numeric-stops, numeric-ends}
 
 -- the first item of a balanced expression is an operand
-first-operand : (c : Table.Cell) (is : List Item) → balanced 0 (itemOfCell c ∷ is) ≡ true → c .kind ≤ 9
-unfolding itemOfCell balanced mostWaiting
+first-operand : (c : Table.Cell) (is : List Item) → balanced 0 (itemOfCell c ∷ is) ≡ true → itemOfCell c ≡ operand (operandOfCell c)
+unfolding balanced
 first-operand c is =
-    cond-cases (λ (x : Item). balanced 0 (x ∷ is) ≡ true → c .kind ≤ 9) (leb (c .kind) 9)
-    (λ low h. leb-true (c .kind) 9 low)
-    (λ high.
-    cond-cases (λ (x : Item). balanced 0 (x ∷ is) ≡ true → c .kind ≤ 9) (leb (c .kind) 13) (λ _ h. absurd (false≢true h))
-    (λ _ h. absurd (false≢true h)))
+    item-cases c (λ (x : Item). balanced 0 (x ∷ is) ≡ true → x ≡ operand (operandOfCell c)) (λ h. absurd (false≢true h))
+    (λ _ h. absurd (false≢true h)) (λ _. refl)
 
 -- the item that leaves one number of two is an operator
-last-operator : (c : Table.Cell) → balanced 2 (itemOfCell c ∷ []) ≡ true → (9 < c .kind) × (c .kind ≤ 13)
-unfolding itemOfCell balanced mostWaiting
+last-operator : (c : Table.Cell) → balanced 2 (itemOfCell c ∷ []) ≡ true → itemOfCell c ≡ operator (operatorOfKind (c .kind))
+unfolding balanced mostWaiting
 last-operator c =
-    cond-cases (λ (x : Item). balanced 2 (x ∷ []) ≡ true → (9 < c .kind) × (c .kind ≤ 13)) (leb (c .kind) 9)
-    (λ low h. absurd (false≢true h))
-    (λ high.
-    cond-cases (λ (x : Item). balanced 2 (x ∷ []) ≡ true → (9 < c .kind) × (c .kind ≤ 13)) (leb (c .kind) 13)
-    (λ low h. (omega (arith, leb-false (c .kind) 9 high), leb-true (c .kind) 13 low))
-    (λ _ h. absurd (false≢true h)))
+    item-cases c (λ (x : Item). balanced 2 (x ∷ []) ≡ true → x ≡ operator (operatorOfKind (c .kind))) (λ _. refl)
+    (λ _ h. absurd (false≢true h)) (λ h. absurd (false≢true h))
 
 -- two operands and the operator behind them
 abbrev pub pairOf : Operand → Operand → Operator → List Item
@@ -63,10 +55,9 @@ module _ {t : List ℕ} {s : Stretch} (hold : ItemsHold t s) where
   cellOf k = cellAt t (itemsAt + 8 * k)
 
   -- an operand, as the code reads it
-  operand-holds : (k : ℕ) → Within s k → cellOf k .kind ≤ 9 → (a : rows.Operand) → operandMeaning a ≡ operandOfCell (cellOf k)
-      → OperandHolds a
-  operand-holds k within low a read =
-      hold .each k (items.Operand a) within (ap operand read ∙ sym (item-operand (cellOf k) low))
+  operand-holds : (k : ℕ) → Within s k → itemOfCell (cellOf k) ≡ operand (operandOfCell (cellOf k)) → (a : rows.Operand)
+      → operandMeaning a ≡ operandOfCell (cellOf k) → OperandHolds a
+  operand-holds k within own a read = hold .each k (items.Operand a) within (ap operand read ∙ sym own)
 
   module _ (p : PairAt t s) where
     abbrev pub first : Table.Cell
@@ -88,51 +79,50 @@ module _ {t : List ℕ} {s : Stretch} (hold : ItemsHold t s) where
     balanced-items : balanced 0 (itemOfCell first ∷ (itemOfCell second ∷ (itemOfCell third ∷ []))) ≡ true
     balanced-items = ap (balanced 0) (sym three-items) ∙ hold .whole
 
-    first-low : first .kind ≤ 9
-    first-low = first-operand first (itemOfCell second ∷ (itemOfCell third ∷ [])) balanced-items
+    first-item : itemOfCell first ≡ operand (operandOfCell first)
+    first-item = first-operand first (itemOfCell second ∷ (itemOfCell third ∷ [])) balanced-items
 
-    third-kind : (9 < third .kind) × (third .kind ≤ 13)
-    third-kind =
+    second-item : itemOfCell second ≡ operand (operandOfCell second)
+    second-item = item-behind second (p .middle)
+
+    third-item : itemOfCell third ≡ operator (operatorOfKind (third .kind))
+    third-item =
         let rest = itemOfCell second ∷ (itemOfCell third ∷ []) in
         let one =
         balanced-behind (operandOfCell first) 0 rest
-        (ap (λ (x : Item). balanced 0 (x ∷ rest)) (sym (item-operand first first-low)) ∙ balanced-items) in
+        (ap (λ (x : Item). balanced 0 (x ∷ rest)) (sym first-item) ∙ balanced-items) in
         last-operator third
         (balanced-behind (operandOfCell second) 1 (itemOfCell third ∷ [])
-        (ap (λ (x : Item). balanced 1 (x ∷ (itemOfCell third ∷ []))) (sym (item-operand second (p .middle))) ∙ one))
+        (ap (λ (x : Item). balanced 1 (x ∷ (itemOfCell third ∷ []))) (sym second-item) ∙ one))
 
     pub pair-items : itemsMeaning t s ≡ pairOf (operandOfCell first) (operandOfCell second) (operatorOfKind (third .kind))
-    pair-items =
-        let a = item-operand first first-low in
-        let b = item-operand second (p .middle) in
-        let o = item-operator third (third-kind .0) (third-kind .1) in
-        three-items ∙ (λ i. a i ∷ (b i ∷ (o i ∷ [])))
+    pair-items = three-items ∙ (λ i. first-item i ∷ (second-item i ∷ (third-item i ∷ [])))
 
     -- its operands, as the code reads them
     pub first-holds : (a : rows.Operand) → operandMeaning a ≡ operandOfCell first → OperandHolds a
-    first-holds = operand-holds (s .from) (record { low = omega arith; high = omega (arith, p .three) }) first-low
+    first-holds = operand-holds (s .from) (record { low = omega arith; high = omega (arith, p .three) }) first-item
 
     pub second-holds : (b : rows.Operand) → operandMeaning b ≡ operandOfCell second → OperandHolds b
-    second-holds = operand-holds (s .from + 1) (record { low = omega arith; high = omega (arith, p .three) }) (p .middle)
+    second-holds = operand-holds (s .from + 1) (record { low = omega arith; high = omega (arith, p .three) }) second-item
 
 -- the value of a pair
 module _ (m : Memory) {is : List Item} {a b : Operand} {o : Operator} (items : is ≡ pairOf a b o) where
-  operand-known : (c : Operand) (known : List ℤ) {x : ℤ} {n : ℕ} → operandIn edition1 m c ≡ done x n
-      → itemIn edition1 m known (operand c) ≡ done (x ∷ known) (n + 0)
+  operand-known : (c : Operand) (known : List ℤ) {x : ℤ} {n : ℕ} → operandIn current m c ≡ done x n
+      → itemIn current m known (operand c) ≡ done (x ∷ known) (n + 0)
   unfolding itemIn _>>=_ noting quietly
   operand-known c known e = ap (λ (w : Work ℤ). w >>= λ z. quietly (z ∷ known)) e
 
-  operand-stops : (c : Operand) (known : List ℤ) {k : ℕ} → operandIn edition1 m c ≡ stop k
-      → itemIn edition1 m known (operand c) ≡ stop k
+  operand-stops : (c : Operand) (known : List ℤ) {k : ℕ} → operandIn current m c ≡ stop k
+      → itemIn current m known (operand c) ≡ stop k
   unfolding itemIn _>>=_
   operand-stops c known e = ap (λ (w : Work ℤ). w >>= λ z. quietly (z ∷ known)) e
 
   -- the operator makes what is left of two numbers
-  operator-works : (x y : ℤ) (notes : ℕ) (w : Work ℤ) → operation edition1 o x y ≡ w
+  operator-works : (x y : ℤ) (notes : ℕ) (w : Work ℤ) → operation current o x y ≡ w
       → numericFrom m notes (y ∷ (x ∷ [])) (operator o ∷ []) ≡ noting notes w
   unfolding itemIn combined _>>=_ noting quietly
   operator-works x y notes (done z n) e =
-      let item : itemIn edition1 m (y ∷ (x ∷ [])) (operator o) ≡ done (z ∷ []) (n + 0) =
+      let item : itemIn current m (y ∷ (x ∷ [])) (operator o) ≡ done (z ∷ []) (n + 0) =
       ap (λ (w : Work ℤ). w >>= λ v. quietly (v ∷ [])) e in
       numeric-more m notes (n + 0) (y ∷ (x ∷ [])) (z ∷ []) (operator o) [] item
       ∙ numeric-ends m (notes + (n + 0)) z []
@@ -141,30 +131,30 @@ module _ (m : Memory) {is : List Item} {a b : Operand} {o : Operator} (items : i
       numeric-stops m notes k (y ∷ (x ∷ [])) (operator o) []
       (ap (λ (w : Work ℤ). w >>= λ v. quietly (v ∷ [])) e)
 
-  module _ {x : ℤ} {n : ℕ} (one : operandIn edition1 m a ≡ done x n) where
-    first-known : numericIn edition1 m is ≡ numericFrom m n (x ∷ []) (operand b ∷ (operator o ∷ []))
+  module _ {x : ℤ} {n : ℕ} (one : operandIn current m a ≡ done x n) where
+    first-known : numericIn current m is ≡ numericFrom m n (x ∷ []) (operand b ∷ (operator o ∷ []))
     first-known =
         let count : 0 + (n + 0) ≡ n = omega arith in
-        ap (numericIn edition1 m) items
+        ap (numericIn current m) items
         ∙ numeric-begins m (pairOf a b o)
         ∙ numeric-more m 0 (n + 0) [] (x ∷ []) (operand a) (operand b ∷ (operator o ∷ [])) (operand-known a [] one)
         ∙ ap (λ (k : ℕ). numericFrom m k (x ∷ []) (operand b ∷ (operator o ∷ []))) count
 
-    pub pair-works : {y : ℤ} {k : ℕ} → operandIn edition1 m b ≡ done y k
-        → numericIn edition1 m is ≡ noting (n + k) (operation edition1 o x y)
+    pub pair-works : {y : ℤ} {k : ℕ} → operandIn current m b ≡ done y k
+        → numericIn current m is ≡ noting (n + k) (operation current o x y)
     pair-works {y} {k} two =
         let count : n + (k + 0) ≡ n + k = omega arith in
         first-known
         ∙ numeric-more m n (k + 0) (x ∷ []) (y ∷ (x ∷ [])) (operand b) (operator o ∷ []) (operand-known b (x ∷ []) two)
         ∙ ap (λ (l : ℕ). numericFrom m l (y ∷ (x ∷ [])) (operator o ∷ [])) count
-        ∙ operator-works x y (n + k) (operation edition1 o x y) refl
+        ∙ operator-works x y (n + k) (operation current o x y) refl
 
-    pub pair-second-stops : {k : ℕ} → operandIn edition1 m b ≡ stop k → numericIn edition1 m is ≡ stop k
+    pub pair-second-stops : {k : ℕ} → operandIn current m b ≡ stop k → numericIn current m is ≡ stop k
     pair-second-stops {k} two =
         first-known ∙ numeric-stops m n k (x ∷ []) (operand b) (operator o ∷ []) (operand-stops b (x ∷ []) two)
 
-  pub pair-first-stops : {k : ℕ} → operandIn edition1 m a ≡ stop k → numericIn edition1 m is ≡ stop k
+  pub pair-first-stops : {k : ℕ} → operandIn current m a ≡ stop k → numericIn current m is ≡ stop k
   pair-first-stops {k} one =
-      ap (numericIn edition1 m) items
+      ap (numericIn current m) items
       ∙ numeric-begins m (pairOf a b o)
       ∙ numeric-stops m 0 k [] (operand a) (operand b ∷ (operator o ∷ [])) (operand-stops a [] one)

@@ -11,13 +11,14 @@ use lib.ListN.{length, take, drop, getD, length-drop}
 use lib.Seq.{getD-drop, getD-take, length-take-le, take-all, take-take}
 use borrow.Author.Tests.{leb-true, leb-false}
 use Rattle.base.specs.Choice.{test-cases}
+use Rattle.base.specs.Current.{limit}
 use Rattle.base.specs.ListLaws.{stretch-cut}
 use Rattle.calls.specs.BufferLaws.{Good, string-part}
 use Rattle.calls.specs.Buffers.{numbersIn, numbersAt}
 use Rattle.calls.specs.NumeralLaws.{biased-small, biased-unbiased}
 use Rattle.calls.specs.Numerals.{bias, unbiased}
 use Rattle.cells.specs.Contracts.{stringOf}
-use Rattle.convert.specs.Numbers.{limit, Gives}
+use Rattle.convert.specs.Numbers.{Gives}
 use Rattle.convert.specs.declared.Int.{Int}
 use Rattle.machine.specs.State.{mostNumbers, numberAt}
 use Rattle.values.specs.Conversion.{substring}

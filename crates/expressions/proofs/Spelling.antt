@@ -4,7 +4,7 @@ use mathlib.Core.Path.{_≡_, refl, sym, ap, subst, _∙_}
 use Prim.Native.Nat.{ℕ, _+_, _*_, _-_, _≤_, _<_}
 use native.Mathlib.Omega.{arith}
 use lib.ListN.{length, length-append}
-use Rattle.base.specs.Edition.{edition1}
+use Rattle.base.specs.Current.{current, tableSize}
 use Rattle.calls.specs.ReadingLaws.{elements-more, elements-none}
 use Rattle.calls.specs.Table.{elementsAt}
 use Rattle.calls.specs.TableReading.{cellAt, elementsFrom}
@@ -13,7 +13,7 @@ use Rattle.convert.specs.declared.Text.the-variants.{Is, Stops}
 use Rattle.language.specs.Program as Program
 use Rattle.machine.specs.Expressions.{elementIn, stringIn}
 use Rattle.machine.specs.State.{Memory}
-use Rattle.rows.specs.Meaning.{tableSize, elementMeaning}
+use Rattle.rows.specs.Meaning.{elementMeaning}
 use Rattle.rows.specs.Reading.{ElementRead}
 use Rattle.rows.specs.declared.Element.{Element}
 use Rattle.values.specs.Work.{stop}
@@ -32,7 +32,7 @@ pub record Spelling (m : Memory) (t : List ℕ) (from count : ℕ) (out scratch 
   pub place : at + left ≡ from + count
   pub short : size + tableSize * left ≤ tableSize * count
   pub few : notes + left ≤ count
-  pub same : stringIn edition1 m (elementsFrom t from count) ≡ stringFrom m notes value (elementsFrom t at left)
+  pub same : stringIn current m (elementsFrom t from count) ≡ stringFrom m notes value (elementsFrom t at left)
 
 pub spelling-begins : (m : Memory) (t : List ℕ) (from count : ℕ) (out scratch : List ℕ) → length out ≡ 1024 → length scratch ≡ 1024
     → Spelling m t from count out scratch 0 0 from count
@@ -52,7 +52,7 @@ spelling-begins m t from count out scratch room spare =
 
 module _ {m : Memory} {t : List ℕ} {from count : ℕ} {out scratch : List ℕ} {size notes at left : ℕ}
     (v : Spelling m t from count out scratch size notes at left) where
-  pub spelling-ends : left ≤ 0 → Spells size notes out (stringIn edition1 m (elementsFrom t from count))
+  pub spelling-ends : left ≤ 0 → Spells size notes out (stringIn current m (elementsFrom t from count))
   spelling-ends h =
       record {
         value = v .value;
@@ -66,23 +66,23 @@ module _ {m : Memory} {t : List ℕ} {from count : ℕ} {out scratch : List ℕ}
     abbrev rest : List Program.Element
     rest = elementsFrom t (at + 1) (left - 1)
 
-    here : stringIn edition1 m (elementsFrom t from count) ≡ stringFrom m notes (v .value) (elementMeaning t x ∷ rest)
+    here : stringIn current m (elementsFrom t from count) ≡ stringFrom m notes (v .value) (elementMeaning t x ∷ rest)
     here =
         v .same
         ∙ ap (stringFrom m notes (v .value))
         (elements-more t at left some ∙ ap (λ (y : Program.Element). y ∷ rest) (sym (read .means)))
 
     -- and what was made of it
-    module _ {r : Text} {after : List ℕ} (adding : Adding r out after size (elementIn edition1 m (elementMeaning t x))) where
+    module _ {r : Text} {after : List ℕ} (adding : Adding r out after size (elementIn current m (elementMeaning t x))) where
       abbrev AddedAs : Text → Type 0
-      AddedAs a = Added a out after size (elementIn edition1 m (elementMeaning t x))
+      AddedAs a = Added a out after size (elementIn current m (elementMeaning t x))
 
       pub spelling-noted : {n more : ℕ} → r ≡ Is n more → (n ≤ tableSize) × (more ≤ 1)
       spelling-noted e =
           let a = subst AddedAs e (adding .added) in
-          (a .short, few-done (few-element edition1 m (elementMeaning t x)) (a .work))
+          (a .short, few-done (few-element current m (elementMeaning t x)) (a .work))
 
-      pub spelling-stops : {k : ℕ} → r ≡ Stops k → stringIn edition1 m (elementsFrom t from count) ≡ stop k
+      pub spelling-stops : {k : ℕ} → r ≡ Stops k → stringIn current m (elementsFrom t from count) ≡ stop k
       spelling-stops {k} e =
           here ∙ string-stops m notes k (v .value) (elementMeaning t x) rest (subst AddedAs e (adding .added))
 

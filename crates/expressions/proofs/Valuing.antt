@@ -6,7 +6,7 @@ use Prim.Native.Nat.{ℕ, _+_, _*_, _-_, _≤_, _<_}
 use native.Mathlib.Omega.{arith}
 use lib.IntN.{ℤ, pos}
 use lib.ListN.{getD, replicate}
-use Rattle.base.specs.Edition.{edition1}
+use Rattle.base.specs.Current.{current}
 use Rattle.calls.specs.ReadingLaws.{items-more, items-none}
 use Rattle.calls.specs.Rules.{balanced}
 use Rattle.calls.specs.Table.{itemsAt}
@@ -31,7 +31,7 @@ pub record Valuing (m : Memory) (t : List ℕ) (from count : ℕ) (waiting : Lis
   pub place : at + left ≡ from + count
   pub few : notes + 2 * left ≤ 2 * count
   pub sides : balanced known (itemsFrom t at left) ≡ true
-  pub same : numericIn edition1 m (itemsFrom t from count) ≡ numericFrom m notes (waitingIn waiting known) (itemsFrom t at left)
+  pub same : numericIn current m (itemsFrom t from count) ≡ numericFrom m notes (waitingIn waiting known) (itemsFrom t at left)
 
 pub valuing-begins : (m : Memory) (t : List ℕ) (from count : ℕ) → balanced 0 (itemsFrom t from count) ≡ true
     → Valuing m t from count (replicate 64 (pos 0)) 0 0 from count
@@ -48,7 +48,7 @@ valuing-begins m t from count h =
 
 module _ {m : Memory} {t : List ℕ} {from count : ℕ} {waiting : List ℤ} {known notes at left : ℕ}
     (v : Valuing m t from count waiting known notes at left) where
-  pub valuing-ends : left ≤ 0 → numericIn edition1 m (itemsFrom t from count) ≡ done (getD waiting 0 (pos 0)) notes
+  pub valuing-ends : left ≤ 0 → numericIn current m (itemsFrom t from count) ≡ done (getD waiting 0 (pos 0)) notes
   valuing-ends h =
       let none = items-none t at left h in
       let one = balanced-end known (ap (balanced known) (sym none) ∙ v .sides) in
@@ -70,19 +70,19 @@ module _ {m : Memory} {t : List ℕ} {from count : ℕ} {waiting : List ℤ} {kn
     pub valuing-finds : Finds known x
     valuing-finds = balance .0
 
-    here : numericIn edition1 m (itemsFrom t from count) ≡ numericFrom m notes (waitingIn waiting known) (itemMeaning x ∷ rest)
+    here : numericIn current m (itemsFrom t from count) ≡ numericFrom m notes (waitingIn waiting known) (itemMeaning x ∷ rest)
     here = v .same ∙ ap (numericFrom m notes (waitingIn waiting known)) items-here
 
     -- and what was made of it
     module _ {r : Known} {after : List ℤ}
-        (taken : Taken r after (waitingAfter known x) (itemIn edition1 m (waitingIn waiting known) (itemMeaning x))) where
-      worked : {k : Known} → r ≡ k → itemIn edition1 m (waitingIn waiting known) (itemMeaning x) ≡ knownWorked k after
+        (taken : Taken r after (waitingAfter known x) (itemIn current m (waitingIn waiting known) (itemMeaning x))) where
+      worked : {k : Known} → r ≡ k → itemIn current m (waitingIn waiting known) (itemMeaning x) ≡ knownWorked k after
       worked e = sym (taken .work) ∙ ap (λ (a : Known). knownWorked a after) e
 
       pub valuing-noted : {n more : ℕ} → r ≡ Is n more → more ≤ 2
-      valuing-noted e = few-done (few-item edition1 m (waitingIn waiting known) (itemMeaning x)) (worked e)
+      valuing-noted e = few-done (few-item current m (waitingIn waiting known) (itemMeaning x)) (worked e)
 
-      pub valuing-stops : {k : ℕ} → r ≡ Stops k → numericIn edition1 m (itemsFrom t from count) ≡ stop k
+      pub valuing-stops : {k : ℕ} → r ≡ Stops k → numericIn current m (itemsFrom t from count) ≡ stop k
       valuing-stops {k} e = here ∙ numeric-stops m notes k (waitingIn waiting known) (itemMeaning x) rest (worked e)
 
       pub valuing-more : {n more : ℕ} → r ≡ Is n more → Valuing m t from count after n (notes + more) (at + 1) (left - 1)

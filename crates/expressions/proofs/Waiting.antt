@@ -13,10 +13,10 @@ use lib.Seq.{getD-set-same, getD-set-other}
 use mir.Syntax.{w64}
 use mir.Val.{ofZ, toZ}
 use borrow.Author.Tests.{eqb-true, ltb-true, leb-true}
-use Rattle.base.specs.Edition.{edition1}
+use Rattle.base.specs.Current.{current, limit}
 use Rattle.calls.specs.Rules.{balanced, mostWaiting}
 use Rattle.convert.specs.Laws.{plain}
-use Rattle.convert.specs.Numbers.{limit, worked, Within, Gives}
+use Rattle.convert.specs.Numbers.{worked, Within, Gives}
 use Rattle.convert.specs.declared.Int.{Int}
 use Rattle.convert.specs.declared.Number.{Number}
 use Rattle.convert.specs.declared.Number.the-variants as numbers
@@ -117,14 +117,14 @@ waiting-gives w at h =
 -- what an item makes of the numbers waiting is put in front of the others
 module _ (m : Memory) (w : List ℤ) (known : ℕ) where
   pub operator-takes : (o : Program.Operator) → 2 ≤ known
-      → pushed (waitingIn w (known - 2)) (operation edition1 o (getD w (known - 2) (pos 0)) (getD w (known - 1) (pos 0)))
-      ≡ itemIn edition1 m (waitingIn w known) (Program.operator o)
+      → pushed (waitingIn w (known - 2)) (operation current o (getD w (known - 2) (pos 0)) (getD w (known - 1) (pos 0)))
+      ≡ itemIn current m (waitingIn w known) (Program.operator o)
   unfolding itemIn combined
-  operator-takes o h = sym (ap (combined (operation edition1 o)) (waiting-two w known h))
+  operator-takes o h = sym (ap (combined (operation current o)) (waiting-two w known h))
 
   pub sign-takes : (s : Program.Sign) → 1 ≤ known
       → pushed (waitingIn w (known - 1)) (done (signedAs s (getD w (known - 1) (pos 0))) 0)
-      ≡ itemIn edition1 m (waitingIn w known) (Program.sign s)
+      ≡ itemIn current m (waitingIn w known) (Program.sign s)
   unfolding itemIn signIn quietly _>>=_ noting
   sign-takes Program.positive h = ap (λ l. done l 0) (sym (waiting-one w known h))
   sign-takes Program.negative h = ap (λ l. done (signIn Program.negative l) 0) (sym (waiting-one w known h))

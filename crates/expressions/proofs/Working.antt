@@ -4,7 +4,7 @@ use mathlib.Core.Path.{_≡_, refl, sym, ap, ap₂, _∙_}
 use Prim.Native.Nat.{ℕ, _+_, _-_, _≤_}
 use native.Mathlib.Nat.{add-zero}
 use lib.IntN.{ℤ}
-use Rattle.base.specs.Edition.{edition1}
+use Rattle.base.specs.Current.{current}
 use Rattle.convert.specs.Laws.{number-is, number-range, number-stops}
 use Rattle.convert.specs.Numbers.{Answers}
 use Rattle.convert.specs.declared.Int.{Int}
@@ -28,8 +28,8 @@ module _ (n : ℕ) {r : Number} {w : Work ℤ} (a : Answers r w) where
   number-stopped e = record { work = ap (noting n) (sym (number-stops a e)); range = tt }
 
 -- the notes of an operand's value
-pub operand-notes : (m : Memory) (a : Operand) {r : Number} {v : Int} {n : ℕ} → Answers r (operandIn edition1 m a) → r ≡ numbers.Is v n → n ≤ 2
-operand-notes m a x e = few-done (few-operand edition1 m a) (number-is x e)
+pub operand-notes : (m : Memory) (a : Operand) {r : Number} {v : Int} {n : ℕ} → Answers r (operandIn current m a) → r ≡ numbers.Is v n → n ≤ 2
+operand-notes m a x e = few-done (few-operand current m a) (number-is x e)
 
 -- a string put in front of one, and then another in front of both
 quiet-front : (u v : List ℕ) (w : Work (List ℕ)) → ((w >>= λ vs. quietly (v ++ vs)) >>= λ vs. quietly (u ++ vs))
@@ -41,26 +41,26 @@ quiet-front u v (stop k) = refl
 module _ (m : Memory) where
   -- what a numeric expression comes to from its waiting numbers and the items that are left, with the notes so far
   unfoldable pub numericFrom : ℕ → List ℤ → List Item → Work ℤ
-  numericFrom notes known is = noting notes (itemsIn edition1 m known is >>= λ more. quietly (latest more))
+  numericFrom notes known is = noting notes (itemsIn current m known is >>= λ more. quietly (latest more))
 
-  pub numeric-begins : (is : List Item) → numericIn edition1 m is ≡ numericFrom 0 [] is
+  pub numeric-begins : (is : List Item) → numericIn current m is ≡ numericFrom 0 [] is
   unfolding numericIn numericFrom
-  numeric-begins is = sym (noting-none (itemsIn edition1 m [] is >>= λ more. quietly (latest more)))
+  numeric-begins is = sym (noting-none (itemsIn current m [] is >>= λ more. quietly (latest more)))
 
-  pub numeric-more : (notes more : ℕ) (known next : List ℤ) (x : Item) (is : List Item) → itemIn edition1 m known x ≡ done next more
+  pub numeric-more : (notes more : ℕ) (known next : List ℤ) (x : Item) (is : List Item) → itemIn current m known x ≡ done next more
       → numericFrom notes known (x ∷ is) ≡ numericFrom (notes + more) next is
   unfolding numericFrom itemsIn _>>=_
   numeric-more notes more known next x is e =
       let rest : (z : List ℤ) → Work ℤ = λ z. quietly (latest z) in
-      ap (λ w. noting notes ((w >>= λ z. itemsIn edition1 m z is) >>= rest)) e
-      ∙ ap (noting notes) (bind-noting more (itemsIn edition1 m next is) rest)
-      ∙ noting-more notes more (itemsIn edition1 m next is >>= rest)
+      ap (λ w. noting notes ((w >>= λ z. itemsIn current m z is) >>= rest)) e
+      ∙ ap (noting notes) (bind-noting more (itemsIn current m next is) rest)
+      ∙ noting-more notes more (itemsIn current m next is >>= rest)
 
-  pub numeric-stops : (notes k : ℕ) (known : List ℤ) (x : Item) (is : List Item) → itemIn edition1 m known x ≡ stop k
+  pub numeric-stops : (notes k : ℕ) (known : List ℤ) (x : Item) (is : List Item) → itemIn current m known x ≡ stop k
       → numericFrom notes known (x ∷ is) ≡ stop k
   unfolding numericFrom itemsIn _>>=_ noting
   numeric-stops notes k known x is e =
-      ap (λ w. noting notes ((w >>= λ z. itemsIn edition1 m z is) >>= λ z. quietly (latest z))) e
+      ap (λ w. noting notes ((w >>= λ z. itemsIn current m z is) >>= λ z. quietly (latest z))) e
 
   pub numeric-ends : (notes : ℕ) (z : ℤ) (known : List ℤ) → numericFrom notes (z ∷ known) [] ≡ done z notes
   unfolding numericFrom itemsIn _>>=_ noting quietly latest
@@ -68,27 +68,27 @@ module _ (m : Memory) where
 
   -- what a string expression comes to from the bytes so far and the elements that are left, with the notes so far
   unfoldable pub stringFrom : ℕ → List ℕ → List Element → Work (List ℕ)
-  stringFrom notes u xs = noting notes (stringIn edition1 m xs >>= λ vs. quietly (u ++ vs))
+  stringFrom notes u xs = noting notes (stringIn current m xs >>= λ vs. quietly (u ++ vs))
 
-  pub string-begins : (xs : List Element) → stringIn edition1 m xs ≡ stringFrom 0 [] xs
+  pub string-begins : (xs : List Element) → stringIn current m xs ≡ stringFrom 0 [] xs
   unfolding stringFrom
-  string-begins xs = sym (noting-none (stringIn edition1 m xs >>= λ vs. quietly vs) ∙ quiet (stringIn edition1 m xs))
+  string-begins xs = sym (noting-none (stringIn current m xs >>= λ vs. quietly vs) ∙ quiet (stringIn current m xs))
 
-  pub string-more : (notes more : ℕ) (u v : List ℕ) (x : Element) (xs : List Element) → elementIn edition1 m x ≡ done v more
+  pub string-more : (notes more : ℕ) (u v : List ℕ) (x : Element) (xs : List Element) → elementIn current m x ≡ done v more
       → stringFrom notes u (x ∷ xs) ≡ stringFrom (notes + more) (u ++ v) xs
   unfolding stringFrom stringIn _>>=_
   string-more notes more u v x xs e =
-      let rest = stringIn edition1 m xs in
+      let rest = stringIn current m xs in
       let front : (vs : List ℕ) → Work (List ℕ) = λ vs. quietly (u ++ vs) in
       ap (λ w. noting notes ((w >>= λ v. rest >>= λ vs. quietly (v ++ vs)) >>= front)) e
       ∙ ap (noting notes) (bind-noting more (rest >>= λ vs. quietly (v ++ vs)) front ∙ ap (noting more) (quiet-front u v rest))
       ∙ noting-more notes more (rest >>= λ vs. quietly ((u ++ v) ++ vs))
 
-  pub string-stops : (notes k : ℕ) (u : List ℕ) (x : Element) (xs : List Element) → elementIn edition1 m x ≡ stop k
+  pub string-stops : (notes k : ℕ) (u : List ℕ) (x : Element) (xs : List Element) → elementIn current m x ≡ stop k
       → stringFrom notes u (x ∷ xs) ≡ stop k
   unfolding stringFrom stringIn _>>=_ noting
   string-stops notes k u x xs e =
-      ap (λ w. noting notes ((w >>= λ v. stringIn edition1 m xs >>= λ vs. quietly (v ++ vs)) >>= λ vs. quietly (u ++ vs))) e
+      ap (λ w. noting notes ((w >>= λ v. stringIn current m xs >>= λ vs. quietly (v ++ vs)) >>= λ vs. quietly (u ++ vs))) e
 
   pub string-ends : (notes : ℕ) (u : List ℕ) → stringFrom notes u [] ≡ done u notes
   unfolding stringFrom stringIn _>>=_ noting quietly

@@ -3,10 +3,10 @@ use mathlib.Core.List.{List, _++_}
 use mathlib.Core.Path.{_≡_}
 use Prim.Native.Nat.{ℕ, _≤_}
 use lib.ListN.{length}
+use Rattle.base.specs.Current.{tableSize}
 use Rattle.convert.specs.declared.Text.{Text}
 use Rattle.convert.specs.declared.Text.the-variants as texts
 use Rattle.rows.specs.Holds.{ElementHolds}
-use Rattle.rows.specs.Meaning.{tableSize}
 use Rattle.rows.specs.declared.Element.{Element}
 use Rattle.values.specs.Work.{Work, done, stop}
 use Rattle.expressions.specs.Memory.{Ready}

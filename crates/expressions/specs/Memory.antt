@@ -7,13 +7,12 @@ use native.Mathlib.Omega.{arith}
 use lib.IntN.{pos, natAbs}
 use lib.ListN.{length, getD}
 use borrow.Author.Tests.{le-leb}
-use Rattle.base.specs.Edition.{edition1}
+use Rattle.base.specs.Current.{current, limit}
 use Rattle.base.specs.ListLaws.{all-at}
 use Rattle.calls.specs.BufferLaws.{Good, keeps-good}
 use Rattle.calls.specs.Buffers.{stringsIn, numbersIn, storeKeeps, stateKeeps}
 use Rattle.calls.specs.GivenLaws.{state-in-range}
 use Rattle.convert.specs.Laws.{in-range}
-use Rattle.convert.specs.Numbers.{limit}
 use Rattle.machine.specs.State.{Memory}
 use Rattle.values.specs.Numbers.{isInRange}
 
@@ -31,13 +30,13 @@ pub record Ready (store state : List ℕ) : Type 0 where
   pub numbers : Numbered state
 
 -- buffers that a step may be given
-module _ (steps input output : ℕ) (state : List ℕ) (size : length state ≡ 64) (keeps : stateKeeps edition1 steps input output state ≡ true) where
+module _ (steps input output : ℕ) (state : List ℕ) (size : length state ≡ 64) (keeps : stateKeeps current steps input output state ≡ true) where
   pub keeps-numbered : Numbered state
   unfolding isInRange
   keeps-numbered =
-      let numbers = state-in-range edition1 steps input output state keeps .numbers in
-      let none = le-leb 0 (edition1 .limit) (omega arith) in
-      record { size = size; range = λ i. in-range (getD (numbersIn state) i (pos 0)) (all-at (isInRange edition1) (numbersIn state) (pos 0) none numbers i) }
+      let numbers = state-in-range current steps input output state keeps .numbers in
+      let none = le-leb 0 (current .limit) (omega arith) in
+      record { size = size; range = λ i. in-range (getD (numbersIn state) i (pos 0)) (all-at (isInRange current) (numbersIn state) (pos 0) none numbers i) }
 
   pub keeps-ready : (store : List ℕ) → storeKeeps store ≡ true → Ready store state
   keeps-ready store h = record { strings = keeps-good store h; numbers = keeps-numbered }

@@ -2,11 +2,13 @@
 use mathlib.Core.List.{List}
 use mathlib.Core.Path.{_≡_}
 use Prim.Native.Nat.{ℕ, _+_, _*_, _≤_}
+use Rattle.calls.specs.Kinds.{constantKind}
 use Rattle.calls.specs.Table.{itemsAt}
 use Rattle.calls.specs.TableReading.{cellAt}
 use Rattle.rows.specs.declared.Stretch.{Stretch}
 
--- three items, the one in the middle an operand: since they are balanced, the first is an operand too, and the last an operator
+-- three items, the one in the middle an operand, whose kinds come last: since they are balanced, the first is an operand too, and the last
+-- an operator
 pub record PairAt (t : List ℕ) (s : Stretch) : Type 0 where
   pub three : s .count ≡ 3
-  pub middle : cellAt t (itemsAt + 8 * (s .from + 1)) .kind ≤ 9
+  pub middle : constantKind .number ≤ cellAt t (itemsAt + 8 * (s .from + 1)) .kind

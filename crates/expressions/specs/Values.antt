@@ -5,11 +5,10 @@ use mathlib.Core.Path.{_≡_}
 use Prim.Native.Nat.{ℕ, _-_, _≤_}
 use lib.IntN.{ℤ}
 use lib.ListN.{length, take, drop}
-use Rattle.base.specs.Edition.{edition1}
+use Rattle.base.specs.Current.{current, tableSize}
 use Rattle.convert.specs.declared.Text.{Text}
 use Rattle.convert.specs.declared.Text.the-variants as texts
 use Rattle.rows.specs.Holds.{ItemsHold, ElementsHold}
-use Rattle.rows.specs.Meaning.{tableSize}
 use Rattle.rows.specs.declared.Stretch.{Stretch}
 use Rattle.values.specs.Conversion.{numberOf, isNumeric}
 use Rattle.values.specs.Work.{Work, done, stop, quietly, _>>=_}
@@ -37,7 +36,7 @@ pub record Spans (store : List ℕ) (ends : Ends) (w : Work (List ℕ)) : Type 0
 
 -- work that gives a string, and then NUMBER of it, or whether it is numeric
 abbrev pub thenNumber : Work (List ℕ) → Work ℤ
-thenNumber w = w >>= λ s. numberOf edition1 s
+thenNumber w = w >>= λ s. numberOf current s
 
 abbrev pub thenNumeric : Work (List ℕ) → Work Bool
 thenNumeric w = w >>= λ s. quietly (isNumeric s)

@@ -4,7 +4,8 @@ use mathlib.Core.Path.{_≡_}
 use Prim.Native.Nat.{ℕ, zero, suc, _+_, _-_, _≤_, _<_}
 use lib.IntN.{ℤ, pos, negℤ, natAbs}
 use lib.ListN.{length, getD}
-use Rattle.convert.specs.Numbers.{limit, Within}
+use Rattle.base.specs.Current.{limit}
+use Rattle.convert.specs.Numbers.{Within}
 use Rattle.convert.specs.declared.Number.{Number}
 use Rattle.language.specs.Program as Program
 use Rattle.rows.specs.Holds.{ItemHolds}

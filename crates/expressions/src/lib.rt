@@ -5,7 +5,7 @@ ghost use mathlib.Core.Path.{_≡_};
 ghost use Prim.Native.Nat.{ℕ, _+_, _-_, _≤_, _<_};
 ghost use lib.IntN.{ℤ, pos};
 ghost use lib.ListN.{length, getD};
-ghost use Rattle.base.specs.Edition.{edition1};
+ghost use Rattle.base.specs.Current.{current};
 ghost use Rattle.calls.specs.BufferLaws.{Good};
 ghost use Rattle.cells.specs.Contracts.{stringOf};
 ghost use Rattle.convert.specs.Numbers.{InRange, BothInRange, Gives, Answers, worked};
@@ -30,6 +30,7 @@ use base::least;
 use calls::NUMBERS_AT;
 use calls::STATE_SIZE;
 use calls::WAITING;
+use calls::cell_kinds;
 use convert::Int;
 use convert::Number;
 use convert::Text;
@@ -42,9 +43,6 @@ use rows::Operator;
 use rows::Part;
 use rows::Sign;
 use rows::Stretch;
-
-// the last of the kinds that operands have in a cell
-const LAST_OPERAND: usize = calls::cell_kinds::LAST_OPERAND as usize;
 
 // where bytes of the store lie, with the notes made on the way
 pub struct Ends {
@@ -163,7 +161,7 @@ fn number_between(store: &[u8], ends: Ends) -> Number
 pub fn operand_value(store: &[u8], state: &[u64; STATE_SIZE], a: Operand) -> Number
     requires { ⌜ Ready (now store) (now state) ⌝ }
     requires { ⌜ OperandHolds a ⌝ }
-    ensures { λ r. ⌜ Answers r (operandIn edition1 (memoryIn (now (store .entry)) (now (state .entry))) (operandMeaning a)) ⌝ }
+    ensures { λ r. ⌜ Answers r (operandIn current (memoryIn (now (store .entry)) (now (state .entry))) (operandMeaning a)) ⌝ }
 {
     match a {
         Operand::Constant(z) => Number::Is { value: z, notes: 0 },
@@ -183,7 +181,7 @@ pub fn operand_value(store: &[u8], state: &[u64; STATE_SIZE], a: Operand) -> Num
 fn quick_value(store: &[u8], state: &[u64; STATE_SIZE], a: Operand) -> Number
     requires { ⌜ Ready (now store) (now state) ⌝ }
     requires { ⌜ OperandHolds a ⌝ }
-    ensures { λ r. ⌜ Answers r (operandIn edition1 (memoryIn (now (store .entry)) (now (state .entry))) (operandMeaning a)) ⌝ }
+    ensures { λ r. ⌜ Answers r (operandIn current (memoryIn (now (store .entry)) (now (state .entry))) (operandMeaning a)) ⌝ }
 {
     match a {
         Operand::Constant(z) => Number::Is { value: z, notes: 0 },
@@ -199,7 +197,7 @@ fn quick_value(store: &[u8], state: &[u64; STATE_SIZE], a: Operand) -> Number
 // what an operator makes of two numbers
 fn operation(o: Operator, a: Int, b: Int) -> Number
     requires { ⌜ BothInRange a b ⌝ }
-    ensures { λ r. ⌜ Answers r (Expressions.operation edition1 (operatorMeaning o) (a .value) (b .value)) ⌝ }
+    ensures { λ r. ⌜ Answers r (Expressions.operation current (operatorMeaning o) (a .value) (b .value)) ⌝ }
 {
     match o {
         Operator::Plus => convert::add(a, b),
@@ -242,7 +240,7 @@ fn combine(o: Operator, waiting: &mut [i64; WAITING], known: usize) -> Known
     requires { ⌜ Waits (now waiting) ⌝ }
     requires { ⌜ (2 ≤ known) × (known ≤ 64) ⌝ }
     ensures { λ r. ⌜ ((m : Memory) → Taken r (now (waiting .exit)) (known - 1)
-        (itemIn edition1 m (waitingIn (now (waiting .entry)) known) (itemMeaning (Item.Operator o)))) ⌝ }
+        (itemIn current m (waitingIn (now (waiting .entry)) known) (itemMeaning (Item.Operator o)))) ⌝ }
 {
     let b = waiting_at(waiting, known - 1);
     let a = waiting_at(waiting, known - 2);
@@ -265,7 +263,7 @@ fn change_sign(g: Sign, waiting: &mut [i64; WAITING], known: usize) -> Known
     requires { ⌜ Waits (now waiting) ⌝ }
     requires { ⌜ (1 ≤ known) × (known ≤ 64) ⌝ }
     ensures { λ r. ⌜ ((m : Memory) → Taken r (now (waiting .exit)) known
-        (itemIn edition1 m (waitingIn (now (waiting .entry)) known) (itemMeaning (Item.Sign g)))) ⌝ }
+        (itemIn current m (waitingIn (now (waiting .entry)) known) (itemMeaning (Item.Sign g)))) ⌝ }
 {
     let last = known - 1;
     let z = signed(g, waiting_at(waiting, last));
@@ -282,7 +280,7 @@ fn take_item(
 ) -> Known
     requires { ⌜ Takable (now store) (now state) x (now waiting) known ⌝ }
     ensures { λ r. ⌜ Taken r (now (waiting .exit)) (waitingAfter known x)
-        (itemIn edition1 (memoryIn (now (store .entry)) (now (state .entry))) (waitingIn (now (waiting .entry)) known) (itemMeaning x)) ⌝ }
+        (itemIn current (memoryIn (now (store .entry)) (now (state .entry))) (waitingIn (now (waiting .entry)) known) (itemMeaning x)) ⌝ }
 {
     match x {
         Item::Operand(a) => keep(operand_value(store, state, a), waiting, known),
@@ -296,7 +294,7 @@ fn pair_value(table: &[u8], store: &[u8], state: &[u64; STATE_SIZE], s: Stretch)
     requires { ⌜ Valuable (now table) (now store) (now state) s ⌝ }
     requires { ⌜ PairAt (now table) s ⌝ }
     ensures { λ r. ⌜ Answers r
-        (numericIn edition1 (memoryIn (now (store .entry)) (now (state .entry))) (itemsMeaning (now (table .entry)) s)) ⌝ }
+        (numericIn current (memoryIn (now (store .entry)) (now (state .entry))) (itemsMeaning (now (table .entry)) s)) ⌝ }
 {
     let from = s.from;
     match quick_value(store, state, rows::operand_at(table, from)) {
@@ -319,7 +317,7 @@ fn pair_value(table: &[u8], store: &[u8], state: &[u64; STATE_SIZE], s: Stretch)
 fn items_value(table: &[u8], store: &[u8], state: &[u64; STATE_SIZE], s: Stretch) -> Number
     requires { ⌜ Valuable (now table) (now store) (now state) s ⌝ }
     ensures { λ r. ⌜ Answers r
-        (numericIn edition1 (memoryIn (now (store .entry)) (now (state .entry))) (itemsMeaning (now (table .entry)) s)) ⌝ }
+        (numericIn current (memoryIn (now (store .entry)) (now (state .entry))) (itemsMeaning (now (table .entry)) s)) ⌝ }
 {
     let mut waiting = [0i64; WAITING];
     let mut known = 0;
@@ -347,10 +345,10 @@ fn items_value(table: &[u8], store: &[u8], state: &[u64; STATE_SIZE], s: Stretch
 pub fn numeric_value(table: &[u8], store: &[u8], state: &[u64; STATE_SIZE], s: Stretch) -> Number
     requires { ⌜ Valuable (now table) (now store) (now state) s ⌝ }
     ensures { λ r. ⌜ Answers r
-        (numericIn edition1 (memoryIn (now (store .entry)) (now (state .entry))) (itemsMeaning (now (table .entry)) s)) ⌝ }
+        (numericIn current (memoryIn (now (store .entry)) (now (state .entry))) (itemsMeaning (now (table .entry)) s)) ⌝ }
 {
     if s.count == 3 {
-        if rows::item_kind(table, s.from + 1) <= LAST_OPERAND {
+        if cell_kinds::CONSTANT <= rows::item_kind(table, s.from + 1) {
             return pair_value(table, store, state, s);
         }
     }
@@ -424,7 +422,7 @@ pub fn append_element(
 ) -> Text
     requires { ⌜ Addable (now table) (now store) (now state) x (now scratch) (now out) ⌝ }
     ensures { λ r. ⌜ Adding r (now (out .entry)) (now (out .exit)) at
-        (elementIn edition1 (memoryIn (now (store .entry)) (now (state .entry))) (elementMeaning (now (table .entry)) x)) ⌝ }
+        (elementIn current (memoryIn (now (store .entry)) (now (state .entry))) (elementMeaning (now (table .entry)) x)) ⌝ }
     ensures { λ _. ⌜ length (now (scratch .exit)) ≡ 1024 ⌝ }
 {
     match x {
@@ -454,7 +452,7 @@ pub fn string_value(
 ) -> Text
     requires { ⌜ Spellable (now table) (now store) (now state) s (now scratch) (now out) ⌝ }
     ensures { λ r. ⌜ Written r (now (out .exit)) (now (scratch .exit))
-        (stringIn edition1 (memoryIn (now (store .entry)) (now (state .entry))) (elementsMeaning (now (table .entry)) s)) ⌝ }
+        (stringIn current (memoryIn (now (store .entry)) (now (state .entry))) (elementsMeaning (now (table .entry)) s)) ⌝ }
 {
     let mut length = 0;
     let mut notes: u32 = 0;
@@ -482,7 +480,7 @@ pub fn string_value(
 pub fn is_null(store: &[u8], place: usize) -> Truth
     requires { ⌜ Good (now store) ⌝ }
     requires { ⌜ place < 32 ⌝ }
-    ensures { λ r. ⌜ ((state : List ℕ) → truthWorked r ≡ testIn edition1 (memoryIn (now (store .entry)) state) (isNull place)) ⌝ }
+    ensures { λ r. ⌜ ((state : List ℕ) → truthWorked r ≡ testIn current (memoryIn (now (store .entry)) state) (isNull place)) ⌝ }
 {
     Truth::Is {
         holds: cells::string_length(store, place) == 0,
@@ -507,7 +505,7 @@ fn numeric_between(store: &[u8], ends: Ends) -> Truth
 pub fn is_numeric(store: &[u8], state: &[u64; STATE_SIZE], p: Part) -> Truth
     requires { ⌜ Ready (now store) (now state) ⌝ }
     requires { ⌜ PartHolds p ⌝ }
-    ensures { λ r. ⌜ truthWorked r ≡ testIn edition1 (memoryIn (now (store .entry)) (now (state .entry))) (isNumeric (partMeaning p)) ⌝ }
+    ensures { λ r. ⌜ truthWorked r ≡ testIn current (memoryIn (now (store .entry)) (now (state .entry))) (isNumeric (partMeaning p)) ⌝ }
 {
     numeric_between(store, part_ends(store, state, p))
 }
@@ -516,7 +514,7 @@ pub fn is_numeric(store: &[u8], state: &[u64; STATE_SIZE], p: Part) -> Truth
 pub fn compares(store: &[u8], state: &[u64; STATE_SIZE], x: If) -> Truth
     requires { ⌜ Ready (now store) (now state) ⌝ }
     requires { ⌜ IfHolds x ⌝ }
-    ensures { λ r. ⌜ truthWorked r ≡ testIn edition1 (memoryIn (now (store .entry)) (now (state .entry))) (ifMeaning x) ⌝ }
+    ensures { λ r. ⌜ truthWorked r ≡ testIn current (memoryIn (now (store .entry)) (now (state .entry))) (ifMeaning x) ⌝ }
 {
     let left = x.left;
     let right = x.right;

@@ -11,15 +11,16 @@ use lib.ListN.{length, take, drop, length-append, length-drop, drop-of-length-le
 use lib.Seq.{drop-drop}
 use borrow.Author.Tests.{ltb-true, ltb-false}
 use Rattle.base.specs.Choice.{cond-cases}
-use Rattle.base.specs.Edition.{edition1}
+use Rattle.base.specs.Current.{current}
 use Rattle.base.specs.Limits as Limits
 use Rattle.base.specs.ListLaws.{begins-room}
 use Rattle.base.specs.Lists.{all, any, begins, total}
 use Rattle.base.specs.Text.{bytes}
 use Rattle.branches.specs.Places.{numberIn}
 use Rattle.branches.specs.declared.Row.{Row}
+use Rattle.calls.specs.Kinds.{numberKind, rangeNumber, setNumberKind}
 use Rattle.calls.specs.Table as Table
-use Rattle.calls.specs.Table.{range, rangeCell, rowOf, itemsOf, elementsOf, allLiterals}
+use Rattle.calls.specs.Table.{range, rangeCell, operandCell, rowOf, itemsOf, elementsOf, allLiterals}
 use Rattle.language.specs.Forms.{stepEnd, noStepEnd, withoutUnit, setsNumber, replacement, programForm, numberForm, formOf, statementForm}
 use Rattle.language.specs.Fuel.{expressionFrom, numeric-from}
 use Rattle.language.specs.Keywords as Keywords
@@ -41,6 +42,7 @@ use Rattle.numeric.specs.Operands.{Ready, Gets, Names, Noting, Skips, moved, me
 use Rattle.numeric.specs.Reads.{GetsItems}
 use Rattle.numeric.specs.declared.operands.Cell.{Cell}
 use Rattle.packer.specs.Keys.{keyOf, isKeyByte}
+use Rattle.packer.specs.Letters.{letters}
 use Rattle.strings.specs.ElementLaws.{names-elements, elements-none, elements-skip}
 use Rattle.strings.specs.Elements.{GetsElements}
 use Rattle.words.specs.Kinds.{kindOf, leads}
@@ -112,50 +114,56 @@ module _ {es : List Entry} {table keys tags : List ℕ} {c : Cursor} {x : Read (
 -- they are met by a reading
 module _ {A : Type 0} {x : Read A} {a : A} {text table keys tags : List ℕ} {c : Cursor} {k g : List ℕ} {d : Cursor} (ready : Ready text keys tags c)
     (r : GetsElements text table keys tags c x a [] [] table k g d) (next : A × List ℕ → Read (Option Statement)) where
-  pub form-behind : (q : Form) {t k′ g′ : List ℕ} → FormRead (length text - d .at) table k g d (next (a, drop (d .at) text)) q t k′ g′
-      → FormRead (length text - c .at) table keys tags c (x >>= next) q t k′ g′
+  pub form-behind : (q : Form) {t k′ g′ : List ℕ} → FormRead (letters (drop (d .at) text)) table k g d (next (a, drop (d .at) text)) q t k′ g′
+      → FormRead (letters (drop (c .at) text)) table keys tags c (x >>= next) q t k′ g′
   unfolding _>>=_ meeting allLiterals any
   form-behind q f =
       let is : (x >>= next) ≡ meeting (metIn (r .entries) 0 [] 0) (next (a, drop (d .at) text)) = ap (λ (y : Read A). y >>= next) (r .is) in
       let room : (c .names ≤ length keys) × (c .names ≤ length tags) = (omega (arith, ready), omega (arith, ready)) in
-      let fits : length (r .entries) + (length text - d .at) ≤ length text - c .at = omega (arith, r .few, r .ready .inside) in
       form-same is
       (form-noted room (r .noting) (r .goes .names) (r .goes .items) (r .goes .elements ∙ add-zero (c .elements))
-      (r .goes .literals ∙ add-zero (c .literals)) (r .goes .longest ∙ or-false (ltb Limits.row (c .longest))) fits q f)
+      (r .goes .literals ∙ add-zero (c .literals)) (r .goes .longest ∙ or-false (ltb Limits.row (c .longest))) (r .few) q f)
 
 -- behind skipped bytes
 pub form-skip : {text table keys tags : List ℕ} (n : ℕ) {b c : Cursor} → Skips b n c → Ready text keys tags b → Ready text keys tags c
     → (x : List ℕ → Read (Option Statement)) (q : Form) {t k g : List ℕ}
-    → FormRead (length text - c .at) table keys tags c (x (drop (c .at) text)) q t k g
-    → FormRead (length text - b .at) table keys tags b (x (drop (c .at) text)) q t k g
+    → FormRead (letters (drop (c .at) text)) table keys tags c (x (drop (c .at) text)) q t k g
+    → FormRead (letters (drop (b .at) text)) table keys tags b (x (drop (c .at) text)) q t k g
 form-skip {text} {table} {keys} {tags} n {b} {c} s before ready x q {t} {k} {g} f =
-    subst (λ z. FormRead (length text - b .at) table keys tags b z q t k g) (give-then (tt {0}) (drop (c .at) text) (λ (_, l). x l))
+    subst (λ z. FormRead (letters (drop (b .at) text)) table keys tags b z q t k g) (give-then (tt {0}) (drop (c .at) text) (λ (_, l). x l))
     (form-behind before (elements-skip n s (elements-none (tt {0}) ready)) (λ (_, l). x l) q f)
 
 -- ---- numbers that are set
 module _ (known : List ℕ) (place : ℕ) where
-  pub assigned-broken : (bs : List ℕ) → expressionFrom edition1 (placesIn known) 0 bs ≡ broken → assignedTo known place bs ≡ broken
+  pub assigned-broken : (bs : List ℕ) → expressionFrom current (placesIn known) 0 bs ≡ broken → assignedTo known place bs ≡ broken
   unfolding assignedTo
-  assigned-broken bs e = then-broken _ (numeric-from edition1 (placesIn known) bs ∙ e)
+  assigned-broken bs e = then-broken _ (numeric-from current (placesIn known) bs ∙ e)
 
   abbrev pub numberRow : Cell → Row
   numberRow right =
-      record { kind = 1; flag = 0; success = 0; failure = 0; left = record { kind = 5; place = place; value = 0 }; right = right }
+      record {
+        kind = setNumberKind .number;
+        flag = 0;
+        success = 0;
+        failure = 0;
+        left = record { kind = numberKind .number; place = place; value = 0 };
+        right = right;
+      }
 
   module _ {text table keys tags : List ℕ} {c : Cursor} {t k g : List ℕ} {d : Cursor}
-      (a : GetsItems [] text table keys tags c (expressionFrom edition1 (placesIn known) 0 (drop (c .at) text)) t k g d) where
+      (a : GetsItems [] text table keys tags c (expressionFrom current (placesIn known) 0 (drop (c .at) text)) t k g d) where
     assigned-is : (y : Read (Option Statement)) → stepEnd (setNumber place (a .items)) (drop (d .at) text) ≡ y
         → assignedTo known place (drop (c .at) text) ≡ meeting (metIn (a .entries) (length (a .items)) [] 0) y
     unfolding assignedTo _>>=_ meeting
     assigned-is y e =
         ap (λ (z : Read (List Item)). z >>= λ (x, rest). stepEnd (setNumber place x) rest)
-        (numeric-from edition1 (placesIn known) (drop (c .at) text) ∙ a .is)
+        (numeric-from current (placesIn known) (drop (c .at) text) ∙ a .is)
         ∙ ap (meeting (metIn (a .entries) (length (a .items)) [] 0)) e
 
     pub assigned-case : (right : Cell) → right ≡ rangeIn (c .items) (d .items - c .items) 0 → (b : Bool) → ltb (d .at) (length text) ≡ b
         → FormAt (assignedTo known place (drop (c .at) text)) text table keys tags c
         (elim b [ true ↦ FormCode.the-variants.Broken | false ↦ FormCode.the-variants.Step (numberRow right) d ]) t k g
-    unfolding meeting give itemsIn elementsIn itemsOf elementsOf allLiterals withElements any total rowOf rangeCell range Table.row Table.cell
+    unfolding meeting give itemsIn elementsIn itemsOf elementsOf allLiterals withElements any total rowOf operandCell rangeCell range Table.row
     assigned-case right e true h =
         record { answer = assigned-is broken (step-not text (d .at) (ltb-true (d .at) (length text) h) (setNumber place (a .items))) }
     assigned-case right e false h =
@@ -163,13 +171,14 @@ module _ (known : List ℕ) (place : ℕ) where
         let s = setNumber place (a .items) in
         let met = metIn (a .entries) (length (a .items)) [] 0 in
         let count : d .items - c .items ≡ length (a .items) = omega (arith, a .goes .items) in
+        let sets : Table.Cell → Table.Row = Table.row (setNumberKind .number) 0 0 0 (Table.cell (numberKind .number) place 0) in
         record {
           answer =
               record {
                 statement = s;
                 made =
-                    ap (λ (v : Cell). Table.row 1 0 0 0 (Table.cell 5 place 0) (meaning v)) e
-                    ∙ ap (λ n. Table.row 1 0 0 0 (Table.cell 5 place 0) (Table.cell 22 0 (c .items + 65_536 * (n + 65_536 * 0)))) count;
+                    ap (λ (v : Cell). sets (meaning v)) e
+                    ∙ ap (λ n. sets (Table.cell rangeNumber 0 (c .items + 65_536 * (n + 65_536 * 0)))) count;
                 formed =
                     record {
                       entries = a .entries;
@@ -186,7 +195,7 @@ module _ (known : List ℕ) (place : ℕ) where
                       items = a .goes .items;
                       elements = a .goes .elements ∙ sym (add-zero (c .elements));
                       literals = a .goes .literals ∙ sym (add-zero (c .literals));
-                      few = omega (arith, a .few, a .ready .inside);
+                      few = omega (arith, a .few);
                       keysSize = a .ready .keysSize;
                       tagsSize = a .ready .tagsSize;
                     };
@@ -194,12 +203,12 @@ module _ (known : List ℕ) (place : ℕ) where
         }
 
 module _ (known : List ℕ) where
-  pub number-broken : (bs : List ℕ) → numberName edition1 (placesIn known) bs ≡ broken → numberSet known bs ≡ broken
+  pub number-broken : (bs : List ℕ) → numberName current (placesIn known) bs ≡ broken → numberSet known bs ≡ broken
   unfolding numberSet
   number-broken bs e = then-broken _ e
 
   module _ {place : ℕ} {text keys tags : List ℕ} {c : Cursor} {k g : List ℕ} {d : Cursor}
-      (a : Gets (λ j. j) place text keys tags c (numberName edition1 (placesIn known) (drop (c .at) text)) k g d) where
+      (a : Gets (λ j. j) place text keys tags c (numberName current (placesIn known) (drop (c .at) text)) k g d) where
     pub number-open : begins (61 ∷ []) (drop (d .at) text) ≡ false → numberSet known (drop (c .at) text) ≡ broken
     unfolding numberSet bytes
     number-open e = got-broken _ (a .is) (skip-broken (61 ∷ []) (drop (d .at) text) (λ (_, l). assignedTo known (a .value) l) e)
@@ -210,7 +219,7 @@ module _ (known : List ℕ) where
     unfolding numberSet bytes
     number-then table ready e q {b} {t} {k′} {g′} m f =
         form-behind ready (names-elements table a) (λ (i, rest). skip (61 ∷ []) rest >>= λ (_, l). assignedTo known i l) q
-        (subst (λ z. FormRead (length text - d .at) table k g d z q t k′ g′)
+        (subst (λ z. FormRead (letters (drop (d .at) text)) table k g d z q t k′ g′)
         (sym
         (skip-then (61 ∷ []) (drop (d .at) text) (λ (_, l). assignedTo known (a .value) l) e
         ∙ ap₂ (assignedTo known) (a .made) (sym (drop-moved text d 1 m))))
@@ -218,7 +227,7 @@ module _ (known : List ℕ) where
 
   -- a name known as a number before `=`
   pub sets-is : {text : List ℕ} {at n key : ℕ} → NameAt text at n → key ≡ keyOf (take n (drop at text))
-      → setsNumber edition1 (numberIn known) (placesIn known) (drop at text)
+      → setsNumber current (numberIn known) (placesIn known) (drop at text)
       ≡ (numberIn known (nameOf key) && begins (61 ∷ []) (drop (at + n) text))
   unfolding setsNumber bytes
   sets-is {text} {at} {n} {key} a e =
@@ -229,13 +238,13 @@ module _ (known : List ℕ) where
       ∙ ap₂ (λ (w l : List ℕ). numberIn known w && begins (61 ∷ []) l) named (drop-drop n at text)
 
   module _ (bs : List ℕ) where
-    pub replacement-number : setsNumber edition1 (numberIn known) (placesIn known) bs ≡ true
-        → replacement edition1 (numberIn known) (placesIn known) bs ≡ numberSet known bs
+    pub replacement-number : setsNumber current (numberIn known) (placesIn known) bs ≡ true
+        → replacement current (numberIn known) (placesIn known) bs ≡ numberSet known bs
     unfolding replacement numberSet assignedTo
     replacement-number e = chosen _ _ e
 
-    pub replacement-string : setsNumber edition1 (numberIn known) (placesIn known) bs ≡ false
-        → replacement edition1 (numberIn known) (placesIn known) bs ≡ stringSet known bs
+    pub replacement-string : setsNumber current (numberIn known) (placesIn known) bs ≡ false
+        → replacement current (numberIn known) (placesIn known) bs ≡ stringSet known bs
     unfolding replacement stringSet
     replacement-string e = chosen _ _ e
 
@@ -278,7 +287,7 @@ unstepped-case {text} {table} {keys} {tags} {c} ready false e =
     let end = ltb-false (c .at) (length text) e in
     record {
       answer =
-          subst (λ (z : Read (Option Statement)). Formed none (length text - c .at) table keys tags c z table keys tags c)
+          subst (λ (z : Read (Option Statement)). Formed none (letters (drop (c .at) text)) table keys tags c z table keys tags c)
           (sym (no-step-here text (c .at) end)) (formed-elements (elements-none none ready) end refl refl refl);
     }
 
@@ -295,12 +304,12 @@ module _ {text keys tags : List ℕ} {c : Cursor} {key : ℕ} {k g : List ℕ} {
       (ap (λ j. metIn (entry j (purposeNumber p + 8) ∷ []) 0 [] 0) (n .keyed) ∙ declared-met (n .bytes) (n .shown) p) (sym (named-by n))
 
   pub program-read : (known table : List ℕ) → Ready text keys tags c → Names text keys tags c 8 key k g d
-      → FormAt (programForm edition1 (numberIn known) (placesIn known) (drop (c .at) text)) text table keys tags c (unsteppedAt text d) table k g
+      → FormAt (programForm current (numberIn known) (placesIn known) (drop (c .at) text)) text table keys tags c (unsteppedAt text d) table k g
   unfolding programForm purposeNumber
   program-read known table ready n =
       form-behind ready (names-elements table (declared-name program n)) (λ (_, rest). noStepEnd rest) (unsteppedAt text d) (unstepped-read (n .ready))
 
-pub program-broken : (known bs : List ℕ) → Words.name bs ≡ broken → programForm edition1 (numberIn known) (placesIn known) bs ≡ broken
+pub program-broken : (known bs : List ℕ) → Words.name bs ≡ broken → programForm current (numberIn known) (placesIn known) bs ≡ broken
 unfolding programForm
 program-broken known bs e = then-broken _ (name-as-broken (declaring program) bs e)
 
@@ -314,7 +323,7 @@ list-left x more next =
     bind-assoc (more rest) (λ (ns, l). give (n ∷ ns) l) (λ (_, l). next l)
     ∙ bind-same (more rest) _ _ (λ ns l. give-then (n ∷ ns) l (λ (_, l). next l)))
 
-numbers-is : (known bs : List ℕ) → numberForm edition1 (numberIn known) (placesIn known) bs
+numbers-is : (known bs : List ℕ) → numberForm current (numberIn known) (placesIn known) bs
     ≡ (nameAs (declaring number) bs >>= λ (_, rest). numbersLeft (length rest) rest)
 unfolding numberForm listOf numbersLeft
 numbers-is known bs =
@@ -338,15 +347,16 @@ module _ {text : List ℕ} (table : List ℕ) {keys tags : List ℕ} {c : Cursor
   pub numbers-end : begins (44 ∷ []) (drop (c .at) text) ≡ false → (k : ℕ)
       → FormAt (numbersLeft k (drop (c .at) text)) text table keys tags c (unsteppedAt text c) table keys tags
   numbers-end e k =
-      subst (λ z. FormRead (length text - c .at) table keys tags c z (unsteppedAt text c) table keys tags) (sym (left-end (drop (c .at) text) k e))
+      subst (λ z. FormRead (letters (drop (c .at) text)) table keys tags c z (unsteppedAt text c) table keys tags)
+      (sym (left-end (drop (c .at) text) k e))
       (unstepped-read ready)
 
   pub numbers-first : (known : List ℕ) {key : ℕ} {k g : List ℕ} {d : Cursor} → Names text keys tags c 11 key k g d → (q : Form) {k′ g′ : List ℕ}
       → FormAt (numbersLeft (length (drop (d .at) text)) (drop (d .at) text)) text table k g d q table k′ g′
-      → FormAt (numberForm edition1 (numberIn known) (placesIn known) (drop (c .at) text)) text table keys tags c q table k′ g′
+      → FormAt (numberForm current (numberIn known) (placesIn known) (drop (c .at) text)) text table keys tags c q table k′ g′
   unfolding purposeNumber
   numbers-first known {key} {k} {g} {d} n q {k′} {g′} f =
-      subst (λ z. FormRead (length text - c .at) table keys tags c z q table k′ g′) (sym (numbers-is known (drop (c .at) text)))
+      subst (λ z. FormRead (letters (drop (c .at) text)) table keys tags c z q table k′ g′) (sym (numbers-is known (drop (c .at) text)))
       (form-behind ready (names-elements table (declared-name number n)) (λ (_, rest). numbersLeft (length rest) rest) q f)
 
   -- behind a comma
@@ -365,7 +375,7 @@ module _ {text : List ℕ} (table : List ℕ) {keys tags : List ℕ} {c : Cursor
         let enough : length (drop (d .at) text) ≤ m =
         omega (arith, length-drop (d .at) text, length-drop (c .at) text, n .further, n .ready .inside, skips .at) in
         let on = ready-moved (44 ∷ []) ready s comma in
-        subst (λ z. FormRead (length text - c .at) table keys tags c z q table k′ g′)
+        subst (λ z. FormRead (letters (drop (c .at) text)) table keys tags c z q table k′ g′)
         (sym
         (left-more (drop (c .at) text) m comma
         ∙ ap (λ (l : List ℕ). nameAs (declaring number) l >>= λ (_, rest). numbersLeft m rest) (sym (drop-moved text c 1 s))))
@@ -380,7 +390,7 @@ module _ {text : List ℕ} (table : List ℕ) {keys tags : List ℕ} {c : Cursor
         ∙ then-broken _
         (ap (nameAs (declaring number)) (sym (drop-moved text c 1 s)) ∙ name-as-broken (declaring number) (drop (b .at) text) e)
 
-pub numbers-none : (known bs : List ℕ) → Words.name bs ≡ broken → numberForm edition1 (numberIn known) (placesIn known) bs ≡ broken
+pub numbers-none : (known bs : List ℕ) → Words.name bs ≡ broken → numberForm current (numberIn known) (placesIn known) bs ≡ broken
 numbers-none known bs e = numbers-is known bs ∙ then-broken _ (name-as-broken (declaring number) bs e)
 
 -- ---- the form of a kind
@@ -405,15 +415,15 @@ module _ (text : List ℕ) (c : Cursor) (lead : Keyword) (is : leads lead ≡ le
 
   pub of-kind : (known : List ℕ) {table keys tags : List ℕ} (kind : Keywords.Kind) → kindOf (lead .kind) ≡ kind → {d : Cursor} → d ≡ moved c (lead .size) → Ready text keys tags c
       → Ready text keys tags d → (q : Form) {t k g : List ℕ}
-      → FormAt (formOf edition1 (numberIn known) (placesIn known) kind (drop (d .at) text)) text table keys tags d q t k g
-      → FormRead (length text) table keys tags c (statementForm edition1 (numberIn known) (placesIn known) text) q t k g
+      → FormAt (formOf current (numberIn known) (placesIn known) kind (drop (d .at) text)) text table keys tags d q t k g
+      → FormRead (letters text) table keys tags c (statementForm current (numberIn known) (placesIn known) text) q t k g
   unfolding statementForm
   of-kind known {table} {keys} {tags} kind e {d} s before ready q {t} {k} {g} f =
-      let forms = formOf edition1 (numberIn known) (placesIn known) in
+      let forms = formOf current (numberIn known) (placesIn known) in
       let at : d .at ≡ leading text .size =
       ap (λ (z : Cursor). z .at) s ∙ ap (λ n. n + lead .size) start ∙ zero-add (lead .size) ∙ ap (λ (l : Leading). l .size) is in
-      let most : length text - c .at ≡ length text = omega arith in
+      let most : letters (drop (c .at) text) ≡ letters text = ap (λ i. letters (drop i text)) start in
       subst (λ n. FormRead n table keys tags c (forms (leading text .kind) (drop (leading text .size) text)) q t k g) most
-      (subst (λ z. FormRead (length text - c .at) table keys tags c z q t k g)
+      (subst (λ z. FormRead (letters (drop (c .at) text)) table keys tags c z q t k g)
       (ap₂ (λ (j : Keywords.Kind) (n : ℕ). forms j (drop n text)) (sym e ∙ ap (λ (l : Leading). l .kind) is) at)
       (form-skip (lead .size) (skipped c (lead .size) s) before ready (forms kind) q f))

@@ -1,23 +1,23 @@
 -- What the readers of statements do: the row made, the names noted, the items and elements written. Assumes nothing.
-use mathlib.Core.Bool.{Bool, true, _||_}
+use mathlib.Core.Bool.{Bool, _||_}
 use mathlib.Core.List.{List, []}
 use mathlib.Core.Option.{Option, none, some}
 use mathlib.Core.Path.{_≡_}
-use Prim.Native.Nat.{ℕ, _+_, _≤_}
+use Prim.Native.Nat.{ℕ, _+_, _≤_, _<_}
 use lib.Dec.{ltb}
 use lib.ListN.{length}
-use Rattle.base.specs.Edition.{edition1}
+use Rattle.base.specs.Current.{current}
 use Rattle.base.specs.Limits as Limits
-use Rattle.base.specs.Lists.{all, any, total}
+use Rattle.base.specs.Lists.{any, total}
 use Rattle.branches.specs.Places.{numberIn}
 use Rattle.branches.specs.Rows.{rowMeaning}
 use Rattle.branches.specs.declared.Row.{Row}
 use Rattle.calls.specs.Table.{rowOf, itemsOf, elementsOf, allLiterals}
-use Rattle.cards.specs.Packing.{packed, literalsWhole}
 use Rattle.judgement.specs.Refusals.{readStatement}
 use Rattle.language.specs.Forms.{statementForm}
 use Rattle.language.specs.Program.{Item, PatternElement, Statement}
 use Rattle.language.specs.Reading.{Read, got, broken}
+use Rattle.met.specs.Bounds.{farEnough}
 use Rattle.met.specs.Contracts.{namesRoom}
 use Rattle.met.specs.Elements.{withElements}
 use Rattle.met.specs.Entries.{Entry, metIn}
@@ -25,18 +25,20 @@ use Rattle.met.specs.Items.{withItems}
 use Rattle.met.specs.Known.{placesIn}
 use Rattle.met.specs.declared.Cursor.{Cursor}
 use Rattle.numeric.specs.Operands.{Noting}
-use Rattle.packer.specs.Keys.{keyOf, isKeyByte}
 use Rattle.forms.specs.declared.Form as FormCode
 use Rattle.forms.specs.declared.Form.{Form}
+use Rattle.packer.specs.Letters.{letters}
+use Rattle.packer.specs.Packs.{longestText}
 
--- the arrays have their sizes, and the cursor stands before a statement: at most its label is noted
+-- the arrays have their sizes, and the cursor stands before a statement: at most its label is noted, with room for a name for each letter
 pub record Starts (text keys tags : List ℕ) (c : Cursor) : Type 0 where
-  pub textSize : length text ≤ 32_768
+  pub textSize : length text ≤ longestText
   pub at : c .at ≡ 0
   pub names : c .names ≤ 1
-  pub items : c .items ≤ 4_294_967_296
-  pub elements : c .elements ≤ 4_294_967_296
-  pub literals : c .literals ≤ 4_294_967_296
+  pub room : letters text < namesRoom
+  pub items : c .items + length text ≤ farEnough
+  pub elements : c .elements + length text ≤ farEnough
+  pub literals : c .literals + length text ≤ farEnough
   pub keysSize : length keys ≡ namesRoom
   pub tagsSize : length tags ≡ namesRoom
 
@@ -86,20 +88,13 @@ pub record FormRead (most : ℕ) (table keys tags : List ℕ) (c : Cursor) (x : 
     (table′ keys′ tags′ : List ℕ) : Type 0 where
   pub answer : FormAnswer most table keys tags c x r table′ keys′ tags′
 
--- the statement that a text is: no more names than bytes
+-- the statement that a text is: no more names than letters
 abbrev pub StatementFormRead : (text known table keys tags : List ℕ) (c : Cursor) → Form → (table′ keys′ tags′ : List ℕ) → Type 0
 StatementFormRead text known table keys tags c =
-    FormRead (length text) table keys tags c (statementForm edition1 (numberIn known) (placesIn known) text)
-
--- what the code has of a statement: the key of its label, its text packed, whether its literals are whole
-pub record Wording (labelBytes raw text : List ℕ) (label : ℕ) (complete : Bool) : Type 0 where
-  pub key : label ≡ keyOf labelBytes
-  pub clean : all isKeyByte labelBytes ≡ true
-  pub short : length labelBytes ≤ 8
-  pub bytes : packed raw ≡ text
-  pub whole : complete ≡ literalsWhole raw
+    FormRead (letters text) table keys tags c (statementForm current (numberIn known) (placesIn known) text)
 
 -- the statement with its label: one name more
-abbrev pub StatementRead : (labelBytes raw text known table keys tags : List ℕ) (c : Cursor) → Form → (table′ keys′ tags′ : List ℕ) → Type 0
-StatementRead labelBytes raw text known table keys tags c =
-    FormRead (length text + 1) table keys tags c (readStatement edition1 (numberIn known) (placesIn known) labelBytes raw)
+abbrev pub StatementRead : (labelBytes : List ℕ) (whole : Bool) (text known table keys tags : List ℕ) (c : Cursor) → Form
+    → (table′ keys′ tags′ : List ℕ) → Type 0
+StatementRead labelBytes whole text known table keys tags c =
+    FormRead (letters text + 1) table keys tags c (readStatement current (numberIn known) (placesIn known) labelBytes whole text)

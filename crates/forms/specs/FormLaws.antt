@@ -27,6 +27,7 @@ use Rattle.met.specs.declared.Cursor.{Cursor}
 use Rattle.met.specs.ReadingLaws.{give-then, bind-assoc, bind-same}
 use Rattle.numeric.specs.OperandLaws.{then-broken}
 use Rattle.numeric.specs.Operands.{Ready, Skips}
+use Rattle.packer.specs.Letters.{letters}
 use Rattle.strings.specs.ElementLaws.{elements-none, elements-give, elements-then, elements-broken, elements-skip}
 use Rattle.strings.specs.Elements.{GetsElements}
 use Rattle.forms.specs.Contracts.{itemsIn, elementsIn, Formed, FormRead}
@@ -174,7 +175,7 @@ module _ (text : List ℕ) (at : ℕ) where
 -- a statement with no items, read to the end
 pub formed-elements : {v : Option Statement} {es : List PatternElement} {rows : List ℕ} {text table keys tags : List ℕ} {c : Cursor}
     {x : Read (Option Statement)} {t k g : List ℕ} {d : Cursor} → GetsElements text table keys tags c x v es rows t k g d → length text ≤ d .at
-    → total (λ n. n) rows ≡ length es → es ≡ elementsIn v → [] ≡ itemsIn v → Formed v (length text - c .at) table keys tags c x t k g d
+    → total (λ n. n) rows ≡ length es → es ≡ elementsIn v → [] ≡ itemsIn v → Formed v (letters (drop (c .at) text)) table keys tags c x t k g d
 unfolding withItems
 formed-elements {v} {es} {rows} {text} {table} {keys} {tags} {c} {x} {t} {k} {g} {d} a end counted same none′ =
     let size : length es ≡ length (elementsIn v) = ap length same in
@@ -198,7 +199,7 @@ formed-elements {v} {es} {rows} {text} {table} {keys} {tags} {c} {x} {t} {k} {g}
       items = a .goes .items ∙ sym (add-zero (c .items)) ∙ ap (λ n. c .items + n) items;
       elements = a .goes .elements ∙ ap (λ n. c .elements + n) size;
       literals = a .goes .literals ∙ ap (λ n. c .literals + n) bytes;
-      few = omega (arith, a .few, a .ready .inside);
+      few = omega (arith, a .few);
       keysSize = a .ready .keysSize;
       tagsSize = a .ready .tagsSize;
     }
@@ -209,7 +210,7 @@ module _ {A : Type 0} {form : Read (Option Statement)} {left : A → List ℕ �
     (ends : (a : A) (bs : List ℕ) → left a bs ≡ stepEnd (step a) bs) (makes : (a : A) → mk a ≡ rowOf (c .elements) (c .items) (step a))
     (same : (a : A) → es a ≡ elementsOf (step a)) (none′ : (a : A) → [] ≡ itemsOf (step a)) where
   ended-case : (row : Row) (d : Cursor) (b : Bool) → ltb (d .at) (length text) ≡ b → Going form left mk es text table keys tags c row t k g d
-      → FormRead (length text - c .at) table keys tags c form
+      → FormRead (letters (drop (c .at) text)) table keys tags c form
       (elim b [ true ↦ FormCode.the-variants.Broken | false ↦ FormCode.the-variants.Step row d ]) t k g
   unfolding itemsIn elementsIn
   ended-case row d true e a =
@@ -228,7 +229,7 @@ module _ {A : Type 0} {form : Read (Option Statement)} {left : A → List ℕ �
               statement = s;
               made = a .made ∙ makes (a .value);
               formed =
-                  subst (λ (z : Read (Option Statement)). Formed (some s) (length text - c .at) table keys tags c z t k g d) (sym (a .whole))
+                  subst (λ (z : Read (Option Statement)). Formed (some s) (letters (drop (c .at) text)) table keys tags c z t k g d) (sym (a .whole))
                   (formed-elements
                   (elements-give (a .gets) (λ (z, rest). left z rest) (some s)
                   (ends (a .value) (drop (d .at) text) ∙ step-here text (d .at) end s)) end (a .counted) (same (a .value)) (none′ (a .value)));
@@ -236,6 +237,6 @@ module _ {A : Type 0} {form : Read (Option Statement)} {left : A → List ℕ �
       }
 
   pub going-ended : (r : Draft) → GoesOn form left mk es text table keys tags c r t k g
-      → FormRead (length text - c .at) table keys tags c form (endedBy text r) t k g
+      → FormRead (letters (drop (c .at) text)) table keys tags c form (endedBy text r) t k g
   going-ended (DraftCode.the-variants.Got row d) a = ended-case row d (ltb (d .at) (length text)) refl (a .answer)
   going-ended DraftCode.the-variants.Broken a = record { answer = a .answer }

@@ -10,13 +10,12 @@ use lib.Dec.{eqb, leb, ltb, eqb·suc-suc}
 use lib.ListN.{length, drop}
 use borrow.Author.Tests.{eqb-false, eq-eqb, ne-eqb, le-leb, leb-true}
 use Rattle.base.specs.Choice.{test-cases}
-use Rattle.base.specs.Edition.{edition1}
+use Rattle.base.specs.Current.{current}
 use Rattle.base.specs.Limits as Limits
 use Rattle.base.specs.Lists.{all}
 use Rattle.branches.specs.Places.{numberIn}
 use Rattle.calls.specs.Splices.{length-splice, splice-nil}
 use Rattle.cards.specs.Bytes.{between, isLetter, isDigit, isNameByte}
-use Rattle.cards.specs.Packing.{packed, literalsWhole}
 use Rattle.judgement.specs.Refusals.{labelForm, labelled, readStatement}
 use Rattle.language.specs.Forms.{formOf, statementForm}
 use Rattle.language.specs.Keywords as Keywords
@@ -33,13 +32,14 @@ use Rattle.met.specs.Known.{placesIn}
 use Rattle.met.specs.declared.Cursor.{Cursor}
 use Rattle.numeric.specs.OperandLaws.{ready-on}
 use Rattle.numeric.specs.Operands.{Ready, moved}
-use Rattle.packer.specs.Keys.{keyOf, isKeyByte}
+use Rattle.packer.specs.Keys.{keyOf, isKeyByte, LabelKey}
+use Rattle.packer.specs.Letters.{letters}
 use Rattle.words.specs.Kinds.{kindOf, leads}
 use Rattle.words.specs.declared.keywords.Keyword.{Keyword}
 use Rattle.forms.specs.BehindLaws.{form-noted, lead-fits, of-kind}
 use Rattle.forms.specs.StageLaws.{form-same}
 use Rattle.forms.specs.Steps.{FormAt}
-use Rattle.forms.specs.Contracts.{Starts, FormRead, Wording}
+use Rattle.forms.specs.Contracts.{Starts, FormRead}
 use Rattle.forms.specs.declared.Form.{Form}
 
 -- ---- the bytes of a key, one by one
@@ -165,61 +165,54 @@ labelled-off (got u m rest) form = refl
 labelled-off broken form = refl
 
 abbrev pub formIn : (known text : List ℕ) → Read (Option Statement)
-formIn known text = statementForm edition1 (numberIn known) (placesIn known) text
+formIn known text = statementForm current (numberIn known) (placesIn known) text
 
-abbrev pub statementIn : (known labelBytes raw : List ℕ) → Read (Option Statement)
-statementIn known labelBytes raw = readStatement edition1 (numberIn known) (placesIn known) labelBytes raw
+abbrev pub statementIn : (known labelBytes : List ℕ) (whole : Bool) (text : List ℕ) → Read (Option Statement)
+statementIn known labelBytes whole text = readStatement current (numberIn known) (placesIn known) labelBytes whole text
 
-module _ (known : List ℕ) where
+module _ (known text : List ℕ) where
   -- literals that aren't whole
-  pub statement-off : {labelBytes raw text : List ℕ} {key : ℕ} → Wording labelBytes raw text key false → statementIn known labelBytes raw ≡ broken
+  pub statement-off : (labelBytes : List ℕ) {whole : Bool} → whole ≡ false → statementIn known labelBytes whole text ≡ broken
   unfolding readStatement
-  statement-off {labelBytes} {raw} w =
-      ap (λ b. labelled (labelForm labelBytes) b (formIn known (packed raw))) (sym (w .whole)) ∙ labelled-off (labelForm labelBytes) _
+  statement-off labelBytes h =
+      ap (λ b. labelled (labelForm labelBytes) b (formIn known text)) h ∙ labelled-off (labelForm labelBytes) (formIn known text)
 
   -- no label
-  pub statement-plain : (labelBytes : List ℕ) {raw text : List ℕ} {key : ℕ} → Wording labelBytes raw text key true → key ≡ 0
-      → statementIn known labelBytes raw ≡ formIn known text
+  pub statement-plain : (labelBytes : List ℕ) {key : ℕ} {whole : Bool} → LabelKey labelBytes key → whole ≡ true → key ≡ 0
+      → statementIn known labelBytes whole text ≡ formIn known text
   unfolding readStatement labelForm labelled
-  statement-plain [] {raw} w e =
-      ap {B = Read (Option Statement)} (λ b. elim b [ true ↦ meeting nothing (formIn known (packed raw)) | false ↦ broken ]) (sym (w .whole))
-      ∙ meeting-nothing (formIn known (packed raw))
-      ∙ ap (formIn known) (w .bytes)
-  statement-plain (b ∷ bs) w e = absurd (some-key b bs (w .clean) (sym (w .key) ∙ e))
-    where
-      some-key : (b : ℕ) (bs : List ℕ) → all isKeyByte (b ∷ bs) ≡ true → keyOf (b ∷ bs) ≡ 0 → ⊥
-      some-key b bs c z = key-some b bs (byte-some b bs c .0) z
+  statement-plain [] w h e =
+      ap {B = Read (Option Statement)} (λ b. elim b [ true ↦ meeting nothing (formIn known text) | false ↦ broken ]) h
+      ∙ meeting-nothing (formIn known text)
+  statement-plain (b ∷ bs) w h e = absurd (key-some b bs (byte-some b bs (w .clean) .0) (sym (w .is) ∙ e))
+
+  -- whether a label is a name
+  label-shown : (b : ℕ) (bs : List ℕ) {key : ℕ} → LabelKey (b ∷ bs) key → eqb (nameLength (b ∷ bs)) (length (b ∷ bs)) ≡ nameShown key
+  label-shown b bs w = sym (shown-name b bs (w .clean) (w .short)) ∙ ap nameShown (sym (w .is))
 
   -- a label that is no name
-  pub statement-unnamed : (labelBytes : List ℕ) {raw text : List ℕ} {key : ℕ} → Wording labelBytes raw text key true → (key ≡ 0 → ⊥)
-      → nameShown key ≡ false → statementIn known labelBytes raw ≡ broken
+  pub statement-unnamed : (labelBytes : List ℕ) (whole : Bool) {key : ℕ} → LabelKey labelBytes key → (key ≡ 0 → ⊥) → nameShown key ≡ false
+      → statementIn known labelBytes whole text ≡ broken
   unfolding readStatement labelForm labelled keyOf
-  statement-unnamed [] w h e = absurd (h (w .key))
-  statement-unnamed (b ∷ bs) {raw} w h e =
-      let form = formIn known (packed raw) in
-      let not-name : eqb (nameLength (b ∷ bs)) (length (b ∷ bs)) ≡ false =
-      sym (shown-name b bs (w .clean) (w .short)) ∙ ap nameShown (sym (w .key)) ∙ e in
+  statement-unnamed [] whole w z e = absurd (z (w .is))
+  statement-unnamed (b ∷ bs) whole w z e =
       ap
       (λ (t : Bool).
-      labelled (elim t [ true ↦ got tt (declaring label (b ∷ bs)) [] | false ↦ broken ]) (literalsWhole raw) form)
-      not-name
+      labelled (elim t [ true ↦ got tt (declaring label (b ∷ bs)) [] | false ↦ broken ]) whole (formIn known text))
+      (label-shown b bs w ∙ e)
 
   -- a label, and then the statement
-  pub statement-named : (labelBytes : List ℕ) {raw text : List ℕ} {key : ℕ} → Wording labelBytes raw text key true → (key ≡ 0 → ⊥)
-      → nameShown key ≡ true → statementIn known labelBytes raw ≡ meeting (metIn (entry key 9 ∷ []) 0 [] 0) (formIn known text)
+  pub statement-named : (labelBytes : List ℕ) {key : ℕ} {whole : Bool} → LabelKey labelBytes key → whole ≡ true → (key ≡ 0 → ⊥)
+      → nameShown key ≡ true → statementIn known labelBytes whole text ≡ meeting (metIn (entry key 9 ∷ []) 0 [] 0) (formIn known text)
   unfolding readStatement labelForm labelled purposeNumber keyOf
-  statement-named [] w h e = absurd (h (w .key))
-  statement-named (b ∷ bs) {raw} {text} {key} w h e =
-      let form = formIn known (packed raw) in
-      let name : eqb (nameLength (b ∷ bs)) (length (b ∷ bs)) ≡ true =
-      sym (shown-name b bs (w .clean) (w .short)) ∙ ap nameShown (sym (w .key)) ∙ e in
-      ap
-      (λ (t : Bool).
-      labelled (elim t [ true ↦ got tt (declaring label (b ∷ bs)) [] | false ↦ broken ]) (literalsWhole raw) form)
-      name
-      ∙ ap {B = Read (Option Statement)} (λ t. elim t [ true ↦ meeting (declaring label (b ∷ bs)) form | false ↦ broken ]) (sym (w .whole))
-      ∙ ap₂ (λ (m : Met) (l : List ℕ). meeting m (formIn known l))
-      (sym (declared-met (b ∷ bs) (w .clean) label) ∙ ap (λ j. metIn (entry j 9 ∷ []) 0 [] 0) (sym (w .key))) (w .bytes)
+  statement-named [] w h z e = absurd (z (w .is))
+  statement-named (b ∷ bs) {key} w h z e =
+      ap₂
+      (λ (t whole : Bool).
+      labelled (elim t [ true ↦ got tt (declaring label (b ∷ bs)) [] | false ↦ broken ]) whole (formIn known text))
+      (label-shown b bs w ∙ e) h
+      ∙ ap (λ (m : Met). meeting m (formIn known text))
+      (sym (declared-met (b ∷ bs) (w .clean) label) ∙ ap (λ j. metIn (entry j 9 ∷ []) 0 [] 0) (sym (w .is)))
 
 -- ---- what is met with the label
 module _ {most : ℕ} {table keys tags : List ℕ} {c : Cursor} {x : Read (Option Statement)} {t k′ g′ : List ℕ}
@@ -244,11 +237,11 @@ module _ {most : ℕ} {table keys tags : List ℕ} {c : Cursor} {x : Read (Optio
 
 -- ---- before a statement the cursor is ready, and so it is behind its label
 pub starts-ready : {text keys tags : List ℕ} {c : Cursor} → Starts text keys tags c → Ready text keys tags c
-starts-ready s =
+starts-ready {text} s =
     record {
       textSize = s .textSize;
       inside = omega (arith, s .at);
-      names = omega (arith, s .names);
+      names = omega (arith, s .names, s .room, ap (λ i. letters (drop i text)) (s .at));
       items = omega (arith, s .items);
       elements = omega (arith, s .elements);
       literals = omega (arith, s .literals);
@@ -263,6 +256,7 @@ starts-labelled {keys = keys} {tags = tags} {c = c} {key = key} s first n =
       textSize = s .textSize;
       at = ap (λ (z : Cursor). z .at) (n .goes) ∙ s .at;
       names = omega (arith, ap (λ (z : Cursor). z .names) (n .goes));
+      room = s .room;
       items = omega (arith, s .items, ap (λ (z : Cursor). z .items) (n .goes));
       elements = omega (arith, s .elements, ap (λ (z : Cursor). z .elements) (n .goes));
       literals = omega (arith, s .literals, ap (λ (z : Cursor). z .literals) (n .goes));
@@ -277,6 +271,6 @@ module _ {text keys tags : List ℕ} {c : Cursor} (lead : Keyword) {d : Cursor} 
   lead-ready = ready-on (lead .size) (starts-ready s) e (lead-fits text c lead is (s .at))
 
   pub of-lead : (known : List ℕ) {table : List ℕ} (kind : Keywords.Kind) → kindOf (lead .kind) ≡ kind → (q : Form) {t k g : List ℕ}
-      → FormAt (formOf edition1 (numberIn known) (placesIn known) kind (drop (d .at) text)) text table keys tags d q t k g
-      → FormRead (length text) table keys tags c (formIn known text) q t k g
+      → FormAt (formOf current (numberIn known) (placesIn known) kind (drop (d .at) text)) text table keys tags d q t k g
+      → FormRead (letters text) table keys tags c (formIn known text) q t k g
   of-lead known kind f q a = of-kind text c lead is (s .at) known kind f e (starts-ready s) lead-ready q a

@@ -6,6 +6,7 @@ use lib.ListN.{length}
 use Rattle.branches.specs.declared.Draft as DraftCode
 use Rattle.branches.specs.declared.Draft.{Draft}
 use Rattle.branches.specs.declared.Row.{Row}
+use Rattle.calls.specs.Kinds.{rangeNumber, replaceKind}
 use Rattle.calls.specs.Table as Table
 use Rattle.calls.specs.Table.{rangeCell}
 use Rattle.language.specs.Program.{Branch, Element}
@@ -28,11 +29,11 @@ stepsIn r s f = record { kind = r .kind; flag = r .flag; success = s; failure = 
 abbrev pub leftIn : Row → Cell → Row
 leftIn r v = record { kind = r .kind; flag = r .flag; success = r .success; failure = r .failure; left = v; right = r .right }
 
-abbrev pub rightIn : Row → (flag : ℕ) → Cell → Row
-rightIn r n v = record { kind = r .kind; flag = n; success = r .success; failure = r .failure; left = r .left; right = v }
+abbrev pub rightIn : Row → (kind : ℕ) → Cell → Row
+rightIn r k v = record { kind = k; flag = r .flag; success = r .success; failure = r .failure; left = r .left; right = v }
 
 abbrev pub rangeIn : (from count more : ℕ) → Cell
-rangeIn from count more = record { kind = 22; place = 0; value = from + 65_536 * (count + 65_536 * more) }
+rangeIn from count more = record { kind = rangeNumber; place = 0; value = from + 65_536 * (count + 65_536 * more) }
 
 -- the same of the table's rows
 abbrev pub bare : (kind flag : ℕ) → Table.Row
@@ -47,14 +48,14 @@ withBranch b = withSteps (b .success) (b .failure)
 abbrev pub withLeft : Table.Cell → Table.Row → Table.Row
 withLeft v r = Table.row (r .kind) (r .flag) (r .success) (r .failure) v (r .right)
 
-abbrev pub withRight : (flag : ℕ) → Table.Cell → Table.Row → Table.Row
-withRight n v r = Table.row (r .kind) n (r .success) (r .failure) (r .left) v
+abbrev pub withRight : (kind : ℕ) → Table.Cell → Table.Row → Table.Row
+withRight k v r = Table.row k (r .flag) (r .success) (r .failure) (r .left) v
 
 -- a row whose elements start at a place
 abbrev pub withRange : {A : Type 0} → ℕ → List A → Table.Row → Table.Row
-withRange from xs r = withRight (r .flag) (rangeCell from (length xs) 0) r
+withRange from xs r = withRight (r .kind) (rangeCell from (length xs) 0) r
 
 -- a SCAN's row with its replacement, whose pattern's elements stand between two places
-abbrev pub withReplacement : (direction from to : ℕ) → Option (List Element) → Table.Row → Table.Row
-withReplacement direction from to none r = r
-withReplacement direction from to (some xs) r = withRight (direction + 2) (rangeCell from (to - from) (length xs)) r
+abbrev pub withReplacement : (from to : ℕ) → Option (List Element) → Table.Row → Table.Row
+withReplacement from to none r = r
+withReplacement from to (some xs) r = withRight (replaceKind .number) (rangeCell from (to - from) (length xs)) r

@@ -7,7 +7,7 @@ use Prim.Native.Nat.{ℕ, _+_, _-_, _*_}
 use native.Mathlib.Omega.{arith}
 use lib.ListN.{length, drop, length-map}
 use lib.Seq.{drop-drop}
-use Rattle.base.specs.Edition.{edition1}
+use Rattle.base.specs.Current.{current}
 use Rattle.base.specs.Lists.{begins, total}
 use Rattle.base.specs.Text.{bytes}
 use Rattle.branches.specs.Places.{numberIn}
@@ -15,6 +15,7 @@ use Rattle.branches.specs.Rows.{rowMeaning}
 use Rattle.branches.specs.declared.Draft as DraftCode
 use Rattle.branches.specs.declared.Draft.{Draft}
 use Rattle.branches.specs.declared.Row.{Row}
+use Rattle.calls.specs.Kinds.{rangeNumber, replaceKind}
 use Rattle.calls.specs.Table as Table
 use Rattle.calls.specs.Table.{replacementOf, range, rangeCell}
 use Rattle.language.specs.Forms.{branch, branchIfAny, replacementIfAny}
@@ -131,14 +132,14 @@ stage-same DraftCode.the-variants.Broken h a = record { stands = tt; answer = h 
 -- a branch field, if there is one
 module _ (known : List ℕ) where
   pub branch-any : (bs : List ℕ) → begins (47 ∷ []) bs ≡ true
-      → branchIfAny edition1 (numberIn known) (placesIn known) bs ≡ branch edition1 (numberIn known) (placesIn known) bs
+      → branchIfAny current (numberIn known) (placesIn known) bs ≡ branch current (numberIn known) (placesIn known) bs
   unfolding branchIfAny bytes
   branch-any bs e = chosen _ _ e
 
   pub branch-not : {text : List ℕ} (table : List ℕ) {keys tags : List ℕ} (row row′ : Row) (c : Cursor) → Ready text keys tags c
       → begins (47 ∷ []) (drop (c .at) text) ≡ false
       → rowMeaning row′ ≡ withBranch (record { success = placesIn known .next; failure = placesIn known .next }) (rowMeaning row)
-      → Drawn (branchIfAny edition1 (numberIn known) (placesIn known) (drop (c .at) text)) withBranch (λ _. []) text table keys tags row c row′
+      → Drawn (branchIfAny current (numberIn known) (placesIn known) (drop (c .at) text)) withBranch (λ _. []) text table keys tags row c row′
       table keys tags c
   unfolding branchIfAny bytes total
   branch-not {text} table {keys} {tags} row row′ c ready e made =
@@ -161,7 +162,7 @@ shown-size false xs = length-map xs value
 -- a row of elements, and the range it has
 pub drawn-row : {A : Type 0} {f : List A → List PatternElement} (sized : (xs : List A) → length (f xs) ≡ length xs) {y : Read (List A)}
     {text table keys tags : List ℕ} (row : Row) {c : Cursor} {row′ : Row} {cell : _} {t k g : List ℕ} {d : Cursor}
-    → GetsRow f text table keys tags c y t k g d → row′ ≡ rightIn row (row .flag) cell → cell ≡ rangeIn (c .elements) (d .elements - c .elements) 0
+    → GetsRow f text table keys tags c y t k g d → row′ ≡ rightIn row (row .kind) cell → cell ≡ rangeIn (c .elements) (d .elements - c .elements) 0
     → Drawn y (λ xs. withRange (c .elements) xs) f text table keys tags row c row′ t k g d
 unfolding rangeCell range Table.cell Table.row
 drawn-row sized row {c} {d = d} a put made =
@@ -173,35 +174,35 @@ drawn-row sized row {c} {d = d} a put made =
       gets = a .gets;
       made =
           ap rowMeaning put
-          ∙ ap (λ v. rowMeaning (rightIn row (row .flag) v)) made
+          ∙ ap (λ v. rowMeaning (rightIn row (row .kind) v)) made
           ∙ ap
           (λ n.
           Table.row (row .kind) (row .flag) (row .success) (row .failure) (meaning (row .left))
-          (Table.cell 22 0 (c .elements + 65_536 * (n + 65_536 * 0))))
+          (Table.cell rangeNumber 0 (c .elements + 65_536 * (n + 65_536 * 0))))
           count;
     }
 
 -- a replacement, if there is one
 abbrev pub replacementAt : (known text : List ℕ) → ℕ → Read (Option (List Element))
-replacementAt known text at = replacementIfAny edition1 (numberIn known) (placesIn known) (drop at text)
+replacementAt known text at = replacementIfAny current (numberIn known) (placesIn known) (drop at text)
 
 module _ (known text : List ℕ) (at : ℕ) where
   replacement-is : begins (61 ∷ []) (drop at text) ≡ true
       → replacementAt known text at
-      ≡ (stringExpression edition1 (placesIn known) (drop (at + 1) text) >>= λ (xs, rest). give (some xs) rest)
+      ≡ (stringExpression current (placesIn known) (drop (at + 1) text) >>= λ (xs, rest). give (some xs) rest)
   unfolding replacementIfAny bytes
   replacement-is e =
       chosen _ _ e
-      ∙ ap (λ (l : List ℕ). stringExpression edition1 (placesIn known) l >>= λ (xs, rest). give (some xs) rest) (drop-drop 1 at text)
+      ∙ ap (λ (l : List ℕ). stringExpression current (placesIn known) l >>= λ (xs, rest). give (some xs) rest) (drop-drop 1 at text)
 
-  pub replaced-broken : begins (61 ∷ []) (drop at text) ≡ true → stringExpression edition1 (placesIn known) (drop (at + 1) text) ≡ broken
+  pub replaced-broken : begins (61 ∷ []) (drop at text) ≡ true → stringExpression current (placesIn known) (drop (at + 1) text) ≡ broken
       → replacementAt known text at ≡ broken
   replaced-broken e h = replacement-is e ∙ then-broken _ h
 
-module _ (known : List ℕ) (direction from : ℕ) {text table keys tags : List ℕ} {row : Row} {c : Cursor} where
+module _ (known : List ℕ) (from : ℕ) {text table keys tags : List ℕ} {row : Row} {c : Cursor} where
   pub replaced-not : Ready text keys tags c → begins (61 ∷ []) (drop (c .at) text) ≡ false
-      → Drawn (replacementAt known text (c .at)) (withReplacement direction from (c .elements)) (λ o. map value (replacementOf o)) text table keys tags row c row table keys
-      tags c
+      → Drawn (replacementAt known text (c .at)) (withReplacement from (c .elements)) (λ o. map value (replacementOf o)) text table
+      keys tags row c row table keys tags c
   unfolding replacementIfAny bytes total replacementOf
   replaced-not ready e =
       record {
@@ -215,9 +216,10 @@ module _ (known : List ℕ) (direction from : ℕ) {text table keys tags : List 
       }
 
   pub replaced-got : begins (61 ∷ []) (drop (c .at) text) ≡ true → {row′ : Row} {cell : _} {t k g : List ℕ} {d : Cursor}
-      → GetsRow (map value) text table keys tags (moved c 1) (stringExpression edition1 (placesIn known) (drop (c .at + 1) text)) t k g d
-      → row′ ≡ rightIn row (direction + 2) cell → cell ≡ rangeIn from (c .elements - from) (d .elements - c .elements)
-      → Drawn (replacementAt known text (c .at)) (withReplacement direction from (c .elements)) (λ o. map value (replacementOf o)) text table keys tags row c row′ t k g d
+      → GetsRow (map value) text table keys tags (moved c 1) (stringExpression current (placesIn known) (drop (c .at + 1) text)) t k g d
+      → row′ ≡ rightIn row (replaceKind .number) cell → cell ≡ rangeIn from (c .elements - from) (d .elements - c .elements)
+      → Drawn (replacementAt known text (c .at)) (withReplacement from (c .elements)) (λ o. map value (replacementOf o)) text table
+      keys tags row c row′ t k g d
   unfolding replacementOf rangeCell range Table.cell Table.row
   replaced-got e {row′} {cell} {t} {k} {g} {d} a put made =
       let count : d .elements - c .elements ≡ length (a .values) = omega (arith, a .size) in
@@ -232,11 +234,11 @@ module _ (known : List ℕ) (direction from : ℕ) {text table keys tags : List 
             (elements-give (elements-skip 1 (skipped c 1 refl) (a .gets)) _ (some (a .values)) refl);
         made =
             ap rowMeaning put
-            ∙ ap (λ v. rowMeaning (rightIn row (direction + 2) v)) made
+            ∙ ap (λ v. rowMeaning (rightIn row (replaceKind .number) v)) made
             ∙ ap
             (λ n.
-            Table.row (row .kind) (direction + 2) (row .success) (row .failure) (meaning (row .left))
-            (Table.cell 22 0 (from + 65_536 * (c .elements - from + 65_536 * n))))
+            Table.row (replaceKind .number) (row .flag) (row .success) (row .failure) (meaning (row .left))
+            (Table.cell rangeNumber 0 (from + 65_536 * (c .elements - from + 65_536 * n))))
             count;
       }
 

@@ -4,7 +4,7 @@ use mathlib.Core.List.{List, [], _∷_, map}
 use mathlib.Core.Path.{_≡_}
 use Prim.Native.Nat.{ℕ, _/_, _≤_}
 use lib.ListN.{length, drop}
-use Rattle.base.specs.Edition.{edition1}
+use Rattle.base.specs.Current.{current}
 use Rattle.base.specs.Lists.{begins, total}
 use Rattle.branches.specs.Branches.{targetIn}
 use Rattle.branches.specs.Places.{numberIn}
@@ -13,6 +13,7 @@ use Rattle.branches.specs.Tests.{testAlone}
 use Rattle.branches.specs.declared.Draft as DraftCode
 use Rattle.branches.specs.declared.Draft.{Draft}
 use Rattle.branches.specs.declared.Row.{Row}
+use Rattle.calls.specs.Kinds.{parts}
 use Rattle.calls.specs.Table as Table
 use Rattle.calls.specs.Table.{partCell, replacementOf}
 use Rattle.language.specs.Forms.{branch, branchIfAny, replacementIfAny}
@@ -24,12 +25,13 @@ use Rattle.met.specs.Entries.{roleOf}
 use Rattle.met.specs.Known.{placesIn}
 use Rattle.met.specs.declared.Cursor.{Cursor}
 use Rattle.numeric.specs.Operands.{Ready, moved}
+use Rattle.packer.specs.Packs.{longestText}
 use Rattle.strings.specs.Elements.{GetsElements, shownRow, readRow}
 use Rattle.forms.specs.Rows.{withSteps, withBranch, withLeft, withRange, withReplacement}
 
 -- a draft's cursor is inside the text; it may go on; and it stands behind an element's place
 abbrev pub Inward : List ℕ → Draft → Type 0
-Inward text (DraftCode.the-variants.Got row c) = (c .at ≤ length text) × (length text ≤ 32_768)
+Inward text (DraftCode.the-variants.Got row c) = (c .at ≤ length text) × (length text ≤ longestText)
 Inward text DraftCode.the-variants.Broken = Unit {0}
 
 abbrev pub Standing : (text keys tags : List ℕ) → Draft → Type 0
@@ -84,21 +86,21 @@ TargetStage text known keys tags tag = NamesStage (targetIn known tag) (λ s. wi
 
 abbrev pub PartStage : (text known keys tags : List ℕ) (tag : ℕ) (r q : Draft) (keys′ tags′ : List ℕ) → Type 0
 PartStage text known keys tags tag =
-    NamesStage (partName edition1 (placesIn known) (roleOf (tag / 16))) (λ p. withLeft (partCell 0 p)) text keys tags
+    NamesStage (partName current (placesIn known) (roleOf (tag / 16))) (λ p. withLeft (partCell parts p)) text keys tags
 
 abbrev pub TestStage : (text known keys tags : List ℕ) (r q : Draft) (keys′ tags′ : List ℕ) → Type 0
-TestStage text known = NamesStage (test edition1 (placesIn known)) (λ t _. testAlone t) text
+TestStage text known = NamesStage (test current (placesIn known)) (λ t _. testAlone t) text
 
 abbrev pub BranchStage : (text known keys tags : List ℕ) (r q : Draft) (keys′ tags′ : List ℕ) → Type 0
-BranchStage text known = NamesStage (branch edition1 (numberIn known) (placesIn known)) withBranch text
+BranchStage text known = NamesStage (branch current (numberIn known) (placesIn known)) withBranch text
 
 abbrev pub BranchIfAnyStage : (text known keys tags : List ℕ) (r q : Draft) (keys′ tags′ : List ℕ) → Type 0
-BranchIfAnyStage text known = NamesStage (branchIfAny edition1 (numberIn known) (placesIn known)) withBranch text
+BranchIfAnyStage text known = NamesStage (branchIfAny current (numberIn known) (placesIn known)) withBranch text
 
 abbrev pub RowStage : (text known : List ℕ) (b : Bool) (table keys tags : List ℕ) (r q : Draft) (table′ keys′ tags′ : List ℕ) → Type 0
 RowStage text known b = StageRead (readRow b (placesIn known)) (λ n xs. withRange n xs) (shownRow b) text
 
-abbrev pub ReplacedStage : (text known table keys tags : List ℕ) (from direction : ℕ) (r q : Draft) (table′ keys′ tags′ : List ℕ) → Type 0
-ReplacedStage text known table keys tags from direction =
-    StageRead (replacementIfAny edition1 (numberIn known) (placesIn known)) (λ n o. withReplacement direction from n o)
+abbrev pub ReplacedStage : (text known table keys tags : List ℕ) (from : ℕ) (r q : Draft) (table′ keys′ tags′ : List ℕ) → Type 0
+ReplacedStage text known table keys tags from =
+    StageRead (replacementIfAny current (numberIn known) (placesIn known)) (λ n o. withReplacement from n o)
     (λ o. map value (replacementOf o)) text table keys tags

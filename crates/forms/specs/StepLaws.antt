@@ -6,15 +6,17 @@ use Prim.Native.Nat.{ℕ, _+_, _-_}
 use native.Mathlib.Nat.{add-zero}
 use native.Mathlib.Omega.{arith}
 use lib.ListN.{length, drop}
-use Rattle.base.specs.Edition.{edition1}
+use Rattle.base.specs.Current.{current}
 use Rattle.base.specs.Text.{bytes}
 use Rattle.branches.specs.BranchLaws.{target-then}
 use Rattle.branches.specs.Branches.{targetIn}
 use Rattle.branches.specs.Places.{numberIn}
-use Rattle.branches.specs.Tests.{testAlone}
+use Rattle.branches.specs.Tests.{nowhere, testAlone}
 use Rattle.branches.specs.declared.Draft.{Draft}
+use Rattle.calls.specs.Kinds.{parts, setStringKind, gotoKind, executeKind, nullKind, scanKind, replaceKind, readKind, writeKind}
+use Rattle.calls.specs.RowLaws.{test-elements, test-items, scan-elements, scan-items}
 use Rattle.calls.specs.Table as Table
-use Rattle.calls.specs.Table.{partCell, rangeCell, rowOf, testRow, elementsOf, itemsOf, replacementOf, replacementFlag, directionNumber, noCell}
+use Rattle.calls.specs.Table.{partCell, rangeCell, rowOf, elementsOf, itemsOf, replacementOf, directionNumber, noCell}
 use Rattle.language.specs.Forms.{stepEnd, withoutUnit, branch, branchIfAny, ifForm, replacementIfAny, scanForm, readForm, writeForm}
 use Rattle.language.specs.Forms.{labelName, gotoForm, routineForm, executeForm}
 use Rattle.language.specs.Numeric.{test}
@@ -70,12 +72,12 @@ target-read known kind tag l {text} {c = c} ready q a =
     (l .row (c .elements) (c .items)) (l .noElements) (l .noItems) q a
 
 module _ (known : List ℕ) where
-  pub goto-leads : Leads known 3 1 (gotoForm edition1 (numberIn known) (placesIn known))
+  pub goto-leads : Leads known (gotoKind .number) 1 (gotoForm current (numberIn known) (placesIn known))
   unfolding gotoForm labelName targetIn rowOf elementsOf itemsOf Table.row noCell
   goto-leads =
       record { statement = goto; is = λ _. refl; row = λ _ _ _. refl; noElements = λ _. refl; noItems = λ _. refl }
 
-  pub routine-leads : Leads known 3 10 (routineForm edition1 (numberIn known) (placesIn known))
+  pub routine-leads : Leads known (gotoKind .number) 10 (routineForm current (numberIn known) (placesIn known))
   unfolding routineForm rowOf elementsOf itemsOf Table.row noCell
   routine-leads =
       record {
@@ -86,7 +88,7 @@ module _ (known : List ℕ) where
         noItems = λ _. refl;
       }
 
-  pub execute-leads : Leads known 11 2 (executeForm edition1 (numberIn known) (placesIn known))
+  pub execute-leads : Leads known (executeKind .number) 2 (executeForm current (numberIn known) (placesIn known))
   unfolding executeForm rowOf elementsOf itemsOf Table.row noCell
   execute-leads =
       record {
@@ -100,163 +102,179 @@ module _ (known : List ℕ) where
 -- WRITE and PRINT
 pub output-read : (known : List ℕ) {text table keys tags : List ℕ} {c : Cursor} (n : ℕ) {d : Cursor} → Skips c n d → Ready text keys tags c
     → Ready text keys tags d → withoutUnit (bytes "(61)") (drop (c .at) text) ≡ drop (d .at) text → (q : Draft) {t k g : List ℕ}
-    → StageRead (stringExpression edition1 (placesIn known)) (λ m xs. withRange m xs) (map value) text table keys tags (begunAs 10 0 d) q t k g
-    → FormAt (writeForm edition1 (numberIn known) (placesIn known) (drop (c .at) text)) text table keys tags c (endedBy text q) t k g
+    → StageRead (stringExpression current (placesIn known)) (λ m xs. withRange m xs) (map value) text table keys tags
+    (begunAs (writeKind .number) 0 d) q t k g
+    → FormAt (writeForm current (numberIn known) (placesIn known) (drop (c .at) text)) text table keys tags c (endedBy text q) t k g
 unfolding writeForm rowOf elementsOf itemsOf Table.row noCell
 output-read known n s ready on is q a =
-    one-stage (stringExpression edition1 (placesIn known)) (λ m xs. withRange m xs) (map value) write 10 0 n s ready on
-    (ap (λ (l : List ℕ). stringExpression edition1 (placesIn known) l >>= λ (xs, rest). stepEnd (write xs) rest) is) (λ _. refl) (λ _. refl)
+    one-stage (stringExpression current (placesIn known)) (λ m xs. withRange m xs) (map value) write (writeKind .number) 0 n s ready on
+    (ap (λ (l : List ℕ). stringExpression current (placesIn known) l >>= λ (xs, rest). stepEnd (write xs) rest) is) (λ _. refl) (λ _. refl)
     (λ _. refl) q a
 
 -- READ
 pub input-read : (known : List ℕ) {text : List ℕ} (table : List ℕ) {keys tags : List ℕ} {c : Cursor} (n : ℕ) {d : Cursor} → Skips c n d
     → Ready text keys tags c → Ready text keys tags d → withoutUnit (bytes "(60)") (drop (c .at) text) ≡ drop (d .at) text → (q₁ q₂ : Draft)
     {k g k′ g′ : List ℕ}
-    → NamesStage (partName edition1 (placesIn known) (roleOf 0)) (λ p. withLeft (partCell 0 p)) text keys tags (begunAs 9 0 d) q₁ k g
-    → NamesStage (branchIfAny edition1 (numberIn known) (placesIn known)) withBranch text k g q₁ q₂ k′ g′
-    → FormAt (readForm edition1 (numberIn known) (placesIn known) (drop (c .at) text)) text table keys tags c (endedBy text q₂) table k′ g′
+    → NamesStage (partName current (placesIn known) (roleOf 0)) (λ p. withLeft (partCell parts p)) text keys tags
+    (begunAs (readKind .number) 0 d) q₁ k g
+    → NamesStage (branchIfAny current (numberIn known) (placesIn known)) withBranch text k g q₁ q₂ k′ g′
+    → FormAt (readForm current (numberIn known) (placesIn known) (drop (c .at) text)) text table keys tags c (endedBy text q₂) table k′ g′
 unfolding readForm rowOf elementsOf itemsOf Table.row noCell roleOf noRole
 input-read known table {c = c} n {d} s ready on is q₁ q₂ a b =
     let p = placesIn known in
-    let any = branchIfAny edition1 (numberIn known) p in
+    let any = branchIfAny current (numberIn known) p in
     going-ended {A = (Unit {0} × Part) × Branch} (λ ((_, x), y). read x y) (λ _ _. refl) (λ _. refl) (λ _. refl) (λ _. refl) q₂
     (going-more any (λ _. withBranch) (λ _. []) (λ ((_, x), y) rest. stepEnd (read x y) rest)
-    (λ ((_, x), y). Table.row 9 0 (y .success) (y .failure) (partCell 0 x) noCell) (λ _. []) ready (λ _ _. refl) (λ _ _. refl) (λ _ _. refl) q₁ q₂
-    (going-more (partName edition1 p (roleOf 0)) (λ _ x. withLeft (partCell 0 x)) (λ _. [])
-    (λ (_, x) rest. any rest >>= λ (y, l). stepEnd (read x y) l) (λ (_, x). Table.row 9 0 0 0 (partCell 0 x) noCell) (λ _. []) ready
-    (λ _ _. refl) (λ _ _. refl) (λ _ _. refl) (begunAs 9 0 d) q₁
-    (going-start (λ rest. partName edition1 p (roleOf 0) rest >>= λ (x, l). any l >>= λ (y, l). stepEnd (read x y) l) n s on
-    (ap (λ (l : List ℕ). partName edition1 p (roleOf 0) l >>= λ (x, l). any l >>= λ (y, l). stepEnd (read x y) l) is)) (a table)) (b table))
+    (λ ((_, x), y). Table.row (readKind .number) 0 (y .success) (y .failure) (partCell parts x) noCell) (λ _. []) ready (λ _ _. refl)
+    (λ _ _. refl) (λ _ _. refl) q₁ q₂
+    (going-more (partName current p (roleOf 0)) (λ _ x. withLeft (partCell parts x)) (λ _. [])
+    (λ (_, x) rest. any rest >>= λ (y, l). stepEnd (read x y) l) (λ (_, x). Table.row (readKind .number) 0 0 0 (partCell parts x) noCell)
+    (λ _. []) ready (λ _ _. refl) (λ _ _. refl) (λ _ _. refl) (begunAs (readKind .number) 0 d) q₁
+    (going-start (λ rest. partName current p (roleOf 0) rest >>= λ (x, l). any l >>= λ (y, l). stepEnd (read x y) l) n s on
+    (ap (λ (l : List ℕ). partName current p (roleOf 0) l >>= λ (x, l). any l >>= λ (y, l). stepEnd (read x y) l) is)) (a table)) (b table))
 
 -- a string is set
 pub string-read : (known : List ℕ) {text table keys tags : List ℕ} {c : Cursor} → Ready text keys tags c → (q₁ q₂ q₃ : Draft)
     {k g t k′ g′ : List ℕ}
-    → NamesStage (partName edition1 (placesIn known) (roleOf 0)) (λ p. withLeft (partCell 0 p)) text keys tags (begunAs 2 0 c) q₁ k g
-    → q₂ ≡ markedBy text 61 q₁
-    → StageRead (stringExpression edition1 (placesIn known)) (λ m xs. withRange m xs) (map value) text table k g q₂ q₃ t k′ g′
+    → NamesStage (partName current (placesIn known) (roleOf 0)) (λ p. withLeft (partCell parts p)) text keys tags
+    (begunAs (setStringKind .number) 0 c) q₁ k g → q₂ ≡ markedBy text 61 q₁
+    → StageRead (stringExpression current (placesIn known)) (λ m xs. withRange m xs) (map value) text table k g q₂ q₃ t k′ g′
     → FormAt (stringSet known (drop (c .at) text)) text table keys tags c (endedBy text q₃) t k′ g′
 unfolding stringSet rowOf elementsOf itemsOf Table.row noCell roleOf noRole bytes
 string-read known {text} {table} {keys} {tags} {c} ready q₁ q₂ q₃ {k} {g} {t} {k′} {g′} a e b =
     let p = placesIn known in
-    let strings = stringExpression edition1 p in
+    let strings = stringExpression current p in
+    let setRow : Part → Table.Cell → Table.Row = λ x right. Table.row (setStringKind .number) 0 0 0 (partCell parts x) right in
     let part = a table in
     let marked = subst (λ z. StageRead (skip (61 ∷ [])) (λ _ _ r. r) (λ _. []) text table k g q₁ z table k g) (sym e)
     (marked-stage text 61 q₁ (part .stands)) in
     going-ended {A = ((Unit {0} × Part) × Unit {0}) × List Element} (λ (((_, x), _), xs). setString x xs) (λ _ _. refl) (λ _. refl) (λ _. refl)
     (λ _. refl) q₃
     (going-more strings (λ m xs. withRange m xs) (map value) (λ (((_, x), _), xs) rest. stepEnd (setString x xs) rest)
-    (λ (((_, x), _), xs). Table.row 2 0 0 0 (partCell 0 x) (rangeCell (c .elements) (length xs) 0)) (λ (_, xs). map value xs) ready
+    (λ (((_, x), _), xs). setRow x (rangeCell (c .elements) (length xs) 0)) (λ (_, xs). map value xs) ready
     (λ _ _. refl)
-    (λ ((_, x), _) xs. ap (λ m. Table.row 2 0 0 0 (partCell 0 x) (rangeCell m (length xs) 0)) (add-zero (c .elements))) (λ _ _. refl) q₂ q₃
+    (λ ((_, x), _) xs. ap (λ m. setRow x (rangeCell m (length xs) 0)) (add-zero (c .elements))) (λ _ _. refl) q₂ q₃
     (going-more (skip (61 ∷ [])) (λ _ _ r. r) (λ _. []) (λ ((_, x), _) rest. strings rest >>= λ (xs, l). stepEnd (setString x xs) l)
-    (λ ((_, x), _). Table.row 2 0 0 0 (partCell 0 x) noCell) (λ _. []) ready (λ _ _. refl) (λ _ _. refl) (λ _ _. refl) q₁ q₂
-    (going-more (partName edition1 p (roleOf 0)) (λ _ x. withLeft (partCell 0 x)) (λ _. [])
+    (λ ((_, x), _). setRow x noCell) (λ _. []) ready (λ _ _. refl) (λ _ _. refl) (λ _ _. refl) q₁ q₂
+    (going-more (partName current p (roleOf 0)) (λ _ x. withLeft (partCell parts x)) (λ _. [])
     (λ (_, x) rest. skip (61 ∷ []) rest >>= λ (_, l). strings l >>= λ (xs, l). stepEnd (setString x xs) l)
-    (λ (_, x). Table.row 2 0 0 0 (partCell 0 x) noCell) (λ _. []) ready (λ _ _. refl) (λ _ _. refl) (λ _ _. refl) (begunAs 2 0 c) q₁
+    (λ (_, x). setRow x noCell) (λ _. []) ready (λ _ _. refl) (λ _ _. refl) (λ _ _. refl) (begunAs (setStringKind .number) 0 c) q₁
     (going-start (stringSet known) 0 (stays c) ready refl) part) marked) b)
 
 -- a test with its branch
-test-branch : (t : Test) (b : Branch) → withBranch b (testAlone t) ≡ testRow t b
-unfolding testRow Table.row
-test-branch (isNull s) b = refl
-test-branch (isNumeric p) b = refl
-test-branch (compares x c y) b = refl
+test-branch : (element item : ℕ) (t : Test) (b : Branch) → withBranch b (testAlone t) ≡ rowOf element item (ifTest t b)
+unfolding rowOf Table.row
+test-branch element item (isNull s) b = refl
+test-branch element item (isNumeric p) b = refl
+test-branch element item (compares x c y) b = refl
 
 -- IF
 pub if-read : (known : List ℕ) {text : List ℕ} (table : List ℕ) {keys tags : List ℕ} {c : Cursor} → Ready text keys tags c
-    → (q₁ q₂ q₃ q₄ : Draft) {k g k′ g′ : List ℕ} → q₁ ≡ markedBy text 40 (begunAs 5 0 c)
-    → NamesStage (test edition1 (placesIn known)) (λ t _. testAlone t) text keys tags q₁ q₂ k g → q₃ ≡ markedBy text 41 q₂
-    → NamesStage (branch edition1 (numberIn known) (placesIn known)) withBranch text k g q₃ q₄ k′ g′
-    → FormAt (ifForm edition1 (numberIn known) (placesIn known) (drop (c .at) text)) text table keys tags c (endedBy text q₄) table k′ g′
-unfolding ifForm rowOf elementsOf itemsOf bytes
+    → (q₁ q₂ q₃ q₄ : Draft) {k g k′ g′ : List ℕ} → q₁ ≡ markedBy text 40 (begunAs (nullKind .number) 0 c)
+    → NamesStage (test current (placesIn known)) (λ t _. testAlone t) text keys tags q₁ q₂ k g → q₃ ≡ markedBy text 41 q₂
+    → NamesStage (branch current (numberIn known) (placesIn known)) withBranch text k g q₃ q₄ k′ g′
+    → FormAt (ifForm current (numberIn known) (placesIn known) (drop (c .at) text)) text table keys tags c (endedBy text q₄) table k′ g′
+unfolding ifForm bytes
 if-read known {text} table {keys} {tags} {c} ready q₁ q₂ q₃ q₄ {k} {g} e₁ a e₂ b =
     let p = placesIn known in
-    let tests = test edition1 p in
-    let field = branch edition1 (numberIn known) p in
-    let opened = subst (λ z. StageRead (skip (40 ∷ [])) (λ _ _ r. r) (λ _. []) text table keys tags (begunAs 5 0 c) z table keys tags) (sym e₁)
-    (marked-stage text 40 (begunAs 5 0 c) ready) in
+    let tests = test current p in
+    let field = branch current (numberIn known) p in
+    let begins = begunAs (nullKind .number) 0 c in
+    let opened = subst (λ z. StageRead (skip (40 ∷ [])) (λ _ _ r. r) (λ _. []) text table keys tags begins z table keys tags) (sym e₁)
+    (marked-stage text 40 begins ready) in
     let tested = a table in
     let closed = subst (λ z. StageRead (skip (41 ∷ [])) (λ _ _ r. r) (λ _. []) text table k g q₂ z table k g) (sym e₂)
     (marked-stage text 41 q₂ (tested .stands)) in
-    going-ended {A = (((Unit {0} × Unit {0}) × Test) × Unit {0}) × Branch} (λ (((_, t), _), y). ifTest t y) (λ _ _. refl) (λ _. refl) (λ _. refl)
-    (λ _. refl) q₄
-    (going-more field (λ _. withBranch) (λ _. []) (λ (((_, t), _), y) rest. stepEnd (ifTest t y) rest) (λ (((_, t), _), y). testRow t y) (λ _. [])
-    ready (λ _ _. refl) (λ ((_, t), _) y. test-branch t y) (λ _ _. refl) q₃ q₄
+    going-ended {A = (((Unit {0} × Unit {0}) × Test) × Unit {0}) × Branch} (λ (((_, t), _), y). ifTest t y) (λ _ _. refl) (λ _. refl)
+    (λ (((_, t), _), y). sym (test-elements t y)) (λ (((_, t), _), y). sym (test-items t y)) q₄
+    (going-more field (λ _. withBranch) (λ _. []) (λ (((_, t), _), y) rest. stepEnd (ifTest t y) rest)
+    (λ (((_, t), _), y). rowOf (c .elements) (c .items) (ifTest t y)) (λ _. []) ready (λ _ _. refl)
+    (λ ((_, t), _) y. test-branch (c .elements) (c .items) t y) (λ _ _. refl) q₃ q₄
     (going-more (skip (41 ∷ [])) (λ _ _ r. r) (λ _. []) (λ ((_, t), _) rest. field rest >>= λ (y, l). stepEnd (ifTest t y) l)
     (λ ((_, t), _). testAlone t) (λ _. []) ready (λ _ _. refl) (λ _ _. refl) (λ _ _. refl) q₂ q₃
     (going-more tests (λ _ t _. testAlone t) (λ _. [])
     (λ (_, t) rest. skip (41 ∷ []) rest >>= λ (_, l). field l >>= λ (y, l). stepEnd (ifTest t y) l) (λ (_, t). testAlone t) (λ _. []) ready
     (λ _ _. refl) (λ _ _. refl) (λ _ _. refl) q₁ q₂
     (going-more (skip (40 ∷ [])) (λ _ _ r. r) (λ _. [])
-    (λ _ rest. tests rest >>= λ (t, l). skip (41 ∷ []) l >>= λ (_, l). field l >>= λ (y, l). stepEnd (ifTest t y) l) (λ _. bare 5 0) (λ _. []) ready
-    (λ _ _. refl) (λ _ _. refl) (λ _ _. refl) (begunAs 5 0 c) q₁
-    (going-start (ifForm edition1 (numberIn known) p) 0 (stays c) ready refl) opened) tested) closed) (b table))
+    (λ _ rest. tests rest >>= λ (t, l). skip (41 ∷ []) l >>= λ (_, l). field l >>= λ (y, l). stepEnd (ifTest t y) l)
+    (λ _. bare (nullKind .number) 0) (λ _. []) ready (λ _ _. refl) (λ _ _. refl) (λ _ _. refl) begins q₁
+    (going-start (ifForm current (numberIn known) p) 0 (stays c) ready refl) opened) tested) closed) (b table))
 
--- SCAN's row with its replacement
-replacement-row : (flag from n : ℕ) (left : Table.Cell) (o : Option (List Element))
-    → withReplacement flag from (from + n) o (Table.row 8 flag 0 0 left (rangeCell from n 0))
-    ≡ Table.row 8 (flag + replacementFlag o) 0 0 left (rangeCell from n (length (replacementOf o)))
-unfolding replacementFlag replacementOf Table.row
-replacement-row flag from n left none =
-    ap (λ m. Table.row 8 m 0 0 left (rangeCell from n 0)) (sym (add-zero flag))
-replacement-row flag from n left (some xs) =
-    let count : from + n - from ≡ n = omega arith in
-    ap (λ m. Table.row 8 (flag + 2) 0 0 left (rangeCell from m (length xs))) count
+-- SCAN's row with its replacement, and with its branch
+module _ (way : Direction) (element item : ℕ) (x : Part) (xs : List PatternElement) where
+  replacement-row : (o : Option (List Element))
+      → withReplacement element (element + length xs) o
+      (Table.row (scanKind .number) (directionNumber way) 0 0 (partCell parts x) (rangeCell element (length xs) 0))
+      ≡ rowOf element item (scan way x xs o nowhere)
+  unfolding rowOf Table.row
+  replacement-row none = refl
+  replacement-row (some ys) =
+      let count : element + length xs - element ≡ length xs = omega arith in
+      ap (λ m. Table.row (replaceKind .number) (directionNumber way) 0 0 (partCell parts x) (rangeCell element m (length ys))) count
+
+  scan-branch : (o : Option (List Element)) (b : Branch)
+      → withBranch b (rowOf element item (scan way x xs o nowhere)) ≡ rowOf element item (scan way x xs o b)
+  unfolding rowOf Table.row
+  scan-branch none b = refl
+  scan-branch (some ys) b = refl
 
 -- SCAN
 pub scan-read : (known : List ℕ) (way : Direction) {text table keys tags : List ℕ} {c : Cursor} → Ready text keys tags c
     → (q₁ q₂ q₃ q₄ q₅ q₆ : Draft) {k₁ g₁ t₃ k₃ g₃ t₅ k₅ g₅ k₆ g₆ : List ℕ}
-    → NamesStage (partName edition1 (placesIn known) (roleOf 1)) (λ p. withLeft (partCell 0 p)) text keys tags
-    (begunAs 8 (directionNumber way) c) q₁ k₁ g₁ → q₂ ≡ markedBy text 91 q₁
-    → StageRead (pattern edition1 (placesIn known)) (λ m xs. withRange m xs) (λ xs. xs) text table k₁ g₁ q₂ q₃ t₃ k₃ g₃ → q₄ ≡ markedBy text 93 q₃
-    → StageRead (replacementIfAny edition1 (numberIn known) (placesIn known)) (λ m o. withReplacement (directionNumber way) (c .elements) m o)
+    → NamesStage (partName current (placesIn known) (roleOf 1)) (λ p. withLeft (partCell parts p)) text keys tags
+    (begunAs (scanKind .number) (directionNumber way) c) q₁ k₁ g₁ → q₂ ≡ markedBy text 91 q₁
+    → StageRead (pattern current (placesIn known)) (λ m xs. withRange m xs) (λ xs. xs) text table k₁ g₁ q₂ q₃ t₃ k₃ g₃ → q₄ ≡ markedBy text 93 q₃
+    → StageRead (replacementIfAny current (numberIn known) (placesIn known)) (λ m o. withReplacement (c .elements) m o)
     (λ o. map value (replacementOf o)) text t₃ k₃ g₃ q₄ q₅ t₅ k₅ g₅
-    → NamesStage (branchIfAny edition1 (numberIn known) (placesIn known)) withBranch text k₅ g₅ q₅ q₆ k₆ g₆
-    → FormAt (scanForm edition1 (numberIn known) (placesIn known) way (drop (c .at) text)) text table keys tags c (endedBy text q₆) t₅ k₆ g₆
-unfolding scanForm rowOf elementsOf itemsOf Table.row noCell roleOf bytes
+    → NamesStage (branchIfAny current (numberIn known) (placesIn known)) withBranch text k₅ g₅ q₅ q₆ k₆ g₆
+    → FormAt (scanForm current (numberIn known) (placesIn known) way (drop (c .at) text)) text table keys tags c (endedBy text q₆) t₅ k₆ g₆
+unfolding scanForm Table.row noCell roleOf bytes
 scan-read known way {text} {table} {keys} {tags} {c} ready q₁ q₂ q₃ q₄ q₅ q₆ {k₁} {g₁} {t₃} {k₃} {g₃} {t₅} a e₁ b e₂ r f =
     let p = placesIn known in
-    let parts = partName edition1 p (roleOf 1) in
-    let sought = pattern edition1 p in
-    let replacement = replacementIfAny edition1 (numberIn known) p in
-    let any = branchIfAny edition1 (numberIn known) p in
+    let reference = partName current p (roleOf 1) in
+    let sought = pattern current p in
+    let replacement = replacementIfAny current (numberIn known) p in
+    let any = branchIfAny current (numberIn known) p in
     let flag = directionNumber way in
+    let element = c .elements in
+    let item = c .items in
+    let scanRow : Part → Table.Cell → Table.Row = λ x right. Table.row (scanKind .number) flag 0 0 (partCell parts x) right in
     let part = a table in
     let opened = subst (λ z. StageRead (skip (91 ∷ [])) (λ _ _ r. r) (λ _. []) text table k₁ g₁ q₁ z table k₁ g₁) (sym e₁)
     (marked-stage text 91 q₁ (part .stands)) in
     let closed = subst (λ z. StageRead (skip (93 ∷ [])) (λ _ _ r. r) (λ _. []) text t₃ k₃ g₃ q₃ z t₃ k₃ g₃) (sym e₂)
     (marked-stage text 93 q₃ (b .stands)) in
     going-ended {A = (((((Unit {0} × Part) × Unit {0}) × List PatternElement) × Unit {0}) × Option (List Element)) × Branch}
-    (λ ((((((_, x), _), xs), _), o), y). scan way x xs o y) (λ _ _. refl) (λ _. refl) (λ _. refl) (λ _. refl) q₆
+    (λ ((((((_, x), _), xs), _), o), y). scan way x xs o y) (λ _ _. refl) (λ _. refl)
+    (λ ((((((_, x), _), xs), _), o), y). sym (scan-elements way x xs o y)) (λ ((((((_, x), _), xs), _), o), y). sym (scan-items way x xs o y)) q₆
     (going-more any (λ _. withBranch) (λ _. []) (λ ((((((_, x), _), xs), _), o), y) rest. stepEnd (scan way x xs o y) rest)
-    (λ ((((((_, x), _), xs), _), o), y).
-    Table.row 8 (flag + replacementFlag o) (y .success) (y .failure) (partCell 0 x) (rangeCell (c .elements) (length xs) (length (replacementOf o))))
-    (λ ((((_, xs), _), o), _). xs ++ map value (replacementOf o)) ready (λ _ _. refl) (λ _ _. refl)
+    (λ ((((((_, x), _), xs), _), o), y). rowOf element item (scan way x xs o y))
+    (λ ((((_, xs), _), o), _). xs ++ map value (replacementOf o)) ready (λ _ _. refl)
+    (λ (((((_, x), _), xs), _), o) y. scan-branch way element item x xs o y)
     (λ (((_, xs), _), o) _. append-nil (xs ++ map value (replacementOf o))) q₅ q₆
-    (going-more replacement (λ m o. withReplacement flag (c .elements) m o) (λ o. map value (replacementOf o))
+    (going-more replacement (λ m o. withReplacement element m o) (λ o. map value (replacementOf o))
     (λ (((((_, x), _), xs), _), o) rest. any rest >>= λ (y, l). stepEnd (scan way x xs o y) l)
-    (λ (((((_, x), _), xs), _), o).
-    Table.row 8 (flag + replacementFlag o) 0 0 (partCell 0 x) (rangeCell (c .elements) (length xs) (length (replacementOf o))))
+    (λ (((((_, x), _), xs), _), o). rowOf element item (scan way x xs o nowhere))
     (λ (((_, xs), _), o). xs ++ map value (replacementOf o)) ready (λ _ _. refl)
-    (λ ((((_, x), _), xs), _) o. replacement-row flag (c .elements) (length xs) (partCell 0 x) o) (λ _ _. refl) q₄ q₅
+    (λ ((((_, x), _), xs), _) o. replacement-row way element item x xs o) (λ _ _. refl) q₄ q₅
     (going-more (skip (93 ∷ [])) (λ _ _ r. r) (λ _. [])
     (λ ((((_, x), _), xs), _) rest. replacement rest >>= λ (o, l). any l >>= λ (y, l). stepEnd (scan way x xs o y) l)
-    (λ ((((_, x), _), xs), _). Table.row 8 flag 0 0 (partCell 0 x) (rangeCell (c .elements) (length xs) 0)) (λ ((_, xs), _). xs) ready
+    (λ ((((_, x), _), xs), _). scanRow x (rangeCell element (length xs) 0)) (λ ((_, xs), _). xs) ready
     (λ _ _. refl) (λ _ _. refl) (λ (_, xs) _. append-nil xs) q₃ q₄
     (going-more sought (λ m xs. withRange m xs) (λ xs. xs)
     (λ (((_, x), _), xs) rest.
     skip (93 ∷ []) rest >>= λ (_, l). replacement l >>= λ (o, l). any l >>= λ (y, l). stepEnd (scan way x xs o y) l)
-    (λ (((_, x), _), xs). Table.row 8 flag 0 0 (partCell 0 x) (rangeCell (c .elements) (length xs) 0)) (λ (_, xs). xs) ready (λ _ _. refl)
-    (λ ((_, x), _) xs. ap (λ m. Table.row 8 flag 0 0 (partCell 0 x) (rangeCell m (length xs) 0)) (add-zero (c .elements))) (λ _ _. refl) q₂ q₃
+    (λ (((_, x), _), xs). scanRow x (rangeCell element (length xs) 0)) (λ (_, xs). xs) ready (λ _ _. refl)
+    (λ ((_, x), _) xs. ap (λ m. scanRow x (rangeCell m (length xs) 0)) (add-zero (c .elements))) (λ _ _. refl) q₂ q₃
     (going-more (skip (91 ∷ [])) (λ _ _ r. r) (λ _. [])
     (λ ((_, x), _) rest.
     sought rest
     >>= λ (xs, l). skip (93 ∷ []) l >>= λ (_, l). replacement l >>= λ (o, l). any l >>= λ (y, l). stepEnd (scan way x xs o y) l)
-    (λ ((_, x), _). Table.row 8 flag 0 0 (partCell 0 x) noCell) (λ _. []) ready (λ _ _. refl) (λ _ _. refl) (λ _ _. refl) q₁ q₂
-    (going-more parts (λ _ x. withLeft (partCell 0 x)) (λ _. [])
+    (λ ((_, x), _). scanRow x noCell) (λ _. []) ready (λ _ _. refl) (λ _ _. refl) (λ _ _. refl) q₁ q₂
+    (going-more reference (λ _ x. withLeft (partCell parts x)) (λ _. [])
     (λ (_, x) rest.
     skip (91 ∷ []) rest
     >>= λ (_, l).
     sought l >>= λ (xs, l). skip (93 ∷ []) l >>= λ (_, l). replacement l >>= λ (o, l). any l >>= λ (y, l). stepEnd (scan way x xs o y) l)
-    (λ (_, x). Table.row 8 flag 0 0 (partCell 0 x) noCell) (λ _. []) ready (λ _ _. refl) (λ _ _. refl) (λ _ _. refl) (begunAs 8 flag c) q₁
-    (going-start (scanForm edition1 (numberIn known) p way) 0 (stays c) ready refl) part) opened) b) closed) r) (f t₅))
+    (λ (_, x). scanRow x noCell) (λ _. []) ready (λ _ _. refl) (λ _ _. refl) (λ _ _. refl) (begunAs (scanKind .number) flag c) q₁
+    (going-start (scanForm current (numberIn known) p way) 0 (stays c) ready refl) part) opened) b) closed) r) (f t₅))

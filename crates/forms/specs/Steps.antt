@@ -5,7 +5,7 @@ use mathlib.Core.Option.{Option}
 use mathlib.Core.Path.{_≡_}
 use Prim.Native.Nat.{ℕ, _-_, _≤_}
 use lib.ListN.{length, drop}
-use Rattle.base.specs.Edition.{edition1}
+use Rattle.base.specs.Current.{current}
 use Rattle.branches.specs.Branches.{targetIn}
 use Rattle.branches.specs.Places.{numberIn}
 use Rattle.calls.specs.Table.{directionNumber, rowOf, elementsOf, itemsOf}
@@ -20,16 +20,17 @@ use Rattle.base.specs.Text.{bytes}
 use Rattle.met.specs.Known.{placesIn}
 use Rattle.met.specs.declared.Cursor.{Cursor}
 use Rattle.numeric.specs.Operands.{Skips}
+use Rattle.packer.specs.Letters.{letters}
 use Rattle.forms.specs.Contracts.{FormRead}
 use Rattle.forms.specs.Rows.{bare, withSteps}
 use Rattle.forms.specs.declared.Form.{Form}
 
--- a form at a cursor: no more names than bytes are left; and one that meets names alone, with any table
+-- a form at a cursor: no more names than letters are left; and one that meets names alone, with any table
 abbrev pub FormAt : Read (Option Statement) → (text table keys tags : List ℕ) (c : Cursor) → Form → (table′ keys′ tags′ : List ℕ) → Type 0
-FormAt x text table keys tags c r table′ keys′ tags′ = FormRead (length text - c .at) table keys tags c x r table′ keys′ tags′
+FormAt x text table keys tags c r table′ keys′ tags′ = FormRead (letters (drop (c .at) text)) table keys tags c x r table′ keys′ tags′
 
 abbrev pub NamesFormAt : Read (Option Statement) → (text keys tags : List ℕ) (c : Cursor) → Form → (keys′ tags′ : List ℕ) → Type 0
-NamesFormAt x text keys tags c r keys′ tags′ = (table : List ℕ) → FormRead (length text - c .at) table keys tags c x r table keys′ tags′
+NamesFormAt x text keys tags c r keys′ tags′ = (table : List ℕ) → FormRead (letters (drop (c .at) text)) table keys tags c x r table keys′ tags′
 
 -- the cursor behind a unit, if it stands here
 pub record BehindUnit (text unit : List ℕ) (c d : Cursor) : Type 0 where
@@ -52,35 +53,35 @@ TargetFormRead text known keys tags c kind tag r keys′ tags′ =
     → NamesFormAt (form (drop (c .at) text)) text keys tags c r keys′ tags′
 
 abbrev pub IfRead : (text known keys tags : List ℕ) (c : Cursor) → Form → (keys′ tags′ : List ℕ) → Type 0
-IfRead text known keys tags c = NamesFormAt (ifForm edition1 (numberIn known) (placesIn known) (drop (c .at) text)) text keys tags c
+IfRead text known keys tags c = NamesFormAt (ifForm current (numberIn known) (placesIn known) (drop (c .at) text)) text keys tags c
 
 abbrev pub InputRead : (text known keys tags : List ℕ) (c : Cursor) → Form → (keys′ tags′ : List ℕ) → Type 0
-InputRead text known keys tags c = NamesFormAt (readForm edition1 (numberIn known) (placesIn known) (drop (c .at) text)) text keys tags c
+InputRead text known keys tags c = NamesFormAt (readForm current (numberIn known) (placesIn known) (drop (c .at) text)) text keys tags c
 
 abbrev pub OutputRead : (text known table keys tags : List ℕ) (c : Cursor) → Form → (table′ keys′ tags′ : List ℕ) → Type 0
-OutputRead text known table keys tags c = FormAt (writeForm edition1 (numberIn known) (placesIn known) (drop (c .at) text)) text table keys tags c
+OutputRead text known table keys tags c = FormAt (writeForm current (numberIn known) (placesIn known) (drop (c .at) text)) text table keys tags c
 
 abbrev pub ScanRead : (text known table keys tags : List ℕ) (c : Cursor) (direction : ℕ) → Form → (table′ keys′ tags′ : List ℕ) → Type 0
 ScanRead text known table keys tags c direction r table′ keys′ tags′ =
     (d : Direction) → directionNumber d ≡ direction
-    → FormAt (scanForm edition1 (numberIn known) (placesIn known) d (drop (c .at) text)) text table keys tags c r table′ keys′ tags′
+    → FormAt (scanForm current (numberIn known) (placesIn known) d (drop (c .at) text)) text table keys tags c r table′ keys′ tags′
 
 -- the two replacements
 unfoldable pub stringSet : (known : List ℕ) → List ℕ → Read (Option Statement)
 stringSet known bs = do
-  (p, rest) ← partName edition1 (placesIn known) noRole bs
+  (p, rest) ← partName current (placesIn known) noRole bs
   (_, rest) ← skip (bytes "=") rest
-  (xs, rest) ← stringExpression edition1 (placesIn known) rest
+  (xs, rest) ← stringExpression current (placesIn known) rest
   stepEnd (setString p xs) rest
 
 unfoldable pub assignedTo : (known : List ℕ) → ℕ → List ℕ → Read (Option Statement)
 assignedTo known i bs = do
-  (x, rest) ← numericExpression edition1 (placesIn known) bs
+  (x, rest) ← numericExpression current (placesIn known) bs
   stepEnd (setNumber i x) rest
 
 unfoldable pub numberSet : (known : List ℕ) → List ℕ → Read (Option Statement)
 numberSet known bs = do
-  (i, rest) ← numberName edition1 (placesIn known) bs
+  (i, rest) ← numberName current (placesIn known) bs
   (_, rest) ← skip (bytes "=") rest
   assignedTo known i rest
 
@@ -94,22 +95,22 @@ abbrev pub NumberSetRead : (text known table keys tags : List ℕ) (c : Cursor) 
 NumberSetRead text known table keys tags c = FormAt (numberSet known (drop (c .at) text)) text table keys tags c
 
 abbrev pub SetsNumber : (text known : List ℕ) (at : ℕ) → Bool → Type 0
-SetsNumber text known at r = r ≡ setsNumber edition1 (numberIn known) (placesIn known) (drop at text)
+SetsNumber text known at r = r ≡ setsNumber current (numberIn known) (placesIn known) (drop at text)
 
 abbrev pub ReplacementRead : (text known table keys tags : List ℕ) (c : Cursor) → Form → (table′ keys′ tags′ : List ℕ) → Type 0
 ReplacementRead text known table keys tags c =
-    FormAt (replacement edition1 (numberIn known) (placesIn known) (drop (c .at) text)) text table keys tags c
+    FormAt (replacement current (numberIn known) (placesIn known) (drop (c .at) text)) text table keys tags c
 
 -- PROGRAM and NUMBER look nothing up
 abbrev pub ProgramRead : (text keys tags : List ℕ) (c : Cursor) → Form → (keys′ tags′ : List ℕ) → Type 0
 ProgramRead text keys tags c r keys′ tags′ =
     (known : List ℕ)
-    → NamesFormAt (programForm edition1 (numberIn known) (placesIn known) (drop (c .at) text)) text keys tags c r keys′ tags′
+    → NamesFormAt (programForm current (numberIn known) (placesIn known) (drop (c .at) text)) text keys tags c r keys′ tags′
 
 abbrev pub NumbersRead : (text keys tags : List ℕ) (c : Cursor) → Form → (keys′ tags′ : List ℕ) → Type 0
 NumbersRead text keys tags c r keys′ tags′ =
     (known : List ℕ)
-    → NamesFormAt (numberForm edition1 (numberIn known) (placesIn known) (drop (c .at) text)) text keys tags c r keys′ tags′
+    → NamesFormAt (numberForm current (numberIn known) (placesIn known) (drop (c .at) text)) text keys tags c r keys′ tags′
 
 -- further numbers to the end, with fuel for the bytes left
 unfoldable pub numbersLeft : ℕ → List ℕ → Read (Option Statement)

@@ -10,6 +10,7 @@ use branches::read_target;
 use branches::tests::read_test;
 use calls::RANGE_STEP;
 use calls::cell_kinds;
+use calls::step_kinds;
 use met::Cursor;
 use met::KNOWN;
 use met::NAMES;
@@ -22,10 +23,12 @@ use words::stands_at;
 ghost use mathlib.Core.Path.{_≡_};
 ghost use Prim.Native.Nat.{_≤_, _<_};
 ghost use lib.ListN.{length};
+ghost use Rattle.base.specs.Current.{tableSize};
 ghost use Rattle.branches.specs.Branches.{TargetTag};
 ghost use Rattle.forms.specs.Rows.{begunAs, stepsIn, leftIn, rightIn, rangeIn};
 ghost use Rattle.forms.specs.Stages.{Inward, markedBy, Standing, TargetStage, PartStage};
 ghost use Rattle.forms.specs.Stages.{TestStage, BranchStage, BranchIfAnyStage, RowStage, Following, ReplacedStage};
+ghost use Rattle.met.specs.Bounds.{farEnough};
 ghost use Rattle.met.specs.Known.{Counted};
 ghost use Rattle.numeric.specs.Operands.{StringTag};
 
@@ -83,13 +86,13 @@ fn with_left(row: Row, left: Cell) -> Row
     }
 }
 
-pub fn with_right(row: Row, flag: u8, right: Cell) -> Row
-    ensures { λ r. ⌜ r ≡ rightIn row flag right ⌝ }
+pub fn with_right(row: Row, kind: u8, right: Cell) -> Row
+    ensures { λ r. ⌜ r ≡ rightIn row kind right ⌝ }
 {
     let left = row.left;
     Row {
-        kind: row.kind,
-        flag,
+        kind,
+        flag: row.flag,
         success: row.success,
         failure: row.failure,
         left,
@@ -99,7 +102,7 @@ pub fn with_right(row: Row, flag: u8, right: Cell) -> Row
 
 // a stretch of elements or items from a place on, with more elements behind it
 pub fn range_cell(from: usize, count: usize, more: usize) -> Cell
-    requires { ⌜ (from < 8_589_934_592) × ((count < 8_589_934_592) × (more < 65_536)) ⌝ }
+    requires { ⌜ (from ≤ farEnough) × ((count ≤ farEnough) × (more < 65_536)) ⌝ }
     ensures { λ r. ⌜ r ≡ rangeIn from count more ⌝ }
 {
     Cell {
@@ -164,7 +167,7 @@ pub fn left_part(
 {
     match r {
         Draft::Broken => Draft::Broken,
-        Draft::Got(row, c) => match read_part(text, known, keys, tags, c, 0, tag) {
+        Draft::Got(row, c) => match read_part(text, known, keys, tags, c, cell_kinds::STRING, tag) {
             Operand::Broken => Draft::Broken,
             Operand::Got(left, d) => Draft::Got(with_left(row, left), d),
         },
@@ -249,7 +252,7 @@ pub fn right_row(
 ) -> Draft
     requires { ⌜ Standing (now text) (now keys) (now tags) r ⌝ }
     requires { ⌜ Counted (now known) ⌝ }
-    requires { ⌜ 28672 ≤ length (now table) ⌝ }
+    requires { ⌜ tableSize ≤ length (now table) ⌝ }
     ensures { λ q. ⌜ RowStage (now (text .entry)) (now (known .entry)) patterned (now (table .entry)) (now (keys .entry)) (now (tags .entry)) r q (now (table .exit)) (now (keys .exit)) (now (tags .exit)) ⌝ }
 {
     match r {
@@ -258,13 +261,13 @@ pub fn right_row(
             Outcome::Broken => Draft::Broken,
             Outcome::Got(d) => {
                 let right = range_cell(c.elements, d.elements - c.elements, 0);
-                Draft::Got(with_right(row, row.flag, right), d)
+                Draft::Got(with_right(row, row.kind, right), d)
             }
         },
     }
 }
 
-// the replacement of a SCAN, if it has `=`: behind the elements of its pattern, which stand from a place on
+// the replacement of a SCAN, if it has `=`: behind the elements of its pattern, which stand from a place on; its row has a kind of its own
 pub fn replaced(
     text: &[u8],
     known: &[u64; KNOWN],
@@ -273,13 +276,11 @@ pub fn replaced(
     tags: &mut [u8; NAMES],
     r: Draft,
     from: usize,
-    direction: u8,
 ) -> Draft
     requires { ⌜ Following (now text) (now keys) (now tags) from r ⌝ }
     requires { ⌜ Counted (now known) ⌝ }
-    requires { ⌜ 28672 ≤ length (now table) ⌝ }
-    requires { ⌜ direction < 3 ⌝ }
-    ensures { λ q. ⌜ ReplacedStage (now (text .entry)) (now (known .entry)) (now (table .entry)) (now (keys .entry)) (now (tags .entry)) from direction r q (now (table .exit)) (now (keys .exit)) (now (tags .exit)) ⌝ }
+    requires { ⌜ tableSize ≤ length (now table) ⌝ }
+    ensures { λ q. ⌜ ReplacedStage (now (text .entry)) (now (known .entry)) (now (table .entry)) (now (keys .entry)) (now (tags .entry)) from r q (now (table .exit)) (now (keys .exit)) (now (tags .exit)) ⌝ }
 {
     match r {
         Draft::Broken => Draft::Broken,
@@ -291,7 +292,7 @@ pub fn replaced(
                 Outcome::Broken => Draft::Broken,
                 Outcome::Got(d) => {
                     let right = range_cell(from, c.elements - from, d.elements - c.elements);
-                    Draft::Got(with_right(row, direction + 2, right), d)
+                    Draft::Got(with_right(row, step_kinds::REPLACE, right), d)
                 }
             }
         }

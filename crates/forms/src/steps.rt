@@ -38,6 +38,7 @@ use words::stands_at;
 ghost use mathlib.Core.Path.{_≡_};
 ghost use Prim.Native.Nat.{_≤_, _<_};
 ghost use lib.ListN.{length};
+ghost use Rattle.base.specs.Current.{tableSize};
 ghost use Rattle.branches.specs.Branches.{TargetTag};
 ghost use Rattle.forms.specs.Ends.{endedBy, unsteppedAt};
 ghost use Rattle.forms.specs.Rows.{begunAs};
@@ -45,6 +46,7 @@ ghost use Rattle.forms.specs.Steps.{TargetFormRead, IfRead, InputRead, O
 ghost use Rattle.forms.specs.Steps.{AssignedRead, NumberSetRead, SetsNumber, ReplacementRead, ProgramRead, NumbersRead, MoreNumbersRead, BehindUnit};
 ghost use Rattle.met.specs.Known.{Counted};
 ghost use Rattle.numeric.specs.Operands.{Ready};
+ghost use Rattle.packer.specs.Packs.{longestText};
 
 // a row at the end of the text is a step
 fn ended(text: &[u8], r: Draft) -> Form
@@ -119,7 +121,7 @@ pub fn if_form(
 
 // the cursor behind a unit, if it stands here
 fn behind_unit(text: &[u8], c: Cursor, unit: &[u8]) -> Cursor
-    requires { ⌜ (length (now unit) ≡ 4) × ((c .at ≤ length (now text)) × (length (now text) ≤ 32768)) ⌝ }
+    requires { ⌜ (length (now unit) ≡ 4) × ((c .at ≤ length (now text)) × (length (now text) ≤ longestText)) ⌝ }
     ensures { λ r. ⌜ BehindUnit (now (text .entry)) (now (unit .entry)) c r ⌝ }
 {
     if begins_at(text, c.at, unit) {
@@ -163,7 +165,7 @@ pub fn output_form(
 ) -> Form
     requires { ⌜ Ready (now text) (now keys) (now tags) c ⌝ }
     requires { ⌜ Counted (now known) ⌝ }
-    requires { ⌜ 28672 ≤ length (now table) ⌝ }
+    requires { ⌜ tableSize ≤ length (now table) ⌝ }
     ensures { λ r. ⌜ OutputRead (now (text .entry)) (now (known .entry)) (now (table .entry)) (now (keys .entry)) (now (tags .entry)) c r (now (table .exit)) (now (keys .exit)) (now (tags .exit)) ⌝ }
 {
     let d = behind_unit(text, c, b"(61)");
@@ -192,7 +194,7 @@ fn string_form(
 ) -> Form
     requires { ⌜ Ready (now text) (now keys) (now tags) c ⌝ }
     requires { ⌜ Counted (now known) ⌝ }
-    requires { ⌜ 28672 ≤ length (now table) ⌝ }
+    requires { ⌜ tableSize ≤ length (now table) ⌝ }
     ensures { λ r. ⌜ StringSetRead (now (text .entry)) (now (known .entry)) (now (table .entry)) (now (keys .entry)) (now (tags .entry)) c r (now (table .exit)) (now (keys .exit)) (now (tags .exit)) ⌝ }
 {
     let part = left_part(
@@ -219,8 +221,7 @@ pub fn scan_form(
 ) -> Form
     requires { ⌜ Ready (now text) (now keys) (now tags) c ⌝ }
     requires { ⌜ Counted (now known) ⌝ }
-    requires { ⌜ 28672 ≤ length (now table) ⌝ }
-    requires { ⌜ direction < 3 ⌝ }
+    requires { ⌜ tableSize ≤ length (now table) ⌝ }
     ensures { λ r. ⌜ ScanRead (now (text .entry)) (now (known .entry)) (now (table .entry)) (now (keys .entry)) (now (tags .entry)) c direction r (now (table .exit)) (now (keys .exit)) (now (tags .exit)) ⌝ }
 {
     let part = left_part(
@@ -235,7 +236,7 @@ pub fn scan_form(
     let sought = right_row(text, known, table, keys, tags, open, true);
     let close = marked(text, sought, b']');
     let from = c.elements;
-    let behind = replaced(text, known, table, keys, tags, close, from, direction);
+    let behind = replaced(text, known, table, keys, tags, close, from);
     ended(text, branched_if_any(text, known, keys, tags, behind))
 }
 
@@ -251,7 +252,7 @@ fn assigned(
 ) -> Form
     requires { ⌜ Ready (now text) (now keys) (now tags) c ⌝ }
     requires { ⌜ Counted (now known) ⌝ }
-    requires { ⌜ 28672 ≤ length (now table) ⌝ }
+    requires { ⌜ tableSize ≤ length (now table) ⌝ }
     ensures { λ r. ⌜ AssignedRead (now (text .entry)) (now (known .entry)) (now (table .entry)) (now (keys .entry)) (now (tags .entry)) c place r (now (table .exit)) (now (keys .exit)) (now (tags .exit)) ⌝ }
 {
     match expression(text, known, table, keys, tags, c, 0) {
@@ -292,7 +293,7 @@ fn number_form(
 ) -> Form
     requires { ⌜ Ready (now text) (now keys) (now tags) c ⌝ }
     requires { ⌜ Counted (now known) ⌝ }
-    requires { ⌜ 28672 ≤ length (now table) ⌝ }
+    requires { ⌜ tableSize ≤ length (now table) ⌝ }
     ensures { λ r. ⌜ NumberSetRead (now (text .entry)) (now (known .entry)) (now (table .entry)) (now (keys .entry)) (now (tags .entry)) c r (now (table .exit)) (now (keys .exit)) (now (tags .exit)) ⌝ }
 {
     match read_number(text, known, keys, tags, c) {
@@ -309,7 +310,7 @@ fn number_form(
 // whether a name known as a number stands before `=`
 fn sets_number(text: &[u8], known: &[u64; KNOWN], at: usize) -> bool
     requires { ⌜ Counted (now known) ⌝ }
-    requires { ⌜ (at ≤ length (now text)) × (length (now text) ≤ 32768) ⌝ }
+    requires { ⌜ (at ≤ length (now text)) × (length (now text) ≤ longestText) ⌝ }
     ensures { λ r. ⌜ SetsNumber (now (text .entry)) (now (known .entry)) at r ⌝ }
 {
     let n = name_length(text, at);
@@ -330,7 +331,7 @@ pub fn replacement_form(
 ) -> Form
     requires { ⌜ Ready (now text) (now keys) (now tags) c ⌝ }
     requires { ⌜ Counted (now known) ⌝ }
-    requires { ⌜ 28672 ≤ length (now table) ⌝ }
+    requires { ⌜ tableSize ≤ length (now table) ⌝ }
     ensures { λ r. ⌜ ReplacementRead (now (text .entry)) (now (known .entry)) (now (table .entry)) (now (keys .entry)) (now (tags .entry)) c r (now (table .exit)) (now (keys .exit)) (now (tags .exit)) ⌝ }
 {
     if sets_number(text, known, c.at) {

@@ -7,8 +7,7 @@ use lib.Dec.{eqb}
 use lib.ListN.{length}
 use Rattle.base.specs.Edition.{Edition}
 use Rattle.base.specs.Lists.{same, any, keep}
-use Rattle.cards.specs.Cards.{Entry, skipped, statement, entries}
-use Rattle.cards.specs.Packing.{packed}
+use Rattle.cards.specs.Entries.{Entry, skipped, statement, entries}
 use Rattle.language.specs.Keywords.{Kind, leading}
 use Rattle.language.specs.Program.{Statement, Step, Program}
 use Rattle.language.specs.Reading.{Met, nothing, Read, got, broken}
@@ -35,9 +34,9 @@ metBy broken = nothing
 unfoldable pub judgeFrom : Edition → Known → List Entry → Judged
 judgeFrom e k [] = cond (k .ended) (passed k) (refused 4 0)
 judgeFrom e k (skipped card sound ∷ rest) = elim sound [ true ↦ judgeFrom e k rest | false ↦ refused 3 card ]
-judgeFrom e k (statement card sound label text ∷ rest) =
-    let kind = leading (packed text) .kind in
-    let form = readStatement e (isOneOf (numbers k)) unplaced label text in
+judgeFrom e k (statement card sound label whole text ∷ rest) =
+    let kind = leading text .kind in
+    let form = readStatement e (isOneOf (numbers k)) unplaced label whole text in
     let n = statementNumber k kind sound form in
     elim (eqb n 0) [ true ↦ judgeFrom e (learn k kind (metBy form)) rest | false ↦ refused n card ]
 
@@ -103,8 +102,8 @@ stepRead card broken = []
 unfoldable pub stepsFrom : Edition → Known → ℕ → List Entry → List Step
 stepsFrom e k n [] = []
 stepsFrom e k n (skipped card sound ∷ rest) = stepsFrom e k n rest
-stepsFrom e k n (statement card sound label text ∷ rest) =
-    let read = stepRead card (readStatement e (isOneOf (numbers k)) (placesOf k (suc n)) label text) in
+stepsFrom e k n (statement card sound label whole text ∷ rest) =
+    let read = stepRead card (readStatement e (isOneOf (numbers k)) (placesOf k (suc n)) label whole text) in
     read ++ stepsFrom e k (elim read [ [] ↦ n | s ∷ ss ↦ suc n ]) rest
 
 unfoldable pub programOf : Edition → Known → List Entry → Program
@@ -125,5 +124,9 @@ concluded e es (passed k) =
     program)
 concluded e es (Judged.refused n card) = Judgement.refused n card
 
+unfoldable pub judgeEntries : Edition → List Entry → Judgement
+judgeEntries e es = concluded e es (judgeFrom e nothingKnown es)
+
+-- a deck is judged by its entries alone
 unfoldable pub judge : Edition → List ℕ → Judgement
-judge e deck = concluded e (entries e deck) (judgeFrom e nothingKnown (entries e deck))
+judge e deck = judgeEntries e (entries e deck)

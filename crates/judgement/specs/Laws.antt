@@ -1,6 +1,6 @@
 -- Every answer of a deck's judgement is in range; an accepted program keeps its counts, and its last step finishes. Assumes nothing.
 use mathlib.Core.Bool.{Bool, true, false, _||_, false≢true}
-use mathlib.Core.List.{List, [], _∷_, _++_}
+use mathlib.Core.List.{List, [], _∷_, _++_, map}
 use mathlib.Core.Option.{Option, none, some}
 use mathlib.Core.Path.{_≡_, refl, sym, _∙_, subst, subst₂}
 use Prim.Native.Nat.{ℕ, suc, _+_, _≤_}
@@ -13,8 +13,8 @@ use Rattle.base.specs.Edition.{Edition}
 use Rattle.base.specs.Limits as Limits
 use Rattle.base.specs.Lists.{any, keep}
 use Rattle.cards.specs.Bytes.{isBlank, slash}
-use Rattle.cards.specs.Cards.{lines, Entry, skipped, statement, isComment, isBlankLine, column9, joined, entriesFrom, entries}
-use Rattle.cards.specs.Packing.{packed, literalsWhole}
+use Rattle.cards.specs.Cards.{Unpacked, lines, isComment, isBlankLine, column9, joined, unpackedFrom}
+use Rattle.cards.specs.Entries.{Entry, skipped, statement, packedEntry, entriesFrom, entries}
 use Rattle.language.specs.Forms.{statementForm, formOf, stepEnd}
 use Rattle.language.specs.Keywords.{END, sameKind, leading}
 use Rattle.language.specs.Laws.{same-kind}
@@ -45,29 +45,33 @@ pub mod Cards
 data CardsIn (n : ℕ) : List Entry → Type 0 where
   empty : CardsIn n []
   line : {card : ℕ} {sound : Bool} {es : List Entry} → 1 ≤ card → card ≤ n → CardsIn n es → CardsIn n (skipped card sound ∷ es)
-  form : {card : ℕ} {sound : Bool} {label text : List ℕ} {es : List Entry} → 1 ≤ card → card ≤ n → CardsIn n es
-      → CardsIn n (statement card sound label text ∷ es)
+  form : {card : ℕ} {sound : Bool} {label : List ℕ} {complete : Bool} {text : List ℕ} {es : List Entry} → 1 ≤ card → card ≤ n → CardsIn n es
+      → CardsIn n (statement card sound label complete text ∷ es)
+
+-- so are those of lines before they are packed
+abbrev UnpackedIn : ℕ → List Unpacked → Type 0
+UnpackedIn n us = CardsIn n (map packedEntry us)
 
 -- a line joined to what comes behind it is their card
-joined-cards : (e : Edition) (n card : ℕ) (bs : List ℕ) (es : List Entry) → 1 ≤ card → card ≤ n → CardsIn n es
-    → CardsIn n (joined e card bs es)
-unfolding joined
+joined-cards : (e : Edition) (n card : ℕ) (bs : List ℕ) (us : List Unpacked) → 1 ≤ card → card ≤ n → UnpackedIn n us
+    → UnpackedIn n (joined e card bs us)
+unfolding joined packedEntry
 joined-cards e n card bs [] low high h = form low high h
-joined-cards e n card bs (skipped c s ∷ es) low high h = form low high h
-joined-cards e n card bs (statement c s label text ∷ es) low high (form _ _ h) = form low high h
+joined-cards e n card bs (Unpacked.skipped c s ∷ us) low high h = form low high h
+joined-cards e n card bs (Unpacked.statement c s label text ∷ us) low high (form _ _ h) = form low high h
 
 -- the cards of some lines, the last of which has number n
 entries-cards : (e : Edition) (n first : ℕ) (ls : List (List ℕ)) → 1 ≤ first → first + length ls ≤ suc n
     → CardsIn n (entriesFrom e first ls)
-unfolding entriesFrom
+unfolding entriesFrom unpackedFrom packedEntry
 entries-cards e n first [] low high = empty
 entries-cards e n first (bs ∷ ls) low high =
     let inside : first ≤ n = omega arith in
     let h = entries-cards e n (suc first) ls (omega arith) (omega arith) in
-    cond-cases (CardsIn n) (isComment bs || isBlankLine e bs) (λ _. line low inside h) (λ _.
-    cond-cases (CardsIn n) (isBlank (column9 e bs)) (λ _. form low inside h) (λ _.
-    cond-cases (CardsIn n) (eqb (column9 e bs) slash) (λ _. form low inside h) (λ _.
-    joined-cards e n first bs (entriesFrom e (suc first) ls) low inside h)))
+    cond-cases (UnpackedIn n) (isComment bs || isBlankLine e bs) (λ _. line low inside h) (λ _.
+    cond-cases (UnpackedIn n) (isBlank (column9 e bs)) (λ _. form low inside h) (λ _.
+    cond-cases (UnpackedIn n) (eqb (column9 e bs) slash) (λ _. form low inside h) (λ _.
+    joined-cards e n first bs (unpackedFrom e (suc first) ls) low inside h)))
 
 -- a number 3 to 12 with a card: D3 "0 for .. 11, 12 and a missing END", else one of the lines
 pub record Answers (last n card : ℕ) : Type 0 where
@@ -153,7 +157,7 @@ nothing-counted = omega arith
 passed-counts : {e : Edition} {k after : Known} {es : List Entry} → Counts k → Judging e k es (passed after) → Counts after
 passed-counts h (ended _) = h
 passed-counts h (skips j) = passed-counts h j
-passed-counts h (learns {k} {text} s m rest q p j) = passed-counts (not10-few (learn k (leading (packed text) .kind) m) m (p .not10) .0) j
+passed-counts h (learns {k} {text} s m rest q p j) = passed-counts (not10-few (learn k (leading text .kind) m) m (p .not10) .0) j
 
 -- a statement read is at most one step
 one-step : (card : ℕ) (read : Read (Option Statement)) → length (stepRead card read) ≤ 1
@@ -168,8 +172,8 @@ passed-steps : {e : Edition} {k after : Known} {es : List Entry} → Judging e k
 unfolding stepsFrom learn
 passed-steps (ended _) whole n = omega arith
 passed-steps (skips j) whole n = passed-steps j whole n
-passed-steps {e} (learns {k} {card} {label} {text} s m rest q p j) whole n =
-    let read = readStatement e (isOneOf (numbers whole)) (placesOf whole (suc n)) label text in
+passed-steps {e} (learns {k} {card} {label} {whole = complete} {text} s m rest q p j) whole n =
+    let read = readStatement e (isOneOf (numbers whole)) (placesOf whole (suc n)) label complete text in
     let one = one-step card read in
     let more = passed-steps j whole (elim (stepRead card read) [ [] ↦ n | s ∷ ss ↦ suc n ]) in
     simp length-append (omega arith)
@@ -185,13 +189,14 @@ finish-step card (got u n left) false bs s m rest q = let z : _≡_ {A = ℕ} 0 
 finish-step card broken whole bs s m rest q = let z : _≡_ {A = ℕ} 0 1 = cc in absurd (omega arith)
 
 -- END is a step that finishes, whatever the places and numbers are
-end-step : (e : Edition) (isNumber isNumber′ : List ℕ → Bool) (at at′ : Places) (card : ℕ) (label text : List ℕ) (s : Option Statement)
-    (m : Met) (rest : List ℕ) → leading (packed text) .kind ≡ END → readStatement e isNumber at label text ≡ got s m rest
-    → stepRead card (readStatement e isNumber′ at′ label text) ≡ record { card = card; statement = finish } ∷ []
+end-step : (e : Edition) (isNumber isNumber′ : List ℕ → Bool) (at at′ : Places) (card : ℕ) (label : List ℕ) (complete : Bool)
+    (text : List ℕ) (s : Option Statement) (m : Met) (rest : List ℕ) → leading text .kind ≡ END
+    → readStatement e isNumber at label complete text ≡ got s m rest
+    → stepRead card (readStatement e isNumber′ at′ label complete text) ≡ record { card = card; statement = finish } ∷ []
 unfolding readStatement statementForm formOf
-end-step e isNumber isNumber′ at at′ card label text s m rest end q =
-    let bs = drop (leading (packed text) .size) (packed text) in
-    rw end (finish-step card (labelForm label) (literalsWhole text) bs s m rest (rw end at q))
+end-step e isNumber isNumber′ at at′ card label complete text s m rest end q =
+    let bs = drop (leading text .size) text in
+    rw end (finish-step card (labelForm label) complete bs s m rest (rw end at q))
 
 -- a last step finishes whatever stands before it
 last-behind : (ss ts : List Step) → lastFinishes ts ≡ true → lastFinishes (ss ++ ts) ≡ true
@@ -217,15 +222,15 @@ passed-finishes : {e : Edition} {k after : Known} {es : List Entry} → k .ended
 unfolding stepsFrom learn lastFinishes isFinish
 passed-finishes before (ended h) whole n = absurd (false≢true (sym before ∙ h))
 passed-finishes before (skips j) whole n = passed-finishes before j whole n
-passed-finishes {e} before (learns {k} {card} {label} {text} {es} s m rest q p j) whole n =
-    let kind = leading (packed text) .kind in
+passed-finishes {e} before (learns {k} {card} {label} {whole = complete} {text} {es} s m rest q p j) whole n =
+    let kind = leading text .kind in
     let isNumber = isOneOf (numbers whole) in
     let at = placesOf whole (suc n) in
-    let read = stepRead card (readStatement e isNumber at label text) in
+    let read = stepRead card (readStatement e isNumber at label complete text) in
     let next : ℕ = elim read [ [] ↦ n | s ∷ ss ↦ suc n ] in
     test-cases (λ _. lastFinishes (read ++ stepsFrom e whole next es) ≡ true) (sameKind kind END)
     (λ end.
-    let here = end-step e (isOneOf (numbers k)) isNumber unplaced at card label text s m rest (same-kind kind END end) q in
+    let here = end-step e (isOneOf (numbers k)) isNumber unplaced at card label complete text s m rest (same-kind kind END end) q in
     subst₂ (λ ss ts. lastFinishes (ss ++ ts) ≡ true) (sym here) (sym (passed-nothing end j whole next)) refl)
     (λ inner. last-behind read (stepsFrom e whole next es) (passed-finishes inner j whole next))
 

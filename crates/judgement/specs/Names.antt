@@ -10,8 +10,7 @@ use Rattle.base.specs.Choice.{test-cases, cond-cases, neither-true, either-true
 use Rattle.base.specs.Edition.{Edition}
 use Rattle.base.specs.Lists.{same, any, keep}
 use Rattle.base.specs.ListLaws.{same-true, same-refl}
-use Rattle.cards.specs.Cards.{Entry}
-use Rattle.cards.specs.Packing.{packed}
+use Rattle.cards.specs.Entries.{Entry}
 use Rattle.language.specs.Keywords.{Kind, leading}
 use Rattle.language.specs.Laws.{same-purpose, same-purpose-refl}
 use Rattle.language.specs.Placed.{Each, each-map}
@@ -46,7 +45,7 @@ any-append f [] ys = refl
 any-append f (x ∷ xs) ys = ap (λ b. f x || b) (any-append f xs ys) ∙ sym (or-assoc (f x) (any f xs) (any f ys))
 
 -- a test that no name in a list passes is failed by each
-none-passes : (f : Naming → Bool) (x : Naming) (ns : List Naming) → any f ns ≡ false → Has x ns → f x ≡ false
+pub none-passes : (f : Naming → Bool) (x : Naming) (ns : List Naming) → any f ns ≡ false → Has x ns → f x ≡ false
 unfolding any
 none-passes f x [] h g = absurd (false≢true g)
 none-passes f x (n ∷ ns) h g =
@@ -107,7 +106,7 @@ pub passed-keeps : {e : Edition} {k after : Known} {es : List Entry} → Judging
     → Has x (after .names)
 passed-keeps (ended _) x h = h
 passed-keeps (skips j) x h = passed-keeps j x h
-passed-keeps (learns {k} {text} s m rest q p j) x h = passed-keeps j x (learn-keeps x k (leading (packed text) .kind) m h)
+passed-keeps (learns {k} {text} s m rest q p j) x h = passed-keeps j x (learn-keeps x k (leading text .kind) m h)
 
 -- S2 "A name has one purpose"
 abbrev pub OnePurpose : List Naming → Type 0
@@ -145,7 +144,7 @@ pub passed-one-purpose : {e : Edition} {k after : Known} {es : List Entry} → J
 passed-one-purpose (ended _) one = one
 passed-one-purpose (skips j) one = passed-one-purpose j one
 passed-one-purpose (learns {k} {text} s m rest q p j) one =
-    passed-one-purpose j (learn-one-purpose k (leading (packed text) .kind) m (p .not6) one)
+    passed-one-purpose j (learn-one-purpose k (leading text .kind) m (p .not6) one)
 
 -- each name in a list is in it
 each-has : (ns : List Naming) → Each (λ x. Has x ns) ns

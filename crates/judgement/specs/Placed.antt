@@ -12,8 +12,7 @@ use Rattle.base.specs.Choice.{test-cases, true-behind}
 use Rattle.base.specs.Edition.{Edition}
 use Rattle.base.specs.Lists.{same, any, begins}
 use Rattle.base.specs.Text.{bytes}
-use Rattle.cards.specs.Cards.{Entry}
-use Rattle.cards.specs.Packing.{packed, literalsWhole}
+use Rattle.cards.specs.Entries.{Entry}
 use Rattle.language.specs.Alike.{Alike, both, neither, SameStep, alike-meeting, alike-formOf}
 use Rattle.language.specs.Forms.{statementForm, formOf, setsNumber, replacement}
 use Rattle.language.specs.Keywords.{Kind, REPLACEMENT, END, sameKind, leading}
@@ -118,19 +117,19 @@ tests-agree false false c follows only = refl
 
 -- the kind of a statement, and what stands behind its keyword
 abbrev kindOf : List ℕ → Kind
-kindOf text = leading (packed text) .kind
+kindOf text = leading text .kind
 
 abbrev bodyOf : List ℕ → List ℕ
-bodyOf text = drop (leading (packed text) .size) (packed text)
+bodyOf text = drop (leading text .size) text
 
 -- a name is a number for a replacement of it where it is one for the whole deck
-numbers-agree : (e : Edition) (k after : Known) (label text : List ℕ) (s : Option Statement) (m : Met) (rest : List ℕ) (at : Places)
-    → kindOf text ≡ REPLACEMENT → readStatement e (isOneOf (numbers k)) unplaced label text ≡ got s m rest
+numbers-agree : (e : Edition) (k after : Known) (label : List ℕ) (whole : Bool) (text : List ℕ) (s : Option Statement) (m : Met)
+    (rest : List ℕ) (at : Places) → kindOf text ≡ REPLACEMENT → readStatement e (isOneOf (numbers k)) unplaced label whole text ≡ got s m rest
     → ((x : Naming) → Has x (k .names) → Has x (after .names)) → ((x : Naming) → Has x (m .used) → Has x (after .names))
     → OnePurpose (after .names)
     → setsNumber e (isOneOf (numbers k)) unplaced (bodyOf text) ≡ setsNumber e (isOneOf (numbers after)) at (bodyOf text)
 unfolding setsNumber isOneOf numbers readStatement statementForm formOf Uses
-numbers-agree e k after label text s m rest at kind q keeps adds one =
+numbers-agree e k after label whole text s m rest at kind q keeps adds one =
     let bs = bodyOf text in
     let w = take (nameLength bs) bs in
     let equals = begins (bytes "=") (drop (nameLength bs) bs) in
@@ -141,17 +140,17 @@ numbers-agree e k after label text s m rest at kind q keeps adds one =
     (λ h. names-for number w (after .names) ∙ keeps y (sym (names-for number w (k .names)) ∙ h))
     (λ h g.
     let form = uses-string e isNumber unplaced bs (ap (λ t. t && equals) h) in
-    let used = uses-labelled x (labelForm label) (literalsWhole text) _ form in
+    let used = uses-labelled x (labelForm label) whole _ form in
     let known = adds x (subst (Uses x) (rw kind at q) used) in
     string-not-number (one w string number known (sym (names-for number w (after .names)) ∙ g)))
 
 -- a statement is read alike with any places
-alike-readStatement : (e : Edition) (at at′ : Places) (isNumber isNumber′ : List ℕ → Bool) (label text : List ℕ)
+alike-readStatement : (e : Edition) (at at′ : Places) (isNumber isNumber′ : List ℕ → Bool) (label : List ℕ) (whole : Bool) (text : List ℕ)
     → (kindOf text ≡ REPLACEMENT → setsNumber e isNumber at (bodyOf text) ≡ setsNumber e isNumber′ at′ (bodyOf text))
-    → Alike (SameStep (isStep (kindOf text))) (readStatement e isNumber at label text) (readStatement e isNumber′ at′ label text)
+    → Alike (SameStep (isStep (kindOf text))) (readStatement e isNumber at label whole text) (readStatement e isNumber′ at′ label whole text)
 unfolding readStatement statementForm isStep
-alike-readStatement e at at′ isNumber isNumber′ label text agree =
-    alike-labelled (labelForm label) (literalsWhole text)
+alike-readStatement e at at′ isNumber isNumber′ label whole text agree =
+    alike-labelled (labelForm label) whole
     (alike-formOf e at at′ isNumber isNumber′ (kindOf text) (bodyOf text) (λ h. agree (same-kind (kindOf text) REPLACEMENT h)))
 
 -- a name in a list stands at a place in it
@@ -207,19 +206,20 @@ next-below k kind m j inner =
     rw (parts .0) at below
 
 -- a statement that passes is read alike with the places of the deck, each name of which has one purpose
-passed-alike : (e : Edition) (after : Known) → OnePurpose (after .names) → (k : Known) (label text : List ℕ) {es : List Entry}
-    (s : Option Statement) (m : Met) (rest : List ℕ) → readStatement e (isOneOf (numbers k)) unplaced label text ≡ got s m rest
+passed-alike : (e : Edition) (after : Known) → OnePurpose (after .names) → (k : Known) (label : List ℕ) (whole : Bool) (text : List ℕ)
+    {es : List Entry} (s : Option Statement) (m : Met) (rest : List ℕ)
+    → readStatement e (isOneOf (numbers k)) unplaced label whole text ≡ got s m rest
     → Judging e (learn k (kindOf text) m) es (passed after)
     → Alike (SameStep (isStep (kindOf text))) (got s m rest)
-    (readStatement e (isOneOf (numbers after)) (placesOf after (suc (k .steps))) label text)
-passed-alike e after one k label text s m rest q j =
+    (readStatement e (isOneOf (numbers after)) (placesOf after (suc (k .steps))) label whole text)
+passed-alike e after one k label whole text s m rest q j =
     let at = placesOf after (suc (k .steps)) in
     let isNumber = isOneOf (numbers after) in
     let keeps : (x : Naming) → Has x (k .names) → Has x (after .names) = λ x h. passed-keeps j x (learn-keeps x k (kindOf text) m h) in
     let adds : (x : Naming) → Has x (m .used) → Has x (after .names) = λ x h. passed-keeps j x (learn-adds x k (kindOf text) m h) in
-    subst (λ r. Alike (SameStep (isStep (kindOf text))) r (readStatement e isNumber at label text)) q
-    (alike-readStatement e unplaced at (isOneOf (numbers k)) isNumber label text
-    (λ h. numbers-agree e k after label text s m rest at h q keeps adds one))
+    subst (λ r. Alike (SameStep (isStep (kindOf text))) r (readStatement e isNumber at label whole text)) q
+    (alike-readStatement e unplaced at (isOneOf (numbers k)) isNumber label whole text
+    (λ h. numbers-agree e k after label whole text s m rest at h q keeps adds one))
 
 -- before the first statement no label or routine is known
 nothing-below : TargetsBelow 1 nothingKnown
@@ -243,16 +243,16 @@ alike-met (both r) = refl
 alike-met neither = refl
 
 -- what a statement meets, and its number, are the same with any places
-module _ (e : Edition) (isNumber : List ℕ → Bool) (at : Places) (label text : List ℕ) where
-  anywhere : Alike (SameStep (isStep (kindOf text))) (readStatement e isNumber at label text)
-      (readStatement e isNumber unplaced label text)
+module _ (e : Edition) (isNumber : List ℕ → Bool) (at : Places) (label : List ℕ) (whole : Bool) (text : List ℕ) where
+  anywhere : Alike (SameStep (isStep (kindOf text))) (readStatement e isNumber at label whole text)
+      (readStatement e isNumber unplaced label whole text)
   unfolding setsNumber
-  anywhere = alike-readStatement e at unplaced isNumber isNumber label text (λ _. refl)
+  anywhere = alike-readStatement e at unplaced isNumber isNumber label whole text (λ _. refl)
 
   pub number-anywhere : (k : Known) (kind : Kind) (sound : Bool)
-      → statementNumber k kind sound (readStatement e isNumber unplaced label text)
-      ≡ statementNumber k kind sound (readStatement e isNumber at label text)
+      → statementNumber k kind sound (readStatement e isNumber unplaced label whole text)
+      ≡ statementNumber k kind sound (readStatement e isNumber at label whole text)
   number-anywhere k kind sound = alike-number k kind sound anywhere
 
-  pub met-anywhere : metBy (readStatement e isNumber unplaced label text) ≡ metBy (readStatement e isNumber at label text)
+  pub met-anywhere : metBy (readStatement e isNumber unplaced label whole text) ≡ metBy (readStatement e isNumber at label whole text)
   met-anywhere = alike-met anywhere

@@ -8,7 +8,6 @@ use lib.ListN.{length}
 use Rattle.base.specs.Edition.{Edition}
 use Rattle.base.specs.Limits as Limits
 use Rattle.base.specs.Lists.{same, any}
-use Rattle.cards.specs.Packing.{packed, literalsWhole}
 use Rattle.language.specs.Forms.{statementForm}
 use Rattle.language.specs.Keywords.{Kind, PROGRAM, END, ROUTINE, ENDROUTINE, RETURN, sameKind, leading}
 use Rattle.language.specs.Program.{Statement}
@@ -52,9 +51,8 @@ module _ {A : Type 0} where
   labelled (got u m rest) whole form = elim whole [ true ↦ meeting m form | false ↦ broken ]
   labelled broken whole form = broken
 
-unfoldable pub readStatement : Edition → (List ℕ → Bool) → Places → (labelBytes text : List ℕ) → Read (Option Statement)
-readStatement e isNumber at labelBytes text =
-    labelled (labelForm labelBytes) (literalsWhole text) (statementForm e isNumber at (packed text))
+unfoldable pub readStatement : Edition → (List ℕ → Bool) → Places → (labelBytes : List ℕ) (whole : Bool) (text : List ℕ) → Read (Option Statement)
+readStatement e isNumber at labelBytes whole text = labelled (labelForm labelBytes) whole (statementForm e isNumber at text)
 
 -- Q6 "A name has two purposes": here, or here and before
 unfoldable pub hasOther : List Naming → Naming → Bool

@@ -9,15 +9,14 @@ use lib.Dec.{eqb}
 use borrow.Author.Tests.{ne-eqb}
 use Rattle.base.specs.Choice.{cond-cases, neither-true}
 use Rattle.base.specs.Edition.{Edition}
-use Rattle.cards.specs.Cards.{Entry, skipped, statement, entries}
-use Rattle.cards.specs.Packing.{packed}
+use Rattle.cards.specs.Entries.{Entry, skipped, statement, entries}
 use Rattle.language.specs.Keywords.{Kind, PROGRAM, sameKind, leading}
 use Rattle.language.specs.Program.{Statement, Program}
 use Rattle.language.specs.Reading.{Met, Read, got, broken}
 use Rattle.judgement.specs.Known.{Known, nothingKnown, numbers, isOneOf, learn}
 use Rattle.judgement.specs.Refusals.{readStatement, isMisplaced, is6, is7, is8, is9, is10, metNumber, formNumber, statementNumber}
 use Rattle.judgement.specs.Deck.{unplaced, Judged, passed, judgeFrom, metBy, is11, is12, programOf, Judgement, accepted}
-use Rattle.judgement.specs.Deck.{concluded, judge}
+use Rattle.judgement.specs.Deck.{concluded, judgeEntries, judge}
 
 -- none of 4 and 6 to 10 applies to a statement that met these
 pub record Passes (k : Known) (kind : Kind) (m : Met) : Type 0 where
@@ -61,25 +60,26 @@ pub data Judging (e : Edition) : Known → List Entry → Judged → Type 0 wher
   missing : {k : Known} → k .ended ≡ false → Judging e k [] (Judged.refused 4 0)
   skips : {k : Known} {card : ℕ} {es : List Entry} {j : Judged} → Judging e k es j → Judging e k (skipped card true ∷ es) j
   unsound : {k : Known} {card : ℕ} {es : List Entry} → Judging e k (skipped card false ∷ es) (Judged.refused 3 card)
-  turned : {k : Known} {card : ℕ} {sound : Bool} {label text : List ℕ} {es : List Entry} (n : ℕ) → (3 ≤ n) × (n ≤ 10)
-      → Judging e k (statement card sound label text ∷ es) (Judged.refused n card)
-  learns : {k : Known} {card : ℕ} {label text : List ℕ} {es : List Entry} {j : Judged} (s : Option Statement) (m : Met) (rest : List ℕ)
-      → readStatement e (isOneOf (numbers k)) unplaced label text ≡ got s m rest
-      → Passes k (leading (packed text) .kind) m
-      → Judging e (learn k (leading (packed text) .kind) m) es j
-      → Judging e k (statement card true label text ∷ es) j
+  turned : {k : Known} {card : ℕ} {sound : Bool} {label : List ℕ} {whole : Bool} {text : List ℕ} {es : List Entry} (n : ℕ) → (3 ≤ n) × (n ≤ 10)
+      → Judging e k (statement card sound label whole text ∷ es) (Judged.refused n card)
+  learns : {k : Known} {card : ℕ} {label : List ℕ} {whole : Bool} {text : List ℕ} {es : List Entry} {j : Judged}
+      (s : Option Statement) (m : Met) (rest : List ℕ)
+      → readStatement e (isOneOf (numbers k)) unplaced label whole text ≡ got s m rest
+      → Passes k (leading text .kind) m
+      → Judging e (learn k (leading text .kind) m) es j
+      → Judging e k (statement card true label whole text ∷ es) j
 
 -- a statement is judged by its number
-statement-judging : (e : Edition) (k : Known) (card : ℕ) (sound : Bool) (label text : List ℕ) (es : List Entry)
+statement-judging : (e : Edition) (k : Known) (card : ℕ) (sound : Bool) (label : List ℕ) (whole : Bool) (text : List ℕ) (es : List Entry)
     {read : Read (Option Statement)} {n : ℕ}
-    → readStatement e (isOneOf (numbers k)) unplaced label text ≡ read
-    → Numbered k (leading (packed text) .kind) sound read n
-    → (j : Judged) → Judging e (learn k (leading (packed text) .kind) (metBy read)) es j
-    → Judging e k (statement card sound label text ∷ es) (elim (eqb n 0) [ true ↦ j | false ↦ Judged.refused n card ])
+    → readStatement e (isOneOf (numbers k)) unplaced label whole text ≡ read
+    → Numbered k (leading text .kind) sound read n
+    → (j : Judged) → Judging e (learn k (leading text .kind) (metBy read)) es j
+    → Judging e k (statement card sound label whole text ∷ es) (elim (eqb n 0) [ true ↦ j | false ↦ Judged.refused n card ])
 unfolding metBy
-statement-judging e k card sound label text es q (Numbered.turned n h) j further =
+statement-judging e k card sound label whole text es q (Numbered.turned n h) j further =
     rw (ne-eqb n 0 (λ z. omega arith)) (Judging.turned n h)
-statement-judging e k card true label text es q (passes {s} {m} {rest} p) j further = learns s m rest q p further
+statement-judging e k card true label whole text es q (passes {s} {m} {rest} p) j further = learns s m rest q p further
 
 -- entries are judged by the rules
 pub judging : (e : Edition) (k : Known) (es : List Entry) → Judging e k es (judgeFrom e k es)
@@ -87,11 +87,11 @@ unfolding judgeFrom
 judging e k [] = cond-cases (Judging e k []) (k .ended) (λ h. ended h) (λ h. missing h)
 judging e k (skipped card true ∷ es) = skips (judging e k es)
 judging e k (skipped card false ∷ es) = unsound
-judging e k (statement card sound label text ∷ es) =
-    let kind = leading (packed text) .kind in
-    let read = readStatement e (isOneOf (numbers k)) unplaced label text in
+judging e k (statement card sound label whole text ∷ es) =
+    let kind = leading text .kind in
+    let read = readStatement e (isOneOf (numbers k)) unplaced label whole text in
     let next = learn k kind (metBy read) in
-    statement-judging e k card sound label text es refl (statement-numbered k kind sound read) (judgeFrom e next es) (judging e next es)
+    statement-judging e k card sound label whole text es refl (statement-numbered k kind sound read) (judgeFrom e next es) (judging e next es)
 
 -- the rules by which a whole deck is judged
 pub data Concluding (e : Edition) (es : List Entry) : Judgement → Type 0 where
@@ -104,7 +104,7 @@ pub data Concluding (e : Edition) (es : List Entry) : Judgement → Type 0 where
 
 -- a deck is judged by the rules
 pub concluding : (e : Edition) (deck : List ℕ) → Concluding e (entries e deck) (judge e deck)
-unfolding judge concluded
+unfolding judge judgeEntries concluded
 concluding e deck = concludes (judgeFrom e nothingKnown (entries e deck)) (judging e nothingKnown (entries e deck))
   where
     es : List Entry

@@ -1,7 +1,8 @@
 -- The language: what a program is (Program), how a form is read (Reading), names and constants (Words), numeric expressions (Numeric),
 -- string expressions and patterns (Strings), kinds of statements (Keywords), their forms (Forms). Of these: kinds and purposes are told
 -- apart (Laws), lists of which each element is so, and places below the counts of a program (Placed), a form is read alike with any places
--- (Alike), the readers of numeric expressions have fuel enough (Fuel).
+-- (Alike), the readers of numeric expressions have fuel enough (Fuel), where steps stand and their statements lead (Scopes), and that of
+-- each form (ScopeForms).
 pub mod Alike
 pub mod Forms
 pub mod Fuel
@@ -11,5 +12,7 @@ pub mod Numeric
 pub mod Placed
 pub mod Program
 pub mod Reading
+pub mod ScopeForms
+pub mod Scopes
 pub mod Strings
 pub mod Words

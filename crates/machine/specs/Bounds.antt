@@ -18,7 +18,7 @@ use Rattle.scanning.specs.Splits.{Split}
 use Rattle.scanning.specs.Trials.{Scanned, scan}
 use Rattle.values.specs.Conversion.{longestString, substring, signOf, digits, filled, textOf}
 use Rattle.values.specs.Numbers.{isNegative}
-use Rattle.values.specs.Work.{quietly}
+use Rattle.values.specs.Work.{quietly, stopsStep}
 use Rattle.machine.specs.Ends.{Ends, ends, stops, Any, ends-bind}
 use Rattle.machine.specs.Expressions.{lengthIn, partIn, elementIn, stringIn}
 use Rattle.machine.specs.Scanning.{Searched, turned, restricted, searchedIn, Valued, fixedAt, valuedIn, patternIn}
@@ -118,11 +118,11 @@ module _ (e : Edition) where
 
   -- Q20 what is stored is short
   pub storing-bounded : (s : ℕ) (v : List ℕ) (m : Memory) → Bounded e m → Ends (Bounded e) (storing s v m)
-  unfolding storing quietly
+  unfolding storing quietly stopsStep
   storing-bounded s v m b =
       cond-cases (Ends (Bounded e)) (leb (length v) longestString)
       (λ q. ends (string-bounded m s v (leb-true (length v) longestString q) b))
-      (λ q. stops (omega arith) (omega arith))
+      (λ q. stops refl)
 
   -- a name or substring stops nothing
   pub part-ends : (m : Memory) (p : Part) → Ends Any (partIn m p)
@@ -131,11 +131,11 @@ module _ (e : Edition) where
   part-ends m (first s n) = cond-cases (Ends Any) (isNegative (lengthIn m n)) (λ q. ends tt) (λ q. ends tt)
 
   text-ends : (n m : ℤ) → Ends Any (textOf n m)
-  unfolding textOf filled
+  unfolding textOf filled stopsStep
   text-ends n m =
       let longer = length (signOf m) + length (digits (natAbs m)) in
       cond-cases (Ends Any) (eqb (natAbs n) 0) (λ q. ends tt)
-      (λ q. cond-cases (Ends Any) (ltb longestString (natAbs n)) (λ q. stops (omega arith) (omega arith))
+      (λ q. cond-cases (Ends Any) (ltb longestString (natAbs n)) (λ q. stops refl)
       (λ q. cond-cases (Ends Any) (leb longer (natAbs n)) (λ q. ends tt) (λ q. ends tt)))
 
   element-ends : (m : Memory) (x : Program.Element) → Ends Any (elementIn e m x)
@@ -172,11 +172,11 @@ module _ (e : Edition) where
   restricted-within backward s n v h = simp length-drop (omega arith)
 
   searched-within : (m : Memory) (d : Direction) (p : Part) → Bounded e m → Ends Within (searchedIn m d p)
-  unfolding searchedIn quietly
+  unfolding searchedIn quietly stopsStep
   searched-within m d (whole s) b = ends (restricted-within d s (length (stringAt m s)) (stringAt m s) (b .short s))
   searched-within m d (first s n) b =
       let z = lengthIn m n in
-      cond-cases (Ends Within) (isNegative z) (λ q. stops (omega arith) (omega arith))
+      cond-cases (Ends Within) (isNegative z) (λ q. stops refl)
       (λ q. ends (restricted-within d s (natAbs z) (stringAt m s) (b .short s)))
 
   replacing-bounded : (d : Direction) (x : Searched) (s : Split) (r : Option (List Program.Element)) (m : Memory) → Bounded e m

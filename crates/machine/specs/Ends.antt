@@ -1,13 +1,14 @@
--- How work ends: done with a value of which something holds, or stopped by a number from 17 to 21. Assumes nothing.
+-- How work ends: done with a value of which something holds, or stopped by a number that stops a step. Assumes nothing.
+use mathlib.Core.Bool.{true}
 use mathlib.Core.Path.{_≡_, refl}
-use Prim.Native.Nat.{ℕ, _≤_}
+use Prim.Native.Nat.{ℕ}
 use native.Mathlib.Omega.{arith}
-use Rattle.values.specs.Work.{Work, done, stop, noting, _>>=_}
+use Rattle.values.specs.Work.{stopsStep, Work, done, stop, noting, _>>=_}
 
 -- P holds of the value, or the work stopped by one of the numbers that stop a step
 pub data Ends {A : Type 0} (P : A → Type 0) : Work A → Type 0 where
   ends : {a : A} {n : ℕ} → P a → Ends P (done a n)
-  stops : {k : ℕ} → 17 ≤ k → k ≤ 21 → Ends P (stop k)
+  stops : {k : ℕ} → stopsStep k ≡ true → Ends P (stop k)
 
 -- every value will do
 abbrev pub Any : {A : Type 0} → A → Type 0
@@ -17,14 +18,14 @@ module _ {A : Type 0} {P : A → Type 0} where
   ends-noting : (n : ℕ) {w : Work A} → Ends P w → Ends P (noting n w)
   unfolding noting
   ends-noting n (ends h) = ends h
-  ends-noting n (stops low high) = stops low high
+  ends-noting n (stops h) = stops h
 
 module _ {A B : Type 0} {P : A → Type 0} {Q : B → Type 0} where
   -- work behind work that ends so
   pub ends-bind : {w : Work A} {f : A → Work B} → Ends P w → ((a : A) → P a → Ends Q (f a)) → Ends Q (w >>= f)
   unfolding _>>=_
   ends-bind {f} (ends {a} {n} h) g = ends-noting n (g a h)
-  ends-bind (stops low high) g = stops low high
+  ends-bind (stops h) g = stops h
 
 -- work in two parts that comes to b: what the part in front and the part behind come to
 pub record BothDone {A B : Type 0} (w : Work A) (f : A → Work B) (b : B) : Type 0 where

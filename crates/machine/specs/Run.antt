@@ -5,6 +5,7 @@ use Prim.Native.Nat.{ℕ, zero, suc, _+_}
 use lib.Dec.{leb, ltb, eqb}
 use Rattle.base.specs.Edition.{Edition}
 use Rattle.language.specs.Program.{Program}
+use Rattle.values.specs.Work.{stopsStep}
 use Rattle.machine.specs.State.{Status, running, finished, stopped, State}
 use Rattle.machine.specs.Step.{Answer, Stepped, step}
 
@@ -39,11 +40,11 @@ counted steps notes r =
 unfoldable pub endedWith : Outcome → ℕ → State → Ran
 endedWith o n c = record { outcome = o; number = n; steps = 0; notes = 0; state = c }
 
--- a step by how it ended: it was turned down (15, 16), it stopped (17 to 21), it finished, or the run goes on; a step with number 0
+-- a step by how it ended: it stopped (17 to 21), it was turned down (15, 16), it finished, or the run goes on; a step with number 0
 -- never leaves the status stopped
 unfoldable pub goingOn : Stepped → Ran → Ran
 goingOn s rest =
-    cond (ltb 16 (s .answer .number)) (counted 1 0 (endedWith STOPPED (s .answer .number) (s .state)))
+    cond (stopsStep (s .answer .number)) (counted 1 0 (endedWith STOPPED (s .answer .number) (s .state)))
     (cond (ltb 0 (s .answer .number)) (endedWith REFUSED (s .answer .number) (s .state))
     (counted 1 (s .answer .notes) (byStatus (s .state .status))))
   where

@@ -23,7 +23,7 @@ use Rattle.machine.specs.Step.{noScan, Done, moving, setStringIn, taking
 use Rattle.machine.specs.Step.{statementAt, lacksReturn, turnedDownBy, Stepped, concluded, step}
 use Rattle.values.specs.Conversion.{longestString}
 use Rattle.values.specs.Numbers.{isNegative}
-use Rattle.values.specs.Work.{Work, done, stop, quietly}
+use Rattle.values.specs.Work.{stopsStep, Work, done, stop, quietly}
 
 -- a step that is turned down
 pub step-turned : (e : Edition) (p : Program) (lent : ℕ) (c : State) → eqb (turnedDownBy p c) 0 ≡ false
@@ -47,25 +47,26 @@ stopped-step e p lent c goes =
     (λ q h. concluded-undone c (carrying e lent (statementAt p (c .next)) c) h .0)
     (λ q h. absurd (h goes))
 
--- a step that is not turned down, and whose work ends so, has no number below 17
-pub step-high : {P : Done → Type 0} (e : Edition) (p : Program) (lent : ℕ) (c : State) → turnedDownBy p c ≡ 0
-    → Ends P (carrying e lent (statementAt p (c .next)) c) → ¬ (step e p lent c .answer .number ≡ 0) → 16 < step e p lent c .answer .number
+-- a step that is not turned down, and whose work ends so, is done or has a number that stops
+pub step-stops : {P : Done → Type 0} (e : Edition) (p : Program) (lent : ℕ) (c : State) → turnedDownBy p c ≡ 0
+    → Ends P (carrying e lent (statementAt p (c .next)) c)
+    → ¬ (step e p lent c .answer .number ≡ 0) → stopsStep (step e p lent c .answer .number) ≡ true
 unfolding step concluded
-step-high {P} e p lent c goes ended =
-    cond-cases (λ (s : Stepped). ¬ (s .answer .number ≡ 0) → 16 < s .answer .number) (eqb (turnedDownBy p c) 0)
-    (λ q. high (carrying e lent (statementAt p (c .next)) c) ended)
+step-stops {P} e p lent c goes ended =
+    cond-cases (λ (s : Stepped). ¬ (s .answer .number ≡ 0) → stopsStep (s .answer .number) ≡ true) (eqb (turnedDownBy p c) 0)
+    (λ q. stopping (carrying e lent (statementAt p (c .next)) c) ended)
     (λ q h. absurd (h goes))
   where
-    high : (w : Work Done) → Ends P w → ¬ (concluded c w .answer .number ≡ 0) → 16 < concluded c w .answer .number
-    high (done d n) (ends k) h = absurd (h refl)
-    high (stop n) (stops low top) h = omega arith
+    stopping : (w : Work Done) → Ends P w → ¬ (concluded c w .answer .number ≡ 0) → stopsStep (concluded c w .answer .number) ≡ true
+    stopping (done d n) (ends k) h = absurd (h refl)
+    stopping (stop n) (stops k) h = k
 
--- the machine turns down by 16 at most
-pub turned-down-small : (p : Program) (c : State) → turnedDownBy p c ≤ 16
-unfolding turnedDownBy
-turned-down-small p c =
-    cond-cases (λ n. n ≤ 16) (lacksReturn (statementAt p (c .next)) (c .returns)) (λ q. omega arith)
-    (λ q. cond-cases (λ n. n ≤ 16) (isRunning (c .status)) (λ q. omega arith) (λ q. omega arith))
+-- the machine turns down by numbers that stop nothing
+pub turned-down-unstopped : (p : Program) (c : State) → stopsStep (turnedDownBy p c) ≡ false
+unfolding turnedDownBy stopsStep
+turned-down-unstopped p c =
+    cond-cases (λ n. stopsStep n ≡ false) (lacksReturn (statementAt p (c .next)) (c .returns)) (λ q. refl)
+    (λ q. cond-cases (λ n. stopsStep n ≡ false) (isRunning (c .status)) (λ q. refl) (λ q. refl))
 
 -- a step that is not done gives no notes and no split
 pub undone-answer : (e : Edition) (p : Program) (lent : ℕ) (c : State) → ¬ (step e p lent c .answer .number ≡ 0)

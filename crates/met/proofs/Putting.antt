@@ -10,6 +10,7 @@ use lib.IntN.{ℤ, pos, negsuc, natAbs}
 use lib.ListN.{length, take, getD, set, length-set}
 use lib.Seq.{length-take-le, take-suc, take-all}
 use native.Mathlib.Numerals.{add-one}
+use Rattle.base.specs.Current.{limit, tableSize}
 use Rattle.calls.specs.Numerals.{inBytes, bias, biased}
 use Rattle.calls.specs.Splices.{splice, set-splice, splice-behind, splice-nil}
 use borrow.Author.Tests.{ltb-true, lt-ltb, le-ltb}
@@ -79,7 +80,7 @@ module _ (t : List ℕ) (from most k : ℕ) (c : Cell) where
 
 -- a literal byte, and one behind the last one
 module _ (t : List ℕ) (l b : ℕ) where
-  pub byte-inside : l < 4096 → 28_672 ≤ length t → set t (22_592 + l) b ≡ withLiterals t l (b ∷ [])
+  pub byte-inside : l < 4096 → tableSize ≤ length t → set t (22_592 + l) b ≡ withLiterals t l (b ∷ [])
   unfolding withLiterals literalsAt
   byte-inside h g = rw (lt-ltb l 4096 h) (set-splice t (22_592 + l) b (omega arith))
 
@@ -128,7 +129,7 @@ unfolding biased bias isNegative
 biased-above (pos n) e = omega arith
 biased-above (negsuc n) e = absurd (true≢false e)
 
-pub biased-below : (z : ℤ) → isNegative z ≡ true → natAbs z ≤ 8_388_607 → 2 ^ 47 - natAbs z ≡ biased z
+pub biased-below : (z : ℤ) → isNegative z ≡ true → natAbs z ≤ limit → 2 ^ 47 - natAbs z ≡ biased z
 unfolding biased bias isNegative
 biased-below (pos n) e h = absurd (omega (arith, ltb-true n 0 e))
 biased-below (negsuc n) e h = rw (le-ltb (2 ^ 47) (suc n) (omega arith)) (omega arith)

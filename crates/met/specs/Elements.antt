@@ -10,6 +10,7 @@ use lib.Dec.{ltb}
 use lib.ListN.{length, take, drop, length-append, length-drop}
 use lib.Seq.{length-take-le}
 use borrow.Author.Tests.{lt-ltb}
+use Rattle.base.specs.Current.{tableSize}
 use Rattle.base.specs.Limits as Limits
 use Rattle.calls.specs.CellLaws.{length-cellBytes}
 use Rattle.calls.specs.Splices.{splice, splice-nil, splice-behind, splice-before, splice-same-behind, splice-same-before, length-splice}
@@ -63,7 +64,7 @@ unfolding withElements
 elements-one t k l x = refl
 
 -- where all have room, literal bytes are written over what was there
-literals-rows : (t : List ℕ) (l : ℕ) (bs : List ℕ) → l + length bs ≤ Limits.literals → 28_672 ≤ length t
+literals-rows : (t : List ℕ) (l : ℕ) (bs : List ℕ) → l + length bs ≤ Limits.literals → tableSize ≤ length t
     → withLiterals t l bs ≡ splice t (literalsAt + l) bs
 unfolding withLiterals literalsAt
 literals-rows t l [] h g = sym (splice-nil t (22_592 + l))
@@ -94,7 +95,7 @@ splice-swap t a b v w h g =
 
 -- where all have rows and room, the elements' rows and their literal bytes are written over what was there
 pub elements-rows : (t : List ℕ) (k l : ℕ) (es : List PatternElement) → k + length es ≤ Limits.elements
-    → l + length (allLiterals es) ≤ Limits.literals → 28_672 ≤ length t
+    → l + length (allLiterals es) ≤ Limits.literals → tableSize ≤ length t
     → withElements t k l es ≡ splice (splice t (elementsAt + 8 * k) (elementRows l es)) (literalsAt + l) (allLiterals es)
 unfolding withElements withElement withCell elementRows allLiterals elementsAt literalsAt
 elements-rows t k l [] h m g =

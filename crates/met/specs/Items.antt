@@ -6,6 +6,7 @@ use native.Mathlib.Omega.{arith}
 use native.Mathlib.Nat.{add-zero}
 use lib.ListN.{length}
 use borrow.Author.Tests.{lt-ltb}
+use Rattle.base.specs.Current.{tableSize}
 use Rattle.base.specs.Limits as Limits
 use Rattle.calls.specs.CellLaws.{length-cellBytes}
 use Rattle.calls.specs.Splices.{splice, splice-nil, splice-behind, length-splice}
@@ -31,7 +32,7 @@ items-append t k (i ∷ is) js =
     ∙ ap (λ n. withItems (withItems (withItem t k (itemCell i)) (suc k) is) n js) (omega arith)
 
 -- where all have rows, the items' rows are written over what was there
-pub items-rows : (t : List ℕ) (k : ℕ) (is : List Item) → k + length is ≤ Limits.items → 28_672 ≤ length t
+pub items-rows : (t : List ℕ) (k : ℕ) (is : List Item) → k + length is ≤ Limits.items → tableSize ≤ length t
     → withItems t k is ≡ splice t (itemsAt + 8 * k) (itemRows is)
 unfolding withItems withItem withCell itemRows itemsAt
 items-rows t k [] h g = sym (splice-nil t (14_400 + 8 * k))

@@ -20,17 +20,19 @@ ghost use mathlib.Core.List.{[], _∷_};
 ghost use mathlib.Core.Path.{_≡_};
 ghost use Prim.Native.Nat.{_+_, _*_, _≤_, _<_};
 ghost use lib.ListN.{length, take, drop};
+ghost use Rattle.base.specs.Current.{tableSize};
 ghost use Rattle.calls.specs.Numerals.{inBytes, biased};
 ghost use Rattle.calls.specs.Splices.{splice};
 ghost use Rattle.calls.specs.Table.{cell, cellBytes};
 ghost use Rattle.convert.specs.Numbers.{InRange};
+ghost use Rattle.met.specs.Bounds.{farEnough};
 ghost use Rattle.met.specs.Cells.{withCell};
 ghost use Rattle.met.specs.Contracts.{Notable, Noted};
 ghost use Rattle.met.specs.Elements.{withElement, withLiterals};
 ghost use Rattle.met.specs.Items.{withItem};
 ghost use Rattle.met.specs.Known.{Counted, keyPlace, keysHave, stringKeys, numberKeys};
 
-// how many names fit: one for each byte of a text, and the label
+// how many names fit: one for each letter of a deck, with which a name begins, and one for the label of each of its lines
 pub const NAMES: usize = 32800;
 
 // how many numbers the array of what is known has
@@ -122,7 +124,7 @@ fn put_in(table: &mut [u8], from: usize, most: usize, k: usize, kind: u8, place:
 
 // writes item k; of those behind the last row nothing
 pub fn put_item(table: &mut [u8], k: usize, kind: u8, place: u8, value: usize)
-    requires { ⌜ 28672 ≤ length (now table) ⌝ }
+    requires { ⌜ tableSize ≤ length (now table) ⌝ }
     ensures { λ _. ⌜ now (table .exit) ≡ withItem (now (table .entry)) k (cell kind place value) ⌝ }
 {
     put_in(table, ITEMS_AT, ITEMS, k, kind, place, value);
@@ -130,7 +132,7 @@ pub fn put_item(table: &mut [u8], k: usize, kind: u8, place: u8, value: usize)
 
 // writes element k; of those behind the last row nothing
 pub fn put_element(table: &mut [u8], k: usize, kind: u8, place: u8, value: usize)
-    requires { ⌜ 28672 ≤ length (now table) ⌝ }
+    requires { ⌜ tableSize ≤ length (now table) ⌝ }
     ensures { λ _. ⌜ now (table .exit) ≡ withElement (now (table .entry)) k (cell kind place value) ⌝ }
 {
     put_in(table, ELEMENTS_AT, ELEMENTS, k, kind, place, value);
@@ -138,7 +140,7 @@ pub fn put_element(table: &mut [u8], k: usize, kind: u8, place: u8, value: usize
 
 // writes literal byte l; of those behind the last one nothing
 fn put_byte(table: &mut [u8], l: usize, byte: u8)
-    requires { ⌜ 28672 ≤ length (now table) ⌝ }
+    requires { ⌜ tableSize ≤ length (now table) ⌝ }
     ensures { λ _. ⌜ now (table .exit) ≡ withLiterals (now (table .entry)) l (byte ∷ []) ⌝ }
 {
     if l < LITERALS {
@@ -148,8 +150,8 @@ fn put_byte(table: &mut [u8], l: usize, byte: u8)
 
 // writes literal bytes from byte l on; of those behind the last one nothing
 pub fn put_literals(table: &mut [u8], l: usize, bytes: &[u8])
-    requires { ⌜ 28672 ≤ length (now table) ⌝ }
-    requires { ⌜ l + length (now bytes) < 9_000_000_000 ⌝ }
+    requires { ⌜ tableSize ≤ length (now table) ⌝ }
+    requires { ⌜ (l ≤ farEnough) × (length (now bytes) ≤ farEnough) ⌝ }
     ensures { λ _. ⌜ now (table .exit) ≡ withLiterals (now (table .entry)) l (now (bytes .entry)) ⌝ }
 {
     let mut i: usize = 0;

@@ -7,17 +7,19 @@ use Prim.Native.Nat.{ℕ, _+_, _-_, _≤_, _<_}
 use native.Mathlib.Nat.{add-zero}
 use native.Mathlib.Omega.{arith}
 use lib.ListN.{length, drop, length-append}
-use Rattle.base.specs.Edition.{edition1}
+use Rattle.base.specs.Current.{current}
 use Rattle.language.specs.Fuel.{Reader, More, expressionFrom, moreTermsFrom, termFrom, moreFactorsFrom, factorFrom}
 use Rattle.language.specs.Fuel.{expressionBy, expression-is, moreTermsBy, moreTerms-is, termBy, term-is, moreFactorsBy, moreFactors-is}
 use Rattle.language.specs.Program.{Item, Operator, operator}
 use Rattle.language.specs.Reading.{Met, nothing, anItem, give, both, Read, got, broken, _>>=_, meeting}
 use Rattle.language.specs.Words.{Places}
+use Rattle.met.specs.Bounds.{farEnough}
 use Rattle.met.specs.Entries.{gather, metIn}
 use Rattle.met.specs.EntryLaws.{met-both}
 use Rattle.met.specs.Items.{withItems, items-append}
 use Rattle.met.specs.ReadingLaws.{meeting-nothing}
 use Rattle.met.specs.declared.Cursor.{Cursor}
+use Rattle.packer.specs.Letters.{letters, letters-on}
 use Rattle.numeric.specs.Joins.{waited, Joins, WaitedRead, Joining}
 use Rattle.numeric.specs.Kinds.{SignAt, OperatorAt, SumAt, ProductAt, Puts}
 use Rattle.numeric.specs.KindLaws.{items-case, items-none}
@@ -109,7 +111,9 @@ module _ (one : Reader) (more : More) (ps before : List Item) where
                       longest = q .goes .longest ∙ on .longest ∙ a .goes .longest;
                     };
                 ready = q .ready;
-                few = omega (arith, a .few, q .few, put .at);
+                few =
+                    omega
+                    (arith, a .few, q .few, ap (λ i. letters (drop i text)) (put .at), letters-on text (c .at) (c .at + n) (omega arith));
                 short = omega (arith, a .short, q .short, put .at);
               };
         }
@@ -120,7 +124,7 @@ module _ (one : Reader) (more : More) (ps before : List Item) where
 
 -- a loop begins, where there is room for what waits
 pub joining-begins : {one : Reader} {more : More} {text table keys tags : List ℕ} {kind : ℕ} {d : Cursor} → Ready text keys tags d
-    → d .items + length (waiting kind) ≤ 4_294_967_296 + d .at → Joining one more text table keys tags kind d table keys tags kind d
+    → d .items + length (waiting kind) + length text ≤ farEnough + d .at → Joining one more text table keys tags kind d table keys tags kind d
 joining-begins ready room = record { sameSize = refl; later = omega arith; ready = ready; room = room; goes = λ r p. p }
 
 -- and behind the sign of the first term
@@ -181,7 +185,7 @@ module _ {one : Reader} {more : More} {text table₀ keys₀ tags₀ : List ℕ}
             let items = ap (λ (z : Cursor). z .items) skips in
             record {
               sameSize = same;
-              later = omega (arith, i .later, x .few, put .at, at);
+              later = omega (arith, i .later, x .short, put .at, at);
               ready = ready-on 1 ready-behind skips (omega (arith, o .further some));
               room = omega (arith, at, items, ready-behind .items, o .size some);
               goes =
@@ -195,7 +199,7 @@ module _ {one : Reader} {more : More} {text table₀ keys₀ tags₀ : List ℕ}
         joining-less =
             let x = items-case a is in
             let at = ap (λ (z : Cursor). z .at) skips in
-            omega (arith, at, x .few, put .at, o .further some)
+            omega (arith, at, x .short, put .at, o .further some)
 
 -- the operators that join forms
 operator-joins : {one : Reader} {more : More} {text : List ℕ} {at kind : ℕ} {test : Bool} {x : Read Operator}
@@ -221,27 +225,27 @@ operator-joins {one} {more} {text} {at} is s =
     }
 
 module _ (p : Places) (depth : ℕ) {text : List ℕ} {at kind : ℕ} where
-  pub sum-joins : SumAt text at kind → Joins (termFrom edition1 p depth) (moreTermsFrom edition1 p depth) text at kind
+  pub sum-joins : SumAt text at kind → Joins (termFrom current p depth) (moreTermsFrom current p depth) text at kind
   unfolding moreTermsBy
-  sum-joins = operator-joins (moreTerms-is edition1 p depth (drop at text))
+  sum-joins = operator-joins (moreTerms-is current p depth (drop at text))
 
-  pub product-joins : ProductAt text at kind → Joins (factorFrom edition1 p depth) (moreFactorsFrom edition1 p depth) text at kind
+  pub product-joins : ProductAt text at kind → Joins (factorFrom current p depth) (moreFactorsFrom current p depth) text at kind
   unfolding moreFactorsBy
-  product-joins = operator-joins (moreFactors-is edition1 p depth (drop at text))
+  product-joins = operator-joins (moreFactors-is current p depth (drop at text))
 
 -- an expression is terms joined, the first with its sign
 pub expression-joined : (p : Places) (depth : ℕ) {text table keys tags : List ℕ} (c : Cursor) {kind n : ℕ} {d : Cursor} {r : Outcome}
     {t k g : List ℕ} → SignAt text (c .at) kind → n ≡ length (waiting kind) → d ≡ moved c n
-    → WaitedRead (termFrom edition1 p depth) (moreTermsFrom edition1 p depth) text table keys tags kind d r t k g
-    → ItemsRead [] text table keys tags c (expressionFrom edition1 p depth (drop (c .at) text)) r t k g
+    → WaitedRead (termFrom current p depth) (moreTermsFrom current p depth) text table keys tags kind d r t k g
+    → ItemsRead [] text table keys tags c (expressionFrom current p depth (drop (c .at) text)) r t k g
 unfolding expressionBy _>>=_
 expression-joined p depth {text} {table} {keys} {tags} c {r = r} {t} {k} {g} s size skips w =
     subst (λ y. ItemsRead [] text table keys tags c y r t k g)
     (sym
-    (expression-is edition1 p depth (drop (c .at) text)
+    (expression-is current p depth (drop (c .at) text)
     ∙ ap
     (λ (z : Read (List Item)).
-    z >>= λ (s, rest). termFrom edition1 p depth rest >>= λ (u, rest). moreTermsFrom edition1 p depth (u ++ s) rest)
+    z >>= λ (s, rest). termFrom current p depth rest >>= λ (u, rest). moreTermsFrom current p depth (u ++ s) rest)
     (s .is)))
     (w c (skips ∙ ap (moved c) size) [])
 
@@ -273,13 +277,13 @@ moved-none c =
 
 -- a term is factors joined
 pub term-joined : (p : Places) (depth : ℕ) {text table keys tags : List ℕ} (c : Cursor) {r : Outcome} {t k g : List ℕ}
-    → WaitedRead (factorFrom edition1 p depth) (moreFactorsFrom edition1 p depth) text table keys tags 0 c r t k g
-    → ItemsRead [] text table keys tags c (termFrom edition1 p depth (drop (c .at) text)) r t k g
+    → WaitedRead (factorFrom current p depth) (moreFactorsFrom current p depth) text table keys tags 0 c r t k g
+    → ItemsRead [] text table keys tags c (termFrom current p depth (drop (c .at) text)) r t k g
 unfolding termBy waiting
 term-joined p depth {text} {table} {keys} {tags} c {r} {t} {k} {g} w =
     subst (λ y. ItemsRead [] text table keys tags c y r t k g)
     (sym
-    (term-is edition1 p depth (drop (c .at) text)
-    ∙ first-waits (moreFactorsFrom edition1 p depth) (factorFrom edition1 p depth (drop (c .at) text))
-    ∙ ap (λ j. waited (factorFrom edition1 p depth) (moreFactorsFrom edition1 p depth) [] [] (drop j text)) (sym (add-zero (c .at)))))
+    (term-is current p depth (drop (c .at) text)
+    ∙ first-waits (moreFactorsFrom current p depth) (factorFrom current p depth (drop (c .at) text))
+    ∙ ap (λ j. waited (factorFrom current p depth) (moreFactorsFrom current p depth) [] [] (drop j text)) (sym (add-zero (c .at)))))
     (w c (moved-none c) [])

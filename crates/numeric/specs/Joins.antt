@@ -7,6 +7,7 @@ use lib.ListN.{length, drop}
 use Rattle.language.specs.Fuel.{Reader, More}
 use Rattle.language.specs.Program.{Item}
 use Rattle.language.specs.Reading.{give, meeting, _>>=_}
+use Rattle.met.specs.Bounds.{farEnough}
 use Rattle.met.specs.Entries.{metIn}
 use Rattle.met.specs.declared.Cursor.{Cursor}
 use Rattle.numeric.specs.Operands.{moved, Ready}
@@ -39,6 +40,6 @@ pub record Joining (one : Reader) (more : More) (text table₀ keys₀ tags₀ :
   pub sameSize : length table ≡ length table₀
   pub later : d₀ .at ≤ d .at
   pub ready : Ready text keys tags d
-  pub room : d .items + length (waiting kind) ≤ 4_294_967_296 + d .at
+  pub room : d .items + length (waiting kind) + length text ≤ farEnough + d .at
   pub goes : (r : Outcome) {t k g : List ℕ} → WaitedRead one more text table keys tags kind d r t k g
       → WaitedRead one more text table₀ keys₀ tags₀ kind₀ d₀ r t k g

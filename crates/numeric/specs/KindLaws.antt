@@ -11,12 +11,13 @@ use lib.ListN.{length, drop}
 use lib.Seq.{drop-drop}
 use borrow.Author.Tests.{eqb-true, eqb-false}
 use Rattle.base.specs.Choice.{test-cases, cond-cases, true-behind}
-use Rattle.base.specs.Edition.{edition1}
+use Rattle.base.specs.Current.{current}
 use Rattle.base.specs.ListLaws.{begins-inside}
 use Rattle.base.specs.Lists.{begins}
 use Rattle.base.specs.Text.{bytes}
+use Rattle.calls.specs.Kinds.{operatorNumber, signNumber}
 use Rattle.calls.specs.Table as Table
-use Rattle.calls.specs.Table.{itemCell, operatorKind, signKind}
+use Rattle.calls.specs.Table.{itemCell}
 use Rattle.language.specs.Fuel.{expressionFrom, factorFrom, factorBy, factor-is}
 use Rattle.language.specs.Numeric.{deepest, plainFactor, leadingSign, sumOperator, productOperator}
 use Rattle.language.specs.Program.{Item, Operator, operator, sign, plus, minus, times, over, positive, negative}
@@ -44,42 +45,45 @@ module _ (k : ℕ) where
   one i n c e = record { item = i; is = refl; cell = c ∙ ap (λ j. Table.cell j 0 0) (sym (eqb-true k n e)) }
 
   pub waiting-one : (length (waiting k) ≡ 0 → ⊥) → One k (waiting k)
-  unfolding waiting itemCell operatorKind signKind
+  unfolding waiting itemCell
   waiting-one =
       let P : List Item → Type 0 = λ l. (length l ≡ 0 → ⊥) → One k l in
-      cond-cases P (eqb k 10) (λ e _. one (operator plus) 10 refl e) (λ _.
-      cond-cases P (eqb k 11) (λ e _. one (operator minus) 11 refl e) (λ _.
-      cond-cases P (eqb k 12) (λ e _. one (operator times) 12 refl e) (λ _.
-      cond-cases P (eqb k 13) (λ e _. one (operator over) 13 refl e) (λ _.
-      cond-cases P (eqb k 14) (λ e _. one (sign positive) 14 refl e) (λ _.
-      cond-cases P (eqb k 15) (λ e _. one (sign negative) 15 refl e) (λ _ h. absurd (h refl)))))))
+      cond-cases P (eqb k 16) (λ e _. one (operator plus) 16 refl e) (λ _.
+      cond-cases P (eqb k 17) (λ e _. one (operator minus) 17 refl e) (λ _.
+      cond-cases P (eqb k 18) (λ e _. one (operator times) 18 refl e) (λ _.
+      cond-cases P (eqb k 19) (λ e _. one (operator over) 19 refl e) (λ _.
+      cond-cases P (eqb k 24) (λ e _. one (sign positive) 24 refl e) (λ _.
+      cond-cases P (eqb k 25) (λ e _. one (sign negative) 25 refl e) (λ _ h. absurd (h refl)))))))
 
-  pub waiting-size : 10 ≤ k → k < 16 → 1 ≡ length (waiting k)
+  -- the operators, from 16 to 19, and the signs, 24 and 25, stand for an item each, and no other kind does
+  pub waiting-size : ((16 ≤ k → k ≤ 19 → ⊥) → (24 ≤ k → k ≤ 25 → ⊥) → ⊥) → 1 ≡ length (waiting k)
   unfolding waiting
-  waiting-size h g =
+  waiting-size some =
       let P : List Item → Type 0 = λ l. 1 ≡ length l in
-      cond-cases P (eqb k 10) (λ _. refl) (λ a.
-      cond-cases P (eqb k 11) (λ _. refl) (λ b.
-      cond-cases P (eqb k 12) (λ _. refl) (λ c.
-      cond-cases P (eqb k 13) (λ _. refl) (λ d.
-      cond-cases P (eqb k 14) (λ _. refl) (λ e.
-      cond-cases P (eqb k 15) (λ _. refl) (λ f.
+      cond-cases P (eqb k 16) (λ _. refl) (λ a.
+      cond-cases P (eqb k 17) (λ _. refl) (λ b.
+      cond-cases P (eqb k 18) (λ _. refl) (λ c.
+      cond-cases P (eqb k 19) (λ _. refl) (λ d.
+      cond-cases P (eqb k 24) (λ _. refl) (λ e.
+      cond-cases P (eqb k 25) (λ _. refl) (λ f.
       absurd
-      (omega
-      (arith, eqb-false k 10 a, eqb-false k 11 b, eqb-false k 12 c, eqb-false k 13 d, eqb-false k 14 e, eqb-false k 15 f))))))))
+      (some (λ h g. omega (arith, eqb-false k 16 a, eqb-false k 17 b, eqb-false k 18 c, eqb-false k 19 d))
+      (λ h g. omega (arith, eqb-false k 24 e, eqb-false k 25 f)))))))))
 
-  -- outside of 10 to 15
-  pub waiting-none : (10 ≤ k → k < 16 → ⊥) → 0 ≡ length (waiting k)
+  pub waiting-none : (16 ≤ k → k ≤ 19 → ⊥) → (24 ≤ k → k ≤ 25 → ⊥) → 0 ≡ length (waiting k)
   unfolding waiting
-  waiting-none out =
+  waiting-none operators signs =
       let P : List Item → Type 0 = λ l. 0 ≡ length l in
-      let no : (n : ℕ) → 10 ≤ n → n < 16 → eqb k n ≡ true → ⊥ = λ n h g t. out (omega (arith, eqb-true k n t)) (omega (arith, eqb-true k n t)) in
-      cond-cases P (eqb k 10) (λ t. absurd (no 10 (omega arith) (omega arith) t)) (λ _.
-      cond-cases P (eqb k 11) (λ t. absurd (no 11 (omega arith) (omega arith) t)) (λ _.
-      cond-cases P (eqb k 12) (λ t. absurd (no 12 (omega arith) (omega arith) t)) (λ _.
-      cond-cases P (eqb k 13) (λ t. absurd (no 13 (omega arith) (omega arith) t)) (λ _.
-      cond-cases P (eqb k 14) (λ t. absurd (no 14 (omega arith) (omega arith) t)) (λ _.
-      cond-cases P (eqb k 15) (λ t. absurd (no 15 (omega arith) (omega arith) t)) (λ _. refl))))))
+      let no : (n : ℕ) → 16 ≤ n → n ≤ 19 → eqb k n ≡ true → ⊥ =
+      λ n h g t. operators (omega (arith, eqb-true k n t)) (omega (arith, eqb-true k n t)) in
+      let other : (n : ℕ) → 24 ≤ n → n ≤ 25 → eqb k n ≡ true → ⊥ =
+      λ n h g t. signs (omega (arith, eqb-true k n t)) (omega (arith, eqb-true k n t)) in
+      cond-cases P (eqb k 16) (λ t. absurd (no 16 (omega arith) (omega arith) t)) (λ _.
+      cond-cases P (eqb k 17) (λ t. absurd (no 17 (omega arith) (omega arith) t)) (λ _.
+      cond-cases P (eqb k 18) (λ t. absurd (no 18 (omega arith) (omega arith) t)) (λ _.
+      cond-cases P (eqb k 19) (λ t. absurd (no 19 (omega arith) (omega arith) t)) (λ _.
+      cond-cases P (eqb k 24) (λ t. absurd (other 24 (omega arith) (omega arith) t)) (λ _.
+      cond-cases P (eqb k 25) (λ t. absurd (other 25 (omega arith) (omega arith) t)) (λ _. refl))))))
 
 -- nothing is written where nothing waits
 pub puts-none : (table : List ℕ) (c : Cursor) (l : List Item) → length l ≡ 0 → Puts table c l table c
@@ -112,7 +116,7 @@ told P w k v l text at one two none′ e =
 
 -- the signs by the mark that stands
 module _ (text : List ℕ) (at : ℕ) where
-  sign-plus : begins (43 ∷ []) (drop at text) ≡ true → SignAt text at 14
+  sign-plus : begins (43 ∷ []) (drop at text) ≡ true → SignAt text at (signNumber positive)
   unfolding leadingSign bytes waiting anItem metIn gather
   sign-plus e =
       record {
@@ -121,7 +125,7 @@ module _ (text : List ℕ) (at : ℕ) where
       }
 
   module _ (no : begins (43 ∷ []) (drop at text) ≡ false) where
-    sign-minus : begins (45 ∷ []) (drop at text) ≡ true → SignAt text at 15
+    sign-minus : begins (45 ∷ []) (drop at text) ≡ true → SignAt text at (signNumber negative)
     unfolding leadingSign bytes waiting anItem metIn gather
     sign-minus e =
         record {
@@ -137,8 +141,8 @@ module _ (text : List ℕ) (at : ℕ) where
           inside = λ h. omega arith;
         }
 
-  pub sign-told : {kind : ℕ} → kind ≡ markKind 43 14 45 15 text at → SignAt text at kind
-  sign-told = told (SignAt text at) 43 14 45 15 text at sign-plus sign-minus sign-none
+  pub sign-told : {kind : ℕ} → kind ≡ markKind 43 (signNumber positive) 45 (signNumber negative) text at → SignAt text at kind
+  sign-told = told (SignAt text at) 43 (signNumber positive) 45 (signNumber negative) text at sign-plus sign-minus sign-none
 
 -- the operator by which of two marks stands
 module _ (text : List ℕ) (at w v : ℕ) where
@@ -182,11 +186,11 @@ module _ (text : List ℕ) (at w v : ℕ) where
       }
 
 module _ (text : List ℕ) (at : ℕ) where
-  sum-plus : begins (43 ∷ []) (drop at text) ≡ true → SumAt text at 10
+  sum-plus : begins (43 ∷ []) (drop at text) ≡ true → SumAt text at (operatorNumber plus)
   unfolding sumOperator bytes waiting isSign
   sum-plus = first-mark text at 43 45 plus minus refl (λ z. omega arith)
 
-  sum-minus : begins (43 ∷ []) (drop at text) ≡ false → begins (45 ∷ []) (drop at text) ≡ true → SumAt text at 11
+  sum-minus : begins (43 ∷ []) (drop at text) ≡ false → begins (45 ∷ []) (drop at text) ≡ true → SumAt text at (operatorNumber minus)
   unfolding sumOperator bytes waiting isSign
   sum-minus = second-mark text at 43 45 plus minus refl (λ z. omega arith)
 
@@ -194,11 +198,11 @@ module _ (text : List ℕ) (at : ℕ) where
   unfolding bytes isSign
   sum-none = no-mark text at 43 45
 
-  product-times : begins (42 ∷ []) (drop at text) ≡ true → ProductAt text at 12
+  product-times : begins (42 ∷ []) (drop at text) ≡ true → ProductAt text at (operatorNumber times)
   unfolding productOperator bytes waiting
   product-times = first-mark text at 42 47 times over refl (λ z. omega arith)
 
-  product-over : begins (42 ∷ []) (drop at text) ≡ false → begins (47 ∷ []) (drop at text) ≡ true → ProductAt text at 13
+  product-over : begins (42 ∷ []) (drop at text) ≡ false → begins (47 ∷ []) (drop at text) ≡ true → ProductAt text at (operatorNumber over)
   unfolding productOperator bytes waiting
   product-over = second-mark text at 42 47 times over refl (λ z. omega arith)
 
@@ -206,11 +210,11 @@ module _ (text : List ℕ) (at : ℕ) where
   unfolding bytes
   product-none = no-mark text at 42 47
 
-  pub sum-told : {kind : ℕ} → kind ≡ markKind 43 10 45 11 text at → SumAt text at kind
-  sum-told = told (SumAt text at) 43 10 45 11 text at sum-plus sum-minus sum-none
+  pub sum-told : {kind : ℕ} → kind ≡ markKind 43 (operatorNumber plus) 45 (operatorNumber minus) text at → SumAt text at kind
+  sum-told = told (SumAt text at) 43 (operatorNumber plus) 45 (operatorNumber minus) text at sum-plus sum-minus sum-none
 
-  pub product-told : {kind : ℕ} → kind ≡ markKind 42 12 47 13 text at → ProductAt text at kind
-  product-told = told (ProductAt text at) 42 12 47 13 text at product-times product-over product-none
+  pub product-told : {kind : ℕ} → kind ≡ markKind 42 (operatorNumber times) 47 (operatorNumber over) text at → ProductAt text at kind
+  product-told = told (ProductAt text at) 42 (operatorNumber times) 47 (operatorNumber over) text at product-times product-over product-none
 
 -- the outcome by its case
 module _ {before : List Item} {text table keys tags : List ℕ} {c : Cursor} {x : Read (List Item)} {r : Outcome} {t k g : List ℕ}
@@ -231,13 +235,13 @@ items-within OutcomeCode.the-variants.Broken a = tt
 module _ (p : Places) (depth : ℕ) (c : Cursor) {text table keys tags : List ℕ} {t k g : List ℕ}
     (paren : begins (bytes "(") (drop (c .at) text) ≡ true) (shallow : ltb depth deepest ≡ true) where
   pub inside-closed : (r : Outcome)
-      → ItemsRead [] text table keys tags (moved c 1) (expressionFrom edition1 p (suc depth) (drop (c .at + 1) text)) r t k g
-      → ItemsRead [] text table keys tags c (factorFrom edition1 p depth (drop (c .at) text)) (closes text r) t k g
+      → ItemsRead [] text table keys tags (moved c 1) (expressionFrom current p (suc depth) (drop (c .at + 1) text)) r t k g
+      → ItemsRead [] text table keys tags c (factorFrom current p depth (drop (c .at) text)) (closes text r) t k g
   inside-closed (OutcomeCode.the-variants.Got d) a =
       test-cases
       (λ b.
       begins (41 ∷ []) (drop (d .at) text) ≡ b
-      → ItemsRead [] text table keys tags c (factorFrom edition1 p depth (drop (c .at) text))
+      → ItemsRead [] text table keys tags c (factorFrom current p depth (drop (c .at) text))
       (elim b [ true ↦ OutcomeCode.the-variants.Got (moved d 1) | false ↦ OutcomeCode.the-variants.Broken ]) t k g)
       (begins (41 ∷ []) (drop (d .at) text))
       (λ _ e. record { answer = inside-then p depth c paren shallow (a .answer) e })
@@ -246,7 +250,7 @@ module _ (p : Places) (depth : ℕ) (c : Cursor) {text table keys tags : List �
       record {
         answer =
             inside-broken p depth (drop (c .at) text) paren shallow
-            (ap (expressionFrom edition1 p (suc depth)) (drop-drop 1 (c .at) text) ∙ a .answer);
+            (ap (expressionFrom current p (suc depth)) (drop-drop 1 (c .at) text) ∙ a .answer);
       }
 
 module _ (text : List ℕ) {r : Outcome} {d : Cursor} (e : r ≡ OutcomeCode.the-variants.Got d) where
@@ -261,18 +265,18 @@ module _ (text : List ℕ) {r : Outcome} {d : Cursor} (e : r ≡ OutcomeCode.the
 
 -- an operand that is broken
 module _ (p : Places) (depth : ℕ) {text table keys tags : List ℕ} {c : Cursor} where
-  pub operand-broken : {t k g : List ℕ} → begins (bytes "(") (drop (c .at) text) ≡ false → plainFactor edition1 p (drop (c .at) text) ≡ broken
-      → ItemsRead [] text table keys tags c (factorFrom edition1 p depth (drop (c .at) text)) OutcomeCode.the-variants.Broken t k g
+  pub operand-broken : {t k g : List ℕ} → begins (bytes "(") (drop (c .at) text) ≡ false → plainFactor current p (drop (c .at) text) ≡ broken
+      → ItemsRead [] text table keys tags c (factorFrom current p depth (drop (c .at) text)) OutcomeCode.the-variants.Broken t k g
   unfolding factorBy
   operand-broken open′ h =
-      record { answer = factor-is edition1 p depth (drop (c .at) text) ∙ chosen _ _ open′ ∙ then-broken _ h }
+      record { answer = factor-is current p depth (drop (c .at) text) ∙ chosen _ _ open′ ∙ then-broken _ h }
 
 -- an expression one deeper, as the code counts
 pub deeper : (p : Places) (depth : ℕ) {text table keys tags : List ℕ} (c : Cursor) {b : Cursor} {r : Outcome} {t k g : List ℕ} → b ≡ moved c 1
-    → ItemsRead [] text table keys tags b (expressionFrom edition1 p (depth + 1) (drop (b .at) text)) r t k g
-    → ItemsRead [] text table keys tags (moved c 1) (expressionFrom edition1 p (suc depth) (drop (c .at + 1) text)) r t k g
+    → ItemsRead [] text table keys tags b (expressionFrom current p (depth + 1) (drop (b .at) text)) r t k g
+    → ItemsRead [] text table keys tags (moved c 1) (expressionFrom current p (suc depth) (drop (c .at + 1) text)) r t k g
 deeper p depth {text} {table} {keys} {tags} c {r = r} {t} {k} {g} e a =
     let next : depth + 1 ≡ suc depth = omega arith in
     subst
-    (λ (j : ℕ). ItemsRead [] text table keys tags (moved c 1) (expressionFrom edition1 p j (drop (c .at + 1) text)) r t k g) next
-    (subst (λ (z : Cursor). ItemsRead [] text table keys tags z (expressionFrom edition1 p (depth + 1) (drop (z .at) text)) r t k g) e a)
+    (λ (j : ℕ). ItemsRead [] text table keys tags (moved c 1) (expressionFrom current p j (drop (c .at + 1) text)) r t k g) next
+    (subst (λ (z : Cursor). ItemsRead [] text table keys tags z (expressionFrom current p (depth + 1) (drop (z .at) text)) r t k g) e a)

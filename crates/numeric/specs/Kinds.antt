@@ -19,6 +19,7 @@ use Rattle.numeric.specs.Operands.{Onward, moved}
 use Rattle.numeric.specs.Reads.{waiting, FactorRead}
 use Rattle.numeric.specs.declared.Outcome as OutcomeCode
 use Rattle.numeric.specs.declared.Outcome.{Outcome}
+use Rattle.packer.specs.Packs.{longestText}
 
 -- the kind of the mark at a place, of two that may stand there, 0 for none
 abbrev pub markKind : (first kind second other : ℕ) (text : List ℕ) (at : ℕ) → ℕ
@@ -71,7 +72,7 @@ OperandWritten text known table keys tags c r table′ keys′ tags′ =
 
 -- the cursor is inside the text
 abbrev pub Within : List ℕ → Outcome → Type 0
-Within text (OutcomeCode.the-variants.Got d) = (d .at ≤ length text) × (length text ≤ 32_768)
+Within text (OutcomeCode.the-variants.Got d) = (d .at ≤ length text) × (length text ≤ longestText)
 Within text OutcomeCode.the-variants.Broken = Unit {0}
 
 -- the cursor before `)` goes behind it

@@ -4,36 +4,39 @@ use mathlib.Core.Bool.{Bool, true, false}
 use mathlib.Core.List.{List, [], _∷_, _++_, append-nil, map, map-append}
 use mathlib.Core.Path.{_≡_, refl, sym, ap, ap₂, subst, _∙_}
 use Prim.Native.Nat.{ℕ, _+_, _-_, _/_, _≤_, _<_}
-use native.Mathlib.Nat.{add-zero}
+use native.Mathlib.Nat.{add-zero, add-assoc}
 use native.Mathlib.Omega.{arith}
 use lib.IntN.{pos}
 use lib.ListN.{length, take, drop, getD, length-append, length-map, length-drop}
 use lib.Seq.{drop-drop}
-use Rattle.base.specs.Edition.{edition1}
+use Rattle.base.specs.Current.{current}
 use Rattle.base.specs.Lists.{all, begins}
 use Rattle.base.specs.ListLaws.{begins-room}
 use Rattle.base.specs.Text.{bytes}
 use Rattle.calls.specs.Table as Table
-use Rattle.calls.specs.Table.{lengthCell, partCell, operandCell}
+use Rattle.calls.specs.Kinds.{constantKind, numberKind, lengthKind, numberOfParts}
+use Rattle.calls.specs.Table.{partCell, operandCell}
 use Rattle.cards.specs.Bytes.{isDigit}
 use Rattle.language.specs.Numeric.{calledOrNumber, plainFactor}
 use Rattle.language.specs.Program as Program
-use Rattle.language.specs.Program.{constantly, numbered, whole, first, lengthOf, numberOf}
+use Rattle.language.specs.Program.{Length, constantly, numbered, whole, first, lengthOf, numberOf}
 use Rattle.calls.specs.Splices.{splice, splice-nil, splice-behind, length-splice}
 use Rattle.language.specs.Reading.{number, string, purposeNumber, Role, naming, Met, nothing, both, Read, got, broken, _>>=_, meeting, give, skip}
 use Rattle.language.specs.Words as Words
 use Rattle.language.specs.Words.{Places, nameAs, noRole, bound, partOf, partName, numberName, stringName}
-use Rattle.met.specs.Contracts.{Noted}
+use Rattle.met.specs.Bounds.{farEnough}
+use Rattle.met.specs.Contracts.{Notable, Noted}
 use Rattle.met.specs.Entries.{Entry, entry, nameOf, roleOf, gather, metIn}
 use Rattle.met.specs.EntryLaws.{met-both, name-key, used-met, role-met, string-placed, number-placed}
 use Rattle.met.specs.Known.{stringKeys, numberKeys, keyPlace, placesIn}
 use Rattle.met.specs.ReadingLaws.{nothing-met, got-broken, skip-then, skip-broken}
 use Rattle.met.specs.declared.Cursor.{Cursor}
 use Rattle.packer.specs.Keys.{keyOf, isKeyByte}
-use Rattle.words.specs.Laws.{name-is, name-keys}
+use Rattle.packer.specs.Letters.{letters, letters-on, letters-past}
+use Rattle.words.specs.Laws.{name-first, name-is, name-keys}
 use Rattle.words.specs.Places.{NameAt}
 use Rattle.numeric.specs.Operands.{Onward, moved, Skips, Ready, Noting, Gets, StringTag, Names, NameAnswer, NameRead}
-use Rattle.numeric.specs.Operands.{PlaceAnswer, PlaceRead, CellAnswer, CellRead, meaning, placedIn, ConstantRead, Inside, closedBy}
+use Rattle.numeric.specs.Operands.{PlaceAnswer, PlaceRead, CellAnswer, CellRead, meaning, placedIn, ConstantRead, lengthCell, Inside, closedBy}
 use Rattle.numeric.specs.declared.operands.Cell.{Cell}
 use Rattle.numeric.specs.declared.operands.Name as NameCode
 use Rattle.numeric.specs.declared.operands.Name.{Name}
@@ -153,7 +156,7 @@ module _ {A C : Type 0} {f : A → C} {v : C} {text keys tags : List ℕ} {c : C
         noting = subst (λ j. Noting keys tags j (r .entries) k t) names (r .noting);
         goes = onward-then (s .goes) (r .goes) (omega arith) refl;
         ready = r .ready;
-        few = omega (arith, r .few, s .at);
+        few = omega (arith, r .few, letters-on text (b .at) (c .at) (omega (arith, s .at)));
         further = omega (arith, r .further, s .at);
       }
 
@@ -171,7 +174,7 @@ module _ {text keys tags : List ℕ} {c d : Cursor} where
       record {
         textSize = ready .textSize;
         inside = h;
-        names = omega (arith, ready .names, s .goes .names, s .at);
+        names = omega (arith, ready .names, s .goes .names, letters-on text (c .at) (d .at) (omega (arith, s .at)));
         items = omega (arith, ready .items, s .goes .items, s .at);
         elements = omega (arith, ready .elements, s .goes .elements, s .at);
         literals = omega (arith, ready .literals, s .goes .literals, s .at);
@@ -183,13 +186,13 @@ module _ {text keys tags : List ℕ} {c d : Cursor} where
   ready-on n ready e h = let s = skipped c n e in ready-at s ready (omega (arith, s .at))
 
   -- so it is at the same place of the text, by what it counts there
-  pub ready-here : Ready text keys tags c → d .at ≡ c .at → d .names ≡ c .names → d .items ≤ 4_294_967_296 + d .at
-      → d .elements ≤ 4_294_967_296 + d .at → d .literals ≤ 4_294_967_296 + d .at → Ready text keys tags d
+  pub ready-here : Ready text keys tags c → d .at ≡ c .at → d .names ≡ c .names → d .items + length text ≤ farEnough + d .at
+      → d .elements + length text ≤ farEnough + d .at → d .literals + length text ≤ farEnough + d .at → Ready text keys tags d
   ready-here ready at names items elements literals =
       record {
         textSize = ready .textSize;
         inside = omega (arith, ready .inside);
-        names = omega (arith, ready .names);
+        names = omega (arith, ready .names, ap (λ i. letters (drop i text)) at);
         items = items;
         elements = elements;
         literals = literals;
@@ -202,7 +205,17 @@ pub ready-moved : {text keys tags : List ℕ} {c d : Cursor} (w : List ℕ) → 
 ready-moved {text} {c = c} w ready m e =
     ready-on (length w) ready m (omega (arith, ready .inside, begins-room w (drop (c .at) text) e, length-drop (c .at) text))
 
--- the name at the cursor, noted
+-- there is room for the name at the cursor
+pub name-notable : {text keys tags : List ℕ} {c : Cursor} {n : ℕ} → Ready text keys tags c → NameAt text (c .at) n → 1 ≤ n → Notable keys tags c
+name-notable {text} {c = c} ready a h =
+    let first = name-first (drop (c .at) text) (omega (arith, a .is)) in
+    record {
+      keysSize = ready .keysSize;
+      tagsSize = ready .tagsSize;
+      room = omega (arith, ready .names, letters-past text (c .at) (c .at + 1) (omega arith) first);
+    }
+
+-- it is noted
 module _ {text keys tags : List ℕ} {c : Cursor} {tag : ℕ} where
   pub name-got : {n key : ℕ} {k t : List ℕ} {e d : Cursor} → Ready text keys tags c → NameAt text (c .at) n → 1 ≤ n
       → key ≡ keyOf (take n (drop (c .at) text)) → Noted keys tags c key tag k t e → Skips e n d → Names text keys tags c tag key k t d
@@ -213,6 +226,7 @@ module _ {text keys tags : List ℕ} {c : Cursor} {tag : ℕ} where
       let names : d .names ≡ c .names + 1 =
       s .goes .names ∙ add-zero (e .names) ∙ ap (λ (z : Cursor). z .names) (noted .goes) in
       let items : d .items ≡ c .items = s .goes .items ∙ add-zero (e .items) ∙ ap (λ (z : Cursor). z .items) (noted .goes) in
+      let fewer = letters-past text (c .at) (d .at) (omega arith) (name-first bs (omega (arith, a .is))) in
       record {
         bytes = take n bs;
         shown = subst (λ j. all isKeyByte (take j bs) ≡ true) (sym (a .is)) (name-keys bs);
@@ -233,13 +247,14 @@ module _ {text keys tags : List ℕ} {c : Cursor} {tag : ℕ} where
             record {
               textSize = ready .textSize;
               inside = omega (arith, a .inside, ready .inside);
-              names = omega (arith, ready .names);
+              names = omega (arith, ready .names, fewer);
               items = omega (arith, ready .items);
               elements = omega (arith, ready .elements, s .goes .elements, ap (λ (z : Cursor). z .elements) (noted .goes));
               literals = omega (arith, ready .literals, s .goes .literals, ap (λ (z : Cursor). z .literals) (noted .goes));
               keysSize = ap length (noted .keyed) ∙ length-splice keys (c .names) (key ∷ []) (omega (arith, ready)) ∙ ready .keysSize;
               tagsSize = ap length (noted .tagged) ∙ length-splice tags (c .names) (tag ∷ []) (omega (arith, ready)) ∙ ready .tagsSize;
             };
+        few = fewer;
         further = omega arith;
       }
 
@@ -264,7 +279,7 @@ module _ {text keys tags : List ℕ} {c : Cursor} {tag key : ℕ} {k t : List �
         noting = n .noting;
         goes = n .goes;
         ready = n .ready;
-        few = omega (arith, n .further);
+        few = omega (arith, n .few);
         further = n .further;
       }
 
@@ -277,7 +292,7 @@ module _ {text keys tags : List ℕ} {c : Cursor} {tag key : ℕ} {k t : List �
 
 module _ {text keys tags : List ℕ} {c : Cursor} (known : List ℕ) {key place : ℕ} {k t : List ℕ} {d : Cursor} where
   pub number-got : Names text keys tags c 3 key k t d → place ≡ keyPlace key (numberKeys known)
-      → Gets (λ j. j) place text keys tags c (numberName edition1 (placesIn known) (drop (c .at) text)) k t d
+      → Gets (λ j. j) place text keys tags c (numberName current (placesIn known) (drop (c .at) text)) k t d
   unfolding numberName purposeNumber
   number-got n e =
       name-placed (naming number []) (placesIn known .number) n
@@ -285,7 +300,7 @@ module _ {text keys tags : List ℕ} {c : Cursor} (known : List ℕ) {key place 
       (number-placed known (n .bytes) (n .shown) ∙ ap (λ j. keyPlace j (numberKeys known)) (sym (n .keyed)) ∙ sym e)
 
   pub string-got : {tag : ℕ} → StringTag tag → Names text keys tags c tag key k t d → place ≡ keyPlace key (stringKeys known)
-      → Gets (λ j. j) place text keys tags c (stringName edition1 (placesIn known) (roleOf (tag / 16)) (drop (c .at) text)) k t d
+      → Gets (λ j. j) place text keys tags c (stringName current (placesIn known) (roleOf (tag / 16)) (drop (c .at) text)) k t d
   unfolding stringName
   string-got {tag} s n e =
       name-placed (λ w. naming string (roleOf (tag / 16) w) w) (placesIn known .string) n
@@ -334,11 +349,11 @@ unfolding nameAs
 name-as-broken meets bs e = then-broken _ e
 
 module _ (p : Places) (bs : List ℕ) (e : Words.name bs ≡ broken) where
-  pub number-broken : numberName edition1 p bs ≡ broken
+  pub number-broken : numberName current p bs ≡ broken
   unfolding numberName
   number-broken = then-broken _ (name-as-broken _ bs e)
 
-  pub string-broken : (roles : List ℕ → List Role) → stringName edition1 p roles bs ≡ broken
+  pub string-broken : (roles : List ℕ → List Role) → stringName current p roles bs ≡ broken
   unfolding stringName
   string-broken roles = then-broken _ (name-as-broken _ bs e)
 
@@ -401,7 +416,7 @@ value-got f v w next {text} {keys} {tags} {c} {x} {d} ready is h g made e =
       noting = noting-none (c .names);
       goes = s .goes;
       ready = ready-at s ready (omega arith);
-      few = omega arith;
+      few = omega (arith, letters-on text (c .at) (d .at) (omega arith));
       further = omega arith;
     }
 
@@ -410,48 +425,55 @@ pub chosen : {A : Type 0} {b : Bool} {test : Bool} (x y : A) → test ≡ b
     → _≡_ {A = A} (elim test [ true ↦ x | false ↦ y ]) (elim b [ true ↦ x | false ↦ y ])
 chosen {A} x y e = ap {B = A} (λ t. elim t [ true ↦ x | false ↦ y ]) e
 
+-- the first bytes of a string as a cell with a length
+pub part-length : (kind s : ℕ) (n : Length) → partCell kind (first s n) ≡ lengthCell (kind + 1) s n
+unfolding partCell lengthCell
+part-length kind s (constantly z) = refl
+part-length kind s (numbered i) = ap (λ k. Table.cell k s i) (sym (add-assoc kind 1 1))
+
 module _ (p : Places) {text keys tags : List ℕ} {c : Cursor} where
   module _ (kind place : ℕ) where
     pub bound-constant : {r : Operand} → isDigit (getD (drop (c .at) text) 0 0) ≡ true → ConstantRead text keys tags c kind place r
-        → CellRead (lengthCell kind place) text keys tags c (bound edition1 p (drop (c .at) text)) r keys tags
+        → CellRead (lengthCell kind place) text keys tags c (bound current p (drop (c .at) text)) r keys tags
     unfolding bound lengthCell
     bound-constant {r} e a =
         cell-same (chosen _ _ e) (cell-made (λ v. constantly (pos v)) (lengthCell kind place) r (λ _. refl) a)
 
     pub bound-number : {n : ℕ} {k t : List ℕ} {d : Cursor} → isDigit (getD (drop (c .at) text) 0 0) ≡ false
-        → Gets (λ j. j) n text keys tags c (numberName edition1 p (drop (c .at) text)) k t d
-        → Gets (lengthCell kind place) (Table.cell (kind + 1) place n) text keys tags c (bound edition1 p (drop (c .at) text)) k t d
+        → Gets (λ j. j) n text keys tags c (numberName current p (drop (c .at) text)) k t d
+        → Gets (lengthCell kind place) (Table.cell (kind + 1) place n) text keys tags c (bound current p (drop (c .at) text)) k t d
     unfolding bound lengthCell
     bound-number {n} {k} {t} {d} e a =
         subst (λ y. Gets (lengthCell kind place) (Table.cell (kind + 1) place n) text keys tags c y k t d) (sym (chosen _ _ e))
         (gets-give _ (lengthCell kind place) _ (numbered (a .value)) a refl (ap (Table.cell (kind + 1) place) (a .made)))
 
   -- a name or substring
-  module _ (shift : ℕ) (roles : List ℕ → List Role) {s : ℕ} {k t : List ℕ} {d : Cursor}
-      (a : Gets (λ j. j) s text keys tags c (stringName edition1 p roles (drop (c .at) text)) k t d) where
+  module _ (kind : ℕ) (roles : List ℕ → List Role) {s : ℕ} {k t : List ℕ} {d : Cursor}
+      (a : Gets (λ j. j) s text keys tags c (stringName current p roles (drop (c .at) text)) k t d) where
     pub part-whole : begins (36 ∷ []) (drop (d .at) text) ≡ false
-        → Gets (partCell shift) (Table.cell (shift + 1) s 0) text keys tags c (partName edition1 p roles (drop (c .at) text)) k t d
+        → Gets (partCell kind) (Table.cell kind s 0) text keys tags c (partName current p roles (drop (c .at) text)) k t d
     unfolding partName partOf partCell bytes
     part-whole e =
-        gets-give (λ (s, rest). partOf edition1 p s rest) (partCell shift) _ (whole (a .value)) a (chosen _ _ e)
-        (ap (λ j. Table.cell (shift + 1) j 0) (a .made))
+        gets-give (λ (s, rest). partOf current p s rest) (partCell kind) _ (whole (a .value)) a (chosen _ _ e)
+        (ap (λ j. Table.cell kind j 0) (a .made))
 
     pub part-first : Ready text keys tags c → begins (36 ∷ []) (drop (d .at) text) ≡ true → (r : Operand) {b : Cursor} {k′ t′ : List ℕ}
-        → b ≡ moved d 1 → CellRead (lengthCell (shift + 2) s) text k t b (bound edition1 p (drop (b .at) text)) r k′ t′
-        → CellRead (partCell shift) text keys tags c (partName edition1 p roles (drop (c .at) text)) r k′ t′
+        → b ≡ moved d 1 → CellRead (lengthCell (kind + 1) s) text k t b (bound current p (drop (b .at) text)) r k′ t′
+        → CellRead (partCell kind) text keys tags c (partName current p roles (drop (c .at) text)) r k′ t′
     unfolding partName partOf partCell bytes
     part-first ready e r m b =
-        let lengths : List ℕ → Read Program.Part = λ l. bound edition1 p l >>= λ (n, rest). give (first (a .value) n) rest in
-        cell-then a (λ (s, rest). partOf edition1 p s rest) (partCell shift) r ready
+        let lengths : List ℕ → Read Program.Part = λ l. bound current p l >>= λ (n, rest). give (first (a .value) n) rest in
+        cell-then a (λ (s, rest). partOf current p s rest) (partCell kind) r ready
         (cell-same (chosen _ _ e ∙ ap lengths (sym (drop-moved text d 1 m)))
-        (cell-made (first (a .value)) (partCell shift) r (λ n. ap (λ j. lengthCell (shift + 2) j n) (a .made)) (cell-skip 1 r (skipped d 1 m) b)))
+        (cell-made (first (a .value)) (partCell kind) r
+        (λ n. part-length kind (a .value) n ∙ ap (λ j. lengthCell (kind + 1) j n) (a .made)) (cell-skip 1 r (skipped d 1 m) b)))
 
 module _ (p : Places) (bs : List ℕ) where
-  pub bound-broken : isDigit (getD bs 0 0) ≡ false → numberName edition1 p bs ≡ broken → bound edition1 p bs ≡ broken
+  pub bound-broken : isDigit (getD bs 0 0) ≡ false → numberName current p bs ≡ broken → bound current p bs ≡ broken
   unfolding bound
   bound-broken e h = chosen _ _ e ∙ then-broken _ h
 
-  pub part-broken : (roles : List ℕ → List Role) → stringName edition1 p roles bs ≡ broken → partName edition1 p roles bs ≡ broken
+  pub part-broken : (roles : List ℕ → List Role) → stringName current p roles bs ≡ broken → partName current p roles bs ≡ broken
   unfolding partName
   part-broken roles h = then-broken _ h
 
@@ -475,7 +497,7 @@ module _ {A B C : Type 0} {f : A → C} {v : C} (g : A → B) {text keys tags : 
         noting = r .noting;
         goes = onward-moved 1 (r .goes);
         ready = ready-moved (41 ∷ []) (r .ready) refl e;
-        few = omega (arith, r .few);
+        few = omega (arith, r .few, letters-on text (d .at) (d .at + 1) (omega arith));
         further = omega (arith, r .further);
       }
 
@@ -513,41 +535,43 @@ role-none = refl
 -- LENGTH, NUMBER, a number; constants
 module _ (p : Places) {text keys tags : List ℕ} {c : Cursor} {k t : List ℕ} where
   pub called-length : {d : Cursor} → d ≡ moved c 7 → begins (bytes "LENGTH(") (drop (c .at) text) ≡ true → (q : Place)
-      → PlaceRead text keys tags d (stringName edition1 p (roleOf 0) (drop (d .at) text)) q k t
-      → CellRead operandCell text keys tags c (calledOrNumber edition1 p (drop (c .at) text)) (closedBy text (placedIn 6 0 q)) k t
+      → PlaceRead text keys tags d (stringName current p (roleOf 0) (drop (d .at) text)) q k t
+      → CellRead operandCell text keys tags c (calledOrNumber current p (drop (c .at) text)) (closedBy text (placedIn (lengthKind .number) 0 q)) k t
   unfolding calledOrNumber operandCell roleOf noRole
   called-length s e q a =
       let closes : List ℕ → Read Program.Operand =
-      λ l. stringName edition1 p noRole l >>= λ (s, rest). skip (bytes ")") rest >>= λ (_, rest). give (lengthOf s) rest in
+      λ l. stringName current p noRole l >>= λ (s, rest). skip (bytes ")") rest >>= λ (_, rest). give (lengthOf s) rest in
+      let cell = placedIn (lengthKind .number) 0 q in
       cell-same (chosen _ _ e ∙ ap closes (sym (drop-moved text c 7 s)))
-      (closed-cell lengthOf operandCell (λ _. refl) (placedIn 6 0 q) (cell-skip 7 (placedIn 6 0 q) (skipped c 7 s) (place-cell 6 0 q a)))
+      (closed-cell lengthOf operandCell (λ _. refl) cell (cell-skip 7 cell (skipped c 7 s) (place-cell (lengthKind .number) 0 q a)))
 
   pub called-number : {d : Cursor} → d ≡ moved c 7 → begins (bytes "LENGTH(") (drop (c .at) text) ≡ false
       → begins (bytes "NUMBER(") (drop (c .at) text) ≡ true → (q : Operand)
-      → CellRead (partCell 6) text keys tags d (partName edition1 p (roleOf 0) (drop (d .at) text)) q k t
-      → CellRead operandCell text keys tags c (calledOrNumber edition1 p (drop (c .at) text)) (closedBy text q) k t
-  unfolding calledOrNumber operandCell roleOf noRole
+      → CellRead (partCell numberOfParts) text keys tags d (partName current p (roleOf 0) (drop (d .at) text)) q k t
+      → CellRead operandCell text keys tags c (calledOrNumber current p (drop (c .at) text)) (closedBy text q) k t
+  unfolding calledOrNumber operandCell partCell roleOf noRole
   called-number s e₁ e q a =
       let closes : List ℕ → Read Program.Operand =
-      λ l. partName edition1 p noRole l >>= λ (s, rest). skip (bytes ")") rest >>= λ (_, rest). give (numberOf s) rest in
+      λ l. partName current p noRole l >>= λ (s, rest). skip (bytes ")") rest >>= λ (_, rest). give (numberOf s) rest in
       cell-same (chosen _ _ e₁ ∙ chosen _ _ e ∙ ap closes (sym (drop-moved text c 7 s)))
       (closed-cell numberOf operandCell (λ _. refl) q (cell-skip 7 q (skipped c 7 s) a))
 
   pub called-plain : begins (bytes "LENGTH(") (drop (c .at) text) ≡ false → begins (bytes "NUMBER(") (drop (c .at) text) ≡ false → (q : Place)
-      → PlaceRead text keys tags c (numberName edition1 p (drop (c .at) text)) q k t
-      → CellRead operandCell text keys tags c (calledOrNumber edition1 p (drop (c .at) text)) (placedIn 5 0 q) k t
+      → PlaceRead text keys tags c (numberName current p (drop (c .at) text)) q k t
+      → CellRead operandCell text keys tags c (calledOrNumber current p (drop (c .at) text)) (placedIn (numberKind .number) 0 q) k t
   unfolding calledOrNumber operandCell
   called-plain e₁ e₂ q a =
-      cell-same (chosen _ _ e₁ ∙ chosen _ _ e₂) (cell-made Program.number operandCell (placedIn 5 0 q) (λ _. refl) (place-cell 5 0 q a))
+      cell-same (chosen _ _ e₁ ∙ chosen _ _ e₂)
+      (cell-made Program.number operandCell (placedIn (numberKind .number) 0 q) (λ _. refl) (place-cell (numberKind .number) 0 q a))
 
   pub plain-called : {r : Operand} → isDigit (getD (drop (c .at) text) 0 0) ≡ false
-      → CellRead operandCell text keys tags c (calledOrNumber edition1 p (drop (c .at) text)) r k t
-      → CellRead operandCell text keys tags c (plainFactor edition1 p (drop (c .at) text)) r k t
+      → CellRead operandCell text keys tags c (calledOrNumber current p (drop (c .at) text)) r k t
+      → CellRead operandCell text keys tags c (plainFactor current p (drop (c .at) text)) r k t
   unfolding plainFactor
   plain-called e a = cell-same (chosen _ _ e) a
 
 module _ (p : Places) {text keys tags : List ℕ} {c : Cursor} where
-  pub plain-constant : {r : Operand} → isDigit (getD (drop (c .at) text) 0 0) ≡ true → ConstantRead text keys tags c 4 0 r
-      → CellRead operandCell text keys tags c (plainFactor edition1 p (drop (c .at) text)) r keys tags
+  pub plain-constant : {r : Operand} → isDigit (getD (drop (c .at) text) 0 0) ≡ true → ConstantRead text keys tags c (constantKind .number) 0 r
+      → CellRead operandCell text keys tags c (plainFactor current p (drop (c .at) text)) r keys tags
   unfolding plainFactor operandCell
   plain-constant {r} e a = cell-same (chosen _ _ e) (cell-made (λ v. Program.constant (pos v)) operandCell r (λ _. refl) a)

@@ -5,21 +5,24 @@ use mathlib.Core.Path.{_≡_}
 use Prim.Native.Nat.{ℕ, _+_, _/_, _%_, _≤_, _<_}
 use lib.IntN.{pos}
 use lib.ListN.{length, drop}
-use Rattle.base.specs.Edition.{edition1}
+use Rattle.base.specs.Current.{current}
 use Rattle.base.specs.Lists.{all, begins}
 use Rattle.calls.specs.Numerals.{biased}
 use Rattle.calls.specs.Splices.{splice}
 use Rattle.calls.specs.Table as Table
-use Rattle.calls.specs.Table.{lengthCell, partCell, operandCell}
+use Rattle.calls.specs.Table.{partCell, operandCell}
 use Rattle.language.specs.Numeric.{calledOrNumber, plainFactor}
+use Rattle.language.specs.Program.{Length, constantly, numbered}
 use Rattle.language.specs.Reading.{Read, got, broken, give}
 use Rattle.language.specs.Words as Words
 use Rattle.language.specs.Words.{unsigned, numberName, stringName, bound, partName}
+use Rattle.met.specs.Bounds.{farEnough}
 use Rattle.met.specs.Contracts.{namesRoom}
 use Rattle.met.specs.Entries.{Entry, entry, roleOf, metIn}
 use Rattle.met.specs.Known.{placesIn}
 use Rattle.met.specs.declared.Cursor.{Cursor}
 use Rattle.packer.specs.Keys.{keyOf, isKeyByte}
+use Rattle.packer.specs.Letters.{letters}
 use Rattle.numeric.specs.declared.operands.Cell.{Cell}
 use Rattle.numeric.specs.declared.operands.Name as NameCode
 use Rattle.numeric.specs.declared.operands.Name.{Name}
@@ -27,6 +30,7 @@ use Rattle.numeric.specs.declared.operands.Operand as OperandCode
 use Rattle.numeric.specs.declared.operands.Operand.{Operand}
 use Rattle.numeric.specs.declared.operands.Place as PlaceCode
 use Rattle.numeric.specs.declared.operands.Place.{Place}
+use Rattle.packer.specs.Packs.{longestText}
 
 -- a cursor d behind c by so many names and items
 pub record Onward (c : Cursor) (n i : ℕ) (d : Cursor) : Type 0 where
@@ -53,14 +57,14 @@ pub record Skips (c : Cursor) (n : ℕ) (d : Cursor) : Type 0 where
   pub at : d .at ≡ c .at + n
   pub goes : Onward c 0 0 d
 
--- the arrays have their sizes, and the cursor has met no more than the bytes behind it allow
+-- the arrays have their sizes, with room for a name for each letter left; the cursor has met no more than the bytes behind it allow
 pub record Ready (text keys tags : List ℕ) (c : Cursor) : Type 0 where
-  pub textSize : length text ≤ 32_768
+  pub textSize : length text ≤ longestText
   pub inside : c .at ≤ length text
-  pub names : c .names ≤ c .at + 1
-  pub items : c .items ≤ 4_294_967_296 + c .at
-  pub elements : c .elements ≤ 4_294_967_296 + c .at
-  pub literals : c .literals ≤ 4_294_967_296 + c .at
+  pub names : c .names + letters (drop (c .at) text) ≤ namesRoom
+  pub items : c .items + length text ≤ farEnough + c .at
+  pub elements : c .elements + length text ≤ farEnough + c .at
+  pub literals : c .literals + length text ≤ farEnough + c .at
   pub keysSize : length keys ≡ namesRoom
   pub tagsSize : length tags ≡ namesRoom
 
@@ -79,7 +83,7 @@ pub record Gets {A C : Type 0} (f : A → C) (v : C) (text keys tags : List ℕ)
   pub noting : Noting keys tags (c .names) entries keys′ tags′
   pub goes : Onward c (length entries) 0 d
   pub ready : Ready text keys′ tags′ d
-  pub few : length entries + c .at ≤ d .at
+  pub few : length entries + letters (drop (d .at) text) ≤ letters (drop (c .at) text)
   pub further : c .at < d .at
 
 -- the tag of a string that is used: 4, and 16 times the number of its role in a SCAN
@@ -95,6 +99,7 @@ pub record Names (text keys tags : List ℕ) (c : Cursor) (tag key : ℕ) (keys�
   pub noting : Noting keys tags (c .names) (entry key tag ∷ []) keys′ tags′
   pub goes : Onward c 1 0 d
   pub ready : Ready text keys′ tags′ d
+  pub few : letters (drop (d .at) text) < letters (drop (c .at) text)
   pub further : c .at < d .at
 
 abbrev pub NameAnswer : (text keys tags : List ℕ) (c : Cursor) (tag : ℕ) → Name → (keys′ tags′ : List ℕ) → Type 0
@@ -126,29 +131,34 @@ pub record CellRead {A : Type 0} (f : A → Table.Cell) (text keys tags : List �
 
 -- each reader of document 01 at the cursor
 abbrev pub NumberRead : (text known keys tags : List ℕ) (c : Cursor) → Place → (keys′ tags′ : List ℕ) → Type 0
-NumberRead text known keys tags c = PlaceRead text keys tags c (numberName edition1 (placesIn known) (drop (c .at) text))
+NumberRead text known keys tags c = PlaceRead text keys tags c (numberName current (placesIn known) (drop (c .at) text))
 
 abbrev pub StringRead : (text known keys tags : List ℕ) (c : Cursor) (tag : ℕ) → Place → (keys′ tags′ : List ℕ) → Type 0
 StringRead text known keys tags c tag =
-    PlaceRead text keys tags c (stringName edition1 (placesIn known) (roleOf (tag / 16)) (drop (c .at) text))
+    PlaceRead text keys tags c (stringName current (placesIn known) (roleOf (tag / 16)) (drop (c .at) text))
 
 abbrev pub ConstantRead : (text keys tags : List ℕ) (c : Cursor) (kind place : ℕ) → Operand → Type 0
 ConstantRead text keys tags c kind place r =
-    CellRead (λ v. Table.cell kind place (biased (pos v))) text keys tags c (unsigned edition1 (drop (c .at) text)) r keys tags
+    CellRead (λ v. Table.cell kind place (biased (pos v))) text keys tags c (unsigned current (drop (c .at) text)) r keys tags
+
+-- a cell with a length: of a kind with the constant, or of the next one with the place of the number
+unfoldable pub lengthCell : (kind place : ℕ) → Length → Table.Cell
+lengthCell kind place (constantly z) = Table.cell kind place (biased z)
+lengthCell kind place (numbered n) = Table.cell (kind + 1) place n
 
 abbrev pub BoundRead : (text known keys tags : List ℕ) (c : Cursor) (kind place : ℕ) → Operand → (keys′ tags′ : List ℕ) → Type 0
 BoundRead text known keys tags c kind place =
-    CellRead (lengthCell kind place) text keys tags c (bound edition1 (placesIn known) (drop (c .at) text))
+    CellRead (lengthCell kind place) text keys tags c (bound current (placesIn known) (drop (c .at) text))
 
-abbrev pub PartRead : (text known keys tags : List ℕ) (c : Cursor) (shift tag : ℕ) → Operand → (keys′ tags′ : List ℕ) → Type 0
-PartRead text known keys tags c shift tag =
-    CellRead (partCell shift) text keys tags c (partName edition1 (placesIn known) (roleOf (tag / 16)) (drop (c .at) text))
+abbrev pub PartRead : (text known keys tags : List ℕ) (c : Cursor) (kind tag : ℕ) → Operand → (keys′ tags′ : List ℕ) → Type 0
+PartRead text known keys tags c kind tag =
+    CellRead (partCell kind) text keys tags c (partName current (placesIn known) (roleOf (tag / 16)) (drop (c .at) text))
 
 abbrev pub CalledRead : (text known keys tags : List ℕ) (c : Cursor) → Operand → (keys′ tags′ : List ℕ) → Type 0
-CalledRead text known keys tags c = CellRead operandCell text keys tags c (calledOrNumber edition1 (placesIn known) (drop (c .at) text))
+CalledRead text known keys tags c = CellRead operandCell text keys tags c (calledOrNumber current (placesIn known) (drop (c .at) text))
 
 abbrev pub PlainRead : (text known keys tags : List ℕ) (c : Cursor) → Operand → (keys′ tags′ : List ℕ) → Type 0
-PlainRead text known keys tags c = CellRead operandCell text keys tags c (plainFactor edition1 (placesIn known) (drop (c .at) text))
+PlainRead text known keys tags c = CellRead operandCell text keys tags c (plainFactor current (placesIn known) (drop (c .at) text))
 
 -- a place in a cell of a kind and a value
 abbrev pub placedIn : (kind value : ℕ) → Place → Operand
@@ -158,7 +168,7 @@ placedIn kind value PlaceCode.the-variants.Broken = OperandCode.the-variants.Bro
 
 -- the cursor of an operand is inside the text
 abbrev pub Inside : List ℕ → Operand → Type 0
-Inside text (OperandCode.the-variants.Got v d) = (d .at ≤ length text) × (length text ≤ 32_768)
+Inside text (OperandCode.the-variants.Got v d) = (d .at ≤ length text) × (length text ≤ longestText)
 Inside text OperandCode.the-variants.Broken = Unit {0}
 
 -- the operand before `)`, its cursor behind it

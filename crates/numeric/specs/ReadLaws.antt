@@ -9,7 +9,7 @@ use native.Mathlib.Omega.{arith}
 use lib.Dec.{ltb}
 use lib.ListN.{length, drop}
 use lib.Seq.{drop-drop}
-use Rattle.base.specs.Edition.{edition1}
+use Rattle.base.specs.Current.{current}
 use Rattle.base.specs.Lists.{begins}
 use Rattle.base.specs.Text.{bytes}
 use Rattle.calls.specs.Table as Table
@@ -24,6 +24,7 @@ use Rattle.met.specs.EntryLaws.{met-more}
 use Rattle.met.specs.Items.{withItem, withItems}
 use Rattle.met.specs.ReadingLaws.{skip-then, skip-broken}
 use Rattle.met.specs.declared.Cursor.{Cursor}
+use Rattle.packer.specs.Letters.{letters, letters-on}
 use Rattle.numeric.specs.OperandLaws.{onward-moved, onward-then, skipped, ready-here, ready-moved, then-broken, chosen, met-nothing}
 use Rattle.numeric.specs.Kinds.{PutsCell}
 use Rattle.numeric.specs.Operands.{moved, Ready, Gets, meaning}
@@ -34,10 +35,10 @@ use Rattle.numeric.specs.declared.Outcome as OutcomeCode
 -- an operand is one item
 pub operand-written : (p : Places) (depth : ℕ) {text table keys tags : List ℕ} {c : Cursor} (v : Cell) {k g : List ℕ} {d : Cursor}
     → Ready text keys tags c → begins (bytes "(") (drop (c .at) text) ≡ false
-    → Gets operandCell (meaning v) text keys tags c (plainFactor edition1 p (drop (c .at) text)) k g d → {t : List ℕ} {e : Cursor}
+    → Gets operandCell (meaning v) text keys tags c (plainFactor current p (drop (c .at) text)) k g d → {t : List ℕ} {e : Cursor}
     → PutsCell table d (meaning v) t e
-    → ItemsRead [] text table keys tags c (factorFrom edition1 p depth (drop (c .at) text)) (OutcomeCode.the-variants.Got e) t k g
-unfolding factorBy _>>=_ meeting withItems itemCell anItem metIn gather
+    → ItemsRead [] text table keys tags c (factorFrom current p depth (drop (c .at) text)) (OutcomeCode.the-variants.Got e) t k g
+unfolding factorBy _>>=_ meeting withItems itemCell operandCell anItem metIn gather
 operand-written p depth {text} {table} {c = c} v {d = d} ready open′ a {t} {e} put =
     let on = put .goes in
     record {
@@ -46,7 +47,7 @@ operand-written p depth {text} {table} {c = c} v {d = d} ready open′ a {t} {e}
             items = operand (a .value) ∷ [];
             entries = a .entries;
             is =
-                factor-is edition1 p depth (drop (c .at) text)
+                factor-is current p depth (drop (c .at) text)
                 ∙ chosen _ _ open′
                 ∙ ap (λ (z : Read Operand). z >>= λ (x, rest). got (operand x ∷ []) anItem rest) (a .is)
                 ∙ ap (λ (m : Met). got (operand (a .value) ∷ []) m (drop (d .at) text)) (met-more (a .entries) 0 1 [] [] 0 0)
@@ -60,45 +61,45 @@ operand-written p depth {text} {table} {c = c} v {d = d} ready open′ a {t} {e}
             ready =
                 ready-here (a .ready) (put .at) (omega (arith, on)) (omega (arith, ready, on, a .goes, a .further, put .at))
                 (omega (arith, a .ready, on, put .at)) (omega (arith, a .ready, on, put .at));
-            few = omega (arith, a .few, put .at);
+            few = omega (arith, a .few, ap (λ i. letters (drop i text)) (put .at));
             short = omega (arith, a .further, put .at);
           };
     }
 
 -- an expression in parentheses
 module _ (p : Places) (depth : ℕ) (bs : List ℕ) (paren : begins (bytes "(") bs ≡ true) where
-  pub too-deep : ltb depth deepest ≡ false → factorFrom edition1 p depth bs ≡ broken
+  pub too-deep : ltb depth deepest ≡ false → factorFrom current p depth bs ≡ broken
   unfolding factorBy
-  too-deep e = factor-is edition1 p depth bs ∙ chosen _ _ paren ∙ chosen _ _ e
+  too-deep e = factor-is current p depth bs ∙ chosen _ _ paren ∙ chosen _ _ e
 
   inside : ltb depth deepest ≡ true
-      → factorFrom edition1 p depth bs
-      ≡ (expressionFrom edition1 p (suc depth) (drop 1 bs) >>= λ (x, rest). skip (bytes ")") rest >>= λ (_, rest). give x rest)
+      → factorFrom current p depth bs
+      ≡ (expressionFrom current p (suc depth) (drop 1 bs) >>= λ (x, rest). skip (bytes ")") rest >>= λ (_, rest). give x rest)
   unfolding factorBy
-  inside e = factor-is edition1 p depth bs ∙ chosen _ _ paren ∙ chosen _ _ e
+  inside e = factor-is current p depth bs ∙ chosen _ _ paren ∙ chosen _ _ e
 
-  pub inside-broken : ltb depth deepest ≡ true → expressionFrom edition1 p (suc depth) (drop 1 bs) ≡ broken
-      → factorFrom edition1 p depth bs ≡ broken
+  pub inside-broken : ltb depth deepest ≡ true → expressionFrom current p (suc depth) (drop 1 bs) ≡ broken
+      → factorFrom current p depth bs ≡ broken
   inside-broken e h = inside e ∙ then-broken _ h
 
 module _ (p : Places) (depth : ℕ) (c : Cursor) {text table keys tags : List ℕ} {t k g : List ℕ} {d : Cursor}
     (paren : begins (bytes "(") (drop (c .at) text) ≡ true) (shallow : ltb depth deepest ≡ true)
-    (a : GetsItems [] text table keys tags (moved c 1) (expressionFrom edition1 p (suc depth) (drop (c .at + 1) text)) t k g d) where
+    (a : GetsItems [] text table keys tags (moved c 1) (expressionFrom current p (suc depth) (drop (c .at + 1) text)) t k g d) where
   closing : (r : Read (List Item))
       → (skip (bytes ")") (drop (d .at) text) >>= λ (_, rest). give (a .items) rest) ≡ r
-      → factorFrom edition1 p depth (drop (c .at) text) ≡ meeting (metIn (a .entries) (length (a .items)) [] 0) r
+      → factorFrom current p depth (drop (c .at) text) ≡ meeting (metIn (a .entries) (length (a .items)) [] 0) r
   unfolding _>>=_ meeting
   closing r e =
       inside p depth (drop (c .at) text) paren shallow
       ∙ ap
       (λ (l : List ℕ).
-      expressionFrom edition1 p (suc depth) l >>= λ (x, rest). skip (bytes ")") rest >>= λ (_, rest). give x rest)
+      expressionFrom current p (suc depth) l >>= λ (x, rest). skip (bytes ")") rest >>= λ (_, rest). give x rest)
       (drop-drop 1 (c .at) text)
       ∙ ap (λ (z : Read (List Item)). z >>= λ (x, rest). skip (bytes ")") rest >>= λ (_, rest). give x rest) (a .is)
       ∙ ap (meeting (metIn (a .entries) (length (a .items)) [] 0)) e
 
   pub inside-then : begins (41 ∷ []) (drop (d .at) text) ≡ true
-      → GetsItems [] text table keys tags c (factorFrom edition1 p depth (drop (c .at) text)) t k g (moved d 1)
+      → GetsItems [] text table keys tags c (factorFrom current p depth (drop (c .at) text)) t k g (moved d 1)
   unfolding bytes meeting give
   inside-then e =
       record {
@@ -112,10 +113,10 @@ module _ (p : Places) (depth : ℕ) (c : Cursor) {text table keys tags : List �
         noting = a .noting;
         goes = onward-then (skipped c 1 refl .goes) (onward-moved 1 (a .goes)) (omega arith) (omega arith);
         ready = ready-moved (41 ∷ []) (a .ready) refl e;
-        few = omega (arith, a .few);
+        few = omega (arith, a .few, letters-on text (c .at) (c .at + 1) (omega arith), letters-on text (d .at) (d .at + 1) (omega arith));
         short = omega (arith, a .short);
       }
 
-  pub inside-open : begins (41 ∷ []) (drop (d .at) text) ≡ false → factorFrom edition1 p depth (drop (c .at) text) ≡ broken
+  pub inside-open : begins (41 ∷ []) (drop (d .at) text) ≡ false → factorFrom current p depth (drop (c .at) text) ≡ broken
   unfolding bytes meeting
   inside-open e = closing broken (skip-broken (41 ∷ []) (drop (d .at) text) (λ (_, rest). give (a .items) rest) e)

@@ -6,7 +6,8 @@ use mathlib.Core.Path.{_≡_}
 use Prim.Native.Nat.{ℕ, _+_, _≤_}
 use lib.Dec.{eqb}
 use lib.ListN.{length, drop}
-use Rattle.base.specs.Edition.{edition1}
+use Rattle.base.specs.Current.{current}
+use Rattle.calls.specs.Kinds.{operatorNumber, signNumber}
 use Rattle.language.specs.Fuel.{expressionFrom, termFrom, factorFrom}
 use Rattle.language.specs.Program.{Item, operator, sign, plus, minus, times, over, positive, negative}
 use Rattle.language.specs.Reading.{Read, got, broken}
@@ -14,6 +15,7 @@ use Rattle.met.specs.Entries.{Entry, metIn}
 use Rattle.met.specs.Items.{withItems}
 use Rattle.met.specs.Known.{placesIn}
 use Rattle.met.specs.declared.Cursor.{Cursor}
+use Rattle.packer.specs.Letters.{letters}
 use Rattle.numeric.specs.Operands.{Onward, Ready, Noting}
 use Rattle.numeric.specs.declared.Outcome as OutcomeCode
 use Rattle.numeric.specs.declared.Outcome.{Outcome}
@@ -28,7 +30,7 @@ pub record GetsItems (before : List Item) (text table keys tags : List ℕ) (c :
   pub noting : Noting keys tags (c .names) entries keys′ tags′
   pub goes : Onward c (length entries) (length items) d
   pub ready : Ready text keys′ tags′ d
-  pub few : length entries + c .at ≤ d .at
+  pub few : length entries + letters (drop (d .at) text) ≤ letters (drop (c .at) text)
   pub short : length items + c .at ≤ d .at
 
 abbrev pub ItemsAnswer : (before : List Item) (text table keys tags : List ℕ) (c : Cursor) → Read (List Item) → Outcome
@@ -44,22 +46,23 @@ pub record ItemsRead (before : List Item) (text table keys tags : List ℕ) (c :
 
 -- the items that a kind stands for, none for 0
 unfoldable pub waiting : ℕ → List Item
+unfolding operatorNumber signNumber
 waiting kind =
-    cond (eqb kind 10) (operator plus ∷ [])
-    (cond (eqb kind 11) (operator minus ∷ [])
-    (cond (eqb kind 12) (operator times ∷ [])
-    (cond (eqb kind 13) (operator over ∷ [])
-    (cond (eqb kind 14) (sign positive ∷ []) (cond (eqb kind 15) (sign negative ∷ []) [])))))
+    cond (eqb kind (operatorNumber plus)) (operator plus ∷ [])
+    (cond (eqb kind (operatorNumber minus)) (operator minus ∷ [])
+    (cond (eqb kind (operatorNumber times)) (operator times ∷ [])
+    (cond (eqb kind (operatorNumber over)) (operator over ∷ [])
+    (cond (eqb kind (signNumber positive)) (sign positive ∷ []) (cond (eqb kind (signNumber negative)) (sign negative ∷ []) [])))))
 
 -- each reader of document 01 at the cursor
 abbrev pub ExpressionRead : (text known table keys tags : List ℕ) (c : Cursor) (depth : ℕ) → Outcome → (table′ keys′ tags′ : List ℕ) → Type 0
 ExpressionRead text known table keys tags c depth =
-    ItemsRead [] text table keys tags c (expressionFrom edition1 (placesIn known) depth (drop (c .at) text))
+    ItemsRead [] text table keys tags c (expressionFrom current (placesIn known) depth (drop (c .at) text))
 
 abbrev pub TermRead : (text known table keys tags : List ℕ) (c : Cursor) (depth : ℕ) → Outcome → (table′ keys′ tags′ : List ℕ) → Type 0
 TermRead text known table keys tags c depth =
-    ItemsRead [] text table keys tags c (termFrom edition1 (placesIn known) depth (drop (c .at) text))
+    ItemsRead [] text table keys tags c (termFrom current (placesIn known) depth (drop (c .at) text))
 
 abbrev pub FactorRead : (text known table keys tags : List ℕ) (c : Cursor) (depth : ℕ) → Outcome → (table′ keys′ tags′ : List ℕ) → Type 0
 FactorRead text known table keys tags c depth =
-    ItemsRead [] text table keys tags c (factorFrom edition1 (placesIn known) depth (drop (c .at) text))
+    ItemsRead [] text table keys tags c (factorFrom current (placesIn known) depth (drop (c .at) text))

@@ -15,7 +15,9 @@ use words::stands_at;
 ghost use mathlib.Core.Path.{_≡_};
 ghost use Prim.Native.Nat.{_≤_, _<_};
 ghost use lib.ListN.{length};
+ghost use Rattle.base.specs.Current.{tableSize};
 ghost use Rattle.calls.specs.Table.{cell};
+ghost use Rattle.met.specs.Bounds.{farEnough};
 ghost use Rattle.met.specs.Known.{Counted};
 ghost use Rattle.numeric.specs.Operands.{Ready};
 ghost use Rattle.numeric.specs.Kinds.{markKind, PutsCell, Puts, OperandWritten, Within, closes};
@@ -47,7 +49,13 @@ fn size(kind: u8) -> usize
     if kind < cell_kinds::PLUS {
         return 0;
     }
-    if kind < cell_kinds::LITERAL {
+    if kind <= cell_kinds::OVER {
+        return 1;
+    }
+    if kind < cell_kinds::POSITIVE {
+        return 0;
+    }
+    if kind <= cell_kinds::NEGATIVE {
         return 1;
     }
     0
@@ -55,7 +63,7 @@ fn size(kind: u8) -> usize
 
 // writes the next item
 fn put(table: &mut [u8], c: Cursor, kind: u8, place: u8, value: usize) -> Cursor
-    requires { ⌜ (28672 ≤ length (now table)) × (c .items < 8_000_000_000) ⌝ }
+    requires { ⌜ (tableSize ≤ length (now table)) × (c .items ≤ farEnough) ⌝ }
     ensures { λ r. ⌜ PutsCell (now (table .entry)) c (cell kind place value) (now (table .exit)) r ⌝ }
 {
     put_item(table, c.items, kind, place, value);
@@ -71,7 +79,7 @@ fn put(table: &mut [u8], c: Cursor, kind: u8, place: u8, value: usize) -> Cursor
 
 // writes what a kind stands for
 fn put_kind(table: &mut [u8], c: Cursor, kind: u8) -> Cursor
-    requires { ⌜ (28672 ≤ length (now table)) × (c .items < 8_000_000_000) ⌝ }
+    requires { ⌜ (tableSize ≤ length (now table)) × (c .items ≤ farEnough) ⌝ }
     ensures { λ r. ⌜ Puts (now (table .entry)) c (waiting kind) (now (table .exit)) r ⌝ }
 {
     if size(kind) == 0 {
@@ -91,7 +99,7 @@ fn write_operand(
 ) -> Outcome
     requires { ⌜ Ready (now text) (now keys) (now tags) c ⌝ }
     requires { ⌜ Counted (now known) ⌝ }
-    requires { ⌜ 28672 ≤ length (now table) ⌝ }
+    requires { ⌜ tableSize ≤ length (now table) ⌝ }
     ensures { λ r. ⌜ OperandWritten (now (text .entry)) (now (known .entry)) (now (table .entry)) (now (keys .entry)) (now (tags .entry)) c r (now (table .exit)) (now (keys .exit)) (now (tags .exit)) ⌝ }
 {
     match plain(text, known, keys, tags, c) {
@@ -128,7 +136,7 @@ pub fn expression(
 ) -> Outcome
     requires { ⌜ Ready (now text) (now keys) (now tags) c ⌝ }
     requires { ⌜ Counted (now known) ⌝ }
-    requires { ⌜ 28672 ≤ length (now table) ⌝ }
+    requires { ⌜ tableSize ≤ length (now table) ⌝ }
     ensures { λ r. ⌜ ExpressionRead (now (text .entry)) (now (known .entry)) (now (table .entry)) (now (keys .entry)) (now (tags .entry)) c depth r (now (table .exit)) (now (keys .exit)) (now (tags .exit)) ⌝ }
 {
     // what waits for the next term
@@ -166,7 +174,7 @@ fn term(
 ) -> Outcome
     requires { ⌜ Ready (now text) (now keys) (now tags) c ⌝ }
     requires { ⌜ Counted (now known) ⌝ }
-    requires { ⌜ 28672 ≤ length (now table) ⌝ }
+    requires { ⌜ tableSize ≤ length (now table) ⌝ }
     ensures { λ r. ⌜ TermRead (now (text .entry)) (now (known .entry)) (now (table .entry)) (now (keys .entry)) (now (tags .entry)) c depth r (now (table .exit)) (now (keys .exit)) (now (tags .exit)) ⌝ }
 {
     // what waits for the next factor: nothing at first
@@ -197,7 +205,7 @@ fn factor(
 ) -> Outcome
     requires { ⌜ Ready (now text) (now keys) (now tags) c ⌝ }
     requires { ⌜ Counted (now known) ⌝ }
-    requires { ⌜ 28672 ≤ length (now table) ⌝ }
+    requires { ⌜ tableSize ≤ length (now table) ⌝ }
     ensures { λ r. ⌜ FactorRead (now (text .entry)) (now (known .entry)) (now (table .entry)) (now (keys .entry)) (now (tags .entry)) c depth r (now (table .exit)) (now (keys .exit)) (now (tags .exit)) ⌝ }
 {
     if !stands_at(text, c.at, b'(') {

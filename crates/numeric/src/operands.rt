@@ -23,7 +23,9 @@ ghost use mathlib.Core.Path.{_≡_};
 ghost use Prim.Native.Nat.{ℕ, _+_, _≤_, _<_};
 ghost use Rattle.numeric.specs.Operands.{Ready, moved, StringTag, NameRead, NumberRead, StringRead, ConstantRead, BoundRead, PartRead, Inside, closedBy, placedIn, CalledRead, PlainRead};
 ghost use lib.ListN.{length};
+ghost use Rattle.met.specs.Bounds.{farEnough};
 ghost use Rattle.met.specs.Known.{Counted};
+ghost use Rattle.packer.specs.Packs.{longestText};
 
 // a name by its key, with the cursor behind it
 pub enum Name {
@@ -51,7 +53,7 @@ pub enum Operand {
 
 // the cursor so many bytes further
 pub fn skip(c: Cursor, n: usize) -> Cursor
-    requires { ⌜ c .at + n < 100_000 ⌝ }
+    requires { ⌜ c .at + n ≤ farEnough ⌝ }
     ensures { λ r. ⌜ r ≡ moved c n ⌝ }
 {
     Cursor {
@@ -124,7 +126,7 @@ pub fn read_string(
 
 // a constant at the cursor, in the cell of a kind and a place
 fn constant(text: &[u8], c: Cursor, kind: u8, place: u8) -> Operand
-    requires { ⌜ (c .at ≤ length (now text)) × (length (now text) ≤ 32768) ⌝ }
+    requires { ⌜ (c .at ≤ length (now text)) × (length (now text) ≤ longestText) ⌝ }
     ensures { λ r. ⌜ ((keys tags : List ℕ) → Ready (now (text .entry)) keys tags c → ConstantRead (now (text .entry)) keys tags c kind place r) ⌝ }
 {
     let at = c.at;
@@ -173,38 +175,30 @@ pub fn read_bound(
     }
 }
 
-// a string or a substring, in a cell of kind 1 to 3 more than shift
+// a string or a substring, in a cell of this kind, or for the first bytes of one of the next two kinds
 pub fn read_part(
     text: &[u8],
     known: &[u64; KNOWN],
     keys: &mut [u64; NAMES],
     tags: &mut [u8; NAMES],
     c: Cursor,
-    shift: u8,
+    kind: u8,
     tag: u8,
 ) -> Operand
     requires { ⌜ Ready (now text) (now keys) (now tags) c ⌝ }
     requires { ⌜ Counted (now known) ⌝ }
-    requires { ⌜ (shift < 100) × StringTag tag ⌝ }
-    ensures { λ r. ⌜ PartRead (now (text .entry)) (now (known .entry)) (now (keys .entry)) (now (tags .entry)) c shift tag r (now (keys .exit)) (now (tags .exit)) ⌝ }
+    requires { ⌜ (kind < 100) × StringTag tag ⌝ }
+    ensures { λ r. ⌜ PartRead (now (text .entry)) (now (known .entry)) (now (keys .entry)) (now (tags .entry)) c kind tag r (now (keys .exit)) (now (tags .exit)) ⌝ }
 {
     match read_string(text, known, keys, tags, c, tag) {
         Place::Broken => Operand::Broken,
         Place::Got(place, d) => {
             if stands_at(text, d.at, b'$') {
-                return read_bound(
-                    text,
-                    known,
-                    keys,
-                    tags,
-                    skip(d, 1),
-                    shift + cell_kinds::FIRST,
-                    place,
-                );
+                return read_bound(text, known, keys, tags, skip(d, 1), kind + 1, place);
             }
             Operand::Got(
                 Cell {
-                    kind: shift + cell_kinds::STRING,
+                    kind,
                     place,
                     value: 0,
                 },

@@ -1,4 +1,4 @@
--- Laws of joined lines: the definition goes from the right, the code from the left, and both make up the same entries.
+-- Laws of joined lines: the definition goes from the right, the code from the left, and both make up the same.
 -- Assumes nothing.
 use mathlib.Core.Bool.{Bool, true, false, cond, not, _&&_, _||_, false≢true, and-eq-true-iff, and-assoc, and-false, and-true}
 use mathlib.Core.List.{List, [], _∷_, _++_, append-assoc}
@@ -8,10 +8,10 @@ use native.Mathlib.Nat.{add-zero}
 use native.Mathlib.Omega.{arith}
 use lib.Dec.{eqb}
 use borrow.Author.Tests.{eqb-true, ne-eqb}
-use Rattle.base.specs.Edition.{edition1}
+use Rattle.base.specs.Current.{current}
 use Rattle.cards.specs.Bytes.{isBlank, slash}
 use Rattle.cards.specs.Cards.{
-  Entry,
+  Unpacked,
   skipped,
   statement,
   isComment,
@@ -21,20 +21,20 @@ use Rattle.cards.specs.Cards.{
   labelOf,
   textOf,
   joined,
-  entriesFrom,
+  unpackedFrom,
 }
 use Rattle.packer.specs.Joins.{Part, addLine, breakOff, joinLine, before, told, nothingOf}
 use Rattle.packer.specs.Lines.{isSkipped, joins}
 
-before-joined : (n : ℕ) (line : List ℕ) (rest : List Entry) →
-    joined edition1 n line rest ≡ before n (soundLine line) (labelOf edition1 line) (textOf edition1 line) rest
+before-joined : (n : ℕ) (line : List ℕ) (rest : List Unpacked) →
+    joined current n line rest ≡ before n (soundLine line) (labelOf current line) (textOf current line) rest
 unfolding joined before
 before-joined n line [] = refl
 before-joined n line (skipped c s ∷ rest) = refl
 before-joined n line (statement c s l t ∷ rest) = refl
 
--- the entries that a line begins, by what it is: skipped, blank in column 9, or `/` there
-unfoldable entry : ℕ → Bool → List ℕ → List ℕ → Bool → Bool → Bool → List Entry → List Entry
+-- what a line begins, by what it is: skipped, blank in column 9, or `/` there
+unfoldable entry : ℕ → Bool → List ℕ → List ℕ → Bool → Bool → Bool → List Unpacked → List Unpacked
 entry m sound label text skip blank over rest =
     cond skip (skipped m sound ∷ rest)
     (cond blank (statement m sound label text ∷ rest)
@@ -43,14 +43,14 @@ entry m sound label text skip blank over rest =
 
 module _ (n m : ℕ) (s₁ s₂ : Bool) (label l raw t : List ℕ) where
   -- lines put before lines
-  before-before : (rest : List Entry) → before n s₁ label raw (before m s₂ l t rest) ≡ before n (s₁ && s₂) label (raw ++ t) rest
+  before-before : (rest : List Unpacked) → before n s₁ label raw (before m s₂ l t rest) ≡ before n (s₁ && s₂) label (raw ++ t) rest
   unfolding before
   before-before [] = ap (λ b. statement n b label (raw ++ t) ∷ []) (and-false s₁)
   before-before (skipped c s ∷ rest) = ap (λ b. statement n b label (raw ++ t) ∷ (skipped c s ∷ rest)) (and-false s₁)
   before-before (statement c s l′ text ∷ rest) = rw (← and-assoc s₁ s₂ s, append-assoc raw t text)
 
-  -- lines put before the entries that a line begins
-  before-entry : (skip blank over : Bool) → (blank ≡ true → over ≡ false) → (rest : List Entry) →
+  -- lines put before what a line begins
+  before-entry : (skip blank over : Bool) → (blank ≡ true → over ≡ false) → (rest : List Unpacked) →
       before n s₁ label raw (entry m s₂ l t skip blank over rest)
       ≡ cond skip (statement n false label raw ∷ entry m s₂ l t skip blank over rest)
       (cond (not blank && not over)
@@ -64,7 +64,7 @@ module _ (n m : ℕ) (s₁ s₂ : Bool) (label l raw t : List ℕ) where
   before-entry false false false h rest = rw (and-true s₂) (before-before rest)
 
 -- a statement's own first line, put before nothing
-before-first : (n : ℕ) (sound : Bool) (label text : List ℕ) (blank over : Bool) (rest : List Entry) →
+before-first : (n : ℕ) (sound : Bool) (label text : List ℕ) (blank over : Bool) (rest : List Unpacked) →
     before n true label [] (entry n sound label text false blank over rest) ≡ entry n sound label text false blank over rest
 unfolding entry before
 before-first n sound label text true over rest = refl
@@ -72,60 +72,60 @@ before-first n sound label text false true rest = refl
 before-first n sound label text false false rest = before-before n n true sound label label [] text rest
 
 module _ (line : List ℕ) where
-  -- the entries from a line on, by what the line is
-  entries-line : (m : ℕ) (ls : List (List ℕ)) →
-      entriesFrom edition1 m (line ∷ ls)
-      ≡ entry m (soundLine line) (labelOf edition1 line) (textOf edition1 line) (isSkipped line)
-      (isBlank (column9 edition1 line)) (eqb (column9 edition1 line) slash) (entriesFrom edition1 (suc m) ls)
-  unfolding entriesFrom entry isSkipped
-  entries-line m ls =
+  -- what the lines from one on make up, by what that line is
+  from-line : (m : ℕ) (ls : List (List ℕ)) →
+      unpackedFrom current m (line ∷ ls)
+      ≡ entry m (soundLine line) (labelOf current line) (textOf current line) (isSkipped line)
+      (isBlank (column9 current line)) (eqb (column9 current line) slash) (unpackedFrom current (suc m) ls)
+  unfolding unpackedFrom entry isSkipped
+  from-line m ls =
       ap
-      (λ (es : List Entry).
-      cond (isComment line || isBlankLine edition1 line)
-      (skipped m (soundLine line) ∷ entriesFrom edition1 (suc m) ls)
-      (cond (isBlank (column9 edition1 line))
-      (statement m (soundLine line) (labelOf edition1 line) (textOf edition1 line) ∷ entriesFrom edition1 (suc m) ls)
-      (cond (eqb (column9 edition1 line) slash)
-      (statement m false (labelOf edition1 line) (textOf edition1 line) ∷ entriesFrom edition1 (suc m) ls)
+      (λ (es : List Unpacked).
+      cond (isComment line || isBlankLine current line)
+      (skipped m (soundLine line) ∷ unpackedFrom current (suc m) ls)
+      (cond (isBlank (column9 current line))
+      (statement m (soundLine line) (labelOf current line) (textOf current line) ∷ unpackedFrom current (suc m) ls)
+      (cond (eqb (column9 current line) slash)
+      (statement m false (labelOf current line) (textOf current line) ∷ unpackedFrom current (suc m) ls)
       es)))
-      (before-joined m line (entriesFrom edition1 (suc m) ls))
+      (before-joined m line (unpackedFrom current (suc m) ls))
 
-  blank-only : isBlank (column9 edition1 line) ≡ true → eqb (column9 edition1 line) slash ≡ false
+  blank-only : isBlank (column9 current line) ≡ true → eqb (column9 current line) slash ≡ false
   unfolding isBlank slash
   blank-only e = ne-eqb _ _ (λ over.
-      let blank : column9 edition1 line ≡ 32 = eqb-true (column9 edition1 line) 32 e in
-      let slashed : column9 edition1 line ≡ 47 = over in
+      let blank : column9 current line ≡ 32 = eqb-true (column9 current line) 32 e in
+      let slashed : column9 current line ≡ 47 = over in
       omega arith)
 
 told-cond : (n : ℕ) (label : List ℕ) (t : Bool) (p q : Part) → cond t (told n label p) (told n label q) ≡ told n label (cond t p q)
 told-cond n label true p q = refl
 told-cond n label false p q = refl
 
--- one line more from the left makes up the same entries
+-- one line more from the left makes up the same
 lines-told : (n : ℕ) (label : List ℕ) (p : Part) (rest : List (List ℕ)) →
-    before n (p .sound) label (p .raw) (entriesFrom edition1 (n + p .count) rest) ≡ told n label (joinLine p rest)
-unfolding told joinLine breakOff addLine before entriesFrom joins
+    before n (p .sound) label (p .raw) (unpackedFrom current (n + p .count) rest) ≡ told n label (joinLine p rest)
+unfolding told joinLine breakOff addLine before unpackedFrom joins
 lines-told n label p [] = refl
 lines-told n label p (line ∷ ls) =
     let m = n + p .count in
-    let text = p .raw ++ textOf edition1 line in
-    let whole = p .sound && (soundLine line && not (eqb (column9 edition1 line) slash)) in
+    let text = p .raw ++ textOf current line in
+    let whole = p .sound && (soundLine line && not (eqb (column9 current line) slash)) in
     let next : suc m ≡ n + (p .count + 1) = omega arith in
-    ap (before n (p .sound) label (p .raw)) (entries-line line m ls)
-    ∙ before-entry n m (p .sound) (soundLine line) label (labelOf edition1 line) (p .raw) (textOf edition1 line)
-    (isSkipped line) (isBlank (column9 edition1 line)) (eqb (column9 edition1 line) slash) (blank-only line)
-    (entriesFrom edition1 (suc m) ls)
+    ap (before n (p .sound) label (p .raw)) (from-line line m ls)
+    ∙ before-entry n m (p .sound) (soundLine line) label (labelOf current line) (p .raw) (textOf current line)
+    (isSkipped line) (isBlank (column9 current line)) (eqb (column9 current line) slash) (blank-only line)
+    (unpackedFrom current (suc m) ls)
     ∙ ap
-    (λ (es : List Entry).
+    (λ (es : List Unpacked).
     cond (isSkipped line) (statement n false label (p .raw) ∷ es)
-    (cond (joins (column9 edition1 line)) (before n whole label text (entriesFrom edition1 (suc m) ls))
-    (statement n whole label text ∷ entriesFrom edition1 (suc m) ls)))
-    (sym (entries-line line m ls))
+    (cond (joins (column9 current line)) (before n whole label text (unpackedFrom current (suc m) ls))
+    (statement n whole label text ∷ unpackedFrom current (suc m) ls)))
+    (sym (from-line line m ls))
     ∙ ap
     (λ (k : ℕ).
-    cond (isSkipped line) (statement n false label (p .raw) ∷ entriesFrom edition1 m (line ∷ ls))
-    (cond (joins (column9 edition1 line)) (before n whole label text (entriesFrom edition1 k ls))
-    (statement n whole label text ∷ entriesFrom edition1 k ls)))
+    cond (isSkipped line) (statement n false label (p .raw) ∷ unpackedFrom current m (line ∷ ls))
+    (cond (joins (column9 current line)) (before n whole label text (unpackedFrom current k ls))
+    (statement n whole label text ∷ unpackedFrom current k ls)))
     next
     ∙ told-cond n label (isSkipped line) (breakOff p (line ∷ ls)) (addLine p line ls)
 
@@ -134,8 +134,8 @@ unfolding told
 join-told n label p more =
     ap
     (λ t.
-    cond t (before n (p .sound) label (p .raw) (entriesFrom edition1 (n + p .count) (p .rest)))
-    (statement n (p .sound) label (p .raw) ∷ entriesFrom edition1 (n + p .count) (p .rest)))
+    cond t (before n (p .sound) label (p .raw) (unpackedFrom current (n + p .count) (p .rest)))
+    (statement n (p .sound) label (p .raw) ∷ unpackedFrom current (n + p .count) (p .rest)))
     more
     ∙ lines-told n label p (p .rest)
 
@@ -161,37 +161,37 @@ joined-line p line ls rest e skip =
 -- a statement's first line from the left, and a line that is skipped
 module _ (n : ℕ) (line : List ℕ) (ls : List (List ℕ)) where
   pub first-told : isSkipped line ≡ false →
-      entriesFrom edition1 n (line ∷ ls) ≡ told n (labelOf edition1 line) (addLine (nothingOf (line ∷ ls)) line ls)
+      unpackedFrom current n (line ∷ ls) ≡ told n (labelOf current line) (addLine (nothingOf (line ∷ ls)) line ls)
   unfolding nothingOf
   first-told skip =
-      let label = labelOf edition1 line in
-      let blank = isBlank (column9 edition1 line) in
-      let over = eqb (column9 edition1 line) slash in
-      let rest = entriesFrom edition1 (suc n) ls in
-      let first : entriesFrom edition1 n (line ∷ ls) ≡ entry n (soundLine line) label (textOf edition1 line) false blank over rest =
-      entries-line line n ls ∙ ap (λ t. entry n (soundLine line) label (textOf edition1 line) t blank over rest) skip in
+      let label = labelOf current line in
+      let blank = isBlank (column9 current line) in
+      let over = eqb (column9 current line) slash in
+      let rest = unpackedFrom current (suc n) ls in
+      let first : unpackedFrom current n (line ∷ ls) ≡ entry n (soundLine line) label (textOf current line) false blank over rest =
+      from-line line n ls ∙ ap (λ t. entry n (soundLine line) label (textOf current line) t blank over rest) skip in
       first
-      ∙ sym (before-first n (soundLine line) label (textOf edition1 line) blank over rest)
+      ∙ sym (before-first n (soundLine line) label (textOf current line) blank over rest)
       ∙ ap (before n true label []) (sym first)
-      ∙ ap (λ (k : ℕ). before n true label [] (entriesFrom edition1 k (line ∷ ls))) (sym (add-zero n))
+      ∙ ap (λ (k : ℕ). before n true label [] (unpackedFrom current k (line ∷ ls))) (sym (add-zero n))
       ∙ lines-told n label (nothingOf (line ∷ ls)) (line ∷ ls)
       ∙ ap (told n label) (sym (joined-line (nothingOf (line ∷ ls)) line ls (line ∷ ls) refl skip))
 
   pub skipped-told : isSkipped line ≡ true →
-      entriesFrom edition1 n (line ∷ ls) ≡ skipped n (soundLine line) ∷ entriesFrom edition1 (n + 1) ls
+      unpackedFrom current n (line ∷ ls) ≡ skipped n (soundLine line) ∷ unpackedFrom current (n + 1) ls
   unfolding entry
   skipped-told skip =
       let next : suc n ≡ n + 1 = omega arith in
-      entries-line line n ls
+      from-line line n ls
       ∙ ap
       (λ t.
-      entry n (soundLine line) (labelOf edition1 line) (textOf edition1 line) t (isBlank (column9 edition1 line))
-      (eqb (column9 edition1 line) slash) (entriesFrom edition1 (suc n) ls))
+      entry n (soundLine line) (labelOf current line) (textOf current line) t (isBlank (column9 current line))
+      (eqb (column9 current line) slash) (unpackedFrom current (suc n) ls))
       skip
-      ∙ ap (λ (k : ℕ). skipped n (soundLine line) ∷ entriesFrom edition1 k ls) next
+      ∙ ap (λ (k : ℕ). skipped n (soundLine line) ∷ unpackedFrom current k ls) next
 
 -- the first line of a sound statement is sound
-entry-sound : (m n : ℕ) (sound : Bool) (l t label raw : List ℕ) (blank over : Bool) (rest others : List Entry) →
+entry-sound : (m n : ℕ) (sound : Bool) (l t label raw : List ℕ) (blank over : Bool) (rest others : List Unpacked) →
     entry m sound l t false blank over rest ≡ statement n true label raw ∷ others → sound ≡ true
 unfolding entry before
 entry-sound m n sound l t label raw true over rest others e = cc
@@ -202,13 +202,13 @@ entry-sound m n sound l t label raw false false (statement c s l′ t′ ∷ res
     let sounds : (sound && s) ≡ true = cc in
     and-eq-true-iff sound s .0 sounds .0
 
-pub first-sound : (n : ℕ) (line : List ℕ) (ls : List (List ℕ)) (label raw : List ℕ) (rest : List Entry) → isSkipped line ≡ false →
-    entriesFrom edition1 n (line ∷ ls) ≡ statement n true label raw ∷ rest → soundLine line ≡ true
+pub first-sound : (n : ℕ) (line : List ℕ) (ls : List (List ℕ)) (label raw : List ℕ) (rest : List Unpacked) → isSkipped line ≡ false →
+    unpackedFrom current n (line ∷ ls) ≡ statement n true label raw ∷ rest → soundLine line ≡ true
 first-sound n line ls label raw rest skip e =
-    let blank = isBlank (column9 edition1 line) in
-    let over = eqb (column9 edition1 line) slash in
-    let behind = entriesFrom edition1 (suc n) ls in
-    entry-sound n n (soundLine line) (labelOf edition1 line) (textOf edition1 line) label raw blank over behind rest
-    (ap (λ t. entry n (soundLine line) (labelOf edition1 line) (textOf edition1 line) t blank over behind) (sym skip)
-    ∙ sym (entries-line line n ls)
+    let blank = isBlank (column9 current line) in
+    let over = eqb (column9 current line) slash in
+    let behind = unpackedFrom current (suc n) ls in
+    entry-sound n n (soundLine line) (labelOf current line) (textOf current line) label raw blank over behind rest
+    (ap (λ t. entry n (soundLine line) (labelOf current line) (textOf current line) t blank over behind) (sym skip)
+    ∙ sym (from-line line n ls)
     ∙ e)

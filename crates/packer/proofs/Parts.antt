@@ -1,8 +1,8 @@
 -- Laws of what the code holds of a statement while it joins lines.
 -- Assumes nothing.
 use mathlib.Core.Bool.{Bool, true, false, cond, not, _&&_, false≢true}
-use mathlib.Core.List.{List, [], _∷_, _++_}
-use mathlib.Core.Path.{_≡_, refl, ap, sym, subst, _∙_}
+use mathlib.Core.List.{List, [], _∷_, _++_, map}
+use mathlib.Core.Path.{_≡_, refl, ap, ap₂, sym, subst, _∙_}
 use Prim.Native.Nat.{ℕ, _+_, _-_, _≤_, _<_}
 use native.Mathlib.Nat.{le-trans, min-le-right}
 use native.Mathlib.Omega.{arith}
@@ -10,12 +10,13 @@ use lib.Dec.{eqb}
 use lib.ListN.{length, take, drop, length-take, length-drop}
 use lib.Seq.{take-take}
 use Rattle.base.specs.Choice.{test-cases}
-use Rattle.base.specs.Edition.{edition1}
+use Rattle.base.specs.Current.{current}
 use Rattle.base.specs.ListLaws.{stretch-few}
 use Rattle.base.specs.Lists.{all}
 use Rattle.cards.specs.Bytes.{slash}
-use Rattle.cards.specs.Cards.{Entry, lines, soundLine, column9, labelOf, textOf, entriesFrom, statement, withoutBlanks}
-use Rattle.cards.specs.Packing.{Place, outside, packFrom, packed, literalsFrom, literalsWhole}
+use Rattle.cards.specs.Cards.{Unpacked, lines, soundLine, column9, labelOf, textOf, unpackedFrom, statement, withoutBlanks}
+use Rattle.cards.specs.Entries.{Entry, packedEntry, entriesFrom}
+use Rattle.cards.specs.Packing.{Place, outside, packFrom, packed, literalsWhole}
 use Rattle.packer.proofs.Chains.{first-sound, first-told, join-told, joined-line, skipped-told}
 use Rattle.packer.proofs.Labels.{blanks-less, front-short}
 use Rattle.packer.proofs.Packing.{packed-parts, place-parts, unbroken-parts, literals-end}
@@ -40,6 +41,7 @@ use Rattle.packer.specs.Gathering.{
 use Rattle.packer.specs.Joins.{Part, addLine, breakOff, joinLine, nothingOf, told}
 use Rattle.packer.specs.KeyLaws.{sound-label}
 use Rattle.packer.specs.Keys.{keyOf}
+use Rattle.packer.specs.Letters.{letters, letters-append, letters-few, letters-front, letters-behind, letters-packed}
 use Rattle.packer.specs.Lines.{Ends, isSkipped, joins}
 use Rattle.packer.specs.Packs.{Packs}
 use Rattle.packer.specs.Places.{isOutside, placeOf, placeBehind, unbroken}
@@ -68,10 +70,10 @@ module _ (deck text : List ℕ) where
         Holds deck text′ r (addLine p line (lines (drop next deck)))
     unfolding addLine packed
     holds-line line next text′ r a =
-        let more = textOf edition1 line in
+        let more = textOf current line in
         let k = a .packs in
         record {
-          sound = a .sound ∙ ap (λ t. t && (soundLine line && not (eqb (column9 edition1 line) slash))) (h .sound);
+          sound = a .sound ∙ ap (λ t. t && (soundLine line && not (eqb (column9 current line) slash))) (h .sound);
           more = a .more;
           count = a .count ∙ ap (λ (n : ℕ). n + 1) (h .count);
           rest = ap (λ (n : ℕ). lines (drop n deck)) (a .behind);
@@ -99,21 +101,37 @@ module _ (deck text : List ℕ) where
 
     -- a statement that is over
     pub holds-told : s .more ≡ false → (n : ℕ) (label : List ℕ) →
-        told n label p ≡ statement n (s .sound) label (p .raw) ∷ entriesFrom edition1 (n + s .lines) (lines (drop (s .next) deck))
+        told n label p ≡ statement n (s .sound) label (p .raw) ∷ unpackedFrom current (n + s .lines) (lines (drop (s .next) deck))
     unfolding told
     holds-told over n label = rw (h .sound, h .count, h .rest, sym (h .more) ∙ over)
 
-text-within : (line : List ℕ) → length (textOf edition1 line) ≤ length line
-unfolding textOf edition1
+text-within : (line : List ℕ) → length (textOf current line) ≤ length line
+unfolding textOf current
 text-within line = omega (arith, length-drop 9 (take 72 line), length-take 72 line, min-le-right 72 (length line))
 
-pub text-fits : (line part : List ℕ) (n most : ℕ) → part ≡ textOf edition1 line → n + length line ≤ most → n + length part ≤ most
+-- a line adds no more letters to the packed text than it has bytes
+added-letters : {line : List ℕ} {next : ℕ} {text : List ℕ} {s : Joining} {text′ : List ℕ} {r : Joining} → Added line next text s text′ r
+    → letters (take (r .packing .length) text′) ≤ letters (take (s .packing .length) text) + length line
+unfolding textOf current
+added-letters {line} {text = text} {s} a =
+    let place = placeOf (s .packing .place) in
+    omega (
+      arith,
+      ap letters (a .packs .bytes),
+      letters-append (take (s .packing .length) text) (packFrom place (textOf current line)),
+      letters-packed place (textOf current line),
+      letters-behind 9 (take 72 line),
+      letters-front 72 line,
+      letters-few line,
+    )
+
+pub text-fits : (line part : List ℕ) (n most : ℕ) → part ≡ textOf current line → n + length line ≤ most → n + length part ≤ most
 text-fits line part n most e h = rw e (omega (arith, text-within line))
 
 -- a line's parts put together
 module _ (line : List ℕ) (next : ℕ) (text : List ℕ) (s : Joining) (text′ : List ℕ) (packing : Packing)
     (sound more : Bool) (mark : ℕ) (part : List ℕ) where
-  pub added : sound ≡ soundLine line → mark ≡ column9 edition1 line → more ≡ joins mark → part ≡ textOf edition1 line →
+  pub added : sound ≡ soundLine line → mark ≡ column9 current line → more ≡ joins mark → part ≡ textOf current line →
       Packs part text (s .packing) text′ packing →
       Added line next text s text′
       (record { sound = s .sound && (sound && not (eqb mark 47)); more = more; packing = packing; lines = s .lines + 1; next = next })
@@ -194,9 +212,7 @@ module _ (deck text : List ℕ) (s : Joining) (room : Room deck text s) where
             spare =
                 let h = ends .low in
                 let short = line-length in
-                let part = text-within line in
-                let packs = a .packs .room in
-                omega arith;
+                omega (arith, added-letters a);
             further = λ _. let h = ends .low in omega arith;
             holds =
                 λ p h.
@@ -210,7 +226,7 @@ pub record Chain (deck text₀ : List ℕ) (s₀ : Joining) (text : List ℕ) (s
   pub room : Room deck text s
   pub onward : s₀ .next ≤ s .next
   pub paced : s₀ .next + s .lines ≤ s .next + s₀ .lines
-  pub spare : s₀ .next + s .packing .length ≤ s .next + s₀ .packing .length
+  pub spare : s₀ .next + letters (take (s .packing .length) text) ≤ s .next + letters (take (s₀ .packing .length) text₀)
   pub complete : (p : Part) → Holds deck text₀ s₀ p → Complete deck text s p
 
 -- what is left to join: nothing, or lines of the deck
@@ -268,11 +284,11 @@ room-nothing deck from text read =
       within = omega arith;
     }
 
-label-front : (line : List ℕ) → labelOf edition1 line ≡ withoutBlanks (take 8 line)
-unfolding labelOf edition1
+label-front : (line : List ℕ) → labelOf current line ≡ withoutBlanks (take 8 line)
+unfolding labelOf current
 label-front line = ap withoutBlanks (take-take 8 72 line (omega arith))
 
-label-short : (line : List ℕ) → length (labelOf edition1 line) ≤ 8
+label-short : (line : List ℕ) → length (labelOf current line) ≤ 8
 label-short line = rw (label-front line) (le-trans (blanks-less (take 8 line)) (front-short 8 line (take 8 line) refl))
 
 -- an entry whose first line ends at end
@@ -281,24 +297,19 @@ module _ (deck : List ℕ) (from : ℕ) (text : List ℕ) (read : Readable deck 
   first = take (end - from) (drop from deck)
 
   pub gathers-skipped : isSkipped first ≡ true → (r : Gathered) → r ≡ skippedLine first (end + 1) → Gathers deck from text r
-  unfolding all entryOf keyOf packed packFrom literalsWhole literalsFrom
+  unfolding all entryOf keyOf entriesFrom packedEntry
   gathers-skipped skip r e =
       subst (λ (r : Gathered). Gathers deck from text r) (sym e)
       (record {
-        raw = [];
         label = [];
         entry =
             λ n.
-            ap (entriesFrom edition1 n) (ends .first) ∙ skipped-told n first (lines (drop (end + 1) deck)) skip;
-        key = refl;
-        short = omega arith;
-        clean = λ _. refl;
-        bytes = refl;
-        whole = refl;
+            ap (entriesFrom current n) (ends .first) ∙ ap (map packedEntry) (skipped-told n first (lines (drop (end + 1) deck)) skip);
+        keyed = λ _. record { is = refl; clean = refl; short = omega arith };
         fits = omega arith;
         onward = let h = ends .low in omega arith;
         paced = let h = ends .low in omega arith;
-        spare = let h = ends .low in omega arith;
+        spare = let h = ends .low in omega (arith, letters-few (take 0 text));
         inside = let h = ends .high in omega arith;
         size = read .size;
       })
@@ -316,33 +327,38 @@ module _ (deck : List ℕ) (from : ℕ) (text : List ℕ) (read : Readable deck 
         lines = s .lines;
         next = s .next;
       })
-  unfolding entryOf
+  unfolding entryOf entriesFrom packedEntry
   gathers-statement skip key ek text₁ s₁ a text₂ s j flag ef =
       let start = nothingOf (lines (drop from deck)) in
       let held = holds-line deck text (nothingFrom from) start (holds-nothing deck text from) first (end + 1) text₁ s₁ a in
       let k = j .complete (addLine start first (lines (drop (end + 1) deck))) held in
-      let label = labelOf edition1 first in
-      let others : ℕ → List Entry = λ n. entriesFrom edition1 (n + s .lines) (lines (drop (s .next) deck)) in
-      let entries : (n : ℕ) →
-      entriesFrom edition1 n (first ∷ lines (drop (end + 1) deck)) ≡ statement n (s .sound) label (k .part .raw) ∷ others n =
+      let label = labelOf current first in
+      let others : ℕ → List Unpacked = λ n. unpackedFrom current (n + s .lines) (lines (drop (s .next) deck)) in
+      let joined : (n : ℕ) →
+      unpackedFrom current n (first ∷ lines (drop (end + 1) deck)) ≡ statement n (s .sound) label (k .part .raw) ∷ others n =
       λ n.
       first-told n first (lines (drop (end + 1) deck)) skip
       ∙ ap (λ (rest : List (List ℕ)). told n label (addLine (nothingOf rest) first (lines (drop (end + 1) deck)))) (sym (ends .first))
       ∙ k .same n label
       ∙ holds-told deck text₂ s (k .part) (k .holds) (j .over) n label in
       record {
-        raw = k .part .raw;
         label = label;
-        entry = λ n. ap (entriesFrom edition1 n) (ends .first) ∙ entries n;
-        key = ek ∙ ap keyOf (sym (label-front first));
-        short = label-short first;
-        clean =
+        entry =
+            λ n.
+            ap (entriesFrom current n) (ends .first)
+            ∙ ap (map packedEntry) (joined n)
+            ∙ ap₂ (λ (whole : Bool) (text : List ℕ). Entry.statement n (s .sound) label whole text ∷ map packedEntry (others n))
+            (sym (holds-literals deck text₂ s (k .part) (k .holds) flag ef)) (sym (k .holds .bytes));
+        keyed =
             λ sound.
-            sound-label first
-            (first-sound 0 first (lines (drop (end + 1) deck)) label (k .part .raw) (others 0) skip
-            (entries 0 ∙ ap (λ t. statement 0 t label (k .part .raw) ∷ others 0) sound));
-        bytes = k .holds .bytes;
-        whole = holds-literals deck text₂ s (k .part) (k .holds) flag ef;
+            record {
+              is = ek ∙ ap keyOf (sym (label-front first));
+              clean =
+                  sound-label first
+                  (first-sound 0 first (lines (drop (end + 1) deck)) label (k .part .raw) (others 0) skip
+                  (joined 0 ∙ ap (λ t. statement 0 t label (k .part .raw) ∷ others 0) sound));
+              short = label-short first;
+            };
         fits = let h = j .room .within in let g = read .small in omega arith;
         onward = let h = j .onward in let g = ends .low in let b = a .behind in omega arith;
         paced = let h = j .paced in let g = ends .low in let b = a .behind in let c = a .count in omega arith;
@@ -351,9 +367,7 @@ module _ (deck : List ℕ) (from : ℕ) (text : List ℕ) (read : Readable deck 
             let g = ends .low in
             let b = a .behind in
             let short = line-length deck text (nothingFrom from) (room-nothing deck from text read) end ends in
-            let part = text-within first in
-            let packs = a .packs .room in
-            omega arith;
+            omega (arith, added-letters a, letters-few (take 0 text));
         inside = j .room .next;
         size = j .room .size;
       }

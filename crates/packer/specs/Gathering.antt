@@ -5,18 +5,20 @@ use mathlib.Core.Path.{_≡_}
 use Prim.Native.Nat.{ℕ, _+_, _≤_, _<_}
 use lib.Dec.{eqb}
 use lib.ListN.{length, take, drop}
-use Rattle.base.specs.Edition.{edition1}
-use Rattle.base.specs.Lists.{all}
+use Rattle.base.specs.Current.{current}
+use Rattle.base.specs.Limits.{longestDeck}
 use Rattle.cards.specs.Bytes.{slash}
-use Rattle.cards.specs.Cards.{Entry, skipped, statement, lines, soundLine, column9, textOf, entriesFrom}
-use Rattle.cards.specs.Packing.{outside, packed, literalsWhole}
+use Rattle.cards.specs.Cards.{lines, soundLine, column9, textOf}
+use Rattle.cards.specs.Entries.{Entry, skipped, statement, entriesFrom}
+use Rattle.cards.specs.Packing.{outside, packed}
 use Rattle.packer.specs.declared.packed.Place.the-variants.{Outside}
 use Rattle.packer.specs.declared.Gathered.{Gathered}
 use Rattle.packer.specs.declared.Joining.{Joining}
 use Rattle.packer.specs.Joins.{Part, joinLine, told}
-use Rattle.packer.specs.Keys.{isKeyByte, keyOf}
+use Rattle.packer.specs.Keys.{LabelKey}
+use Rattle.packer.specs.Letters.{letters}
 use Rattle.packer.specs.Lines.{joins}
-use Rattle.packer.specs.Packs.{Packs}
+use Rattle.packer.specs.Packs.{Packs, longestText}
 use Rattle.packer.specs.Places.{placeOf, placeBehind, unbroken}
 
 -- the code's value and text hold a part of a statement of the deck
@@ -31,8 +33,8 @@ pub record Holds (deck text : List ℕ) (s : Joining) (p : Part) : Type 0 where
 
 -- the code's numbers lie within the deck, and text is as long as the longest deck
 pub record Room (deck text : List ℕ) (s : Joining) : Type 0 where
-  pub small : length deck ≤ 32768
-  pub size : length text ≡ 32768
+  pub small : length deck ≤ longestDeck
+  pub size : length text ≡ longestText
   pub next : s .next ≤ length deck + 1
   pub lines : s .lines ≤ s .next
   pub bytes : s .packing .length ≤ s .next
@@ -41,25 +43,25 @@ pub record Room (deck text : List ℕ) (s : Joining) : Type 0 where
 -- a line, with the place where the next one starts, can be added
 pub record Adding (line : List ℕ) (next : ℕ) (text : List ℕ) (s : Joining) : Type 0 where
   pub small : next ≤ 32769
-  pub size : length text ≡ 32768
+  pub size : length text ≡ longestText
   pub lines : s .lines < next
   pub bytes : s .packing .length + length line < next
 
 -- the line is added
 pub record Added (line : List ℕ) (next : ℕ) (text : List ℕ) (s : Joining) (text′ : List ℕ) (r : Joining) : Type 0 where
-  pub sound : r .sound ≡ s .sound && (soundLine line && not (eqb (column9 edition1 line) slash))
-  pub more : r .more ≡ joins (column9 edition1 line)
+  pub sound : r .sound ≡ s .sound && (soundLine line && not (eqb (column9 current line) slash))
+  pub more : r .more ≡ joins (column9 current line)
   pub count : r .lines ≡ s .lines + 1
   pub behind : r .next ≡ next
-  pub packs : Packs (textOf edition1 line) text (s .packing) text′ (r .packing)
+  pub packs : Packs (textOf current line) text (s .packing) text′ (r .packing)
 
--- one line is joined; a line takes a byte of the deck at least, and as many as it adds to the packed text; if the next one is to be joined,
--- the code has gone on
+-- one line is joined; a line takes a byte of the deck at least, and as many as it adds letters to the packed text; if the next one is to be
+-- joined, the code has gone on
 pub record Joined (deck text : List ℕ) (s : Joining) (text′ : List ℕ) (r : Joining) : Type 0 where
   pub room : Room deck text′ r
   pub onward : s .next ≤ r .next
   pub paced : s .next + r .lines ≤ r .next + s .lines
-  pub spare : s .next + r .packing .length ≤ r .next + s .packing .length
+  pub spare : s .next + letters (take (r .packing .length) text′) ≤ r .next + letters (take (s .packing .length) text)
   pub further : r .more ≡ true → s .next < r .next
   pub holds : (p : Part) → Holds deck text s p → Holds deck text′ r (joinLine p (p .rest))
 
@@ -74,7 +76,7 @@ pub record JoinedAll (deck text : List ℕ) (s : Joining) (text′ : List ℕ) (
   pub room : Room deck text′ r
   pub onward : s .next ≤ r .next
   pub paced : s .next + r .lines ≤ r .next + s .lines
-  pub spare : s .next + r .packing .length ≤ r .next + s .packing .length
+  pub spare : s .next + letters (take (r .packing .length) text′) ≤ r .next + letters (take (s .packing .length) text)
   pub over : r .more ≡ false
   pub complete : (p : Part) → Holds deck text s p → Complete deck text′ r p
 
@@ -90,31 +92,26 @@ abbrev pub skippedLine : List ℕ → ℕ → Gathered
 skippedLine line next =
     record { skipped = true; sound = soundLine line; label = 0; length = 0; whole = true; lines = 1; next = next }
 
--- the entry that the code's value says, with its card, the bytes of its label and of its columns 10-72
-unfoldable pub entryOf : Gathered → ℕ → List ℕ → List ℕ → Entry
-entryOf r n label raw = cond (r .skipped) (skipped n (r .sound)) (statement n (r .sound) label raw)
+-- the entry that the code's value says, with its card and the bytes of its label; its packed text is the first bytes of a text
+unfoldable pub entryOf : Gathered → ℕ → (label text : List ℕ) → Entry
+entryOf r n label text = cond (r .skipped) (skipped n (r .sound)) (statement n (r .sound) label (r .whole) (take (r .length) text))
 
 -- a deck with a line at from, and a text for the bytes of its statements
 pub record Readable (deck : List ℕ) (from : ℕ) (text : List ℕ) : Type 0 where
   pub start : from < length deck
-  pub small : length deck ≤ 32768
-  pub size : length text ≡ 32768
+  pub small : length deck ≤ longestDeck
+  pub size : length text ≡ longestText
 
--- the entry that begins with the line at from, and those behind it; its packed text is shorter than the bytes of the deck that it takes
+-- the entry that begins with the line at from, and those behind it; its packed text has fewer letters than it takes bytes of the deck
 pub record Gathers (deck : List ℕ) (from : ℕ) (text : List ℕ) (r : Gathered) : Type 0 where
-  pub raw : List ℕ
   pub label : List ℕ
   pub entry : (n : ℕ) →
-      entriesFrom edition1 n (lines (drop from deck))
-      ≡ entryOf r n label raw ∷ entriesFrom edition1 (n + r .lines) (lines (drop (r .next) deck))
-  pub key : r .label ≡ keyOf label
-  pub short : length label ≤ 8
-  pub clean : r .sound ≡ true → all isKeyByte label ≡ true
-  pub bytes : take (r .length) text ≡ packed raw
-  pub whole : r .whole ≡ literalsWhole raw
-  pub fits : r .length ≤ 32768
+      entriesFrom current n (lines (drop from deck))
+      ≡ entryOf r n label text ∷ entriesFrom current (n + r .lines) (lines (drop (r .next) deck))
+  pub keyed : r .sound ≡ true → LabelKey label (r .label)
+  pub fits : r .length ≤ longestText
   pub onward : from < r .next
   pub paced : from + r .lines ≤ r .next
-  pub spare : from + r .length < r .next
+  pub spare : from + letters (take (r .length) text) < r .next
   pub inside : r .next ≤ length deck + 1
-  pub size : length text ≡ 32768
+  pub size : length text ≡ longestText

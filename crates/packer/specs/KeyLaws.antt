@@ -7,7 +7,7 @@ use native.Mathlib.Omega.{arith}
 use lib.Dec.{leb}
 use lib.ListN.{length, take}
 use borrow.Author.Tests.{eqb-true, ne-eqb}
-use Rattle.base.specs.Edition.{edition1}
+use Rattle.base.specs.Current.{current}
 use Rattle.base.specs.ListLaws.{all-among, all-imply, all-keep, all-take}
 use Rattle.base.specs.Lists.{all, among, keep}
 use Rattle.base.specs.Text.{bytes}
@@ -58,8 +58,8 @@ data-byte b =
     (ranged 32 126 (omega arith) (omega arith))
 
 -- the key of a sound line's label shows it
-pub sound-label : (line : List ℕ) → soundLine line ≡ true → all isKeyByte (labelOf edition1 line) ≡ true
-unfolding soundLine labelOf withoutBlanks edition1
+pub sound-label : (line : List ℕ) → soundLine line ≡ true → all isKeyByte (labelOf current line) ≡ true
+unfolding soundLine labelOf withoutBlanks current
 sound-label line e =
     all-keep isKeyByte (λ b. not (isBlank b)) (take 8 (take 72 line))
     (all-take isKeyByte 8 (take 72 line)

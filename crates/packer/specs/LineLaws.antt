@@ -3,14 +3,15 @@ use mathlib.Core.List.{List, []}
 use mathlib.Core.Path.{_≡_, ap, sym}
 use Prim.Native.Nat.{ℕ, _≤_}
 use lib.ListN.{length, drop, drop-of-length-le}
-use Rattle.base.specs.Edition.{edition1}
-use Rattle.cards.specs.Cards.{entriesFrom, lines}
+use Rattle.base.specs.Current.{current}
+use Rattle.cards.specs.Cards.{lines, unpackedFrom}
+use Rattle.cards.specs.Entries.{entriesFrom}
 
 module _ (deck : List ℕ) (i : ℕ) (over : length deck ≤ i) where
   pub lines-behind : [] ≡ lines (drop i deck)
   unfolding lines
   lines-behind = rw (drop-of-length-le deck over)
 
-  pub entries-behind : (n : ℕ) → entriesFrom edition1 n (lines (drop i deck)) ≡ []
-  unfolding entriesFrom
-  entries-behind n = ap (entriesFrom edition1 n) (sym lines-behind)
+  pub entries-behind : (n : ℕ) → entriesFrom current n (lines (drop i deck)) ≡ []
+  unfolding entriesFrom unpackedFrom
+  entries-behind n = ap (entriesFrom current n) (sym lines-behind)

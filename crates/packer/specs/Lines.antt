@@ -5,7 +5,7 @@ use mathlib.Core.Path.{_≡_}
 use Prim.Native.Nat.{ℕ, _+_, _-_, _≤_}
 use lib.Dec.{eqb}
 use lib.ListN.{length, take, drop}
-use Rattle.base.specs.Edition.{edition1}
+use Rattle.base.specs.Current.{current}
 use Rattle.cards.specs.Bytes.{isBlank, slash}
 use Rattle.cards.specs.Cards.{lines, isComment, isBlankLine}
 
@@ -17,7 +17,7 @@ pub record Ends (deck : List ℕ) (from end : ℕ) : Type 0 where
 
 -- C4: a comment, or blank in 1-72
 unfoldable pub isSkipped : List ℕ → Bool
-isSkipped line = isComment line || isBlankLine edition1 line
+isSkipped line = isComment line || isBlankLine current line
 
 -- C5, Q3: a byte in column 9 that joins the next line
 unfoldable pub joins : ℕ → Bool

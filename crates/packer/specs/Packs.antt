@@ -4,9 +4,14 @@ use mathlib.Core.List.{List, _++_}
 use mathlib.Core.Path.{_≡_}
 use Prim.Native.Nat.{ℕ, _+_, _≤_}
 use lib.ListN.{length, take}
+use Rattle.base.specs.Limits as Limits
 use Rattle.cards.specs.Packing.{packFrom, placeAfter}
 use Rattle.packer.specs.declared.packed.Packing.{Packing}
 use Rattle.packer.specs.Places.{keptAt, placeBehind, placeOf, staysWhole, unbroken}
+
+-- the bytes that a packed statement may have: it has no more than its deck
+abbrev pub longestText : ℕ
+longestText = Limits.longestDeck
 
 -- the packing s goes on over one byte
 pub record Steps (s : Packing) (b : ℕ) (r : Packing) : Type 0 where
@@ -16,8 +21,8 @@ pub record Steps (s : Packing) (b : ℕ) (r : Packing) : Type 0 where
 
 -- there is room in text for some bytes more
 pub record Packable (part text : List ℕ) (s : Packing) : Type 0 where
-  pub size : length text ≡ 32768
-  pub room : s .length + length part ≤ 32768
+  pub size : length text ≡ longestText
+  pub room : s .length + length part ≤ longestText
 
 -- the packing s of text goes on over part: the bytes, the place, whether literals are whole, and room
 pub record Packs (part text : List ℕ) (s : Packing) (text′ : List ℕ) (r : Packing) : Type 0 where

@@ -7,7 +7,7 @@ ghost use mathlib.Core.Bool.{not};
 ghost use mathlib.Core.Path.{_≡_};
 ghost use Prim.Native.Nat.{_<_};
 ghost use lib.ListN.{length, take, drop, getD};
-ghost use Rattle.base.specs.Edition.{edition1};
+ghost use Rattle.base.specs.Current.{current};
 ghost use Rattle.base.specs.Lists.{all};
 ghost use Rattle.cards.specs.Bytes.{between, classOf, isRefused};
 ghost use Rattle.cards.specs.Cards.{column9, isBlankLine, isComment, soundLine, textOf};
@@ -105,7 +105,7 @@ pub fn is_comment(line: &[u8]) -> bool
 
 // whether columns 1 to 72 are blank
 pub fn is_blank_line(line: &[u8]) -> bool
-    ensures { λ r. ⌜ r ≡ isBlankLine edition1 (now (line .entry)) ⌝ }
+    ensures { λ r. ⌜ r ≡ isBlankLine current (now (line .entry)) ⌝ }
 {
     let bytes = front(line, COLUMNS);
     let mut i = 0;
@@ -127,14 +127,14 @@ pub fn is_skipped(line: &[u8]) -> bool
 
 // the byte that joins the next line
 pub fn column9(line: &[u8]) -> u8
-    ensures { λ r. ⌜ r ≡ column9 edition1 (now (line .entry)) ⌝ }
+    ensures { λ r. ⌜ r ≡ column9 current (now (line .entry)) ⌝ }
 {
     byte_or_blank(front(line, COLUMNS), 8)
 }
 
 // columns 10 to 72
 pub fn text_of(line: &[u8]) -> &[u8]
-    ensures { λ r. ⌜ now r ≡ textOf edition1 (now (line .entry)) ⌝ }
+    ensures { λ r. ⌜ now r ≡ textOf current (now (line .entry)) ⌝ }
 {
     behind(front(line, COLUMNS), 9)
 }

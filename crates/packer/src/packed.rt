@@ -6,7 +6,7 @@ ghost use mathlib.Core.Path.{_≡_};
 ghost use Prim.Native.Nat.{_<_};
 ghost use Rattle.cards.specs.Packing.{placeAfter};
 ghost use Rattle.packer.specs.Places.{isOutside, placeOf, staysWhole};
-ghost use Rattle.packer.specs.Packs.{Packable, Packs, Steps};
+ghost use Rattle.packer.specs.Packs.{Packable, Packs, Steps, longestText};
 
 // where a byte stands: outside a literal, right behind the quote that opens one, right behind two quotes, further inside
 pub enum Place {
@@ -72,7 +72,7 @@ pub fn is_outside(place: Place) -> bool
 
 // goes on behind a byte: a blank outside literals is not kept
 fn step(s: Packing, b: u8) -> Packing
-    requires { ⌜ s .length < 32768 ⌝ }
+    requires { ⌜ s .length < longestText ⌝ }
     ensures { λ r. ⌜ Steps s b r ⌝ }
 {
     let place = s.place;

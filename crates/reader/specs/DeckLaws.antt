@@ -7,13 +7,14 @@ use native.Mathlib.Omega.{arith}
 use lib.Dec.{eqb}
 use lib.ListN.{length, drop, getD}
 use Rattle.base.specs.Choice.{test-cases}
-use Rattle.base.specs.Edition.{edition1}
+use Rattle.base.specs.Current.{current}
+use Rattle.base.specs.Limits.{longestDeck}
 use Rattle.cards.specs.Cards as Cards
-use Rattle.cards.specs.Cards.{entriesFrom, entries}
+use Rattle.cards.specs.Entries.{entriesFrom, entries}
 use Rattle.closing.specs.Held.{Closable, heldIn}
 use Rattle.closing.specs.HeldLaws.{closable, held-11, held-12}
 use Rattle.judgement.specs.Deck as Deck
-use Rattle.judgement.specs.Deck.{Judgement, accepted, judge, concluded, judgeFrom, passed, is11, is12, programOf}
+use Rattle.judgement.specs.Deck.{Judgement, accepted, judge, judgeEntries, concluded, judgeFrom, passed, is11, is12, programOf}
 use Rattle.judgement.specs.Known.{Known, nothingKnown}
 use Rattle.judgement.specs.Rules as Rules
 use Rattle.judgement.specs.Rules.{judging}
@@ -28,8 +29,8 @@ use Rattle.reader.specs.declared.judge.Verdict.{Verdict}
 pub record Judging (deck : List ℕ) (a : Arrays) (from card : ℕ) : Type 0 where
   pub known : Known
   pub holds : Holds a from known
-  pub same : judgeFrom edition1 nothingKnown (entries edition1 deck)
-      ≡ judgeFrom edition1 known (entriesFrom edition1 card (Cards.lines (drop from deck)))
+  pub same : judgeFrom current nothingKnown (entries current deck)
+      ≡ judgeFrom current known (entriesFrom current card (Cards.lines (drop from deck)))
   pub inside : from ≤ length deck + 1
   pub few : card ≤ from + 1
 
@@ -65,15 +66,15 @@ module _ {deck : List ℕ} {a : Arrays} {from card : ℕ} (j : Judging deck a fr
       }
 
   -- behind the last entry
-  at-end : length deck ≤ from → judgeFrom edition1 nothingKnown (entries edition1 deck)
+  at-end : length deck ≤ from → judgeFrom current nothingKnown (entries current deck)
       ≡ cond (eqb (getD (a .known) endedAt 0) 1) (passed (j .known)) (Deck.Judged.refused 4 0)
   unfolding judgeFrom
   at-end h =
       j .same
-      ∙ ap (judgeFrom edition1 (j .known)) (entries-behind deck from h card)
+      ∙ ap (judgeFrom current (j .known)) (entries-behind deck from h card)
       ∙ ap (λ t. cond t (passed (j .known)) (Deck.Judged.refused 4 0)) (sym (j .holds .ended))
 
-  pub judging-ends : {r : Verdict} → length deck ≤ 32_768 → length deck ≤ from → r ≡ endedIn (a .known) → StatementsJudged deck r a
+  pub judging-ends : {r : Verdict} → length deck ≤ longestDeck → length deck ≤ from → r ≡ endedIn (a .known) → StatementsJudged deck r a
   judging-ends {r} small h e =
       test-cases (λ t. eqb (getD (a .known) endedAt 0) 1 ≡ t → StatementsJudged deck r a) (eqb (getD (a .known) endedAt 0) 1)
       (λ _ t.
@@ -99,9 +100,9 @@ module _ {deck : List ℕ} {a : Arrays} {from card : ℕ} (j : Judging deck a fr
 
 -- the judgement of the deck from that of its statements
 module _ (deck : List ℕ) where
-  judged-by : {j : Deck.Judged} → judgeFrom edition1 nothingKnown (entries edition1 deck) ≡ j → judge edition1 deck ≡ concluded edition1 (entries edition1 deck) j
-  unfolding judge
-  judged-by e = ap (concluded edition1 (entries edition1 deck)) e
+  judged-by : {j : Deck.Judged} → judgeFrom current nothingKnown (entries current deck) ≡ j → judge current deck ≡ concluded current (entries current deck) j
+  unfolding judge judgeEntries
+  judged-by e = ap (concluded current (entries current deck)) e
 
 -- refused by 3 to 10
 pub deck-refused : {deck : List ℕ} {v : Verdict} {a b : Arrays} → StatementsJudged deck v a → (v .number ≡ 0 → ⊥) → DeckJudged deck v b
@@ -113,10 +114,10 @@ module _ {deck : List ℕ} {a : Arrays} (p : Passed deck a) where
   k = p .known
 
   abbrev passes : Judgement
-  passes = accepted (programOf edition1 k (entries edition1 deck))
+  passes = accepted (programOf current k (entries current deck))
 
   -- by 11, by 12, or not at all
-  by-closing : judge edition1 deck
+  by-closing : judge current deck
       ≡ cond (is11 k) (Judgement.refused 11 0) (cond (is12 k) (Judgement.refused 12 0) passes)
   unfolding concluded
   by-closing = judged-by deck (p .is)
@@ -154,7 +155,7 @@ module _ {deck : List ℕ} {a : Arrays} (p : Passed deck a) where
               known = k;
               taken = p .taken;
               holds = p .holds;
-              judging = subst (Rules.Judging edition1 nothingKnown (entries edition1 deck)) (p .is) (judging edition1 nothingKnown (entries edition1 deck));
+              judging = subst (Rules.Judging current nothingKnown (entries current deck)) (p .is) (judging current nothingKnown (entries current deck));
               is = by-closing ∙ ap (λ u. cond u (Judgement.refused 11 0) (cond (is12 k) (Judgement.refused 12 0) passes)) t ∙ ap (λ u. cond u (Judgement.refused 12 0) passes) s;
             };
         few = omega arith;

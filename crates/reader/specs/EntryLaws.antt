@@ -9,11 +9,10 @@ use lib.ListN.{length, take, drop}
 use lib.Seq.{length-take-le}
 use borrow.Author.Tests.{ne-eqb, eq-eqb}
 use Rattle.base.specs.Choice.{test-cases}
-use Rattle.base.specs.Edition.{edition1}
+use Rattle.base.specs.Current.{current}
+use Rattle.base.specs.Limits.{longestDeck}
 use Rattle.cards.specs.Cards as Cards
-use Rattle.cards.specs.Cards.{Entry, skipped, statement, entriesFrom}
-use Rattle.cards.specs.Packing.{packed}
-use Rattle.forms.specs.Contracts.{Wording}
+use Rattle.cards.specs.Entries.{Entry, skipped, statement, entriesFrom}
 use Rattle.judgement.specs.Deck as Deck
 use Rattle.judgement.specs.Deck.{judgeFrom, metBy, unplaced}
 use Rattle.judgement.specs.Known.{Known, numbers, isOneOf, learn}
@@ -21,28 +20,23 @@ use Rattle.judgement.specs.Refusals.{readStatement, statementNumber}
 use Rattle.language.specs.Keywords.{leading}
 use Rattle.met.specs.Holding.{Arrays, Holds}
 use Rattle.packer.specs.Gathering.{Gathers, entryOf}
+use Rattle.packer.specs.Keys.{LabelKey}
 use Rattle.packer.specs.declared.Gathered.{Gathered}
 use Rattle.naming.specs.HoldLaws.{held-shown, shown-held}
-use Rattle.reader.specs.Judging.{Held, Worded, Readied, Entered, Numbered, EntryNumbered, Going, EntryJudged}
-
--- a sound statement as the code has it
-pub wording : {text : List ℕ} {e : Gathered} {label raw : List ℕ} → Worded text e label raw → e .sound ≡ true
-    → Wording label raw (take (e .length) text) (e .label) (e .whole)
-wording w s = record { key = w .key; clean = w .clean s; short = w .short; bytes = sym (w .bytes); whole = w .whole }
+use Rattle.reader.specs.Judging.{Held, Readied, Entered, Numbered, EntryNumbered, Going, EntryJudged}
 
 -- an entry that is sound can be judged by its text
 pub readied : {text : List ℕ} {e : Gathered} {a : Arrays} → Entered text e a → e .sound ≡ true → Readied (take (e .length) text) e a
 readied {text} {e} r s =
-    let size = length-take-le (e .length) text (r .worded .fits) in
+    let size = length-take-le (e .length) text (r .fits) in
     record {
       label = r .label;
-      raw = r .raw;
-      wording = wording (r .worded) s;
+      keyed = r .keyed s;
       taken = r .taken;
       known = r .known;
       holds = r .holds;
       small = omega (arith, r .small);
-      room = omega (arith, r .room);
+      room = r .room;
     }
 
 module _ {text : List ℕ} {e : Gathered} {a : Arrays} where
@@ -53,12 +47,13 @@ module _ {text : List ℕ} {e : Gathered} {a : Arrays} where
       record {
         skips = λ _. (sym (ap (λ t. cond t 0 3) s), refl);
         judges =
-            λ _ label raw w.
+            λ _ label w.
             record {
               number =
                   λ taken k h.
+                  let bs = take (e .length) text in
                   sym
-                  (ap (λ t. statementNumber k (leading (packed raw) .kind) t (readStatement edition1 (isOneOf (numbers k)) unplaced label raw)) s);
+                  (ap (λ t. statementNumber k (leading bs .kind) t (readStatement current (isOneOf (numbers k)) unplaced label (e .whole) bs)) s);
               learnt = λ z. absurd (omega arith);
             };
       }
@@ -70,33 +65,22 @@ module _ {text : List ℕ} {e : Gathered} {a : Arrays} where
 
   -- a sound statement
   pub packed-numbered : {r : ℕ} {a′ : Arrays} → e .sound ≡ true → e .skipped ≡ false
-      → ((label raw : List ℕ) → Wording label raw (take (e .length) text) (e .label) (e .whole) → Numbered label raw true a r a′)
+      → ((label : List ℕ) → LabelKey label (e .label) → Numbered label (e .whole) (take (e .length) text) true a r a′)
       → EntryNumbered text e a r a′
   packed-numbered {r} {a′} s f n =
       record {
         skips = λ t. absurd (true≢false (sym t ∙ f));
-        judges = λ _ label raw w. subst (λ u. Numbered label raw u a r a′) (sym s) (n label raw (wording w s));
+        judges = λ _ label w. subst (λ u. Numbered label (e .whole) (take (e .length) text) u a r a′) (sym s) (n label (w s));
       }
 
 -- the entry that the code has gathered
 module _ {deck : List ℕ} {from : ℕ} {text : List ℕ} {e : Gathered} (g : Gathers deck from text e) where
-  pub gathered-worded : Worded text e (g .label) (g .raw)
-  gathered-worded =
-      record {
-        key = g .key;
-        clean = g .clean;
-        short = g .short;
-        bytes = g .bytes;
-        whole = g .whole;
-        fits = omega (arith, g .fits, g .size);
-      }
-
-  pub entered : {a : Arrays} → Held a from → length deck ≤ 32_768 → Entered text e a
+  pub entered : {a : Arrays} → Held a from → length deck ≤ longestDeck → Entered text e a
   entered h small =
       record {
         label = g .label;
-        raw = g .raw;
-        worded = gathered-worded;
+        keyed = g .keyed;
+        fits = omega (arith, g .fits, g .size);
         taken = from;
         known = h .known;
         holds = h .holds;
@@ -107,30 +91,32 @@ module _ {deck : List ℕ} {from : ℕ} {text : List ℕ} {e : Gathered} (g : Ga
   -- how the entries from here on are judged
   module _ (a a′ : Arrays) (number : ℕ) (n : EntryNumbered text e a number a′) (card : ℕ) (k : Known) (h : Holds a from k) where
     abbrev rest : List Entry
-    rest = entriesFrom edition1 (card + e .lines) (Cards.lines (drop (e .next) deck))
+    rest = entriesFrom current (card + e .lines) (Cards.lines (drop (e .next) deck))
 
     abbrev here : Deck.Judged
-    here = judgeFrom edition1 k (entriesFrom edition1 card (Cards.lines (drop from deck)))
+    here = judgeFrom current k (entriesFrom current card (Cards.lines (drop from deck)))
+
+    abbrev bytes : List ℕ
+    bytes = take (e .length) text
 
     abbrev kept : Known
-    kept =
-        learn k (leading (packed (g .raw)) .kind) (metBy (readStatement edition1 (isOneOf (numbers k)) unplaced (g .label) (g .raw)))
+    kept = learn k (leading bytes .kind) (metBy (readStatement current (isOneOf (numbers k)) unplaced (g .label) (e .whole) bytes))
 
     -- of a comment or blank line
-    skip-judged : e .skipped ≡ true → here ≡ elim (e .sound) [ true ↦ judgeFrom edition1 k rest | false ↦ Deck.Judged.refused 3 card ]
+    skip-judged : e .skipped ≡ true → here ≡ elim (e .sound) [ true ↦ judgeFrom current k rest | false ↦ Deck.Judged.refused 3 card ]
     unfolding judgeFrom entryOf
     skip-judged t =
-        ap (judgeFrom edition1 k) (g .entry card)
-        ∙ ap (λ u. judgeFrom edition1 k (cond u (skipped card (e .sound)) (statement card (e .sound) (g .label) (g .raw)) ∷ rest)) t
+        ap (judgeFrom current k) (g .entry card)
+        ∙ ap (λ u. judgeFrom current k (cond u (skipped card (e .sound)) (statement card (e .sound) (g .label) (e .whole) bytes) ∷ rest)) t
 
     -- of a statement
-    statement-judged : e .skipped ≡ false → here ≡ elim (eqb number 0) [ true ↦ judgeFrom edition1 kept rest | false ↦ Deck.Judged.refused number card ]
+    statement-judged : e .skipped ≡ false → here ≡ elim (eqb number 0) [ true ↦ judgeFrom current kept rest | false ↦ Deck.Judged.refused number card ]
     unfolding judgeFrom entryOf
     statement-judged f =
-        ap (judgeFrom edition1 k) (g .entry card)
-        ∙ ap (λ u. judgeFrom edition1 k (cond u (skipped card (e .sound)) (statement card (e .sound) (g .label) (g .raw)) ∷ rest)) f
-        ∙ ap {B = Deck.Judged} (λ m. elim (eqb m 0) [ true ↦ judgeFrom edition1 kept rest | false ↦ Deck.Judged.refused m card ])
-        (sym (n .judges f (g .label) (g .raw) gathered-worded .number from k h))
+        ap (judgeFrom current k) (g .entry card)
+        ∙ ap (λ u. judgeFrom current k (cond u (skipped card (e .sound)) (statement card (e .sound) (g .label) (e .whole) bytes) ∷ rest)) f
+        ∙ ap {B = Deck.Judged} (λ m. elim (eqb m 0) [ true ↦ judgeFrom current kept rest | false ↦ Deck.Judged.refused m card ])
+        (sym (n .judges f (g .label) (g .keyed) .number from k h))
 
     refuses-entry : (number ≡ 0 → ⊥) → here ≡ Deck.Judged.refused number card
     refuses-entry z =
@@ -140,11 +126,11 @@ module _ {deck : List ℕ} {from : ℕ} {text : List ℕ} {e : Gathered} (g : Ga
         (λ _ u. absurd (z (n .skips t .0 ∙ ap (λ v. cond v 0 3) u)))
         (λ _ u.
         skip-judged t
-        ∙ ap {B = Deck.Judged} (λ v. elim v [ true ↦ judgeFrom edition1 k rest | false ↦ Deck.Judged.refused 3 card ]) u
+        ∙ ap {B = Deck.Judged} (λ v. elim v [ true ↦ judgeFrom current k rest | false ↦ Deck.Judged.refused 3 card ]) u
         ∙ ap (λ m. Deck.Judged.refused m card) (sym (n .skips t .0 ∙ ap (λ v. cond v 0 3) u))) refl)
         (λ _ f.
         statement-judged f
-        ∙ ap {B = Deck.Judged} (λ v. elim v [ true ↦ judgeFrom edition1 kept rest | false ↦ Deck.Judged.refused number card ]) (ne-eqb number 0 z))
+        ∙ ap {B = Deck.Judged} (λ v. elim v [ true ↦ judgeFrom current kept rest | false ↦ Deck.Judged.refused number card ]) (ne-eqb number 0 z))
         refl
 
     goes-entry : number ≡ 0 → Going deck from card k (e .lines) (e .next) a′
@@ -160,18 +146,17 @@ module _ {deck : List ℕ} {from : ℕ} {text : List ℕ} {e : Gathered} (g : Ga
               (subst (Holds a (e .next)) (held-shown a from k h) (shown-held a from (e .next) k (omega (arith, g .onward)) h));
           rest =
               skip-judged t
-              ∙ ap {B = Deck.Judged} (λ v. elim v [ true ↦ judgeFrom edition1 k rest | false ↦ Deck.Judged.refused 3 card ]) u;
+              ∙ ap {B = Deck.Judged} (λ v. elim v [ true ↦ judgeFrom current k rest | false ↦ Deck.Judged.refused 3 card ]) u;
         })
         (λ _ u. let is : number ≡ 3 = n .skips t .0 ∙ ap (λ v. cond v 0 3) u in absurd (omega arith)) refl)
         (λ _ f.
         record {
           known = kept;
           holds =
-              n .judges f (g .label) (g .raw) gathered-worded .learnt z from k h (e .next)
-              (omega (arith, g .spare, ap length (g .bytes), length-take-le (e .length) text (gathered-worded .fits)));
+              n .judges f (g .label) (g .keyed) .learnt z from k h (e .next) (g .spare);
           rest =
               statement-judged f
-              ∙ ap {B = Deck.Judged} (λ v. elim v [ true ↦ judgeFrom edition1 kept rest | false ↦ Deck.Judged.refused number card ])
+              ∙ ap {B = Deck.Judged} (λ v. elim v [ true ↦ judgeFrom current kept rest | false ↦ Deck.Judged.refused number card ])
               (eq-eqb number 0 z);
         }) refl
 

@@ -3,15 +3,14 @@ use mathlib.Core.Bool.{Bool, true, false, cond}
 use mathlib.Core.List.{List}
 use mathlib.Core.Option.{Option, none, some}
 use mathlib.Core.Path.{_≡_, refl, sym, ap, ap₂, subst, _∙_}
-use Prim.Native.Nat.{ℕ, _+_, _≤_}
+use Prim.Native.Nat.{ℕ, _+_, _≤_, _<_}
 use native.Mathlib.Omega.{arith}
 use native.Mathlib.Nat.{zero-add}
 use lib.ListN.{length}
-use Rattle.base.specs.Edition.{edition1}
+use Rattle.base.specs.Current.{current}
 use Rattle.base.specs.Limits as Limits
 use Rattle.branches.specs.Places.{numberIn}
 use Rattle.calls.specs.Table.{allLiterals}
-use Rattle.cards.specs.Packing.{packed}
 use Rattle.branches.specs.declared.Row.{Row}
 use Rattle.forms.specs.Contracts.{Starts, Formed, Stepped, FormAnswer, FormRead, itemsIn, elementsIn}
 use Rattle.forms.specs.declared.Form as FormCode
@@ -33,31 +32,33 @@ use Rattle.met.specs.Known.{placesIn}
 use Rattle.met.specs.declared.Cursor.{Cursor}
 use Rattle.naming.specs.Arrays.{metFrom}
 use Rattle.naming.specs.HoldLaws.{entries-noted}
+use Rattle.packer.specs.Letters.{letters}
+use Rattle.packer.specs.Packs.{longestText}
 use Rattle.words.specs.Kinds.{kindOf}
 use Rattle.words.specs.declared.keywords.Kind.{Kind}
 use Rattle.packer.specs.declared.Gathered.{Gathered}
 use Rattle.reader.specs.Judging.{Stays, startAt, Readied, Numbered}
 
 -- what the judgement reads, and what the code reads
-module _ (label raw : List ℕ) (a : Arrays) (taken : ℕ) (k : Known) (h : Holds a taken k) where
+module _ (label : List ℕ) (whole : Bool) (text : List ℕ) (a : Arrays) (taken : ℕ) (k : Known) (h : Holds a taken k) where
   abbrev judged : Read (Option Statement)
-  judged = readStatement edition1 (isOneOf (numbers k)) unplaced label raw
+  judged = readStatement current (isOneOf (numbers k)) unplaced label whole text
 
   abbrev read : Read (Option Statement)
-  read = readStatement edition1 (numberIn (a .known)) (placesIn (a .known)) label raw
+  read = readStatement current (numberIn (a .known)) (placesIn (a .known)) label whole text
 
   -- the number is the same
   number-read : (kind : Keywords.Kind) (sound : Bool) → statementNumber k kind sound judged ≡ statementNumber k kind sound read
   number-read kind sound =
-      number-anywhere edition1 (isOneOf (numbers k)) (placesIn (a .known)) label raw k kind sound
-      ∙ ap (λ (ns : List (List ℕ)). statementNumber k kind sound (readStatement edition1 (isOneOf ns) (placesIn (a .known)) label raw))
+      number-anywhere current (isOneOf (numbers k)) (placesIn (a .known)) label whole text k kind sound
+      ∙ ap (λ (ns : List (List ℕ)). statementNumber k kind sound (readStatement current (isOneOf ns) (placesIn (a .known)) label whole text))
       (sym (h .numbers))
 
   -- so is what was met
   met-read : metBy judged ≡ metBy read
   met-read =
-      met-anywhere edition1 (isOneOf (numbers k)) (placesIn (a .known)) label raw
-      ∙ ap (λ (ns : List (List ℕ)). metBy (readStatement edition1 (isOneOf ns) (placesIn (a .known)) label raw)) (sym (h .numbers))
+      met-anywhere current (isOneOf (numbers k)) (placesIn (a .known)) label whole text
+      ∙ ap (λ (ns : List (List ℕ)). metBy (readStatement current (isOneOf ns) (placesIn (a .known)) label whole text)) (sym (h .numbers))
 
   module _ (kind : Keywords.Kind) where
     pub misplaced-number : isMisplaced k kind ≡ true → 4 ≡ statementNumber k kind true judged
@@ -123,14 +124,15 @@ module _ {most : ℕ} {table keys tags : List ℕ} {c : Cursor} {x : Read (Optio
       record { value = some (a .statement); formed = a .formed }
 
 -- a statement can be read
-pub starts : {a : Arrays} {taken : ℕ} {k : Known} {text keys tags : List ℕ} {c : Cursor} → Holds a taken k → length text ≤ 32_768
-    → length keys ≡ namesRoom → length tags ≡ namesRoom → c ≡ startAt (a .known) → Starts text keys tags c
-starts {a} {text = text} {keys} {tags} h small ks ts e =
+pub starts : {a : Arrays} {taken : ℕ} {k : Known} {text keys tags : List ℕ} {c : Cursor} → Holds a taken k → length text ≤ longestText
+    → letters text < namesRoom → length keys ≡ namesRoom → length tags ≡ namesRoom → c ≡ startAt (a .known) → Starts text keys tags c
+starts {a} {text = text} {keys} {tags} h small room ks ts e =
     subst (Starts text keys tags) (sym e)
     (record {
       textSize = small;
       at = refl;
       names = omega arith;
+      room = room;
       items = omega (arith, h .fewItems);
       elements = omega (arith, h .fewElements);
       literals = omega (arith, h .fewLiterals);
@@ -141,50 +143,48 @@ starts {a} {text = text} {keys} {tags} h small ks ts e =
 -- a statement that is read can be judged
 pub formed-judgeable : {text : List ℕ} {e : Gathered} {a : Arrays} {v : Option Statement} {table keys tags table′ keys′ tags′ : List ℕ} {c : Cursor}
     {x : Read (Option Statement)} {d : Cursor} → Readied text e a → c .names ≡ 0
-    → Formed v (length text + 1) table keys tags c x table′ keys′ tags′ d → Judgeable a keys′ tags′ d
+    → Formed v (letters text + 1) table keys tags c x table′ keys′ tags′ d → Judgeable a keys′ tags′ d
 formed-judgeable {a = a} {keys′ = keys′} {tags′ = tags′} {d = d} q z f =
     judgeable a keys′ tags′ d (q .taken) (q .known) (f .keysSize) (f .tagsSize) (omega (arith, q .room, f .names, f .few)) (q .holds)
 
 -- a statement that is read and judged has its number
-module _ (a : Arrays) (kind : Kind) (label raw text : List ℕ) (leads : kindOf kind ≡ leading text .kind) (bytes : packed raw ≡ text) where
-  is-kind : kindOf kind ≡ leading (packed raw) .kind
-  is-kind = leads ∙ ap (λ (bs : List ℕ). leading bs .kind) (sym bytes)
-
+module _ (a : Arrays) (kind : Kind) (label : List ℕ) (whole : Bool) (text : List ℕ) (leads : kindOf kind ≡ leading text .kind) where
   pub misplaced-numbered : {a′ : Arrays} → ((taken : ℕ) (k : Known) → Holds a taken k → isMisplaced k (kindOf kind) ≡ true)
-      → Numbered label raw true a 4 a′
+      → Numbered label whole text true a 4 a′
   misplaced-numbered m =
       record {
         number =
             λ taken k h.
-            misplaced-number label raw a taken k h (kindOf kind) (m taken k h)
-            ∙ ap (λ q. statementNumber k q true (judged label raw a taken k h)) is-kind;
+            misplaced-number label whole text a taken k h (kindOf kind) (m taken k h)
+            ∙ ap (λ q. statementNumber k q true (judged label whole text a taken k h)) leads;
         learnt = λ z. absurd (omega arith);
       }
 
   module _ (placed : (taken : ℕ) (k : Known) → Holds a taken k → isMisplaced k (kindOf kind) ≡ false) where
-    pub broken-numbered : {a′ : Arrays} → readStatement edition1 (numberIn (a .known)) (placesIn (a .known)) label raw ≡ broken
-        → Numbered label raw true a 5 a′
+    pub broken-numbered : {a′ : Arrays} → readStatement current (numberIn (a .known)) (placesIn (a .known)) label whole text ≡ broken
+        → Numbered label whole text true a 5 a′
     broken-numbered e =
         record {
           number =
               λ taken k h.
-              broken-number label raw a taken k h (kindOf kind) (placed taken k h) e
-              ∙ ap (λ q. statementNumber k q true (judged label raw a taken k h)) is-kind;
+              broken-number label whole text a taken k h (kindOf kind) (placed taken k h) e
+              ∙ ap (λ q. statementNumber k q true (judged label whole text a taken k h)) leads;
           learnt = λ z. absurd (omega arith);
         }
 
     pub formed-numbered : {v : Option Statement} {table keys tags table′ keys′ tags′ : List ℕ} {c d : Cursor} {a′ : Arrays} {r : ℕ}
         → c ≡ startAt (a .known)
-        → Formed v (length text + 1) table keys tags c (readStatement edition1 (numberIn (a .known)) (placesIn (a .known)) label raw) table′ keys′ tags′ d
+        → Formed v (letters text + 1) table keys tags c (readStatement current (numberIn (a .known)) (placesIn (a .known)) label whole text)
+        table′ keys′ tags′ d
         → StatementJudged a keys′ tags′ d kind a′ r
-        → Numbered label raw true a r a′
+        → Numbered label whole text true a r a′
     formed-numbered {v} {table} {keys} {tags} {table′} {keys′} {tags′} {c} {d} {a′} {r} start g j = from
       where
-        f : Formed v (length text + 1) table keys tags (startAt (a .known))
-            (readStatement edition1 (numberIn (a .known)) (placesIn (a .known)) label raw) table′ keys′ tags′ d
+        f : Formed v (letters text + 1) table keys tags (startAt (a .known))
+            (readStatement current (numberIn (a .known)) (placesIn (a .known)) label whole text) table′ keys′ tags′ d
         f =
-            subst (λ (z : Cursor). Formed v (length text + 1) table keys tags z
-            (readStatement edition1 (numberIn (a .known)) (placesIn (a .known)) label raw) table′ keys′ tags′ d) start g
+            subst (λ (z : Cursor). Formed v (letters text + 1) table keys tags z
+            (readStatement current (numberIn (a .known)) (placesIn (a .known)) label whole text) table′ keys′ tags′ d) start g
 
         entries : metFrom keys′ tags′ 0 (d .names) ≡ f .entries
         entries =
@@ -195,20 +195,20 @@ module _ (a : Arrays) (kind : Kind) (label raw text : List ℕ) (leads : kindOf 
             ≡ metIn (f .entries) (length (itemsIn v)) (f .rows) (length (allLiterals (elementsIn v)))
         met = ap (λ es. metIn es (length (itemsIn v)) (f .rows) (length (allLiterals (elementsIn v)))) entries
 
-        from : Numbered label raw true a r a′
+        from : Numbered label whole text true a r a′
         from =
             record {
               number =
                   λ taken k h.
-                  j .number taken k h _ _ _ (behind label raw a taken k h f)
+                  j .number taken k h _ _ _ (behind label whole text a taken k h f)
                   ∙ ap (metNumber k (kindOf kind)) met
-                  ∙ got-number label raw a taken k h (kindOf kind) (placed taken k h) (f .is)
-                  ∙ ap (λ q. statementNumber k q true (judged label raw a taken k h)) is-kind;
+                  ∙ got-number label whole text a taken k h (kindOf kind) (placed taken k h) (f .is)
+                  ∙ ap (λ q. statementNumber k q true (judged label whole text a taken k h)) leads;
               learnt =
                   λ z taken k h taken′ le.
-                  subst (Holds a′ taken′) (ap₂ (learn k) is-kind (met ∙ sym (got-met label raw a taken k h (f .is))))
-                  (j .learnt z taken k h _ _ _ (behind label raw a taken k h f) taken′
-                  (omega (arith, f .names, f .few, le, ap length bytes)));
+                  subst (Holds a′ taken′) (ap₂ (learn k) leads (met ∙ sym (got-met label whole text a taken k h (f .is))))
+                  (j .learnt z taken k h _ _ _ (behind label whole text a taken k h f) taken′
+                  (omega (arith, f .names, f .few, le)));
             }
 
 -- another number than 0 says nothing of the arrays of names

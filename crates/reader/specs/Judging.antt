@@ -5,11 +5,9 @@ use mathlib.Core.Path.{_≡_}
 use Prim.Native.Nat.{ℕ, _+_, _≤_, _<_}
 use lib.Dec.{eqb}
 use lib.ListN.{length, take, drop, getD}
-use Rattle.base.specs.Edition.{edition1}
-use Rattle.base.specs.Lists.{all}
+use Rattle.base.specs.Current.{current, tableSize}
 use Rattle.cards.specs.Cards as Cards
-use Rattle.cards.specs.Cards.{entriesFrom, entries}
-use Rattle.cards.specs.Packing.{packed, literalsWhole}
+use Rattle.cards.specs.Entries.{entriesFrom, entries}
 use Rattle.judgement.specs.Deck as Deck
 use Rattle.judgement.specs.Deck.{Judgement, accepted, judge, is11, is12, judgeFrom, metBy, unplaced, programOf, passed}
 use Rattle.judgement.specs.Known.{Known, nothingKnown, numbers, isOneOf, learn}
@@ -20,8 +18,9 @@ use Rattle.met.specs.Contracts.{namesRoom}
 use Rattle.met.specs.Holding.{Arrays, Holds}
 use Rattle.met.specs.Known.{endedAt, itemCountAt, elementCountAt, literalCountAt}
 use Rattle.met.specs.declared.Cursor.{Cursor}
-use Rattle.forms.specs.Contracts.{Wording}
-use Rattle.packer.specs.Keys.{keyOf, isKeyByte}
+use Rattle.packer.specs.Keys.{LabelKey}
+use Rattle.packer.specs.Letters.{letters}
+use Rattle.packer.specs.Packs.{longestText}
 use Rattle.packer.specs.declared.Gathered.{Gathered}
 use Rattle.reader.specs.declared.judge.EntryVerdict.{EntryVerdict}
 use Rattle.reader.specs.declared.judge.Verdict.{Verdict}
@@ -35,38 +34,28 @@ pub record Held (a : Arrays) (taken : ℕ) : Type 0 where
 pub record Lent (keys tags table : List ℕ) : Type 0 where
   pub keysSize : length keys ≡ namesRoom
   pub tagsSize : length tags ≡ namesRoom
-  pub tableSize : 28_672 ≤ length table
-
--- a statement of the deck by its label and its bytes, as the code has it in the first bytes of a text
-pub record Worded (text : List ℕ) (e : Gathered) (label raw : List ℕ) : Type 0 where
-  pub key : e .label ≡ keyOf label
-  pub clean : e .sound ≡ true → all isKeyByte label ≡ true
-  pub short : length label ≤ 8
-  pub bytes : take (e .length) text ≡ packed raw
-  pub whole : e .whole ≡ literalsWhole raw
-  pub fits : e .length ≤ length text
+  pub tableSize : tableSize ≤ length table
 
 -- there is a statement to be judged, with room for its names
 pub record Readied (text : List ℕ) (e : Gathered) (a : Arrays) : Type 0 where
   pub label : List ℕ
-  pub raw : List ℕ
-  pub wording : Wording label raw text (e .label) (e .whole)
+  pub keyed : LabelKey label (e .label)
   pub taken : ℕ
   pub known : Known
   pub holds : Holds a taken known
-  pub small : length text ≤ 32_768
-  pub room : taken + length text < namesRoom
+  pub small : length text ≤ longestText
+  pub room : taken + letters text < namesRoom
 
 -- there is an entry to be judged
 pub record Entered (text : List ℕ) (e : Gathered) (a : Arrays) : Type 0 where
   pub label : List ℕ
-  pub raw : List ℕ
-  pub worded : Worded text e label raw
+  pub keyed : e .sound ≡ true → LabelKey label (e .label)
+  pub fits : e .length ≤ length text
   pub taken : ℕ
   pub known : Known
   pub holds : Holds a taken known
-  pub small : e .length ≤ 32_768
-  pub room : taken + e .length < namesRoom
+  pub small : e .length ≤ longestText
+  pub room : taken + letters (take (e .length) text) < namesRoom
 
 -- where the number is 0 the arrays of names have their sizes still
 pub record Stays (r : ℕ) (keys tags : List ℕ) : Type 0 where
@@ -85,28 +74,29 @@ startAt known =
       longest = 0;
     }
 
--- the number of a statement, and what the arrays hold behind it where it is 0; its names take a byte each, its label one more
-pub record Numbered (label raw : List ℕ) (sound : Bool) (a : Arrays) (r : ℕ) (a′ : Arrays) : Type 0 where
+-- the number of a statement, and what the arrays hold behind it where it is 0; its names take a letter each, its label one more
+pub record Numbered (label : List ℕ) (whole : Bool) (text : List ℕ) (sound : Bool) (a : Arrays) (r : ℕ) (a′ : Arrays) : Type 0 where
   pub number : (taken : ℕ) (k : Known) → Holds a taken k
-      → r ≡ statementNumber k (leading (packed raw) .kind) sound (readStatement edition1 (isOneOf (numbers k)) unplaced label raw)
-  pub learnt : r ≡ 0 → (taken : ℕ) (k : Known) → Holds a taken k → (taken′ : ℕ) → taken + length (packed raw) < taken′
-      → Holds a′ taken′ (learn k (leading (packed raw) .kind) (metBy (readStatement edition1 (isOneOf (numbers k)) unplaced label raw)))
+      → r ≡ statementNumber k (leading text .kind) sound (readStatement current (isOneOf (numbers k)) unplaced label whole text)
+  pub learnt : r ≡ 0 → (taken : ℕ) (k : Known) → Holds a taken k → (taken′ : ℕ) → taken + letters text < taken′
+      → Holds a′ taken′ (learn k (leading text .kind) (metBy (readStatement current (isOneOf (numbers k)) unplaced label whole text)))
 
 -- the number of an entry; a comment or blank line changes nothing
 pub record EntryNumbered (text : List ℕ) (e : Gathered) (a : Arrays) (r : ℕ) (a′ : Arrays) : Type 0 where
   pub skips : e .skipped ≡ true → (r ≡ cond (e .sound) 0 3) × (a′ ≡ a)
-  pub judges : e .skipped ≡ false → (label raw : List ℕ) → Worded text e label raw → Numbered label raw (e .sound) a r a′
+  pub judges : e .skipped ≡ false → (label : List ℕ) → (e .sound ≡ true → LabelKey label (e .label))
+      → Numbered label (e .whole) (take (e .length) text) (e .sound) a r a′
 
 -- an entry of the deck is judged: refused with its card, or the rest is judged from what is known behind it
 pub record Going (deck : List ℕ) (from card : ℕ) (k : Known) (lines next : ℕ) (a′ : Arrays) : Type 0 where
   pub known : Known
   pub holds : Holds a′ next known
-  pub rest : judgeFrom edition1 k (entriesFrom edition1 card (Cards.lines (drop from deck)))
-      ≡ judgeFrom edition1 known (entriesFrom edition1 (card + lines) (Cards.lines (drop next deck)))
+  pub rest : judgeFrom current k (entriesFrom current card (Cards.lines (drop from deck)))
+      ≡ judgeFrom current known (entriesFrom current (card + lines) (Cards.lines (drop next deck)))
 
 pub record EntryJudged (deck : List ℕ) (from : ℕ) (a : Arrays) (r : EntryVerdict) (a′ : Arrays) : Type 0 where
   pub refuses : (r .number ≡ 0 → ⊥) → (card : ℕ) (k : Known) → Holds a from k
-      → judgeFrom edition1 k (entriesFrom edition1 card (Cards.lines (drop from deck))) ≡ Deck.Judged.refused (r .number) card
+      → judgeFrom current k (entriesFrom current card (Cards.lines (drop from deck))) ≡ Deck.Judged.refused (r .number) card
   pub goes : r .number ≡ 0 → (card : ℕ) (k : Known) → Holds a from k → Going deck from card k (r .lines) (r .next) a′
   pub onward : from < r .next
   pub paced : from + r .lines ≤ r .next
@@ -122,10 +112,10 @@ pub record Passed (deck : List ℕ) (a : Arrays) : Type 0 where
   pub taken : ℕ
   pub holds : Holds a taken known
   pub few : taken ≤ namesRoom
-  pub is : judgeFrom edition1 nothingKnown (entries edition1 deck) ≡ passed known
+  pub is : judgeFrom current nothingKnown (entries current deck) ≡ passed known
 
 pub record StatementsJudged (deck : List ℕ) (r : Verdict) (a : Arrays) : Type 0 where
-  pub refuses : (r .number ≡ 0 → ⊥) → judgeFrom edition1 nothingKnown (entries edition1 deck) ≡ Deck.Judged.refused (r .number) (r .card)
+  pub refuses : (r .number ≡ 0 → ⊥) → judgeFrom current nothingKnown (entries current deck) ≡ Deck.Judged.refused (r .number) (r .card)
   pub passes : r .number ≡ 0 → Passed deck a
   pub few : r .card ≤ length deck + 1
 
@@ -139,11 +129,11 @@ pub record Accepted (deck : List ℕ) (a : Arrays) : Type 0 where
   pub known : Known
   pub taken : ℕ
   pub holds : Holds a taken known
-  pub judging : Judging edition1 nothingKnown (entries edition1 deck) (passed known)
-  pub is : judge edition1 deck ≡ accepted (programOf edition1 known (entries edition1 deck))
+  pub judging : Judging current nothingKnown (entries current deck) (passed known)
+  pub is : judge current deck ≡ accepted (programOf current known (entries current deck))
 
 pub record DeckJudged (deck : List ℕ) (r : Verdict) (a : Arrays) : Type 0 where
-  pub refuses : (r .number ≡ 0 → ⊥) → judge edition1 deck ≡ Judgement.refused (r .number) (r .card)
+  pub refuses : (r .number ≡ 0 → ⊥) → judge current deck ≡ Judgement.refused (r .number) (r .card)
   pub accepts : r .number ≡ 0 → Accepted deck a
   pub few : r .card ≤ length deck + 1
   pub without : r .number ≡ 0 → r .card ≡ 0

@@ -5,16 +5,17 @@ use Prim.Native.Nat.{ℕ, _+_, _≤_, _<_}
 use native.Mathlib.Omega.{arith}
 use lib.ListN.{length, drop, getD, replicate, length-map}
 use borrow.Author.Tests.{lt-ltb, le-ltb}
-use Rattle.base.specs.Edition.{edition1}
+use Rattle.base.specs.Current.{current, tableSize}
+use Rattle.base.specs.Limits.{longestDeck}
 use Rattle.base.specs.ListLaws.{length-stretch}
 use Rattle.calls.specs.Accepted.{accepted-isProgram}
-use Rattle.calls.specs.Calls.{readCall, readJudged, longestDeck}
+use Rattle.calls.specs.Calls.{readCall, readJudged}
 use Rattle.calls.specs.PromiseLaws.{read-promise}
 use Rattle.calls.specs.Promises.{ReadPromise, readBack}
 use Rattle.calls.specs.Splices.{splice}
 use Rattle.calls.specs.Table.{header}
 use Rattle.calls.specs.TableLaws.{in-range}
-use Rattle.cards.specs.Cards.{entries}
+use Rattle.cards.specs.Entries.{entries}
 use Rattle.cells.specs.CellLaws.{zeros-front}
 use Rattle.judgement.specs.Deck.{judge, programOf, stepsFrom}
 use Rattle.judgement.specs.Known as Known
@@ -33,13 +34,13 @@ use Rattle.reader.specs.declared.steps.Progress.{Progress}
 -- the steps and the header of an accepted deck's program are written
 pub record TableWritten (deck known t t′ : List ℕ) : Type 0 where
   pub written : (w : Whole deck known)
-      → t′ ≡ splice (withAllSteps t 0 0 0 0 (stepsFrom edition1 (w .whole) 0 (entries edition1 deck))) 0 (header (programOf edition1 (w .whole) (entries edition1 deck)))
+      → t′ ≡ splice (withAllSteps t 0 0 0 0 (stepsFrom current (w .whole) 0 (entries current deck))) 0 (header (programOf current (w .whole) (entries current deck)))
 
 -- the deck is judged, and the table left accordingly
 pub record DeckRead (deck t : List ℕ) (r : Verdict) (t′ : List ℕ) : Type 0 where
-  pub number : r .number ≡ readJudged edition1 t (judge edition1 deck) .number
-  pub card : r .card ≡ readJudged edition1 t (judge edition1 deck) .card
-  pub table : t′ ≡ readJudged edition1 t (judge edition1 deck) .table
+  pub number : r .number ≡ readJudged current t (judge current deck) .number
+  pub card : r .card ≡ readJudged current t (judge current deck) .card
+  pub table : t′ ≡ readJudged current t (judge current deck) .table
   pub few : r .card ≤ length deck + 1
 
 -- the counts of strings and numbers
@@ -72,7 +73,7 @@ table-written d q =
     }
 
 -- an accepted deck with all its names known
-pub accepted-whole : {deck : List ℕ} {a : Arrays} → length deck ≤ 32_768 → Accepted deck a → Whole deck (a .known)
+pub accepted-whole : {deck : List ℕ} {a : Arrays} → length deck ≤ longestDeck → Accepted deck a → Whole deck (a .known)
 accepted-whole {deck} {a} small c =
     record {
       whole = c .known;
@@ -81,56 +82,56 @@ accepted-whole {deck} {a} small c =
       taken = c .taken;
       holds = c .holds;
       again = passed-again (c .judging) .1;
-      fits = in-range edition1 (programOf edition1 (c .known) (entries edition1 deck)) (accepted-isProgram edition1 deck _ small (c .is));
+      fits = in-range current (programOf current (c .known) (entries current deck)) (accepted-isProgram current deck _ small (c .is));
     }
 
 -- the whole reading
-module _ {deck t : List ℕ} {v : Verdict} {a : Arrays} (small : length deck ≤ 32_768) (j : DeckJudged deck v a) {u : List ℕ}
-    (zeroed : u ≡ splice t 0 (replicate 28672 0)) where
+module _ {deck t : List ℕ} {v : Verdict} {a : Arrays} (small : length deck ≤ longestDeck) (j : DeckJudged deck v a) {u : List ℕ}
+    (zeroed : u ≡ splice t 0 (replicate tableSize 0)) where
   pub refused-read : (v .number ≡ 0 → ⊥) → DeckRead deck t v u
-  unfolding readJudged edition1
+  unfolding readJudged current
   refused-read z =
       let is = j .refuses z in
       record {
-        number = sym (ap (λ x. readJudged edition1 t x .number) is);
-        card = sym (ap (λ x. readJudged edition1 t x .card) is);
-        table = zeroed ∙ zeros-front t 28672 ∙ sym (ap (λ x. readJudged edition1 t x .table) is);
+        number = sym (ap (λ x. readJudged current t x .number) is);
+        card = sym (ap (λ x. readJudged current t x .card) is);
+        table = zeroed ∙ zeros-front t tableSize ∙ sym (ap (λ x. readJudged current t x .table) is);
         few = j .few;
       }
 
   pub accepted-read : (z : v .number ≡ 0) → {t′ : List ℕ} → TableWritten deck (a .known) u t′ → DeckRead deck t v t′
-  unfolding readJudged edition1 programOf accepted-whole
+  unfolding readJudged current programOf accepted-whole
   accepted-read z w =
       let c = j .accepts z in
       let whole = accepted-whole small c in
       let is = c .is in
-      let p = programOf edition1 (c .known) (entries edition1 deck) in
+      let p = programOf current (c .known) (entries current deck) in
       record {
-        number = z ∙ sym (ap (λ x. readJudged edition1 t x .number) is);
-        card = j .without z ∙ sym (ap (λ x. readJudged edition1 t x .card) is);
+        number = z ∙ sym (ap (λ x. readJudged current t x .number) is);
+        card = j .without z ∙ sym (ap (λ x. readJudged current t x .card) is);
         table =
             w .written whole
-            ∙ ap (λ (x : List ℕ). splice (withAllSteps x 0 0 0 0 (stepsFrom edition1 (c .known) 0 (entries edition1 deck))) 0 (header p))
-            (zeroed ∙ zeros-front t 28672)
-            ∙ image-written p (drop 28672 t) (accepted-isProgram edition1 deck p small is)
-            ∙ sym (ap (λ x. readJudged edition1 t x .table) is);
+            ∙ ap (λ (x : List ℕ). splice (withAllSteps x 0 0 0 0 (stepsFrom current (c .known) 0 (entries current deck))) 0 (header p))
+            (zeroed ∙ zeros-front t tableSize)
+            ∙ image-written p (drop tableSize t) (accepted-isProgram current deck p small is)
+            ∙ sym (ap (λ x. readJudged current t x .table) is);
         few = j .few;
       }
 
 -- the call by the sizes of deck and table
 module _ (deck table : List ℕ) where
-  pub long-deck : 32_768 < length deck → ReadPromise edition1 deck table (readBack 1 0 table)
-  unfolding readCall longestDeck
-  long-deck h = read-promise (rw (lt-ltb 32768 (length deck) h))
+  pub long-deck : longestDeck < length deck → ReadPromise current deck table (readBack 1 0 table)
+  unfolding readCall
+  long-deck h = read-promise (rw (lt-ltb longestDeck (length deck) h))
 
-  pub small-table : length deck ≤ 32_768 → length table < 28_672 → ReadPromise edition1 deck table (readBack 2 0 table)
-  unfolding readCall longestDeck edition1
-  small-table h g = read-promise (rw (le-ltb 32768 (length deck) h, lt-ltb (length table) 28672 g))
+  pub small-table : length deck ≤ longestDeck → length table < tableSize → ReadPromise current deck table (readBack 2 0 table)
+  unfolding readCall current
+  small-table h g = read-promise (rw (le-ltb longestDeck (length deck) h, lt-ltb (length table) tableSize g))
 
-  pub read-with : {v : Verdict} {t′ : List ℕ} {card : ℕ} → length deck ≤ 32_768 → 28_672 ≤ length table → DeckRead deck table v t′ → card ≡ v .card
-      → ReadPromise edition1 deck table (readBack (v .number) card t′)
-  unfolding readCall longestDeck edition1
+  pub read-with : {v : Verdict} {t′ : List ℕ} {card : ℕ} → length deck ≤ longestDeck → tableSize ≤ length table → DeckRead deck table v t′ → card ≡ v .card
+      → ReadPromise current deck table (readBack (v .number) card t′)
+  unfolding readCall current
   read-with h g r c =
-      let judged = readJudged edition1 table (judge edition1 deck) in
-      let called : judged ≡ readCall edition1 deck table = rw (le-ltb 32768 (length deck) h, le-ltb (length table) 28672 g) in
+      let judged = readJudged current table (judge current deck) in
+      let called : judged ≡ readCall current deck table = rw (le-ltb longestDeck (length deck) h, le-ltb (length table) tableSize g) in
       read-promise ((λ i. readBack (r .number i) ((c ∙ r .card) i) (r .table i)) ∙ called)

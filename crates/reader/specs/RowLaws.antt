@@ -6,6 +6,7 @@ use Prim.Native.Nat.{ℕ, _+_, _*_, _≤_, _<_}
 use native.Mathlib.Omega.{arith}
 use lib.ListN.{length, set, length-set}
 use borrow.Author.Tests.{lt-ltb, le-ltb}
+use Rattle.base.specs.Current.{tableSize}
 use Rattle.branches.specs.Rows.{rowMeaning}
 use Rattle.branches.specs.declared.Row.{Row}
 use Rattle.calls.specs.Numerals.{inBytes}
@@ -63,7 +64,7 @@ unfolding withRow stepsAt
 row-behind t k card r h = sym (ap (λ b. cond b (splice t (64 + 24 * k) (rowBytes card r)) t) (le-ltb k 256 h))
 
 -- the header
-pub header-put : (t : List ℕ) {a b c d e f : List ℕ} (steps strings numbers elements items literals : ℕ) → 28_672 ≤ length t
+pub header-put : (t : List ℕ) {a b c d e f : List ℕ} (steps strings numbers elements items literals : ℕ) → tableSize ≤ length t
     → a ≡ splice (set (set t 0 1) 1 0) 2 (inBytes 2 steps) → b ≡ splice a 4 (inBytes 2 strings) → c ≡ splice b 6 (inBytes 2 numbers)
     → d ≡ splice c 8 (inBytes 2 elements) → e ≡ splice d 10 (inBytes 2 items) → f ≡ splice e 12 (inBytes 2 literals)
     → f ≡ withHeader t steps strings numbers elements items literals

@@ -5,23 +5,26 @@ use mathlib.Core.Option.{Option, none, some}
 use mathlib.Core.Path.{_≡_}
 use Prim.Native.Nat.{ℕ, _+_, _≤_, _<_}
 use lib.ListN.{length, take, drop, set}
-use Rattle.base.specs.Edition.{edition1}
+use Rattle.base.specs.Current.{current}
 use Rattle.branches.specs.Places.{numberIn}
 use Rattle.calls.specs.TableLaws.{InRange}
 use Rattle.calls.specs.Table.{allElements, allItems, allLiterals}
 use Rattle.cards.specs.Cards as Cards
-use Rattle.cards.specs.Cards.{Entry, entriesFrom, entries}
-use Rattle.forms.specs.Contracts.{Wording, itemsIn, elementsIn}
+use Rattle.cards.specs.Entries.{Entry, entriesFrom, entries}
+use Rattle.forms.specs.Contracts.{itemsIn, elementsIn}
 use Rattle.judgement.specs.Deck.{stepsFrom, programOf}
 use Rattle.judgement.specs.Known.{Known, nothingKnown}
 use Rattle.judgement.specs.Placed.Again.{Again}
 use Rattle.judgement.specs.Refusals.{readStatement}
 use Rattle.language.specs.Program.{Statement, Step}
 use Rattle.language.specs.Reading.{Met, got}
+use Rattle.met.specs.Bounds.{farEnough}
 use Rattle.met.specs.Contracts.{namesRoom}
 use Rattle.met.specs.Holding.{Arrays, Holds}
 use Rattle.met.specs.Known.{placesIn, nextAt}
 use Rattle.met.specs.declared.Cursor.{Cursor}
+use Rattle.packer.specs.Keys.{LabelKey}
+use Rattle.packer.specs.Packs.{longestText}
 use Rattle.packer.specs.declared.Gathered.{Gathered}
 use Rattle.reader.specs.Writing.{withStep, withAllSteps}
 use Rattle.reader.specs.declared.steps.Progress.{Progress}
@@ -36,7 +39,7 @@ pub record Small (p : Progress) : Type 0 where
   pub elements : p .elements ≤ 1024
   pub literals : p .literals ≤ 4096
   pub steps : p .steps ≤ 256
-  pub card : p .card ≤ 40_000
+  pub card : p .card ≤ farEnough
 
 -- a statement is a step of the program, or none
 abbrev pub stepCount : Option Statement → ℕ
@@ -57,11 +60,11 @@ pub record Written (v : Option Statement) (e : Gathered) (p : Progress) (t : Lis
   pub from : r .from ≡ e .next
   pub card : r .card ≡ p .card + e .lines
 
--- as its text says, whatever its label and bytes are; the arrays of names have their sizes still
+-- as its text says, whatever its label is; the arrays of names have their sizes still
 abbrev pub PackedWritten : (text known : List ℕ) (e : Gathered) (p : Progress) (t : List ℕ) (r : Progress) (t′ keys′ tags′ : List ℕ) → Type 0
 PackedWritten text known e p t r t′ keys′ tags′ =
-    (label raw : List ℕ) → Wording label raw text (e .label) (e .whole) → (v : Option Statement) (m : Met) (rest : List ℕ)
-    → readStatement edition1 (numberIn known) (placesIn known) label raw ≡ got v m rest
+    (label : List ℕ) → LabelKey label (e .label) → (v : Option Statement) (m : Met) (rest : List ℕ)
+    → readStatement current (numberIn known) (placesIn known) label (e .whole) text ≡ got v m rest
     → Written v e p t r t′ × (length keys′ ≡ namesRoom) × (length tags′ ≡ namesRoom)
 
 -- behind an entry that makes no step
@@ -97,10 +100,10 @@ pub record GatheredWritten (text known keys tags : List ℕ) (e : Gathered) (p :
 
 -- the entries from here on, and the steps that they make
 abbrev pub entriesLeft : List ℕ → Progress → List Entry
-entriesLeft deck p = entriesFrom edition1 (p .card) (Cards.lines (drop (p .from) deck))
+entriesLeft deck p = entriesFrom current (p .card) (Cards.lines (drop (p .from) deck))
 
 abbrev pub stepsLeft : List ℕ → Known → Progress → List Step
-stepsLeft deck whole p = stepsFrom edition1 whole (p .steps) (entriesLeft deck p)
+stepsLeft deck whole p = stepsFrom current whole (p .steps) (entriesLeft deck p)
 
 -- what is written from p on is the same as what is written from r on, and no more and no less is counted
 pub record Continues (deck : List ℕ) (whole : Known) (p : Progress) (t : List ℕ) (r : Progress) (t′ : List ℕ) : Type 0 where
@@ -115,7 +118,7 @@ pub record Continues (deck : List ℕ) (whole : Known) (p : Progress) (t : List 
 -- the entries from here on are those of a deck that passed, read with the places of the whole deck
 pub record Resumes (deck : List ℕ) (whole : Known) (p : Progress) : Type 0 where
   pub run : Known
-  pub reads : Again edition1 whole run (entriesLeft deck p)
+  pub reads : Again current whole run (entriesLeft deck p)
   pub steps : run .steps ≡ p .steps
 
 -- an entry is written
@@ -148,7 +151,7 @@ pub record StillHeld (deck : List ℕ) (whole : Known) (a : Arrays) (taken : ℕ
 
 -- an entry of an accepted deck is written
 pub record StepWritten (deck known : List ℕ) (p : Progress) (t : List ℕ) (r : Progress) (known′ text′ keys′ tags′ t′ : List ℕ) : Type 0 where
-  pub textSize : length text′ ≡ 32_768
+  pub textSize : length text′ ≡ longestText
   pub written : (a : Arrays) → a .known ≡ known → (taken : ℕ) (whole : Known) → Holds a taken whole → Resumes deck whole p
       → StillHeld deck whole a taken p t r known′ keys′ tags′ t′
 
@@ -159,8 +162,8 @@ pub record Whole (deck known : List ℕ) : Type 0 where
   pub same : arrays .known ≡ known
   pub taken : ℕ
   pub holds : Holds arrays taken whole
-  pub again : Again edition1 whole nothingKnown (entries edition1 deck)
-  pub fits : InRange edition1 (programOf edition1 whole (entries edition1 deck))
+  pub again : Again current whole nothingKnown (entries current deck)
+  pub fits : InRange current (programOf current whole (entries current deck))
 
 -- all its steps are written, and counted
 pub record StepsWritten (steps : List Step) (t : List ℕ) (r : Progress) (t′ : List ℕ) : Type 0 where

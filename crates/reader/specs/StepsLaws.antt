@@ -10,16 +10,16 @@ use lib.Dec.{eqb}
 use lib.ListN.{length, take, drop, getD, set, length-append, length-set}
 use lib.Seq.{getD-set-other, getD-set-same, take-set-le, drop-set-add}
 use Rattle.base.specs.Choice.{test-cases}
-use Rattle.base.specs.Edition.{edition1}
+use Rattle.base.specs.Current.{current}
+use Rattle.base.specs.Limits.{longestDeck}
 use Rattle.branches.specs.Places.{numberIn}
 use Rattle.calls.specs.Table.{allElements, allItems, allLiterals, elementsOf, itemsOf}
 use Rattle.cards.specs.Cards as Cards
 use Rattle.calls.specs.TableLaws.{InRange}
 use Rattle.calls.specs.YieldingForms.{literals-append}
-use Rattle.cards.specs.Cards.{Entry, skipped, statement, entriesFrom, entries}
-use Rattle.cards.specs.Packing.{packed}
+use Rattle.cards.specs.Entries.{Entry, skipped, statement, entriesFrom, entries}
 use Rattle.closing.specs.HeldLaws.{held-places}
-use Rattle.forms.specs.Contracts.{Wording, itemsIn, elementsIn}
+use Rattle.forms.specs.Contracts.{itemsIn, elementsIn}
 use Rattle.judgement.specs.Deck.{stepsFrom, stepRead, placesOf, programOf}
 use Rattle.judgement.specs.Known.{Known, nothingKnown, numbers, isOneOf, isStep, learn}
 use Rattle.judgement.specs.Placed.Again.{Again, past, reads, IsStep}
@@ -35,36 +35,35 @@ use Rattle.met.specs.Known.{Counted, placesIn, nextAt, stringKeys, numberKeys}
 use Rattle.packer.specs.Gathering.{Gathers, entryOf}
 use Rattle.packer.specs.LineLaws.{entries-behind}
 use Rattle.packer.specs.declared.Gathered.{Gathered}
-use Rattle.reader.specs.EntryLaws.{gathered-worded, wording}
 use Rattle.reader.specs.Steps.{Written, Continues, Resumes, EntryWritten, entriesLeft, stepsLeft, stepCount, PackedWritten, passedBy, GatheredWritten}
 use Rattle.reader.specs.Steps.{withKnown, StillHeld, StepWritten, Whole, StepsWritten, Small}
 use Rattle.reader.specs.Writing.{withAllSteps}
 use Rattle.reader.specs.declared.steps.Progress.{Progress}
 
 -- a statement read again
-pub record Reread (whole k : Known) (sound : Bool) (label raw : List ℕ) (es : List Entry) : Type 0 where
+pub record Reread (whole k : Known) (sound : Bool) (label : List ℕ) (complete : Bool) (text : List ℕ) (es : List Entry) : Type 0 where
   pub value : Option Statement
   pub met : Met
   pub rest : List ℕ
-  pub is : readStatement edition1 (isOneOf (numbers whole)) (placesOf whole (suc (k .steps))) label raw ≡ got value met rest
-  pub step : IsStep (isStep (leading (packed raw) .kind)) value
-  pub again : Again edition1 whole (learn k (leading (packed raw) .kind) met) es
+  pub is : readStatement current (isOneOf (numbers whole)) (placesOf whole (suc (k .steps))) label complete text ≡ got value met rest
+  pub step : IsStep (isStep (leading text .kind)) value
+  pub again : Again current whole (learn k (leading text .kind) met) es
   pub whether : sound ≡ true
 
-again-statement : {whole k : Known} {card : ℕ} {sound : Bool} {label raw : List ℕ} {es : List Entry}
-    → Again edition1 whole k (statement card sound label raw ∷ es) → Reread whole k sound label raw es
+again-statement : {whole k : Known} {card : ℕ} {sound : Bool} {label : List ℕ} {complete : Bool} {text : List ℕ} {es : List Entry}
+    → Again current whole k (statement card sound label complete text ∷ es) → Reread whole k sound label complete text es
 again-statement (reads s m rest q step p used next j) =
     record { value = s; met = m; rest = rest; is = q; step = step; again = j; whether = refl }
 
 again-skipped : {whole k : Known} {card : ℕ} {sound : Bool} {es : List Entry}
-    → Again edition1 whole k (skipped card sound ∷ es) → Again edition1 whole k es
+    → Again current whole k (skipped card sound ∷ es) → Again current whole k es
 again-skipped (past j) = j
 
 -- the steps known behind a statement
-learnt-steps : (k : Known) (raw : List ℕ) (m : Met) (v : Option Statement) → IsStep (isStep (leading (packed raw) .kind)) v
-    → learn k (leading (packed raw) .kind) m .steps ≡ k .steps + stepCount v
+learnt-steps : (k : Known) (text : List ℕ) (m : Met) (v : Option Statement) → IsStep (isStep (leading text .kind)) v
+    → learn k (leading text .kind) m .steps ≡ k .steps + stepCount v
 unfolding learn
-learnt-steps k raw m v i = counted (isStep (leading (packed raw) .kind)) v i
+learnt-steps k text m v i = counted (isStep (leading text .kind)) v i
   where
     counted : (t : Bool) (v : Option Statement) → IsStep t v → cond t (suc (k .steps)) (k .steps) ≡ k .steps + stepCount v
     counted true none i = absurd i
@@ -110,45 +109,51 @@ module _ {deck : List ℕ} {whole : Known} {e : Gathered} {p : Progress} {t : Li
       }
 
 -- the step that a statement makes, and those behind it
-steps-none : (whole : Known) (n card : ℕ) (sound : Bool) (label raw : List ℕ) (es : List Entry) {m : Met} {rest : List ℕ}
-    → readStatement edition1 (isOneOf (numbers whole)) (placesOf whole (suc n)) label raw ≡ got none m rest
-    → stepsFrom edition1 whole n (statement card sound label raw ∷ es) ≡ stepsFrom edition1 whole n es
+steps-none : (whole : Known) (n card : ℕ) (sound : Bool) (label : List ℕ) (complete : Bool) (text : List ℕ) (es : List Entry)
+    {m : Met} {rest : List ℕ}
+    → readStatement current (isOneOf (numbers whole)) (placesOf whole (suc n)) label complete text ≡ got none m rest
+    → stepsFrom current whole n (statement card sound label complete text ∷ es) ≡ stepsFrom current whole n es
 unfolding stepsFrom stepRead
-steps-none whole n card sound label raw es q =
-    ap {B = List Step} (λ x. let read = stepRead card x in read ++ stepsFrom edition1 whole (elim read [ [] ↦ n | s ∷ ss ↦ suc n ]) es) q
+steps-none whole n card sound label complete text es q =
+    ap {B = List Step} (λ x. let read = stepRead card x in read ++ stepsFrom current whole (elim read [ [] ↦ n | s ∷ ss ↦ suc n ]) es) q
 
-steps-some : (whole : Known) (n card : ℕ) (sound : Bool) (label raw : List ℕ) (es : List Entry) {s : Statement} {m : Met} {rest : List ℕ}
-    → readStatement edition1 (isOneOf (numbers whole)) (placesOf whole (suc n)) label raw ≡ got (some s) m rest
-    → stepsFrom edition1 whole n (statement card sound label raw ∷ es)
-    ≡ record { card = card; statement = s } ∷ stepsFrom edition1 whole (suc n) es
+steps-some : (whole : Known) (n card : ℕ) (sound : Bool) (label : List ℕ) (complete : Bool) (text : List ℕ) (es : List Entry)
+    {s : Statement} {m : Met} {rest : List ℕ}
+    → readStatement current (isOneOf (numbers whole)) (placesOf whole (suc n)) label complete text ≡ got (some s) m rest
+    → stepsFrom current whole n (statement card sound label complete text ∷ es)
+    ≡ record { card = card; statement = s } ∷ stepsFrom current whole (suc n) es
 unfolding stepsFrom stepRead
-steps-some whole n card sound label raw es q =
-    ap {B = List Step} (λ x. let read = stepRead card x in read ++ stepsFrom edition1 whole (elim read [ [] ↦ n | s ∷ ss ↦ suc n ]) es) q
+steps-some whole n card sound label complete text es q =
+    ap {B = List Step} (λ x. let read = stepRead card x in read ++ stepsFrom current whole (elim read [ [] ↦ n | s ∷ ss ↦ suc n ]) es) q
 
 -- what the code reads with is what the deck's program is read with
-read-again : (a : Arrays) (taken : ℕ) (whole : Known) → Holds a taken whole → (n : ℕ) → getD (a .known) nextAt 0 ≡ n → (label raw : List ℕ)
-    → readStatement edition1 (numberIn (a .known)) (placesIn (a .known)) label raw
-    ≡ readStatement edition1 (isOneOf (numbers whole)) (placesOf whole n) label raw
-read-again a taken whole h n e label raw =
-    ap (λ (ns : List (List ℕ)). readStatement edition1 (isOneOf ns) (placesIn (a .known)) label raw) (h .numbers)
-    ∙ ap (λ at. readStatement edition1 (isOneOf (numbers whole)) at label raw) (held-places a taken whole h n e)
+read-again : (a : Arrays) (taken : ℕ) (whole : Known) → Holds a taken whole → (n : ℕ) → getD (a .known) nextAt 0 ≡ n
+    → (label : List ℕ) (complete : Bool) (text : List ℕ)
+    → readStatement current (numberIn (a .known)) (placesIn (a .known)) label complete text
+    ≡ readStatement current (isOneOf (numbers whole)) (placesOf whole n) label complete text
+read-again a taken whole h n e label complete text =
+    ap (λ (ns : List (List ℕ)). readStatement current (isOneOf ns) (placesIn (a .known)) label complete text) (h .numbers)
+    ∙ ap (λ at. readStatement current (isOneOf (numbers whole)) at label complete text) (held-places a taken whole h n e)
 
 -- the entry that the code has gathered
 module _ {deck text : List ℕ} {e : Gathered} {p : Progress} (g : Gathers deck (p .from) text e) (whole : Known) (again : Resumes deck whole p) where
   abbrev rest : List Entry
-  rest = entriesFrom edition1 (p .card + e .lines) (Cards.lines (drop (e .next) deck))
+  rest = entriesFrom current (p .card + e .lines) (Cards.lines (drop (e .next) deck))
+
+  abbrev bytes : List ℕ
+  bytes = take (e .length) text
 
   pub skipped-written : (t : List ℕ) → e .skipped ≡ true → EntryWritten deck whole p t (passedBy p e) t
   unfolding entryOf stepsFrom
   skipped-written t s =
       let here : entriesLeft deck p ≡ skipped (p .card) (e .sound) ∷ rest =
-      g .entry (p .card) ∙ ap (λ u. cond u (skipped (p .card) (e .sound)) (statement (p .card) (e .sound) (g .label) (g .raw)) ∷ rest) s in
+      g .entry (p .card) ∙ ap (λ u. cond u (skipped (p .card) (e .sound)) (statement (p .card) (e .sound) (g .label) (e .whole) bytes) ∷ rest) s in
       record {
-        onward = onward-skip refl refl refl refl refl (ap (stepsFrom edition1 whole (p .steps)) here);
+        onward = onward-skip refl refl refl refl refl (ap (stepsFrom current whole (p .steps)) here);
         again =
             record {
               run = again .run;
-              reads = again-skipped (subst (Again edition1 whole (again .run)) here (again .reads));
+              reads = again-skipped (subst (Again current whole (again .run)) here (again .reads));
               steps = again .steps;
             };
         further = g .onward;
@@ -157,22 +162,18 @@ module _ {deck text : List ℕ} {e : Gathered} {p : Progress} (g : Gathers deck 
       }
 
   module _ (f : e .skipped ≡ false) where
-    here : entriesLeft deck p ≡ statement (p .card) (e .sound) (g .label) (g .raw) ∷ rest
+    here : entriesLeft deck p ≡ statement (p .card) (e .sound) (g .label) (e .whole) bytes ∷ rest
     unfolding entryOf
-    here = g .entry (p .card) ∙ ap (λ u. cond u (skipped (p .card) (e .sound)) (statement (p .card) (e .sound) (g .label) (g .raw)) ∷ rest) f
+    here = g .entry (p .card) ∙ ap (λ u. cond u (skipped (p .card) (e .sound)) (statement (p .card) (e .sound) (g .label) (e .whole) bytes) ∷ rest) f
 
-    reread : Reread whole (again .run) (e .sound) (g .label) (g .raw) rest
-    reread = again-statement (subst (Again edition1 whole (again .run)) here (again .reads))
+    reread : Reread whole (again .run) (e .sound) (g .label) (e .whole) bytes rest
+    reread = again-statement (subst (Again current whole (again .run)) here (again .reads))
 
-    pub is-sound : e .sound ≡ true
-    is-sound = reread .whether
-
-    pub again-worded : Wording (g .label) (g .raw) (take (e .length) text) (e .label) (e .whole)
-    again-worded = wording (gathered-worded g) is-sound
-
-    read : readStatement edition1 (isOneOf (numbers whole)) (placesOf whole (suc (p .steps))) (g .label) (g .raw)
+    read : readStatement current (isOneOf (numbers whole)) (placesOf whole (suc (p .steps))) (g .label) (e .whole) bytes
         ≡ got (reread .value) (reread .met) (reread .rest)
-    read = ap (λ n. readStatement edition1 (isOneOf (numbers whole)) (placesOf whole (suc n)) (g .label) (g .raw)) (sym (again .steps)) ∙ reread .is
+    read =
+        ap (λ n. readStatement current (isOneOf (numbers whole)) (placesOf whole (suc n)) (g .label) (e .whole) bytes) (sym (again .steps))
+        ∙ reread .is
 
     module _ {t t′ : List ℕ} {r : Progress} where
       to-written : (v : Option Statement) → v ≡ reread .value → Written v e p t r t′ → EntryWritten deck whole p t r t′
@@ -181,10 +182,10 @@ module _ {deck text : List ℕ} {e : Gathered} {p : Progress} (g : Gathers deck 
             onward = onward v q w;
             again =
                 record {
-                  run = learn (again .run) (leading (packed (g .raw)) .kind) (reread .met);
-                  reads = subst (Again edition1 whole (learn (again .run) (leading (packed (g .raw)) .kind) (reread .met))) (sym entries) (reread .again);
+                  run = learn (again .run) (leading bytes .kind) (reread .met);
+                  reads = subst (Again current whole (learn (again .run) (leading bytes .kind) (reread .met))) (sym entries) (reread .again);
                   steps =
-                      learnt-steps (again .run) (g .raw) (reread .met) (reread .value) (reread .step)
+                      learnt-steps (again .run) bytes (reread .met) (reread .value) (reread .step)
                       ∙ ap (λ u. again .run .steps + stepCount u) (sym q)
                       ∙ ap (λ n. n + stepCount v) (again .steps)
                       ∙ sym (w .steps);
@@ -200,15 +201,15 @@ module _ {deck text : List ℕ} {e : Gathered} {p : Progress} (g : Gathers deck 
           onward : (v : Option Statement) → v ≡ reread .value → Written v e p t r t′ → Continues deck whole p t r t′
           onward none q w =
               onward-none w
-              (ap (stepsFrom edition1 whole (p .steps)) here
-              ∙ steps-none whole (p .steps) (p .card) (e .sound) (g .label) (g .raw) rest
+              (ap (stepsFrom current whole (p .steps)) here
+              ∙ steps-none whole (p .steps) (p .card) (e .sound) (g .label) (e .whole) bytes rest
               (read ∙ ap (λ v. got v (reread .met) (reread .rest)) (sym q))
               ∙ sym (rw (w .from, w .card, w .steps ∙ add-zero (p .steps))))
           onward (some s) q w =
               let next : r .steps ≡ suc (p .steps) = omega (arith, w .steps) in
               onward-some s w
-              (ap (stepsFrom edition1 whole (p .steps)) here
-              ∙ steps-some whole (p .steps) (p .card) (e .sound) (g .label) (g .raw) rest
+              (ap (stepsFrom current whole (p .steps)) here
+              ∙ steps-some whole (p .steps) (p .card) (e .sound) (g .label) (e .whole) bytes rest
               (read ∙ ap (λ v. got v (reread .met) (reread .rest)) (sym q))
               ∙ ap (λ ss. record { card = p .card; statement = s } ∷ ss) (sym (rw (w .from, w .card, next))))
 
@@ -218,8 +219,8 @@ module _ {deck text : List ℕ} {e : Gathered} {p : Progress} (g : Gathers deck 
       statement-written a taken h next keys tags w =
           let n : p .steps + 1 ≡ suc (p .steps) = omega arith in
           let all =
-          w (g .label) (g .raw) again-worded (reread .value) (reread .met) (reread .rest)
-          (read-again a taken whole h (suc (p .steps)) (next ∙ n) (g .label) (g .raw) ∙ read) in
+          w (g .label) (g .keyed (reread .whether)) (reread .value) (reread .met) (reread .rest)
+          (read-again a taken whole h (suc (p .steps)) (next ∙ n) (g .label) (e .whole) bytes ∙ read) in
           (to-written (reread .value) refl (all .0), all .1, all .2)
 
 -- another next step changes no count
@@ -345,20 +346,20 @@ gathered-steps {deck} {text} {known} {keys} {tags} {e} {p} {t} {r} {known′} {k
 pub record Ongoing (deck known₀ t₀ : List ℕ) (whole : Known) (a : Arrays) (taken : ℕ) (known : List ℕ) (p : Progress) (t : List ℕ) : Type 0 where
   pub holds : Holds (withKnown a known) taken whole
   pub again : Resumes deck whole p
-  pub table : withAllSteps t₀ 0 0 0 0 (stepsFrom edition1 whole 0 (entries edition1 deck))
+  pub table : withAllSteps t₀ 0 0 0 0 (stepsFrom current whole 0 (entries current deck))
       ≡ withAllSteps t (p .steps) (p .elements) (p .items) (p .literals) (stepsLeft deck whole p)
-  pub steps : length (stepsFrom edition1 whole 0 (entries edition1 deck)) ≡ p .steps + length (stepsLeft deck whole p)
-  pub elements : length (allElements (stepsFrom edition1 whole 0 (entries edition1 deck)))
+  pub steps : length (stepsFrom current whole 0 (entries current deck)) ≡ p .steps + length (stepsLeft deck whole p)
+  pub elements : length (allElements (stepsFrom current whole 0 (entries current deck)))
       ≡ p .elements + length (allElements (stepsLeft deck whole p))
-  pub items : length (allItems (stepsFrom edition1 whole 0 (entries edition1 deck))) ≡ p .items + length (allItems (stepsLeft deck whole p))
-  pub literals : length (allLiterals (allElements (stepsFrom edition1 whole 0 (entries edition1 deck))))
+  pub items : length (allItems (stepsFrom current whole 0 (entries current deck))) ≡ p .items + length (allItems (stepsLeft deck whole p))
+  pub literals : length (allLiterals (allElements (stepsFrom current whole 0 (entries current deck))))
       ≡ p .literals + length (allLiterals (allElements (stepsLeft deck whole p)))
   pub inside : p .from ≤ length deck + 1
   pub few : p .card ≤ p .from + 1
 
 -- all steps of the deck are written
 pub record DeckWritten (deck known t : List ℕ) (r : Progress) (known′ t′ : List ℕ) : Type 0 where
-  pub written : (w : Whole deck known) → StepsWritten (stepsFrom edition1 (w .whole) 0 (entries edition1 deck)) t r t′
+  pub written : (w : Whole deck known) → StepsWritten (stepsFrom current (w .whole) 0 (entries current deck)) t r t′
   pub holds : (w : Whole deck known) → Holds (withKnown (w .arrays) known′) (w .taken) (w .whole)
 
 -- before the first line
@@ -383,7 +384,7 @@ ongoing-none t₀ w =
 
 module _ {deck known₀ t₀ : List ℕ} {whole : Known} {a : Arrays} {taken : ℕ} {known : List ℕ} {p : Progress} {t : List ℕ}
     (o : Ongoing deck known₀ t₀ whole a taken known p t) where
-  pub ongoing-small : InRange edition1 (programOf edition1 whole (entries edition1 deck)) → p .from < length deck → length deck ≤ 32_768 → Small p
+  pub ongoing-small : InRange current (programOf current whole (entries current deck)) → p .from < length deck → length deck ≤ longestDeck → Small p
   unfolding programOf
   ongoing-small f h small =
       record {
@@ -419,9 +420,9 @@ module _ {deck known₀ t₀ : List ℕ} {whole : Known} {a : Arrays} {taken : �
   -- behind the last line there are no steps
   no-more : length deck ≤ p .from → stepsLeft deck whole p ≡ []
   unfolding stepsFrom
-  no-more h = ap (stepsFrom edition1 whole (p .steps)) (entries-behind deck (p .from) h (p .card))
+  no-more h = ap (stepsFrom current whole (p .steps)) (entries-behind deck (p .from) h (p .card))
 
-  pub ongoing-ends : length deck ≤ p .from → StepsWritten (stepsFrom edition1 whole 0 (entries edition1 deck)) t₀ p t
+  pub ongoing-ends : length deck ≤ p .from → StepsWritten (stepsFrom current whole 0 (entries current deck)) t₀ p t
   unfolding withAllSteps allElements allItems allLiterals
   ongoing-ends h =
       let none = no-more h in

@@ -9,7 +9,7 @@ use native.Mathlib.Omega.{arith}
 use lib.Dec.{ltb}
 use lib.ListN.{length, replicate, length-append, length-replicate, replicate-append-replicate}
 use borrow.Author.Tests.{lt-ltb}
-use Rattle.base.specs.Edition.{edition1}
+use Rattle.base.specs.Current.{current, tableSize}
 use Rattle.base.specs.Limits as Limits
 use Rattle.calls.specs.Numerals.{inBytes}
 use Rattle.calls.specs.RowLaws.{length-rowBytes}
@@ -391,7 +391,7 @@ steps-written ss (x ∷ ts) r f =
     ∙ ap (λ z. written z r) whole
 
 -- a table that is zeros has no steps yet
-zeros-written : (r : List ℕ) → replicate 28672 0 ++ r ≡ written [] r
+zeros-written : (r : List ℕ) → replicate tableSize 0 ++ r ≡ written [] r
 unfolding filledTo stepRows elementRows itemRows allElements allItems allLiterals
 zeros-written r =
     let cut : (n m : ℕ) (q : List ℕ) → replicate (n + m) 0 ++ q ≡ replicate n 0 ++ (replicate m 0 ++ q) =
@@ -420,11 +420,11 @@ together : (h s e i l r : List ℕ) → (h ++ (s ++ (e ++ (i ++ l)))) ++ r ≡ r
 together h s e i l r = simp append-assoc
 
 -- A zeroed table with a program's steps and header written is the program's image, and what lies behind it stays.
-pub image-written : (p : Program) (r : List ℕ) → isProgram edition1 p ≡ true
-    → splice (withAllSteps (replicate 28672 0 ++ r) 0 0 0 0 (p .steps)) 0 (header p) ≡ image edition1 p ++ r
-unfolding image stepsAt elementsAt itemsAt literalsAt edition1 allElements allItems allLiterals
+pub image-written : (p : Program) (r : List ℕ) → isProgram current p ≡ true
+    → splice (withAllSteps (replicate tableSize 0 ++ r) 0 0 0 0 (p .steps)) 0 (header p) ≡ image current p ++ r
+unfolding image stepsAt elementsAt itemsAt literalsAt current allElements allItems allLiterals
 image-written p r ok =
-    let range = in-range edition1 p ok in
+    let range = in-range current p ok in
     let fits : Fits (p .steps) = record { steps = range .steps; elements = range .elements; items = range .items; literals = range .literals } in
     let ss = p .steps in
     let S = filledTo 6144 (stepRows 0 0 ss) in

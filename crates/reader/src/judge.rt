@@ -22,12 +22,14 @@ ghost use mathlib.Core.List.{List};
 ghost use mathlib.Core.Path.{_≡_};
 ghost use Prim.Native.Nat.{ℕ, _≤_, _<_, _+_};
 ghost use lib.ListN.{length};
+ghost use Rattle.base.specs.Limits.{longestDeck};
 ghost use Rattle.closing.specs.Held.{Closable, heldIn};
-ghost use Rattle.forms.specs.Contracts.{Wording};
 ghost use Rattle.judgement.specs.Known.{nothingKnown};
 ghost use Rattle.met.specs.Holding.{Holds};
 ghost use Rattle.met.specs.Known.{Counted, knownSize};
 ghost use Rattle.naming.specs.Arrays.{arrays};
+ghost use Rattle.packer.specs.Keys.{LabelKey};
+ghost use Rattle.packer.specs.Packs.{longestText};
 ghost use Rattle.reader.specs.Judging.{Held, Lent, Stays, startAt, Readied, Entered, Numbered, EntryNumbered, EntryJudged, endedIn, closedBy, StatementsJudged, DeckJudged};
 
 // what judging an entry of the deck comes to: its number, 0 if it passes, how many lines it has and where the next entry starts
@@ -74,7 +76,7 @@ fn judge_packed(
 ) -> u32
     requires { ⌜ Readied (now text) e (arrays (now known) (now «name_keys») (now «name_purposes») (now «use_keys») (now «use_scopes») (now «use_purposes»)) ⌝ }
     requires { ⌜ Lent (now keys) (now tags) (now table) ⌝ }
-    ensures { λ r. ⌜ ((label raw : List ℕ) → Wording label raw (now (text .entry)) (e .label) (e .whole) → Numbered label raw true (arrays (now (known .entry)) (now («name_keys» .entry)) (now («name_purposes» .entry)) (now («use_keys» .entry)) (now («use_scopes» .entry)) (now («use_purposes» .entry))) r (arrays (now (known .exit)) (now («name_keys» .exit)) (now («name_purposes» .exit)) (now («use_keys» .exit)) (now («use_scopes» .exit)) (now («use_purposes» .exit)))) ⌝ }
+    ensures { λ r. ⌜ ((label : List ℕ) → LabelKey label (e .label) → Numbered label (e .whole) (now (text .entry)) true (arrays (now (known .entry)) (now («name_keys» .entry)) (now («name_purposes» .entry)) (now («use_keys» .entry)) (now («use_scopes» .entry)) (now («use_purposes» .entry))) r (arrays (now (known .exit)) (now («name_keys» .exit)) (now («name_purposes» .exit)) (now («use_keys» .exit)) (now («use_scopes» .exit)) (now («use_purposes» .exit)))) ⌝ }
     ensures { λ r. ⌜ Stays r (now (keys .exit)) (now (tags .exit)) ⌝ }
 {
     let kind = leading(text).kind;
@@ -157,10 +159,10 @@ fn judge_entry(
     table: &mut [u8],
 ) -> EntryVerdict
     requires { ⌜ Held (arrays (now known) (now «name_keys») (now «name_purposes») (now «use_keys») (now «use_scopes») (now «use_purposes»)) from ⌝ }
-    requires { ⌜ (from < length (now deck)) × (length (now deck) ≤ 32768) × (length (now text) ≡ 32768) ⌝ }
+    requires { ⌜ (from < length (now deck)) × (length (now deck) ≤ longestDeck) × (length (now text) ≡ longestText) ⌝ }
     requires { ⌜ Lent (now keys) (now tags) (now table) ⌝ }
     ensures { λ r. ⌜ EntryJudged (now (deck .entry)) from (arrays (now (known .entry)) (now («name_keys» .entry)) (now («name_purposes» .entry)) (now («use_keys» .entry)) (now («use_scopes» .entry)) (now («use_purposes» .entry))) r (arrays (now (known .exit)) (now («name_keys» .exit)) (now («name_purposes» .exit)) (now («use_keys» .exit)) (now («use_scopes» .exit)) (now («use_purposes» .exit))) ⌝ }
-    ensures { λ r. ⌜ Stays (r .number) (now (keys .exit)) (now (tags .exit)) × (length (now (text .exit)) ≡ 32768) ⌝ }
+    ensures { λ r. ⌜ Stays (r .number) (now (keys .exit)) (now (tags .exit)) × (length (now (text .exit)) ≡ longestText) ⌝ }
 {
     let e = gather(deck, from, text);
     let number = judge_gathered(
@@ -209,10 +211,10 @@ fn judge_statements(
     table: &mut [u8],
 ) -> Verdict
     requires { ⌜ Holds (arrays (now known) (now «name_keys») (now «name_purposes») (now «use_keys») (now «use_scopes») (now «use_purposes»)) 0 nothingKnown ⌝ }
-    requires { ⌜ (length (now deck) ≤ 32768) × (length (now text) ≡ 32768) ⌝ }
+    requires { ⌜ (length (now deck) ≤ longestDeck) × (length (now text) ≡ longestText) ⌝ }
     requires { ⌜ Lent (now keys) (now tags) (now table) ⌝ }
     ensures { λ r. ⌜ StatementsJudged (now (deck .entry)) r (arrays (now (known .exit)) (now («name_keys» .exit)) (now («name_purposes» .exit)) (now («use_keys» .exit)) (now («use_scopes» .exit)) (now («use_purposes» .exit))) ⌝ }
-    ensures { λ r. ⌜ (r .number ≡ 0 → Lent (now (keys .exit)) (now (tags .exit)) (now (table .exit)) × (length (now (text .exit)) ≡ 32768)) ⌝ }
+    ensures { λ r. ⌜ (r .number ≡ 0 → Lent (now (keys .exit)) (now (tags .exit)) (now (table .exit)) × (length (now (text .exit)) ≡ longestText)) ⌝ }
 {
     let mut from: usize = 0;
     let mut card: usize = 1;
@@ -283,10 +285,10 @@ pub fn judge_deck(
     table: &mut [u8],
 ) -> Verdict
     requires { ⌜ Holds (arrays (now known) (now «name_keys») (now «name_purposes») (now «use_keys») (now «use_scopes») (now «use_purposes»)) 0 nothingKnown ⌝ }
-    requires { ⌜ (length (now deck) ≤ 32768) × (length (now text) ≡ 32768) ⌝ }
+    requires { ⌜ (length (now deck) ≤ longestDeck) × (length (now text) ≡ longestText) ⌝ }
     requires { ⌜ Lent (now keys) (now tags) (now table) ⌝ }
     ensures { λ r. ⌜ DeckJudged (now (deck .entry)) r (arrays (now (known .exit)) (now («name_keys» .exit)) (now («name_purposes» .exit)) (now («use_keys» .exit)) (now («use_scopes» .exit)) (now («use_purposes» .exit))) ⌝ }
-    ensures { λ r. ⌜ (r .number ≡ 0 → Lent (now (keys .exit)) (now (tags .exit)) (now (table .exit)) × (length (now (text .exit)) ≡ 32768)) ⌝ }
+    ensures { λ r. ⌜ (r .number ≡ 0 → Lent (now (keys .exit)) (now (tags .exit)) (now (table .exit)) × (length (now (text .exit)) ≡ longestText)) ⌝ }
 {
     let v = judge_statements(
         deck,

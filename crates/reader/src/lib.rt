@@ -18,8 +18,10 @@ use table::put_header;
 ghost use mathlib.Core.Path.{_≡_};
 ghost use Prim.Native.Nat.{_≤_};
 ghost use lib.ListN.{length};
-ghost use Rattle.base.specs.Edition.{edition1};
+ghost use Rattle.base.specs.Current.{current, tableSize};
+ghost use Rattle.base.specs.Limits.{longestDeck};
 ghost use Rattle.calls.specs.Promises.{ReadPromise, readBack};
+ghost use Rattle.packer.specs.Packs.{longestText};
 ghost use Rattle.reader.specs.Judging.{Lent};
 ghost use Rattle.reader.specs.Steps.{Whole};
 ghost use Rattle.reader.specs.Reading.{TableWritten, DeckRead};
@@ -34,7 +36,7 @@ fn write_table(
     table: &mut [u8],
 )
     requires { ⌜ Whole (now deck) (now known) ⌝ }
-    requires { ⌜ (length (now deck) ≤ 32768) × (length (now text) ≡ 32768) ⌝ }
+    requires { ⌜ (length (now deck) ≤ longestDeck) × (length (now text) ≡ longestText) ⌝ }
     requires { ⌜ Lent (now keys) (now tags) (now table) ⌝ }
     ensures { λ _. ⌜ TableWritten (now (deck .entry)) (now (known .entry)) (now (table .entry)) (now (table .exit)) ⌝ }
 {
@@ -52,7 +54,7 @@ fn write_table(
 
 // reads a deck of a sound size into a table of a sound size
 fn read_deck(deck: &[u8], table: &mut [u8]) -> Verdict
-    requires { ⌜ (length (now deck) ≤ 32768) × (28672 ≤ length (now table)) ⌝ }
+    requires { ⌜ (length (now deck) ≤ longestDeck) × (tableSize ≤ length (now table)) ⌝ }
     ensures { λ r. ⌜ DeckRead (now (deck .entry)) (now (table .entry)) r (now (table .exit)) ⌝ }
 {
     let mut known = [0u64; KNOWN];
@@ -88,7 +90,7 @@ fn read_deck(deck: &[u8], table: &mut [u8]) -> Verdict
 // The deck call: 0 with the deck's program in the table; or a number and its card, the table zeroed, by 1 and 2 left as it was.
 #[no_mangle]
 pub extern "C" fn strigol_read(deck: &[u8], table: &mut [u8], card: &mut u32) -> u32
-    ensures { λ r. ⌜ ReadPromise edition1 (now (deck .entry)) (now (table .entry)) (readBack r (now (card .exit)) (now (table .exit))) ⌝ }
+    ensures { λ r. ⌜ ReadPromise current (now (deck .entry)) (now (table .entry)) (readBack r (now (card .exit)) (now (table .exit))) ⌝ }
 {
     *card = 0;
     if DECK < deck.len() {

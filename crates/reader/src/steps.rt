@@ -12,8 +12,13 @@ use packer::Gathered;
 use packer::gather;
 ghost use mathlib.Core.Path.{_≡_};
 ghost use Prim.Native.Nat.{_+_, _≤_, _<_};
-ghost use lib.ListN.{length};
+ghost use lib.ListN.{length, take};
+ghost use Rattle.base.specs.Limits.{longestDeck};
+ghost use Rattle.met.specs.Bounds.{farEnough};
+ghost use Rattle.met.specs.Contracts.{namesRoom};
 ghost use Rattle.met.specs.Known.{Counted};
+ghost use Rattle.packer.specs.Letters.{letters};
+ghost use Rattle.packer.specs.Packs.{longestText};
 ghost use Rattle.reader.specs.Judging.{Lent};
 ghost use Rattle.reader.specs.Steps.{Small, passedBy, PackedWritten, GatheredWritten, StepWritten, Whole};
 ghost use Rattle.reader.specs.StepsLaws.{DeckWritten};
@@ -30,7 +35,7 @@ pub struct Progress {
 
 // behind an entry that makes no step
 fn passed(p: Progress, e: Gathered) -> Progress
-    requires { ⌜ (p .card ≤ 40_000) × (e .lines ≤ 40_000) ⌝ }
+    requires { ⌜ (p .card ≤ farEnough) × (e .lines ≤ farEnough) ⌝ }
     ensures { λ r. ⌜ r ≡ passedBy p e ⌝ }
 {
     Progress {
@@ -53,7 +58,7 @@ fn write_packed(
     tags: &mut [u8; NAMES],
     table: &mut [u8],
 ) -> Progress
-    requires { ⌜ Small p × (e .lines ≤ 40_000) × (length (now text) ≤ 32768) ⌝ }
+    requires { ⌜ Small p × (e .lines ≤ farEnough) × (length (now text) ≤ longestText) × (letters (now text) < namesRoom) ⌝ }
     requires { ⌜ Counted (now known) ⌝ }
     requires { ⌜ Lent (now keys) (now tags) (now table) ⌝ }
     ensures { λ r. ⌜ PackedWritten (now (text .entry)) (now (known .entry)) e p (now (table .entry)) r (now (table .exit)) (now (keys .exit)) (now (tags .exit)) ⌝ }
@@ -93,7 +98,8 @@ fn write_gathered(
     tags: &mut [u8; NAMES],
     table: &mut [u8],
 ) -> Progress
-    requires { ⌜ Small p × (e .lines ≤ 40_000) × (e .length ≤ 32768) × (e .length ≤ length (now text)) ⌝ }
+    requires { ⌜ Small p × (e .lines ≤ farEnough) × (e .length ≤ longestText) × (e .length ≤ length (now text)) ⌝ }
+    requires { ⌜ letters (take (e .length) (now text)) < namesRoom ⌝ }
     requires { ⌜ Counted (now known) ⌝ }
     requires { ⌜ Lent (now keys) (now tags) (now table) ⌝ }
     ensures { λ r. ⌜ GatheredWritten (now (text .entry)) (now (known .entry)) (now (keys .entry)) (now (tags .entry)) e p (now (table .entry)) r (now (known .exit)) (now (keys .exit)) (now (tags .exit)) (now (table .exit)) ⌝ }
@@ -115,7 +121,7 @@ fn write_entry(
     tags: &mut [u8; NAMES],
     table: &mut [u8],
 ) -> Progress
-    requires { ⌜ Small p × (p .from < length (now deck)) × (length (now deck) ≤ 32768) × (length (now text) ≡ 32768) ⌝ }
+    requires { ⌜ Small p × (p .from < length (now deck)) × (length (now deck) ≤ longestDeck) × (length (now text) ≡ longestText) ⌝ }
     requires { ⌜ Counted (now known) ⌝ }
     requires { ⌜ Lent (now keys) (now tags) (now table) ⌝ }
     ensures { λ r. ⌜ StepWritten (now (deck .entry)) (now (known .entry)) p (now (table .entry)) r (now (known .exit)) (now (text .exit)) (now (keys .exit)) (now (tags .exit)) (now (table .exit)) ⌝ }
@@ -134,7 +140,7 @@ pub fn write_steps(
     table: &mut [u8],
 ) -> Progress
     requires { ⌜ Whole (now deck) (now known) ⌝ }
-    requires { ⌜ (length (now deck) ≤ 32768) × (length (now text) ≡ 32768) ⌝ }
+    requires { ⌜ (length (now deck) ≤ longestDeck) × (length (now text) ≡ longestText) ⌝ }
     requires { ⌜ Lent (now keys) (now tags) (now table) ⌝ }
     ensures { λ r. ⌜ DeckWritten (now (deck .entry)) (now (known .entry)) (now (table .entry)) r (now (known .exit)) (now (table .exit)) ⌝ }
 {

@@ -10,6 +10,7 @@ use numeric::operands::Cell;
 ghost use mathlib.Core.Path.{_≡_};
 ghost use Prim.Native.Nat.{_+_, _≤_};
 ghost use lib.ListN.{length};
+ghost use Rattle.base.specs.Current.{tableSize};
 ghost use Rattle.branches.specs.Rows.{rowMeaning};
 ghost use Rattle.calls.specs.Splices.{splice};
 ghost use Rattle.calls.specs.Table.{cellBytes};
@@ -27,7 +28,7 @@ fn put_cells(table: &mut [u8], at: usize, left: Cell, right: Cell)
 
 // writes row k of all steps; of those behind the last row nothing
 pub fn put_row(table: &mut [u8], k: usize, card: usize, row: Row)
-    requires { ⌜ 28672 ≤ length (now table) ⌝ }
+    requires { ⌜ tableSize ≤ length (now table) ⌝ }
     ensures { λ _. ⌜ now (table .exit) ≡ withRow (now (table .entry)) k card (rowMeaning row) ⌝ }
 {
     if k < STEPS {
@@ -51,7 +52,7 @@ pub fn put_header(
     items: usize,
     literals: usize,
 )
-    requires { ⌜ 28672 ≤ length (now table) ⌝ }
+    requires { ⌜ tableSize ≤ length (now table) ⌝ }
     ensures { λ _. ⌜ now (table .exit) ≡ withHeader (now (table .entry)) steps strings numbers elements items literals ⌝ }
 {
     table[0] = 1;

@@ -2,6 +2,7 @@
 
 unfoldable pub everything : Unit {0}
 unfolding
+    Rattle.base.specs.Current.current
     Rattle.base.specs.Edition.edition1
     Rattle.base.specs.Lists.same
     Rattle.base.specs.Lists.begins
@@ -35,8 +36,10 @@ unfolding
     Rattle.cards.specs.Cards.labelOf
     Rattle.cards.specs.Cards.textOf
     Rattle.cards.specs.Cards.joined
-    Rattle.cards.specs.Cards.entriesFrom
-    Rattle.cards.specs.Cards.entries
+    Rattle.cards.specs.Cards.unpackedFrom
+    Rattle.cards.specs.Entries.packedEntry
+    Rattle.cards.specs.Entries.entriesFrom
+    Rattle.cards.specs.Entries.entries
     Rattle.cards.specs.Packing.placeAfter
     Rattle.cards.specs.Packing.isDropped
     Rattle.cards.specs.Packing.packFrom
@@ -65,6 +68,7 @@ unfolding
     Rattle.values.specs.Numbers.difference
     Rattle.values.specs.Numbers.product
     Rattle.values.specs.Numbers.quotient
+    Rattle.values.specs.Work.stopsStep
     Rattle.values.specs.Work.noting
     Rattle.values.specs.Work.quietly
     Rattle.values.specs.Work._>>=_

@@ -3,12 +3,13 @@ use mathlib.Core.Bool.{true}
 use mathlib.Core.List.{List}
 use mathlib.Core.Path.{_≡_}
 use Prim.Native.Nat.{ℕ, _+_, _*_, _≤_, _<_}
+use Rattle.base.specs.Current.{tableSize}
 use Rattle.base.specs.Limits as Limits
 use Rattle.calls.specs.Rules.{balanced}
 use Rattle.calls.specs.Table.{itemsAt, elementsAt}
 use Rattle.calls.specs.TableReading.{cellAt, itemOfCell}
 use Rattle.convert.specs.Numbers.{InRange}
-use Rattle.rows.specs.Meaning.{tableSize, itemMeaning, itemsMeaning}
+use Rattle.rows.specs.Meaning.{itemMeaning, itemsMeaning}
 use Rattle.rows.specs.Reading.{ElementRead, PatternRead}
 use Rattle.rows.specs.declared.Length.{Length}
 use Rattle.rows.specs.declared.Length.the-variants as lengths

@@ -1,25 +1,27 @@
 -- What a table that keeps the rules lets callers rely on: each statement that is read from it holds, and a step behind it is there.
 -- Assumes nothing.
 use mathlib.Core.Bool.{Bool, true, false, not, _&&_, and-eq-true-iff, false≢true}
-use mathlib.Core.List.{List, _∷_, map}
+use mathlib.Core.List.{List, [], _∷_, _++_, map}
+use mathlib.Core.Option.{Option, none, some}
 use mathlib.Core.Path.{_≡_, refl, sym, _∙_, ap, subst}
 use Prim.Native.Nat.{ℕ, zero, suc, _+_, _*_, _-_, _≤_, _<_}
 use native.Mathlib.Omega.{arith}
-use lib.Dec.{leb, eqb}
+use lib.Dec.{leb}
 use lib.ListN.{length, take, drop, getD, length-append, length-map, List·getD-map}
-use borrow.Author.Tests.{leb-true, ltb-true, eqb-true}
-use Rattle.base.specs.Choice.{cond-cases}
-use Rattle.base.specs.Edition.{edition1}
+use borrow.Author.Tests.{leb-true, ltb-true}
+use Rattle.base.specs.Current.{current}
 use Rattle.base.specs.Limits as Limits
 use Rattle.base.specs.Lists.{all, isNil}
 use Rattle.language.specs.Program as Program
 use Rattle.language.specs.Program.{isFinish}
 use Rattle.machine.specs.Step.{statementAt}
+use Rattle.calls.specs.Kinds.{literalKind}
 use Rattle.calls.specs.NumeralLaws.{Stands}
 use Rattle.calls.specs.Numerals.{numberAt}
 use Rattle.calls.specs.ProgramLaws.{program-runs, statement-holds, step-behind, first-step}
 use Rattle.calls.specs.ReadingLaws.{rows-each, rows-at, rows-length}
-use Rattle.calls.specs.RuleLaws.{scan-parts, number-parts}
+use Rattle.calls.specs.RowLaws.{scan-elements}
+use Rattle.calls.specs.RuleLaws.{scan-parts, number-parts, testHolds}
 use Rattle.calls.specs.Rules as Rules
 use Rattle.calls.specs.Rules.{keepsRules, balanced}
 use Rattle.calls.specs.Table as Table
@@ -30,10 +32,12 @@ use Rattle.calls.specs.TableReading.{cellAt, rowAt, itemOfCell, elementOfCell, 
 use Rattle.calls.specs.TableReading.{statementOfRow, stepIn, stepsFrom, programIn}
 use Rattle.rows.specs.Holds.{ItemsHold, ElementsHold, PatternsHold, ReplacementHolds, ElementHolds, PatternHolds}
 use Rattle.rows.specs.Holds.{Within, placeIn, BranchHolds, ScanHolds, StatementHolds}
-use Rattle.rows.specs.HoldsLaws.{place-is, below-strings, part-holds, item-holds, text-holds, free-holds, fixed-holds, branch-holds, if-holds}
+use Rattle.rows.specs.HoldsLaws.{place-is, isOther, roles-others, below-strings, part-holds, item-holds, text-holds, free-holds, fixed-holds}
+use Rattle.rows.specs.HoldsLaws.{branch-holds, if-holds}
 use Rattle.rows.specs.Meaning.{partMeaning, elementMeaning, patternMeaning, itemsMeaning, elementsMeaning, directionMeaning}
 use Rattle.rows.specs.Meaning.{patternsMeaning, branchMeaning, replacementMeaning, statementMeaning}
-use Rattle.rows.specs.Reading.{ElementRead, PatternRead, StretchRead, BehindRead, ScanStretches, StretchesRead, StatementRead}
+use Rattle.rows.specs.Reading.{ElementRead, PatternRead, StretchRead, ReplacementRead, ScanStretches, StretchesRead, StatementRead}
+use Rattle.rows.specs.ReadingLaws.{element-cases, pattern-cases}
 use Rattle.rows.specs.Regions.{RowPlace, RangeIs, row-range, program-in-range, kept-row, kept-literal}
 use Rattle.rows.specs.declared.Item.{Item}
 use Rattle.rows.specs.declared.Element.{Element}
@@ -56,27 +60,23 @@ module _ {A : Type 0} (single : ℕ → A) (rows : ℕ → ℕ → List A) (next
       let place : s .from + (k - s .from) ≡ k = omega arith in
       subst (λ (i : ℕ). f (single i) ≡ true) place (rows-each single rows next f (s .from) (s .count) (k - s .from) (omega arith) g)
 
--- a cell that is read as a literal is of kind 16
-literal-kind : (t : List ℕ) (c : Table.Cell) (w : List ℕ) → Program.literal w ≡ elementOfCell t c → c .kind ≡ 16
-unfolding elementOfCell
+-- a cell that is read as a literal is of its kind
+literal-kind : (t : List ℕ) (c : Table.Cell) (w : List ℕ) → Program.literal w ≡ elementOfCell t c → c .kind ≡ literalKind .number
 literal-kind t c w =
-    cond-cases (λ y. Program.literal w ≡ y → c .kind ≡ 16) (leb (c .kind) 3)
-    (λ h e. let z : _≡_ {A = ℕ} 0 1 = cc in absurd (omega arith))
-    (λ h.
-    cond-cases (λ y. Program.literal w ≡ y → c .kind ≡ 16) (eqb (c .kind) 16) (λ g e. eqb-true (c .kind) 16 g)
-    (λ g e. let z : _≡_ {A = ℕ} 0 1 = cc in absurd (omega arith)))
+    element-cases c t (λ y. Program.literal w ≡ y → c .kind ≡ literalKind .number) (λ h _ e. h)
+    (λ n e. let z : _≡_ {A = ℕ} 0 1 = cc in absurd (omega arith))
+    (λ e. let z : _≡_ {A = ℕ} 0 1 = cc in absurd (omega arith))
 
 -- a value of a pattern is read as an element
 value-read : (t : List ℕ) (c : Table.Cell) (x : Element) → PatternRead t c (Value x) → ElementRead t c x
-unfolding patternOfCell
 value-read t c x r = record { means = inner (r .means); ends = r .ends }
   where
     inner : Program.value (elementMeaning t x) ≡ patternOfCell t c → elementMeaning t x ≡ elementOfCell t c
     inner =
-        cond-cases (λ y. Program.value (elementMeaning t x) ≡ y → elementMeaning t x ≡ elementOfCell t c) (leb (c .kind) 18) (λ h e. cc)
-        (λ h.
-        cond-cases (λ y. Program.value (elementMeaning t x) ≡ y → elementMeaning t x ≡ elementOfCell t c) (eqb (c .kind) 19)
-        (λ g e. let z : _≡_ {A = ℕ} 0 1 = cc in absurd (omega arith)) (λ g e. let z : _≡_ {A = ℕ} 0 1 = cc in absurd (omega arith)))
+        pattern-cases c t (λ y. Program.value (elementMeaning t x) ≡ y → elementMeaning t x ≡ elementOfCell t c)
+        (λ e. let z : _≡_ {A = ℕ} 0 1 = cc in absurd (omega arith))
+        (λ n e. let z : _≡_ {A = ℕ} 0 1 = cc in absurd (omega arith))
+        (λ e. cc)
 
 -- bytes that are cut out of a list are none only where none are asked for
 cut-some : (n : ℕ) (l : List ℕ) → not (isNil (take n l)) ≡ true → 0 < n
@@ -108,7 +108,7 @@ statement-is t k h =
     List·getD-map statement (programIn t .steps) k noStep ∙ ap statement (program-step t k noStep h)
 
 -- the table keeps the rules
-module _ (t : List ℕ) (kept : keepsRules edition1 t ≡ true) where
+module _ (t : List ℕ) (kept : keepsRules current t ≡ true) where
   -- what its program has
   abbrev strings : ℕ
   strings = programIn t .strings
@@ -125,13 +125,13 @@ module _ (t : List ℕ) (kept : keepsRules edition1 t ≡ true) where
   abbrev items : ℕ
   items = length (allItems (programIn t .steps))
 
-  ok : InRange edition1 (programIn t)
+  ok : InRange current (programIn t)
   ok = program-in-range t kept
 
   -- an element that is read from one of its cells and passes the test holds
   element-holds : (k : ℕ) (x : Element) → k < elements → ElementRead t (cellAt t (elementsAt + 8 * k)) x
-      → Rules.elementHolds edition1 strings numbers steps (elementMeaning t x) ≡ true → ElementHolds x
-  unfolding Rules.elementHolds literalsAt
+      → Rules.elementHolds current strings numbers steps (elementMeaning t x) ≡ true → ElementHolds x
+  unfolding Rules.elementHolds Rules.partHolds literalsAt
   element-holds k (Literal from to) inside r h =
       let kind = literal-kind t (cellAt t (elementsAt + 8 * k)) (take (to - from) (drop from t)) (r .means) in
       let end = kept-literal t kept k inside kind in
@@ -142,18 +142,19 @@ module _ (t : List ℕ) (kept : keepsRules edition1 t ≡ true) where
 
   -- and so does an element of a pattern
   pattern-holds : (reference k : ℕ) (x : PatternElement) → k < elements → PatternRead t (cellAt t (elementsAt + 8 * k)) x
-      → Rules.patternHolds edition1 strings numbers steps reference (patternMeaning t x) ≡ true → PatternHolds reference x
-  unfolding Rules.patternHolds
-  pattern-holds r k (Value x) inside read h = element-holds k x inside (value-read t (cellAt t (elementsAt + 8 * k)) x read) h
-  pattern-holds r k (Free s) inside read h = free-holds strings numbers steps (ok .strings) (ok .numbers) r s h
-  pattern-holds r k (Fixed s n) inside read h = fixed-holds strings numbers steps (ok .strings) (ok .numbers) r s n h
+      → Rules.patternHolds current strings numbers steps (patternMeaning t x) ≡ true → isOther reference (patternMeaning t x) ≡ true
+      → PatternHolds reference x
+  unfolding Rules.patternHolds Rules.elementHolds
+  pattern-holds r k (Value x) inside read h g = element-holds k x inside (value-read t (cellAt t (elementsAt + 8 * k)) x read) h
+  pattern-holds r k (Free s) inside read h g = free-holds strings numbers steps (ok .strings) (ok .numbers) r s h g
+  pattern-holds r k (Fixed s n) inside read h g = fixed-holds strings numbers steps (ok .strings) (ok .numbers) r s n h g
 
   -- a stretch of items that pass the test and end within all items
   items-hold : (s : Stretch) → s .from + s .count ≤ items → balanced 0 (itemsMeaning t s) ≡ true
-      → all (Rules.itemHolds edition1 strings numbers steps) (itemsMeaning t s) ≡ true → ItemsHold t s
+      → all (Rules.itemHolds current strings numbers steps) (itemsMeaning t s) ≡ true → ItemsHold t s
   unfolding itemsFrom
   items-hold s end whole h =
-      let test = Rules.itemHolds edition1 strings numbers steps in
+      let test = Rules.itemHolds current strings numbers steps in
       let own : ℕ → Program.Item = λ k. itemOfCell (cellAt t (itemsAt + 8 * k)) in
       record {
         inside = omega (arith, ok .items);
@@ -166,10 +167,10 @@ module _ (t : List ℕ) (kept : keepsRules edition1 t ≡ true) where
 
   -- a stretch of elements
   elements-hold : (s : Stretch) → s .from + s .count ≤ elements → s .count ≡ length (elementsMeaning t s)
-      → Rules.rowHolds edition1 strings numbers steps (elementsMeaning t s) ≡ true → ElementsHold t s
+      → Rules.rowHolds current strings numbers steps (elementsMeaning t s) ≡ true → ElementsHold t s
   unfolding Rules.rowHolds elementsFrom
   elements-hold s end count h =
-      let test = Rules.elementHolds edition1 strings numbers steps in
+      let test = Rules.elementHolds current strings numbers steps in
       let size = length (elementsMeaning t s) in
       let both = and-eq-true-iff (leb size Limits.row) (all test (elementsMeaning t s)) .0 h in
       let own : ℕ → Program.Element = λ k. elementOfCell t (cellAt t (elementsAt + 8 * k)) in
@@ -183,23 +184,26 @@ module _ (t : List ℕ) (kept : keepsRules edition1 t ≡ true) where
 
   -- a stretch of a pattern
   patterns-hold : (reference : ℕ) (s : Stretch) → s .from + s .count ≤ elements → s .count ≤ Limits.row
-      → all (Rules.patternHolds edition1 strings numbers steps reference) (patternsMeaning t s) ≡ true → PatternsHold t reference s
+      → all (Rules.patternHolds current strings numbers steps) (patternsMeaning t s) ≡ true
+      → all (isOther reference) (patternsMeaning t s) ≡ true → PatternsHold t reference s
   unfolding patternFrom
-  patterns-hold reference s end few h =
-      let test = Rules.patternHolds edition1 strings numbers steps reference in
+  patterns-hold reference s end few h g =
+      let test = Rules.patternHolds current strings numbers steps in
+      let other = isOther reference in
       let own : ℕ → Program.PatternElement = λ k. patternOfCell t (cellAt t (elementsAt + 8 * k)) in
       record {
         inside = omega (arith, ok .elements);
         few = few;
         each =
             λ k x w r.
-            pattern-holds reference k x (omega arith) r (ap test (r .means) ∙ within-row own (patternFrom t) (λ at n. refl) test s k w h);
+            pattern-holds reference k x (omega arith) r (ap test (r .means) ∙ within-row own (patternFrom t) (λ at n. refl) test s k w h)
+            (ap other (r .means) ∙ within-row own (patternFrom t) (λ at n. refl) other s k w g);
       }
 
   -- a row's stretch of elements, and nothing behind it
   stretch-holds : (at card element : ℕ) (r : Table.Row) (s : Stretch) → Stands t at (rowBytes card r)
       → r .right ≡ rangeCell element (length (elementsMeaning t s)) 0 → element + length (map Program.value (elementsMeaning t s)) ≤ elements
-      → StretchRead (rowAt t at .right .value) s → Rules.rowHolds edition1 strings numbers steps (elementsMeaning t s) ≡ true
+      → StretchRead (rowAt t at .right .value) s → Rules.rowHolds current strings numbers steps (elementsMeaning t s) ≡ true
       → ElementsHold t s
   stretch-holds at card element r s bytes right end read h =
       let size = length (elementsMeaning t s) in
@@ -209,36 +213,48 @@ module _ (t : List ℕ) (kept : keepsRules edition1 t ≡ true) where
 
   -- a replacement behind its pattern
   replacement-holds : (x : Replacement) (v from count : ℕ) → RangeIs v from count (length (replacementOf (replacementMeaning t x)))
-      → BehindRead v x → from + (count + length (replacementOf (replacementMeaning t x))) ≤ elements
-      → Rules.rowHolds edition1 strings numbers steps (replacementOf (replacementMeaning t x)) ≡ true → ReplacementHolds t x
+      → ReplacementRead v x → from + (count + length (replacementOf (replacementMeaning t x))) ≤ elements
+      → Rules.rowHolds current strings numbers steps (replacementOf (replacementMeaning t x)) ≡ true → ReplacementHolds t x
   unfolding replacementOf
   replacement-holds Nothing v from count range read end h = tt
   replacement-holds (By s) v from count range read end h =
-      elements-hold s (omega (arith, read .0, read .1, range .first, range .second, range .third)) (read .1 ∙ range .third) h
+      elements-hold s (omega (arith, read .from, read .count, range .first, range .second, range .third)) (read .count ∙ range .third) h
+
+  -- the right cell of a scan has its pattern and what it puts
+  scan-right : (element item : ℕ) (d : Program.Direction) (p : Program.Part) (xs : List Program.PatternElement)
+      (r : Option (List Program.Element)) (b : Program.Branch)
+      → rowOf element item (Program.scan d p xs r b) .right ≡ rangeCell element (length xs) (length (replacementOf r))
+  unfolding rowOf row replacementOf
+  scan-right element item d p xs none b = refl
+  scan-right element item d p xs (some ys) b = refl
 
   -- a scan
   scan-holds : (at card : ℕ) (x : Scan.Scan) → RowPlace t at elements items card (statementMeaning t (statements.Scan x))
       → ScanStretches (rowAt t at .right .value) x
-      → Rules.statementHolds edition1 strings numbers steps (statementMeaning t (statements.Scan x)) ≡ true → ScanHolds t steps x
-  unfolding Rules.statementHolds rowOf row elementsOf
+      → Rules.statementHolds current strings numbers steps (statementMeaning t (statements.Scan x)) ≡ true → ScanHolds t steps x
   scan-holds at card x p r h =
       let xs = patternsMeaning t (x .pattern) in
-      let more = replacementOf (replacementMeaning t (x .replacement)) in
+      let put = replacementMeaning t (x .replacement) in
+      let more = replacementOf put in
       let d = directionMeaning (x .direction) in
+      let part = partMeaning (x .part) in
       let b = branchMeaning (x .branch) in
-      let tests = scan-parts edition1 strings numbers steps d (partMeaning (x .part)) xs (replacementMeaning t (x .replacement)) b h in
+      let tests = scan-parts current strings numbers steps d part xs put b h in
+      let own : length (elementsOf (Program.scan d part xs put b)) ≡ length (xs ++ map Program.value more) =
+      ap (λ (l : List Program.PatternElement). length l) (scan-elements d part xs put b) in
       let count = length-append xs (map Program.value more) in
       let moreCount = length-map more Program.value in
       let end : p .element + (length xs + length more) ≤ elements = omega (arith, p .elementsEnd) in
-      let own = rowOf (p .element) (p .item) (statementMeaning t (statements.Scan x)) in
-      let range = row-range t at card (p .element) (length xs) (length more) own (p .bytes) refl (omega (arith, ok .elements)) in
+      let row = rowOf (p .element) (p .item) (Program.scan d part xs put b) in
+      let right = scan-right (p .element) (p .item) d part xs put b in
+      let range = row-range t at card (p .element) (length xs) (length more) row (p .bytes) right (omega (arith, ok .elements)) in
       let few = leb-true (length xs) Limits.row (tests .few) in
       let size = r .pattern .count ∙ range .second in
       let inside : x .pattern .from + x .pattern .count ≤ elements = omega (arith, r .pattern .from, range .first) in
-      let pattern = rw (place-is (x .part)) at (tests .patterns) in
+      let others = roles-others (placeIn (x .part)) [] xs (rw (place-is (x .part)) at (tests .roles)) in
       record {
         part = part-holds strings numbers steps (ok .strings) (ok .numbers) (x .part) (tests .part);
-        pattern = patterns-hold (placeIn (x .part)) (x .pattern) inside (omega arith) pattern;
+        pattern = patterns-hold (placeIn (x .part)) (x .pattern) inside (omega arith) (tests .patterns) others;
         replacement =
             replacement-holds (x .replacement) (rowAt t at .right .value) (p .element) (length xs) range (r .replacement) end (tests .row);
         branch = branch-holds strings numbers steps (ok .strings) (ok .numbers) (x .branch) (tests .branch);
@@ -246,19 +262,19 @@ module _ (t : List ℕ) (kept : keepsRules edition1 t ≡ true) where
 
   -- what passes a test, with a branch behind it
   and-branch : {A : Type 0} (test : Bool) (b : Branch) → (test ≡ true → A)
-      → test && Rules.branchHolds edition1 strings numbers steps (branchMeaning b) ≡ true → A × BranchHolds steps b
+      → test && Rules.branchHolds current strings numbers steps (branchMeaning b) ≡ true → A × BranchHolds steps b
   and-branch test b holds h =
-      let both = and-eq-true-iff test (Rules.branchHolds edition1 strings numbers steps (branchMeaning b)) .0 h in
+      let both = and-eq-true-iff test (Rules.branchHolds current strings numbers steps (branchMeaning b)) .0 h in
       (holds (both .0), branch-holds strings numbers steps (ok .strings) (ok .numbers) b (both .1))
 
   -- a statement that is read from its row
   statement-kept : (at card : ℕ) (x : Statement) → RowPlace t at elements items card (statementMeaning t x)
-      → StretchesRead (rowAt t at .right .value) x → Rules.statementHolds edition1 strings numbers steps (statementMeaning t x) ≡ true
+      → StretchesRead (rowAt t at .right .value) x → Rules.statementHolds current strings numbers steps (statementMeaning t x) ≡ true
       → StatementHolds t steps x
-  unfolding Rules.statementHolds Rules.testHolds rowOf row elementsOf itemsOf
+  unfolding Rules.statementHolds testHolds rowOf row elementsOf itemsOf
   statement-kept at card (statements.SetNumber i s) p r h =
       let l = itemsMeaning t s in
-      let tests = number-parts edition1 strings numbers steps i l h in
+      let tests = number-parts current strings numbers steps i l h in
       let own = rowOf (p .element) (p .item) (Program.setNumber i l) in
       let range = row-range t at card (p .item) (length l) 0 own (p .bytes) refl (omega (arith, p .itemsEnd, ok .items)) in
       let end : s .from + s .count ≤ items = omega (arith, r .from, r .count, range .first, range .second, p .itemsEnd) in
@@ -266,7 +282,7 @@ module _ (t : List ℕ) (kept : keepsRules edition1 t ≡ true) where
   statement-kept at card (statements.SetString q s) p r h =
       let l = elementsMeaning t s in
       let both =
-      and-eq-true-iff (Rules.partHolds edition1 strings numbers steps (partMeaning q)) (Rules.rowHolds edition1 strings numbers steps l) .0 h in
+      and-eq-true-iff (Rules.partHolds current strings numbers steps (partMeaning q)) (Rules.rowHolds current strings numbers steps l) .0 h in
       let own = rowOf (p .element) (p .item) (Program.setString (partMeaning q) l) in (
         part-holds strings numbers steps (ok .strings) (ok .numbers) q (both .0),
         stretch-holds at card (p .element) own s (p .bytes) refl (p .elementsEnd) r (both .1),
@@ -293,22 +309,22 @@ module _ (t : List ℕ) (kept : keepsRules edition1 t ≡ true) where
       let inside : k < steps = omega (arith, step-count t) in
       let card = getD (programIn t .steps) k noStep .card in
       let place = subst (RowPlace t (stepsAt + 24 * k) elements items card) own (kept-row t kept k noStep inside) in
-      let test = statement-holds edition1 strings numbers steps (programIn t .steps) k (ok .hold) in
+      let test = statement-holds current strings numbers steps (programIn t .steps) k (ok .hold) in
       let passes =
-      ap (Rules.statementHolds edition1 strings numbers steps)
+      ap (Rules.statementHolds current strings numbers steps)
       (sym own ∙ sym (List·getD-map (λ (s : Program.Step). s .statement) (programIn t .steps) k noStep)) ∙ test in
       subst (λ (n : ℕ). StatementHolds t n x) (step-count t) (statement-kept (stepsAt + 24 * k) card x place (r .stretches) passes)
 
   -- there is a first step, and not too many
   pub kept-steps : (0 < numberAt 2 t 2) × (numberAt 2 t 2 ≤ Limits.statements)
   kept-steps =
-      let runs = program-runs edition1 (programIn t) (keeps-image edition1 t kept .0) in
+      let runs = program-runs current (programIn t) (keeps-image current t kept .0) in
       omega (arith, step-count t, first-step (programIn t .steps) (runs .last), ok .steps)
 
   -- behind a step that doesn't finish there is a step
   pub kept-next : (k : ℕ) → k < numberAt 2 t 2 → isFinish (statementOfRow t (rowAt t (stepsAt + 24 * k))) ≡ false → k + 1 < numberAt 2 t 2
   unfolding statementAt
   kept-next k h goes =
-      let runs = program-runs edition1 (programIn t) (keeps-image edition1 t kept .0) in
+      let runs = program-runs current (programIn t) (keeps-image current t kept .0) in
       let count = step-count t in
       omega (arith, step-behind (programIn t .steps) k (runs .last) (omega arith) (ap isFinish (statement-is t k h) ∙ goes))

@@ -35,10 +35,6 @@ use Rattle.rows.specs.declared.Replacement.the-variants.{Nothing, By}
 use Rattle.rows.specs.declared.Statement.{Statement}
 use Rattle.rows.specs.declared.Statement.the-variants as statements
 
--- the bytes of a table
-abbrev pub tableSize : ℕ
-tableSize = 28_672
-
 abbrev pub cellMeaning : Cell → Table.Cell
 cellMeaning c = record { kind = c .kind; place = c .place; value = c .value }
 

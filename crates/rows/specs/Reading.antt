@@ -1,18 +1,20 @@
 -- What the code reads from a table's bytes: the enums stand for what the table's reading says, and stretches and literals lie where their
 -- ranges say. Assumes nothing.
+use mathlib.Core.Bool.{cond}
 use mathlib.Core.List.{List}
 use mathlib.Core.Path.{_≡_}
-use Prim.Native.Nat.{ℕ, _+_, _≤_, _<_, _^_}
-use borrow.Author.Tests.{le-leb, lt-leb}
-use Rattle.language.specs.Program.{operand, operator}
+use Prim.Native.Nat.{ℕ, _+_, _<_, _^_}
+use lib.Dec.{eqb}
+use Rattle.language.specs.Program.{Operator, plus, minus, times, over}
+use Rattle.calls.specs.Kinds.{operatorNumber, parts, bothSteps}
 use Rattle.calls.specs.Numerals.{numberAt}
 use Rattle.calls.specs.Table as Table
 use Rattle.calls.specs.Table.{literalsAt}
 use Rattle.calls.specs.TableReading.{cellAt, rowAt, rangeFrom, rangeCount, rangeMore, elementOfCell, patternOfCell, comparisonOf}
-use Rattle.calls.specs.TableReading.{directionOf, operandOfCell, operatorOfKind, itemOfCell, partOfCell, branchOf, replacementOfRow, statementOfRow}
+use Rattle.calls.specs.TableReading.{directionOf, operandOfCell, partOfCell, stepsIn, statementOfRow}
 use Rattle.convert.specs.Numbers.{comparison}
 use Rattle.rows.specs.Meaning.{cellMeaning, rowMeaning, partMeaning, operandMeaning, elementMeaning, patternMeaning, branchMeaning}
-use Rattle.rows.specs.Meaning.{directionMeaning, replacementMeaning, statementMeaning}
+use Rattle.rows.specs.Meaning.{directionMeaning, statementMeaning}
 use Rattle.rows.specs.declared.Cell.{Cell}
 use Rattle.rows.specs.declared.Row.{Row}
 use Rattle.rows.specs.declared.Counts.{Counts}
@@ -28,8 +30,9 @@ use Rattle.rows.specs.declared.Scan as Scan
 use Rattle.rows.specs.declared.Statement.{Statement}
 use Rattle.rows.specs.declared.Statement.the-variants as statements
 
--- the place of a cell has 1 byte, its value 6
+-- the kind and the place of a cell have 1 byte, its value 6
 pub record SmallCell (c : Cell) : Type 0 where
+  pub kind : c .kind < 256
   pub place : c .place < 256
   pub value : c .value < 2 ^ 48
 
@@ -60,14 +63,11 @@ EndsRead range (Literal from to) = (from ≡ literalsAt + rangeFrom range) × (t
 EndsRead range (Part p) = Unit {0}
 EndsRead range (Text n m) = Unit {0}
 
--- the item of a cell, by its kind
-pub item-operand : (c : Table.Cell) → c .kind ≤ 9 → itemOfCell c ≡ operand (operandOfCell c)
-unfolding itemOfCell
-item-operand c h = rw (le-leb (c .kind) 9 h)
-
-pub item-operator : (c : Table.Cell) → 9 < c .kind → c .kind ≤ 13 → itemOfCell c ≡ operator (operatorOfKind (c .kind))
-unfolding itemOfCell
-item-operator c h g = rw (lt-leb (c .kind) 9 h, le-leb (c .kind) 13 g)
+-- the operator of a kind, over for any that is none of the others'
+unfoldable pub operatorOfKind : ℕ → Operator
+unfolding operatorNumber
+operatorOfKind k =
+    cond (eqb k (operatorNumber plus)) plus (cond (eqb k (operatorNumber minus)) minus (cond (eqb k (operatorNumber times)) times over))
 
 -- an element that was read from a cell
 pub record ElementRead (t : List ℕ) (c : Table.Cell) (x : Element) : Type 0 where
@@ -85,18 +85,18 @@ pub record PatternRead (t : List ℕ) (c : Table.Cell) (x : PatternElement) : Ty
   pub ends : PatternEndsRead (c .value) x
 
 -- a replacement stands behind its pattern
-abbrev pub BehindRead : ℕ → Replacement → Type 0
-BehindRead range Nothing = Unit {0}
-BehindRead range (By s) = (s .from ≡ rangeFrom range + rangeCount range) × (s .count ≡ rangeMore range)
+pub record BehindRead (range : ℕ) (s : Stretch) : Type 0 where
+  pub from : s .from ≡ rangeFrom range + rangeCount range
+  pub count : s .count ≡ rangeMore range
 
-pub record ReplacementRead (t : List ℕ) (r : Table.Row) (x : Replacement) : Type 0 where
-  pub means : replacementMeaning t x ≡ replacementOfRow t r
-  pub behind : BehindRead (r .right .value) x
+abbrev pub ReplacementRead : ℕ → Replacement → Type 0
+ReplacementRead range Nothing = Unit {0}
+ReplacementRead range (By s) = BehindRead range s
 
 -- the stretches of a statement are those that the row's range says
 pub record ScanStretches (range : ℕ) (x : Scan.Scan) : Type 0 where
   pub pattern : StretchRead range (x .pattern)
-  pub replacement : BehindRead range (x .replacement)
+  pub replacement : ReplacementRead range (x .replacement)
 
 abbrev pub StretchesRead : ℕ → Statement → Type 0
 StretchesRead range (statements.SetNumber i s) = StretchRead range s
@@ -123,13 +123,13 @@ pub record IfRead (r : Table.Row) (x : If) : Type 0 where
   pub right : operandMeaning (x .right) ≡ operandOfCell (r .right)
   pub sign : comparison (x .sign) ≡ comparisonOf (r .flag)
 
--- a scan that was read from a row
-pub record ScanRead (t : List ℕ) (r : Table.Row) (x : Scan.Scan) : Type 0 where
-  pub direction : directionMeaning (x .direction) ≡ directionOf r
-  pub part : partMeaning (x .part) ≡ partOfCell 0 (r .left)
-  pub branch : branchMeaning (x .branch) ≡ branchOf r
+-- a scan that was read from a row, with a replacement
+pub record ScanRead (r : Table.Row) (put : Replacement) (x : Scan.Scan) : Type 0 where
+  pub direction : directionMeaning (x .direction) ≡ directionOf (r .flag)
+  pub part : partMeaning (x .part) ≡ partOfCell parts (r .left)
+  pub branch : branchMeaning (x .branch) ≡ stepsIn bothSteps r
   pub pattern : StretchRead (r .right .value) (x .pattern)
-  pub replacement : ReplacementRead t r (x .replacement)
+  pub replacement : x .replacement ≡ put
 
 -- the counts of the header
 pub record CountsRead (t : List ℕ) (c : Counts) : Type 0 where

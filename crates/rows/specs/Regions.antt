@@ -6,16 +6,18 @@ use mathlib.Core.Path.{_≡_, refl, _∙_, ap, subst}
 use Prim.Native.Nat.{ℕ, zero, suc, _+_, _*_, _-_, _^_, _≤_, _<_}
 use native.Mathlib.Omega.{arith}
 use lib.ListN.{length, drop, getD, length-append, take-append-drop}
-use Rattle.base.specs.Edition.{edition1}
+use Rattle.base.specs.Current.{current}
 use Rattle.base.specs.Limits as Limits
-use Rattle.calls.specs.DemandLaws.{edition1-size}
-use Rattle.language.specs.Program.{PatternElement, value, freeFiller, fixedFiller, literal, part, text, Statement, Step}
-use Rattle.calls.specs.CellLaws.{cell-read, range-read, length-kinds, part-kinds, length-cellBytes}
+use Rattle.calls.specs.DemandLaws.{current-size}
+use Rattle.language.specs.Program.{constantly, numbered, whole, first, literal, part, text, PatternElement, value, freeFiller, fixedFiller}
+use Rattle.language.specs.Program.{Statement, Step}
+use Rattle.calls.specs.CellLaws.{cell-read, range-read, length-cellBytes}
+use Rattle.calls.specs.Kinds.{literalKind, spellPart, spellElement, spellPattern}
 use Rattle.calls.specs.NumeralLaws.{Stands, stands-moved, stands-front, stands-back, byte-read}
 use Rattle.calls.specs.Numerals.{inBytes}
 use Rattle.calls.specs.RowLaws.{length-rowBytes}
 use Rattle.calls.specs.Rules.{keepsRules}
-use Rattle.calls.specs.Table.{Cell, cell, cellBytes, range, rangeCell, lengthCell, partCell, elementCell, patternCell, literalIn, Row}
+use Rattle.calls.specs.Table.{Cell, cell, cellBytes, range, rangeCell, cellFor, patternCell, literalIn, Row}
 use Rattle.calls.specs.Table.{rowBytes, rowOf, elementsOf, itemsOf, stepRows, allElements, allItems, allLiterals, elementRows}
 use Rattle.calls.specs.Table.{stepsAt, elementsAt, image}
 use Rattle.calls.specs.TableLaws.{InRange, RegionsStand, in-range, regions-stand, keeps-image}
@@ -83,27 +85,36 @@ cell-place t at place (x ∷ xs) (suc k) here literals d s inside e l =
     cell-place t (at + length own) next xs k here literals d (stands-back t own (elementRows next xs) s) (omega arith) (omega arith)
     (omega (arith, length-append (literalIn x) (allLiterals xs)))
 
--- the kind of a cell is read where its bytes stand
-kind-read : (t : List ℕ) (at : ℕ) (c : Cell) → Stands t at (cellBytes c) → cellAt t at .kind ≡ c .kind
-unfolding cellBytes cellAt
-kind-read t at c s = byte-read t at (c .kind) (c .place ∷ inBytes 6 (c .value)) s
+-- the kind of an element is read where its cell stands
+kind-read : (t : List ℕ) (at literals : ℕ) (x : PatternElement) → CellPlace t at literals x → cellAt t at .kind ≡ spellPattern x .kind .number
+unfolding patternCell cellFor cell cellBytes cellAt
+kind-read t at literals x p =
+    let c = patternCell (p .literal) x in
+    byte-read t at (c .kind) (c .place ∷ inBytes 6 (c .value)) (p .bytes)
 
--- the literal of a cell of kind 16 ends within the literals
-literal-end : (t : List ℕ) (at literals : ℕ) (x : PatternElement) → literals < 2 ^ 16 → CellPlace t at literals x → cellAt t at .kind ≡ 16
-    → rangeFrom (cellAt t at .value) + rangeCount (cellAt t at .value) ≤ literals
-unfolding patternCell elementCell literalIn cell
+-- the literal of a cell of its kind ends within the literals
+literal-end : (t : List ℕ) (at literals : ℕ) (x : PatternElement) → literals < 2 ^ 16 → CellPlace t at literals x
+    → cellAt t at .kind ≡ literalKind .number → rangeFrom (cellAt t at .value) + rangeCount (cellAt t at .value) ≤ literals
+unfolding patternCell literalIn cell spellPart spellElement spellPattern
 literal-end t at literals (value (literal w)) small p h =
     let from = p .literal in
     let ranges = range-read from (length w) 0 (omega (arith, p .end)) (omega (arith, p .end)) (omega arith) in
-    let read = cell-read t at (cell 16 0 (range from (length w) 0)) (ranges .small) (p .bytes) in
+    let read = cell-read t at (cell (literalKind .number) 0 (range from (length w) 0)) (ranges .small) (p .bytes) in
     rw (ap (λ (c : Cell). c .value) read, ranges .first, ranges .second) (p .end)
-literal-end t at literals (value (part q)) small p h =
-    absurd (omega (arith, kind-read t at (partCell 0 q) (p .bytes), part-kinds 0 q))
-literal-end t at literals (value (text n m)) small p h =
-    absurd (omega (arith, kind-read t at (lengthCell 17 m n) (p .bytes), length-kinds 17 m n))
-literal-end t at literals (freeFiller s) small p h = absurd (omega (arith, kind-read t at (cell 19 s 0) (p .bytes)))
-literal-end t at literals (fixedFiller s n) small p h =
-    absurd (omega (arith, kind-read t at (lengthCell 20 s n) (p .bytes), length-kinds 20 s n))
+literal-end t at literals (value (part (whole s))) small p h = absurd (omega (arith, kind-read t at literals (value (part (whole s))) p))
+literal-end t at literals (value (part (first s (constantly z)))) small p h =
+    absurd (omega (arith, kind-read t at literals (value (part (first s (constantly z)))) p))
+literal-end t at literals (value (part (first s (numbered i)))) small p h =
+    absurd (omega (arith, kind-read t at literals (value (part (first s (numbered i)))) p))
+literal-end t at literals (value (text (constantly z) m)) small p h =
+    absurd (omega (arith, kind-read t at literals (value (text (constantly z) m)) p))
+literal-end t at literals (value (text (numbered i) m)) small p h =
+    absurd (omega (arith, kind-read t at literals (value (text (numbered i) m)) p))
+literal-end t at literals (freeFiller s) small p h = absurd (omega (arith, kind-read t at literals (freeFiller s) p))
+literal-end t at literals (fixedFiller s (constantly z)) small p h =
+    absurd (omega (arith, kind-read t at literals (fixedFiller s (constantly z)) p))
+literal-end t at literals (fixedFiller s (numbered i)) small p h =
+    absurd (omega (arith, kind-read t at literals (fixedFiller s (numbered i)) p))
 
 -- the right cell of a row is read where the row stands
 right-read : (t : List ℕ) (at card : ℕ) (r : Row) → Stands t at (rowBytes card r) → r .right .value < 2 ^ 48
@@ -134,19 +145,19 @@ row-range t at card from count more r s e small =
       third = ap rangeMore read ∙ ranges .third;
     }
 
-module _ (t : List ℕ) (kept : keepsRules edition1 t ≡ true) where
+module _ (t : List ℕ) (kept : keepsRules current t ≡ true) where
   -- the program that the table holds is in range
-  pub program-in-range : InRange edition1 (programIn t)
-  program-in-range = in-range edition1 (programIn t) (keeps-image edition1 t kept .0)
+  pub program-in-range : InRange current (programIn t)
+  program-in-range = in-range current (programIn t) (keeps-image current t kept .0)
 
   -- its regions stand at their places
   regions : RegionsStand t (programIn t)
   regions =
-      let size = edition1 .tableSize in
-      let whole : image edition1 (programIn t) ++ drop size t ≡ t =
-      ap (λ (l : List ℕ). l ++ drop size t) (keeps-image edition1 t kept .1) ∙ take-append-drop size t in
+      let size = current .tableSize in
+      let whole : image current (programIn t) ++ drop size t ≡ t =
+      ap (λ (l : List ℕ). l ++ drop size t) (keeps-image current t kept .1) ∙ take-append-drop size t in
       subst (λ (l : List ℕ). RegionsStand l (programIn t)) whole
-      (regions-stand edition1 (programIn t) edition1-size program-in-range (drop size t))
+      (regions-stand current (programIn t) current-size program-in-range (drop size t))
 
   -- the row of each of its steps
   pub kept-row : (k : ℕ) (d : Step) → k < length (programIn t .steps)
@@ -158,7 +169,7 @@ module _ (t : List ℕ) (kept : keepsRules edition1 t ≡ true) where
       (omega arith) (omega arith)
 
   -- the literal of each of its elements ends within the table
-  pub kept-literal : (k : ℕ) → k < length (allElements (programIn t .steps)) → cellAt t (elementsAt + 8 * k) .kind ≡ 16
+  pub kept-literal : (k : ℕ) → k < length (allElements (programIn t .steps)) → cellAt t (elementsAt + 8 * k) .kind ≡ literalKind .number
       → rangeFrom (cellAt t (elementsAt + 8 * k) .value) + rangeCount (cellAt t (elementsAt + 8 * k) .value) ≤ Limits.literals
   kept-literal k inside h =
       let es = allElements (programIn t .steps) in

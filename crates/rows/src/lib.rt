@@ -4,12 +4,16 @@ ghost use mathlib.Core.List.{List};
 ghost use mathlib.Core.Path.{_≡_};
 ghost use Prim.Native.Nat.{ℕ, _+_, _*_, _≤_, _<_, _^_};
 ghost use lib.ListN.{length};
+ghost use Rattle.base.specs.Current.{tableSize};
+ghost use Rattle.calls.specs.Kinds.{bothSteps};
 ghost use Rattle.calls.specs.Numerals.{numberAt, unbiased};
 ghost use Rattle.calls.specs.Table.{stepsAt, elementsAt, itemsAt};
-ghost use Rattle.calls.specs.TableReading.{cellAt, rowAt, lengthOfCell, partOfCell, operandOfCell, operatorOfKind, signOfKind, itemOfCell, comparisonOf, directionOf, branchOf};
+ghost use Rattle.calls.specs.TableReading.{cellAt, rowAt, partOfCell, operandOfCell, itemOfCell, comparisonOf, directionOf, stepsIn};
 ghost use Rattle.convert.specs.Numbers.{comparison};
-ghost use Rattle.rows.specs.Meaning.{tableSize, cellMeaning, rowMeaning, lengthMeaning, partMeaning, operandMeaning, operatorMeaning, signMeaning, itemMeaning, directionMeaning, branchMeaning};
-ghost use Rattle.rows.specs.Reading.{SmallCell, CellRead, RowRead, SmallRow, StretchRead, ElementRead, PatternRead, IfRead, ReplacementRead, ScanRead, StatementRead, CountsRead};
+ghost use Rattle.rows.specs.Meaning.{cellMeaning, rowMeaning, partMeaning, operandMeaning, operatorMeaning, itemMeaning};
+ghost use Rattle.rows.specs.Meaning.{directionMeaning, branchMeaning};
+ghost use Rattle.rows.specs.Reading.{operatorOfKind, SmallCell, CellRead, RowRead, SmallRow, StretchRead, BehindRead, ElementRead, PatternRead};
+ghost use Rattle.rows.specs.Reading.{IfRead, ScanRead, StatementRead, CountsRead};
 use base::wide;
 use calls::ELEMENTS_AT;
 use calls::ITEMS_AT;
@@ -19,6 +23,7 @@ use calls::RANGE_STEP;
 use calls::STEP_ROW;
 use calls::STEPS_AT;
 use calls::TABLE_CELL;
+use calls::cell_kinds;
 use calls::step_kinds;
 use cells::spans::number2;
 use convert::Comparison;
@@ -27,12 +32,10 @@ use convert::Int;
 // an integer is kept as a number with this much added
 const BIAS: i64 = calls::BIAS as i64;
 
-// kinds of cells: the last of operands, a literal, and the last of elements outside a pattern
-const LAST_OPERAND: usize = calls::cell_kinds::LAST_OPERAND as usize;
+// STRING(n,m) and a fixed filler whose n is a number
+const TEXT_BY_NUMBER: u8 = cell_kinds::TEXT + 1;
 
-const LITERAL: usize = calls::cell_kinds::LITERAL as usize;
-
-const ELEMENT: usize = calls::cell_kinds::LAST_ELEMENT as usize;
+const FIXED_BY_NUMBER: u8 = cell_kinds::FIXED + 1;
 
 // a cell: its kind, the place of a string or number, a value of 6 bytes
 pub struct Cell {
@@ -195,64 +198,46 @@ pub fn cell_at(t: &[u8], at: usize) -> Cell
     }
 }
 
-// a length: of this kind a constant, of any other the place of a number
-fn length_of(kind: usize, c: Cell) -> Length
-    requires { ⌜ c .value < 2 ^ 48 ⌝ }
-    ensures { λ r. ⌜ lengthMeaning r ≡ lengthOfCell kind (cellMeaning c) ⌝ }
+// a string, or its first bytes by a constant or by a number; the first of their three kinds is given
+fn part_of(first: u8, c: Cell) -> Part
+    requires { ⌜ (first ≤ 64) × SmallCell c ⌝ }
+    ensures { λ r. ⌜ partMeaning r ≡ partOfCell first (cellMeaning c) ⌝ }
 {
-    if c.kind == kind {
-        Length::Constant(unbias(c.value))
-    } else {
-        Length::Number(c.value)
+    let kind = c.kind as u8;
+    if kind == first {
+        return Part::Whole(c.place);
     }
-}
-
-// kinds 1 to 3, shifted for NUMBER of one
-fn part_of(shift: usize, c: Cell) -> Part
-    requires { ⌜ (shift ≤ 6) × (c .value < 2 ^ 48) ⌝ }
-    ensures { λ r. ⌜ partMeaning r ≡ partOfCell shift (cellMeaning c) ⌝ }
-{
-    if c.kind == shift + 1 {
-        Part::Whole(c.place)
-    } else {
-        Part::First(c.place, length_of(shift + 2, c))
+    if kind == first + 1 {
+        return Part::First(c.place, Length::Constant(unbias(c.value)));
     }
+    if kind == first + 2 {
+        return Part::First(c.place, Length::Number(c.value));
+    }
+    Part::Whole(0)
 }
 
 fn operand_of(c: Cell) -> Operand
     requires { ⌜ SmallCell c ⌝ }
     ensures { λ r. ⌜ operandMeaning r ≡ operandOfCell (cellMeaning c) ⌝ }
 {
-    if c.kind == 4 {
-        return Operand::Constant(unbias(c.value));
+    let kind = c.kind as u8;
+    match kind {
+        cell_kinds::CONSTANT => Operand::Constant(unbias(c.value)),
+        cell_kinds::NUMBER => Operand::Number(c.place as u8),
+        cell_kinds::LENGTH => Operand::LengthOf(c.place),
+        _ => Operand::NumberOf(part_of(cell_kinds::NUMBER_OF, c)),
     }
-    if c.kind == 5 {
-        return Operand::Number(c.place as u8);
-    }
-    if c.kind == 6 {
-        return Operand::LengthOf(c.place);
-    }
-    Operand::NumberOf(part_of(6, c))
 }
 
-pub fn operator_of(kind: usize) -> Operator
+// the operator of this kind, if it is one of an operator
+pub fn operator_of(kind: u8) -> Operator
     ensures { λ r. ⌜ operatorMeaning r ≡ operatorOfKind kind ⌝ }
 {
     match kind {
-        10 => Operator::Plus,
-        11 => Operator::Minus,
-        12 => Operator::Times,
+        cell_kinds::PLUS => Operator::Plus,
+        cell_kinds::MINUS => Operator::Minus,
+        cell_kinds::TIMES => Operator::Times,
         _ => Operator::Over,
-    }
-}
-
-fn sign_of(kind: usize) -> Sign
-    ensures { λ r. ⌜ signMeaning r ≡ signOfKind kind ⌝ }
-{
-    if kind == 14 {
-        Sign::Positive
-    } else {
-        Sign::Negative
     }
 }
 
@@ -260,13 +245,16 @@ fn item_of(c: Cell) -> Item
     requires { ⌜ SmallCell c ⌝ }
     ensures { λ r. ⌜ itemMeaning r ≡ itemOfCell (cellMeaning c) ⌝ }
 {
-    if c.kind <= LAST_OPERAND {
-        return Item::Operand(operand_of(c));
+    let kind = c.kind as u8;
+    match kind {
+        cell_kinds::PLUS => Item::Operator(Operator::Plus),
+        cell_kinds::MINUS => Item::Operator(Operator::Minus),
+        cell_kinds::TIMES => Item::Operator(Operator::Times),
+        cell_kinds::OVER => Item::Operator(Operator::Over),
+        cell_kinds::POSITIVE => Item::Sign(Sign::Positive),
+        cell_kinds::NEGATIVE => Item::Sign(Sign::Negative),
+        _ => Item::Operand(operand_of(c)),
     }
-    if c.kind <= 13 {
-        return Item::Operator(operator_of(c.kind));
-    }
-    Item::Sign(sign_of(c.kind))
 }
 
 // the first two numbers of a range
@@ -279,31 +267,45 @@ fn stretch_of(range: usize) -> Stretch
     }
 }
 
+// what stands behind them, as many as its third number
+fn behind_of(range: usize) -> Stretch
+    requires { ⌜ range < 2 ^ 48 ⌝ }
+    ensures { λ r. ⌜ BehindRead range r ⌝ }
+{
+    let s = stretch_of(range);
+    Stretch {
+        from: s.from + s.count,
+        count: range / RANGE_MORE,
+    }
+}
+
 fn element_of(c: Cell) -> Element
-    requires { ⌜ c .value < 2 ^ 48 ⌝ }
+    requires { ⌜ SmallCell c ⌝ }
     ensures { λ r. ⌜ ((t : List ℕ) → ElementRead t (cellMeaning c) r) ⌝ }
 {
-    if c.kind <= 3 {
-        return Element::Part(part_of(0, c));
+    let kind = c.kind as u8;
+    match kind {
+        cell_kinds::LITERAL => {
+            let s = stretch_of(c.value);
+            Element::Literal(LITERALS_AT + s.from, LITERALS_AT + s.from + s.count)
+        }
+        cell_kinds::TEXT => Element::Text(Length::Constant(unbias(c.value)), c.place),
+        TEXT_BY_NUMBER => Element::Text(Length::Number(c.value), c.place),
+        _ => Element::Part(part_of(cell_kinds::STRING, c)),
     }
-    if c.kind == LITERAL {
-        let s = stretch_of(c.value);
-        return Element::Literal(LITERALS_AT + s.from, LITERALS_AT + s.from + s.count);
-    }
-    Element::Text(length_of(17, c), c.place)
 }
 
 fn pattern_of(c: Cell) -> PatternElement
-    requires { ⌜ c .value < 2 ^ 48 ⌝ }
+    requires { ⌜ SmallCell c ⌝ }
     ensures { λ r. ⌜ ((t : List ℕ) → PatternRead t (cellMeaning c) r) ⌝ }
 {
-    if c.kind <= ELEMENT {
-        return PatternElement::Value(element_of(c));
+    let kind = c.kind as u8;
+    match kind {
+        cell_kinds::FREE => PatternElement::Free(c.place),
+        cell_kinds::FIXED => PatternElement::Fixed(c.place, Length::Constant(unbias(c.value))),
+        FIXED_BY_NUMBER => PatternElement::Fixed(c.place, Length::Number(c.value)),
+        _ => PatternElement::Value(element_of(c)),
     }
-    if c.kind == 19 {
-        return PatternElement::Free(c.place);
-    }
-    PatternElement::Fixed(c.place, length_of(20, c))
 }
 
 // item k of all items
@@ -315,11 +317,11 @@ pub fn item_at(t: &[u8], k: usize) -> Item
 }
 
 // the kind of item k of all items
-pub fn item_kind(t: &[u8], k: usize) -> usize
+pub fn item_kind(t: &[u8], k: usize) -> u8
     requires { ⌜ (tableSize ≤ length (now t)) × (k < 1024) ⌝ }
     ensures { λ r. ⌜ r ≡ cellAt (now (t .entry)) (itemsAt + 8 * k) .kind ⌝ }
 {
-    wide(t[ITEMS_AT + TABLE_CELL * k])
+    t[ITEMS_AT + TABLE_CELL * k]
 }
 
 // item k of all items, which is an operand
@@ -387,46 +389,32 @@ fn if_of(r: Row) -> If
     }
 }
 
-fn direction_of(r: Row) -> Direction
-    ensures { λ x. ⌜ directionMeaning x ≡ directionOf (rowMeaning r) ⌝ }
+fn direction_of(flag: usize) -> Direction
+    ensures { λ x. ⌜ directionMeaning x ≡ directionOf flag ⌝ }
 {
-    if r.flag % 2 == 1 {
+    if flag == 1 {
         Direction::Forward
     } else {
         Direction::Backward
     }
 }
 
-// what a scan puts: the elements behind those of its pattern
-fn replacement_of(r: Row) -> Replacement
+// a scan with this replacement
+fn scan_of(r: Row, replacement: Replacement) -> Scan
     requires { ⌜ SmallRow r ⌝ }
-    ensures { λ x. ⌜ ((t : List ℕ) → ReplacementRead t (rowMeaning r) x) ⌝ }
-{
-    if r.flag <= 2 {
-        return Replacement::Nothing;
-    }
-    let pattern = stretch_of(r.right.value);
-    Replacement::By(Stretch {
-        from: pattern.from + pattern.count,
-        count: r.right.value / RANGE_MORE,
-    })
-}
-
-fn scan_of(r: Row) -> Scan
-    requires { ⌜ SmallRow r ⌝ }
-    ensures { λ x. ⌜ ((t : List ℕ) → ScanRead t (rowMeaning r) x) ⌝ }
+    ensures { λ x. ⌜ ScanRead (rowMeaning r) replacement x ⌝ }
 {
     Scan {
-        direction: direction_of(r),
-        part: part_of(0, r.left),
+        direction: direction_of(r.flag),
+        part: part_of(cell_kinds::STRING, r.left),
         pattern: stretch_of(r.right.value),
-        replacement: replacement_of(r),
+        replacement,
         branch: branch_of(r),
     }
 }
 
 fn branch_of(r: Row) -> Branch
-    ensures { λ b. ⌜ branchMeaning b ≡ branchOf (rowMeaning r) ⌝ }
+    ensures { λ b. ⌜ branchMeaning b ≡ stepsIn bothSteps (rowMeaning r) ⌝ }
 {
     Branch {
         success: r.success,
@@ -434,7 +422,7 @@ fn branch_of(r: Row) -> Branch
     }
 }
 
-// the statement of a row: one case for each kind; 0, which no table that keeps its rules has, is read as two operands and a sign
+// the statement of a row: one case for each kind; a row of no kind finishes
 fn statement_of(r: Row) -> Statement
     requires { ⌜ SmallRow r ⌝ }
     ensures { λ x. ⌜ ((t : List ℕ) → StatementRead t (rowMeaning r) x) ⌝ }
@@ -443,28 +431,36 @@ fn statement_of(r: Row) -> Statement
     match kind {
         step_kinds::SET_NUMBER => Statement::SetNumber(r.left.place, stretch_of(r.right.value)),
         step_kinds::SET_STRING => Statement::SetString(
-            part_of(0, r.left),
+            part_of(cell_kinds::STRING, r.left),
             stretch_of(r.right.value),
         ),
         step_kinds::GOTO => Statement::Goto(r.success),
         step_kinds::FINISH => Statement::Finish,
-        step_kinds::NULL => Statement::IfNull(r.left.place, branch_of(r)),
-        step_kinds::NUMERIC => Statement::IfNumeric(part_of(0, r.left), branch_of(r)),
-        0 | step_kinds::COMPARE => Statement::If(if_of(r), branch_of(r)),
-        step_kinds::SCAN => Statement::Scan(scan_of(r)),
-        step_kinds::READ => Statement::Read(part_of(0, r.left), branch_of(r)),
-        step_kinds::WRITE => Statement::Write(stretch_of(r.right.value)),
         step_kinds::EXECUTE => Statement::Execute(r.success),
-        _ => Statement::Return,
+        step_kinds::RETURN => Statement::Return,
+        step_kinds::NULL => Statement::IfNull(r.left.place, branch_of(r)),
+        step_kinds::NUMERIC => Statement::IfNumeric(
+            part_of(cell_kinds::STRING, r.left),
+            branch_of(r),
+        ),
+        step_kinds::COMPARE => Statement::If(if_of(r), branch_of(r)),
+        step_kinds::SCAN => Statement::Scan(scan_of(r, Replacement::Nothing)),
+        step_kinds::REPLACE => Statement::Scan(scan_of(
+            r,
+            Replacement::By(behind_of(r.right.value)),
+        )),
+        step_kinds::READ => Statement::Read(part_of(cell_kinds::STRING, r.left), branch_of(r)),
+        step_kinds::WRITE => Statement::Write(stretch_of(r.right.value)),
+        _ => Statement::Finish,
     }
 }
 
 // the kind of step k
-pub fn kind_at(t: &[u8], k: usize) -> usize
+pub fn kind_at(t: &[u8], k: usize) -> u8
     requires { ⌜ (tableSize ≤ length (now t)) × (k < 256) ⌝ }
     ensures { λ r. ⌜ r ≡ rowAt (now (t .entry)) (stepsAt + 24 * k) .kind ⌝ }
 {
-    wide(t[STEPS_AT + STEP_ROW * k])
+    t[STEPS_AT + STEP_ROW * k]
 }
 
 // the statement of step k

@@ -6,7 +6,7 @@ use mathlib.Core.Path.{_≡_, refl, sym, _∙_, ap, ap₂}
 use Prim.Native.Nat.{ℕ, _+_, _*_, _-_, _≤_, _<_}
 use native.Mathlib.Omega.{arith}
 use lib.ListN.{length, take, getD, replicate}
-use Rattle.base.specs.Edition.{edition1}
+use Rattle.base.specs.Current.{current, tableSize}
 use Rattle.base.specs.ListLaws.{same-refl, length-stretch}
 use Rattle.base.specs.Lists.{same}
 use Rattle.calls.specs.NumeralLaws.{Stands, stands-back, byte-read, number-behind}
@@ -17,10 +17,9 @@ use Rattle.calls.specs.Table.{stepsAt, elementsAt, itemsAt, literalsAt, format,
 use Rattle.calls.specs.TableLaws.{InRange, in-range, length-filledTo, length-elementRows, length-itemRows, keeps-image, length-stepRows}
 use Rattle.calls.specs.TableReading.{programIn}
 use Rattle.rows.specs.Kept.{step-count}
-use Rattle.rows.specs.Meaning.{tableSize}
-use Rattle.rules.specs.Same.{SameSteps, all-elements, all-literals, all-items}
+use Rattle.rules.specs.Same.{SameSteps, all-elements, all-items}
 use Rattle.rules.specs.Same.{literals-written, items-written, elements-written, steps-written}
-use Rattle.rules.specs.Split.{piece-split, filled-split, items-same, elements-same, literals-same, steps-same}
+use Rattle.rules.specs.Split.{piece-split, filled-split, items-same, elements-same, steps-same}
 use Rattle.rules.specs.Written.{piece, piece-add, piece-stands, piece-first, number-written}
 
 -- so many zeros from a place on
@@ -30,7 +29,7 @@ Zeros t at n = piece t at n ≡ replicate n 0
 pub record Checked (t : List ℕ) : Type 0 where
   pub format : getD t 0 0 ≡ 1
   pub second : getD t 1 0 ≡ 0
-  pub inside : isProgram edition1 (programIn t) ≡ true
+  pub inside : isProgram current (programIn t) ≡ true
   pub elements : length (allElements (programIn t .steps)) ≡ numberAt 2 t 8
   pub items : length (allItems (programIn t .steps)) ≡ numberAt 2 t 10
   pub literals : length (allLiterals (allElements (programIn t .steps))) ≡ numberAt 2 t 12
@@ -83,11 +82,11 @@ header-written t bytes room c =
 
 -- a table of bytes that is checked is the image of its program
 image-written : (t : List ℕ) → ((i : ℕ) → getD t i 0 < 256) → tableSize ≤ length t → Checked t
-    → image edition1 (programIn t) ≡ take tableSize t
-unfolding image stepsAt elementsAt itemsAt literalsAt edition1
+    → image current (programIn t) ≡ take tableSize t
+unfolding image stepsAt elementsAt itemsAt literalsAt current
 image-written t bytes room c =
     let p = programIn t in
-    let ok = in-range edition1 p (c .inside) in
+    let ok = in-range current p (c .inside) in
     let ss = p .steps in
     let es = allElements ss in
     let count = step-count t in
@@ -96,7 +95,7 @@ image-written t bytes room c =
     let cells = elements-written t 0 0 es (all-elements t 0 0 0 0 ss same) ∙ ap (λ (n : ℕ). piece t 6208 (8 * n)) (c .elements) in
     let items = items-written t 0 (allItems ss) (all-items t 0 0 0 0 ss same) ∙ ap (λ (n : ℕ). piece t 14400 (8 * n)) (c .items) in
     let texts =
-    literals-written t 0 0 es (all-elements t 0 0 0 0 ss same) (all-literals t 0 0 0 0 ss same) (omega arith) ∙ ap (piece t 22592) (c .literals) in
+    literals-written t 0 0 es (all-elements t 0 0 0 0 ss same) ∙ ap (piece t 22592) (c .literals) in
     let one = filled-written t 0 64 14 (header p) (header-written t bytes room c) (omega arith) (omega arith) (c .headerZeros) in
     let two = filled-written t 64 6144 (24 * numberAt 2 t 2) (stepRows 0 0 ss) rows (omega arith) (omega arith) (c .stepsZeros) in
     let three = filled-written t 6208 8192 (8 * numberAt 2 t 8) (elementRows 0 es) cells (omega (arith, c .elements, ok .elements)) (omega (arith, c .elements, ok .elements)) (c .elementsZeros) in
@@ -108,8 +107,8 @@ image-written t bytes room c =
     ap₂ {C = List ℕ} _++_ one most ∙ sym (piece-add t 0 64 28608)
 
 -- and keeps the rules
-pub checked-keeps : (t : List ℕ) → ((i : ℕ) → getD t i 0 < 256) → tableSize ≤ length t → Checked t → keepsRules edition1 t ≡ true
-unfolding keepsRules edition1
+pub checked-keeps : (t : List ℕ) → ((i : ℕ) → getD t i 0 < 256) → tableSize ≤ length t → Checked t → keepsRules current t ≡ true
+unfolding keepsRules current
 checked-keeps t bytes room c = rw (c .inside, image-written t bytes room c) (same-refl (take tableSize t))
 
 -- the counts of the header are the program's
@@ -121,7 +120,7 @@ record Counted (t : List ℕ) : Type 0 where
   literals : length (allLiterals (allElements (programIn t .steps))) ≡ numberAt 2 t 12
 
 -- where its bytes stand
-header-counted : (t : List ℕ) → InRange edition1 (programIn t) → Stands t 0 (header (programIn t)) → Counted t
+header-counted : (t : List ℕ) → InRange current (programIn t) → Stands t 0 (header (programIn t)) → Counted t
 unfolding header inBytes format
 header-counted t ok s =
     let p = programIn t in
@@ -143,12 +142,12 @@ header-counted t ok s =
     }
 
 -- a table that keeps the rules is checked
-pub keeps-checked : (t : List ℕ) → tableSize ≤ length t → keepsRules edition1 t ≡ true → Checked t
-unfolding image stepsAt elementsAt itemsAt literalsAt edition1 header inBytes
+pub keeps-checked : (t : List ℕ) → tableSize ≤ length t → keepsRules current t ≡ true → Checked t
+unfolding image stepsAt elementsAt itemsAt literalsAt current header inBytes
 keeps-checked t room h =
     let p = programIn t in
-    let both = keeps-image edition1 t h in
-    let ok = in-range edition1 p (both .0) in
+    let both = keeps-image current t h in
+    let ok = in-range current p (both .0) in
     let ss = p .steps in
     let es = allElements ss in
     let rows = stepRows 0 0 ss in
@@ -180,10 +179,8 @@ keeps-checked t room h =
     let fifth =
     filled-split t 22592 6080 (numberAt 2 t 12) texts (d .1) (counted .literals) (omega (arith, counted .literals, ok .literals)) (omega arith) in
     let same =
-    elements-same t 0 0 es (third .0 ∙ ap (λ (n : ℕ). piece t 6208 (8 * n)) (sym (counted .elements))) (omega (arith, ok .elements)) in
-    let literals =
-    literals-same t 0 0 es same (fifth .0 ∙ ap (piece t 22592) (sym (counted .literals))) (omega (arith, ok .literals))
-    (omega (arith, ok .literals)) in
+    elements-same t 0 0 es (third .0 ∙ ap (λ (n : ℕ). piece t 6208 (8 * n)) (sym (counted .elements))) (omega (arith, ok .elements))
+    (fifth .0 ∙ ap (piece t 22592) (sym (counted .literals))) (omega (arith, ok .literals)) in
     let own =
     items-same t 0 (allItems ss) (fourth .0 ∙ ap (λ (n : ℕ). piece t 14400 (8 * n)) (sym (counted .items))) (omega (arith, ok .items)) in
     record {
@@ -194,7 +191,7 @@ keeps-checked t room h =
       items = counted .items;
       literals = counted .literals;
       steps =
-          steps-same t 0 0 0 0 ss (second .0 ∙ ap (λ (n : ℕ). piece t 64 (24 * n)) (sym count)) (omega (arith, ok .steps)) same literals own;
+          steps-same t 0 0 0 0 ss (second .0 ∙ ap (λ (n : ℕ). piece t 64 (24 * n)) (sym count)) (omega (arith, ok .steps)) same own;
       headerZeros = first .1;
       stepsZeros = second .1;
       elementsZeros = third .1;

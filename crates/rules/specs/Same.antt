@@ -4,8 +4,7 @@ use mathlib.Core.Path.{_≡_, refl, sym, _∙_, ap, subst}
 use Prim.Native.Nat.{ℕ, zero, suc, _+_, _*_, _-_, _^_, _≤_, _<_}
 use native.Mathlib.Omega.{arith}
 use lib.ListN.{length, take, drop, getD, replicate, length-append}
-use Rattle.language.specs.Program.{Item, PatternElement, value, freeFiller, fixedFiller, literal, part, text, Step}
-use Rattle.calls.specs.CellLaws.{cell-read, range-read}
+use Rattle.language.specs.Program.{Item, PatternElement, Step}
 use Rattle.calls.specs.Numerals.{numberAt}
 use Rattle.calls.specs.RowLaws.{Each}
 use Rattle.calls.specs.Table.{Cell, cell, cellBytes, itemCell, range, elementCell, patternCell, literalIn, elementsOf, itemsOf, Row, rowBytes}
@@ -27,29 +26,18 @@ module _ (t : List ℕ) where
   abbrev pub ItemSame : ℕ → Item → Type 0
   ItemSame i x = cellBytes (itemCell x) ≡ piece t (itemsAt + 8 * i) 8
 
-  -- the cells of elements stand at their places, with literals from a place on
+  -- the cells of elements stand at their places, and their literal bytes from a place on
   abbrev pub SameElements : (e l : ℕ) → List PatternElement → Type 0
   SameElements e l [] = Unit {0}
   SameElements e l (x ∷ xs) =
-      (cellBytes (patternCell l x) ≡ piece t (elementsAt + 8 * e) 8) × SameElements (e + 1) (l + length (literalIn x)) xs
-
-  -- a literal is the bytes that a range says
-  abbrev pub LiteralOf : ℕ → PatternElement → Type 0
-  LiteralOf v (value (literal w)) = w ≡ take (rangeCount v) (drop (literalsAt + rangeFrom v) t)
-  LiteralOf v (value (part p)) = Unit {0}
-  LiteralOf v (value (text n m)) = Unit {0}
-  LiteralOf v (freeFiller s) = Unit {0}
-  LiteralOf v (fixedFiller s n) = Unit {0}
-
-  -- and the range is that of the element's cell
-  abbrev pub LiteralSame : ℕ → PatternElement → Type 0
-  LiteralSame e x = LiteralOf (cellAt t (elementsAt + 8 * e) .value) x
+      (cellBytes (patternCell l x) ≡ piece t (elementsAt + 8 * e) 8)
+      × (literalIn x ≡ piece t (literalsAt + l) (length (literalIn x)))
+      × SameElements (e + 1) (l + length (literalIn x)) xs
 
   -- a step's row stands at its place, and so do its elements and items
   pub record StepSame (k e i l : ℕ) (x : Step) : Type 0 where
     pub row : rowBytes (x .card) (rowOf e i (x .statement)) ≡ piece t (stepsAt + 24 * k) 24
     pub elements : SameElements e l (elementsOf (x .statement))
-    pub literals : Each LiteralSame e (elementsOf (x .statement))
     pub items : Each ItemSame i (itemsOf (x .statement))
 
   abbrev pub SameSteps : (k e i l : ℕ) → List Step → Type 0
@@ -73,7 +61,8 @@ module _ (t : List ℕ) where
       let literals : l + length (literalIn x ++ allLiterals xs) ≡ l + own + length (allLiterals xs) =
       omega (arith, length-append (literalIn x) (allLiterals xs)) in
       let moved = subst (λ (n : ℕ). SameElements (e + suc (length xs)) n ys) literals g in
-      (h .0, same-append (e + 1) (l + own) xs ys (h .1) (subst (λ (n : ℕ). SameElements n (l + own + length (allLiterals xs)) ys) place moved))
+      let moved2 = subst (λ (n : ℕ). SameElements n (l + own + length (allLiterals xs)) ys) place moved in
+      (h .0, h .1, same-append (e + 1) (l + own) xs ys (h .2) moved2)
 
   pub all-elements : (k e i l : ℕ) (ss : List Step) → SameSteps k e i l ss → SameElements e l (allElements ss)
   unfolding allElements
@@ -84,15 +73,6 @@ module _ (t : List ℕ) where
       same-append e l own (allElements xs) (h .0 .elements)
       (all-elements (k + 1) (e + length own) (i + length items) (l + length (allLiterals own)) xs (h .1))
 
-  pub all-literals : (k e i l : ℕ) (ss : List Step) → SameSteps k e i l ss → Each LiteralSame e (allElements ss)
-  unfolding allElements
-  all-literals k e i l [] h = tt
-  all-literals k e i l (x ∷ xs) h =
-      let own = elementsOf (x .statement) in
-      let items = itemsOf (x .statement) in
-      each-append LiteralSame e own (allElements xs) (h .0 .literals)
-      (all-literals (k + 1) (e + length own) (i + length items) (l + length (allLiterals own)) xs (h .1))
-
   pub all-items : (k e i l : ℕ) (ss : List Step) → SameSteps k e i l ss → Each ItemSame i (allItems ss)
   unfolding allItems
   all-items k e i l [] h = tt
@@ -102,29 +82,16 @@ module _ (t : List ℕ) where
       each-append ItemSame i items (allItems xs) (h .0 .items)
       (all-items (k + 1) (e + length own) (i + length items) (l + length (allLiterals own)) xs (h .1))
 
-  -- a literal is the bytes from its place on, and so are all literals
-  literal-written : (e l : ℕ) (x : PatternElement) → cellBytes (patternCell l x) ≡ piece t (elementsAt + 8 * e) 8 → LiteralSame e x
-      → l + length (literalIn x) < 2 ^ 16 → literalIn x ≡ piece t (literalsAt + l) (length (literalIn x))
-  unfolding literalIn patternCell elementCell cell
-  literal-written e l (value (literal w)) c r small =
-      let ranges = range-read l (length w) 0 (omega arith) (omega arith) (omega arith) in
-      let read = cell-read t (elementsAt + 8 * e) (cell 16 0 (range l (length w) 0)) (ranges .small) (piece-stands t (elementsAt + 8 * e) 8 c) in
-      let v = ap (λ (y : Cell). y .value) read in
-      r ∙ rw (v, ranges .first, ranges .second)
-  literal-written e l (value (part p)) c r small = refl
-  literal-written e l (value (text n m)) c r small = refl
-  literal-written e l (freeFiller s) c r small = refl
-  literal-written e l (fixedFiller s n) c r small = refl
-
-  pub literals-written : (e l : ℕ) (xs : List PatternElement) → SameElements e l xs → Each LiteralSame e xs
-      → l + length (allLiterals xs) < 2 ^ 16 → allLiterals xs ≡ piece t (literalsAt + l) (length (allLiterals xs))
+  -- all literals are the bytes from their place on
+  pub literals-written : (e l : ℕ) (xs : List PatternElement) → SameElements e l xs
+      → allLiterals xs ≡ piece t (literalsAt + l) (length (allLiterals xs))
   unfolding allLiterals
-  literals-written e l [] h g small = refl
-  literals-written e l (x ∷ xs) h g small =
+  literals-written e l [] h = refl
+  literals-written e l (x ∷ xs) h =
       let count = length-append (literalIn x) (allLiterals xs) in
       let own = length (literalIn x) in
-      piece-more t (literalsAt + l) own (literalsAt + (l + own)) (length (allLiterals xs)) (length (literalIn x ++ allLiterals xs))
-      (literal-written e l x (h .0) (g .0) (omega arith)) (literals-written (e + 1) (l + own) xs (h .1) (g .1) (omega arith)) (omega arith) (sym count)
+      piece-more t (literalsAt + l) own (literalsAt + (l + own)) (length (allLiterals xs)) (length (literalIn x ++ allLiterals xs)) (h .1)
+      (literals-written (e + 1) (l + own) xs (h .2)) (omega arith) (sym count)
 
   -- the bytes of the regions
   pub items-written : (i : ℕ) (xs : List Item) → Each ItemSame i xs
@@ -139,7 +106,7 @@ module _ (t : List ℕ) where
   unfolding elementRows
   elements-written e l [] h = refl
   elements-written e l (x ∷ xs) h =
-      piece-more t (elementsAt + 8 * e) 8 (elementsAt + 8 * (e + 1)) (8 * length xs) (8 * suc (length xs)) (h .0) (elements-written (e + 1) (l + length (literalIn x)) xs (h .1)) (omega arith)
+      piece-more t (elementsAt + 8 * e) 8 (elementsAt + 8 * (e + 1)) (8 * length xs) (8 * suc (length xs)) (h .0) (elements-written (e + 1) (l + length (literalIn x)) xs (h .2)) (omega arith)
       (omega arith)
 
   pub steps-written : (k e i l : ℕ) (ss : List Step) → SameSteps k e i l ss

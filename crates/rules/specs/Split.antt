@@ -6,13 +6,13 @@ use native.Mathlib.Omega.{arith}
 use lib.ListN.{length, take, drop, replicate, length-append}
 use lib.Seq.{take-at, drop-at}
 use Rattle.base.specs.ListLaws.{length-stretch}
-use Rattle.language.specs.Program.{Item, PatternElement, value, freeFiller, fixedFiller, literal, part, text, Step}
-use Rattle.calls.specs.CellLaws.{cell-read, range-read, length-cellBytes}
+use Rattle.language.specs.Program.{Item, PatternElement, Step}
+use Rattle.calls.specs.CellLaws.{length-cellBytes}
 use Rattle.calls.specs.RowLaws.{Each, each-front, each-back, length-rowBytes}
 use Rattle.calls.specs.Table.{Cell, cell, cellBytes, itemCell, range, elementCell, patternCell, literalIn, elementsOf, itemsOf, rowBytes}
 use Rattle.calls.specs.Table.{rowOf, stepRows, allElements, allItems, allLiterals, elementRows, itemRows, filledTo}
 use Rattle.calls.specs.Table.{stepsAt, elementsAt, itemsAt, literalsAt}
-use Rattle.rules.specs.Same.{ItemSame, SameElements, LiteralSame, SameSteps}
+use Rattle.rules.specs.Same.{ItemSame, SameElements, SameSteps}
 use Rattle.rules.specs.Written.{piece, piece-add, piece-stands}
 
 -- equal lists that are made of two are equal part by part
@@ -53,53 +53,35 @@ module _ (t : List ℕ) where
       (both .0, items-same (i + 1) xs (both .1 ∙ ap (λ (p : ℕ). piece t p (8 * n)) next) (omega arith))
 
   pub elements-same : (e l : ℕ) (xs : List PatternElement) → elementRows l xs ≡ piece t (elementsAt + 8 * e) (8 * length xs)
-      → elementsAt + 8 * (e + length xs) ≤ length t → SameElements t e l xs
-  unfolding elementRows
-  elements-same e l [] q room = tt
-  elements-same e l (x ∷ xs) q room =
+      → elementsAt + 8 * (e + length xs) ≤ length t → allLiterals xs ≡ piece t (literalsAt + l) (length (allLiterals xs))
+      → literalsAt + (l + length (allLiterals xs)) ≤ length t → SameElements t e l xs
+  unfolding elementRows allLiterals
+  elements-same e l [] q room w roomy = tt
+  elements-same e l (x ∷ xs) q room w roomy =
       let at = elementsAt + 8 * e in
       let n = length xs in
       let size : 8 * suc n ≡ 8 + 8 * n = omega arith in
       let next : at + 8 ≡ elementsAt + 8 * (e + 1) = omega arith in
-      let own = cellBytes (patternCell l x) in
-      let more = l + length (literalIn x) in
-      let both = piece-split at 8 (8 * n) own (elementRows more xs) (q ∙ ap (piece t at) size) (length-cellBytes (patternCell l x)) (omega arith) in
-      (both .0, elements-same (e + 1) more xs (both .1 ∙ ap (λ (p : ℕ). piece t p (8 * n)) next) (omega arith))
-
-  -- the bytes of a literal are those that its range says
-  literal-same : (e l : ℕ) (x : PatternElement) → cellBytes (patternCell l x) ≡ piece t (elementsAt + 8 * e) 8
-      → literalIn x ≡ piece t (literalsAt + l) (length (literalIn x)) → l + length (literalIn x) < 2 ^ 16 → LiteralSame t e x
-  unfolding literalIn patternCell elementCell cell
-  literal-same e l (value (literal w)) c r small =
-      let at = elementsAt + 8 * e in
-      let ranges = range-read l (length w) 0 (omega arith) (omega arith) (omega arith) in
-      let read = cell-read t at (cell 16 0 (range l (length w) 0)) (ranges .small) (piece-stands t at 8 c) in
-      let v = ap (λ (y : Cell). y .value) read in
-      r ∙ sym (rw (v, ranges .first, ranges .second))
-  literal-same e l (value (part p)) c r small = tt
-  literal-same e l (value (text n m)) c r small = tt
-  literal-same e l (freeFiller s) c r small = tt
-  literal-same e l (fixedFiller s n) c r small = tt
-
-  pub literals-same : (e l : ℕ) (xs : List PatternElement) → SameElements t e l xs
-      → allLiterals xs ≡ piece t (literalsAt + l) (length (allLiterals xs)) → l + length (allLiterals xs) < 2 ^ 16
-      → literalsAt + (l + length (allLiterals xs)) ≤ length t → Each (LiteralSame t) e xs
-  unfolding allLiterals
-  literals-same e l [] h q small room = tt
-  literals-same e l (x ∷ xs) h q small room =
       let own = length (literalIn x) in
-      let n = length (allLiterals xs) in
+      let more = l + own in
+      let both =
+      piece-split at 8 (8 * n) (cellBytes (patternCell l x)) (elementRows more xs) (q ∙ ap (piece t at) size)
+      (length-cellBytes (patternCell l x)) (omega arith) in
+      let m = length (allLiterals xs) in
       let count = length-append (literalIn x) (allLiterals xs) in
-      let next : literalsAt + l + own ≡ literalsAt + (l + own) = omega arith in
-      let both = piece-split (literalsAt + l) own n (literalIn x) (allLiterals xs) (q ∙ ap (piece t (literalsAt + l)) count) refl (omega arith) in (
-        literal-same e l x (h .0) (both .0) (omega arith),
-        literals-same (e + 1) (l + own) xs (h .1) (both .1 ∙ ap (λ (p : ℕ). piece t p n) next) (omega arith) (omega arith),
+      let behind : literalsAt + l + own ≡ literalsAt + (l + own) = omega arith in
+      let literals =
+      piece-split (literalsAt + l) own m (literalIn x) (allLiterals xs) (w ∙ ap (piece t (literalsAt + l)) count) refl (omega arith) in (
+        both .0,
+        literals .0,
+        elements-same (e + 1) more xs (both .1 ∙ ap (λ (p : ℕ). piece t p (8 * n)) next) (omega arith)
+            (literals .1 ∙ ap (λ (p : ℕ). piece t p m) behind) (omega arith),
       )
 
   -- of the elements of two rows the first stand at their places, and the others behind them
   pub same-front : (e l : ℕ) (xs ys : List PatternElement) → SameElements t e l (xs ++ ys) → SameElements t e l xs
   same-front e l [] ys h = tt
-  same-front e l (x ∷ xs) ys h = (h .0, same-front (e + 1) (l + length (literalIn x)) xs ys (h .1))
+  same-front e l (x ∷ xs) ys h = (h .0, h .1, same-front (e + 1) (l + length (literalIn x)) xs ys (h .2))
 
   pub same-back : (e l : ℕ) (xs ys : List PatternElement) → SameElements t e l (xs ++ ys)
       → SameElements t (e + length xs) (l + length (allLiterals xs)) ys
@@ -113,16 +95,16 @@ module _ (t : List ℕ) where
       let place : e + 1 + length xs ≡ e + suc (length xs) = omega arith in
       let literals : l + own + length (allLiterals xs) ≡ l + length (literalIn x ++ allLiterals xs) =
       omega (arith, length-append (literalIn x) (allLiterals xs)) in
-      let behind = same-back (e + 1) (l + own) xs ys (h .1) in
+      let behind = same-back (e + 1) (l + own) xs ys (h .2) in
       subst (λ (n : ℕ). SameElements t n (l + length (literalIn x ++ allLiterals xs)) ys) place
       (subst (λ (n : ℕ). SameElements t (e + 1 + length xs) n ys) literals behind)
 
   pub steps-same : (k e i l : ℕ) (ss : List Step) → stepRows e i ss ≡ piece t (stepsAt + 24 * k) (24 * length ss)
-      → stepsAt + 24 * (k + length ss) ≤ length t → SameElements t e l (allElements ss) → Each (LiteralSame t) e (allElements ss)
+      → stepsAt + 24 * (k + length ss) ≤ length t → SameElements t e l (allElements ss)
       → Each (ItemSame t) i (allItems ss) → SameSteps t k e i l ss
   unfolding stepRows allElements allItems
-  steps-same k e i l [] q room es ls is = tt
-  steps-same k e i l (x ∷ xs) q room es ls is =
+  steps-same k e i l [] q room es is = tt
+  steps-same k e i l (x ∷ xs) q room es is =
       let s = x .statement in
       let own = elementsOf s in
       let ownItems = itemsOf s in
@@ -136,10 +118,9 @@ module _ (t : List ℕ) where
         record {
           row = both .0;
           elements = same-front e l own (allElements xs) es;
-          literals = each-front (LiteralSame t) e own (allElements xs) ls;
           items = each-front (ItemSame t) i ownItems (allItems xs) is;
         },
         steps-same (k + 1) (e + length own) (i + length ownItems) (l + length (allLiterals own)) xs
             (both .1 ∙ ap (λ (p : ℕ). piece t p (24 * n)) next) (omega arith) (same-back e l own (allElements xs) es)
-            (each-back (LiteralSame t) e own (allElements xs) ls) (each-back (ItemSame t) i ownItems (allItems xs) is),
+            (each-back (ItemSame t) i ownItems (allItems xs) is),
       )

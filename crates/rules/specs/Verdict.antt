@@ -1,6 +1,6 @@
 -- The code's tests of a table, all together, are the rules. Assumes nothing.
-use mathlib.Core.Bool.{Bool, true, false, _&&_, true≢false}
-use mathlib.Core.List.{List}
+use mathlib.Core.Bool.{Bool, true, false, _&&_, true≢false, false≢true}
+use mathlib.Core.List.{List, _∷_, _++_}
 use mathlib.Core.Path.{_≡_, refl, sym, _∙_, ap, subst}
 use Prim.Native.Nat.{ℕ, zero, suc, _+_, _*_, _-_, _≤_, _<_}
 use native.Mathlib.Omega.{arith}
@@ -8,28 +8,28 @@ use lib.Dec.{leb, eqb}
 use lib.ListN.{length, getD, replicate}
 use borrow.Author.Tests.{leb-true, leb-false, eqb-true, le-leb, eq-eqb, ne-eqb}
 use Rattle.base.specs.Choice.{test-cases, same-truth}
-use Rattle.base.specs.Edition.{edition1}
+use Rattle.base.specs.Current.{current, tableSize}
 use Rattle.base.specs.ListLaws.{all-zeros, length-stretch, zeros-are}
 use Rattle.base.specs.Lists.{all}
-use Rattle.language.specs.Program.{isFinish, lastFinishes}
-use Rattle.calls.specs.Numerals.{numberAt}
+use Rattle.language.specs.Program.{Statement, setNumber, setString, goto, finish, ifTest, scan, read, write, execute, return, isFinish, lastFinishes}
+use Rattle.calls.specs.Kinds.{finishKind}
+use Rattle.calls.specs.NumeralLaws.{byte-read}
+use Rattle.calls.specs.Numerals.{inBytes, numberAt}
 use Rattle.calls.specs.ProgramLaws.{program-runs, first-step}
-use Rattle.calls.specs.RowLaws.{return-row}
 use Rattle.calls.specs.Rules.{stepHolds, isProgram, keepsRules}
-use Rattle.calls.specs.Table.{Row, row, allElements, allItems, allLiterals, stepsAt}
+use Rattle.calls.specs.Table.{Row, row, rowBytes, cellBytes, rowOf, elementsOf, itemsOf, allElements, allItems, allLiterals, stepsAt}
 use Rattle.calls.specs.TableLaws.{in-range}
 use Rattle.calls.specs.TableReading.{rowAt, statementOfRow, stepIn, stepsFrom, programIn}
 use Rattle.rows.specs.Kept.{step-count}
-use Rattle.rows.specs.Meaning.{tableSize}
 use Rattle.rows.specs.Reading.{CountsRead}
 use Rattle.rows.specs.declared.Counts.{Counts}
 use Rattle.rules.specs.Checked.{Zeros, Checked, checked-keeps, keeps-checked}
 use Rattle.rules.specs.Conjunctions.{three, five}
-use Rattle.rules.specs.Kinds.{From, from}
-use Rattle.rules.specs.Tests.{places, first, stepsEnd, countsTest, unusedTest, zerosTest, endsTest, totalsTest, Few}
+use Rattle.rules.specs.Same.{SameSteps}
+use Rattle.rules.specs.Tests.{places, start, stepsEnd, countsTest, unusedTest, zerosTest, endsTest, totalsTest, Few}
 use Rattle.rules.specs.Turns.{counts-few}
 use Rattle.rules.specs.Walk.{steps-back, steps-forth}
-use Rattle.rules.specs.Written.{piece}
+use Rattle.rules.specs.Written.{piece, piece-stands}
 use Rattle.rules.specs.declared.steps.Places.{Places}
 
 zeros-found : (t : List ℕ) (from to m : ℕ) → to - from ≡ m → from + m ≤ length t → zerosTest t from to ≡ true → Zeros t from m
@@ -42,34 +42,56 @@ zeros-kept : (t : List ℕ) (from to m : ℕ) → to - from ≡ m → Zeros t fr
 unfolding zerosTest
 zeros-kept t from to m e z = rw (e, z) (all-zeros m)
 
--- a statement finishes where its row's kind is 4
-finish-kind : (t : List ℕ) (r : Row) → isFinish (statementOfRow t r) ≡ eqb (r .kind) 4
-unfolding isFinish statementOfRow row
-finish-kind t r =
-    let k = r .kind in
-    let P : ℕ → Type 0 = λ j. isFinish (statementOfRow t (row j (r .flag) (r .success) (r .failure) (r .left) (r .right))) ≡ eqb j 4 in
-    let low : From P 0 12 =
-    (refl, (refl, (refl, (refl, (refl, (refl, (refl, (refl, (refl, (refl, (refl, (refl, tt)))))))))))) in
-    test-cases (λ _. isFinish (statementOfRow t r) ≡ eqb k 4) (leb k 11)
-    (λ e. from P 0 12 low k (omega arith) (omega (arith, leb-true k 11 e)))
-    (λ e.
-    let more = leb-false k 11 e in
-    ap isFinish (return-row t r more) ∙ sym (ne-eqb k 4 (λ q. omega arith)))
+-- a row of the kind that finishes is read so, and a statement that finishes is written so
+finish-read : (t : List ℕ) (r : Row) → r .kind ≡ finishKind .number → isFinish (statementOfRow t r) ≡ true
+unfolding statementOfRow isFinish
+finish-read t r e = rw e
 
-last-kind : (t : List ℕ) (k m : ℕ) → lastFinishes (stepsFrom t k (suc m)) ≡ eqb (getD t (64 + 24 * (k + m)) 0) 4
-unfolding lastFinishes stepsFrom stepIn rowAt stepsAt
-last-kind t k zero =
+finish-written : (s : Statement) (element item : ℕ) → isFinish s ≡ true → rowOf element item s .kind ≡ finishKind .number
+unfolding isFinish rowOf row
+finish-written finish element item h = refl
+finish-written (setNumber i x) element item h = absurd (false≢true h)
+finish-written (setString p xs) element item h = absurd (false≢true h)
+finish-written (goto k) element item h = absurd (false≢true h)
+finish-written (ifTest t b) element item h = absurd (false≢true h)
+finish-written (scan d p xs r b) element item h = absurd (false≢true h)
+finish-written (read p b) element item h = absurd (false≢true h)
+finish-written (write xs) element item h = absurd (false≢true h)
+finish-written (execute k) element item h = absurd (false≢true h)
+finish-written return element item h = absurd (false≢true h)
+
+-- the last step finishes where the last row's kind says so
+last-read : (t : List ℕ) (k m : ℕ) → getD t (stepsAt + 24 * (k + m)) 0 ≡ finishKind .number → lastFinishes (stepsFrom t k (suc m)) ≡ true
+unfolding lastFinishes stepsFrom stepIn rowAt
+last-read t k zero h =
     let place : k + 0 ≡ k = omega arith in
-    rw place (finish-kind t (rowAt t (64 + 24 * k)))
-last-kind t k (suc m) =
+    finish-read t (rowAt t (stepsAt + 24 * k)) (ap (λ (j : ℕ). getD t (stepsAt + 24 * j) 0) (sym place) ∙ h)
+last-read t k (suc m) h =
     let place : k + 1 + m ≡ k + suc m = omega arith in
-    last-kind t (k + 1) m ∙ ap (λ (j : ℕ). eqb (getD t (64 + 24 * j) 0) 4) place
+    last-read t (k + 1) m (ap (λ (j : ℕ). getD t (stepsAt + 24 * j) 0) place ∙ h)
 
-last-row : (t : List ℕ) (m : ℕ) → 1 ≤ m → lastFinishes (stepsFrom t 0 m) ≡ eqb (getD t (64 + 24 * (m - 1)) 0) 4
-last-row t m some =
-    let more : m ≡ suc (m - 1) = omega arith in
-    let place : 0 + (m - 1) ≡ m - 1 = omega arith in
-    ap (λ (j : ℕ). lastFinishes (stepsFrom t 0 j)) more ∙ last-kind t 0 (m - 1) ∙ ap (λ (j : ℕ). eqb (getD t (64 + 24 * j) 0) 4) place
+-- and says so where the last step finishes and stands at its place
+last-written : (t : List ℕ) (k e i l m : ℕ) → SameSteps t k e i l (stepsFrom t k (suc m)) → lastFinishes (stepsFrom t k (suc m)) ≡ true
+    → getD t (stepsAt + 24 * (k + m)) 0 ≡ finishKind .number
+unfolding lastFinishes stepsFrom rowBytes
+last-written t k e i l zero same h =
+    let x = stepIn t (stepsAt + 24 * k) in
+    let at = stepsAt + 24 * k in
+    let place : k + 0 ≡ k = omega arith in
+    let r = rowOf e i (x .statement) in
+    let rest = r .flag ∷ (inBytes 2 (x .card) ++ (inBytes 2 (r .success) ++ (inBytes 2 (r .failure) ++ (cellBytes (r .left) ++ cellBytes (r .right))))) in
+    ap (λ (j : ℕ). getD t (stepsAt + 24 * j) 0) place
+    ∙ byte-read t at (r .kind) rest (piece-stands t at 24 (same .0 .row))
+    ∙ finish-written (x .statement) e i h
+last-written t k e i l (suc m) same h =
+    let x = stepIn t (stepsAt + 24 * k) in
+    let s = x .statement in
+    let place : k + 1 + m ≡ k + suc m = omega arith in
+    ap (λ (j : ℕ). getD t (stepsAt + 24 * j) 0) (sym place)
+    ∙ last-written t (k + 1) (e + length (elementsOf s)) (i + length (itemsOf s)) (l + length (allLiterals (elementsOf s))) m (same .1) h
+
+zero-front : (m : ℕ) → 0 + m ≡ m
+zero-front m = omega arith
 
 -- the counts that the header of a table of bytes says
 abbrev countsIn : List ℕ → Counts
@@ -96,30 +118,34 @@ counts-same t n c =
 
 -- all tests behind that of the counts
 abbrev allTests : Counts → List ℕ → Bool
-allTests n t = (endsTest n t && unusedTest n t) && totalsTest n (stepsEnd n t 0 first (n .steps))
+allTests n t = (endsTest n t && unusedTest n t) && totalsTest n (stepsEnd n t 0 start (n .steps))
 
 module _ (t : List ℕ) (bytes : (i : ℕ) → getD t i 0 < 256) (room : tableSize ≤ length t) where
   -- a table that passes them is checked
   tests-checked : Few (countsIn t) → allTests (countsIn t) t ≡ true → Checked t
-  unfolding endsTest unusedTest totalsTest places programIn isProgram
+  unfolding endsTest unusedTest totalsTest places programIn isProgram stepsAt
   tests-checked few h =
       let n = countsIn t in
-      let q = stepsEnd n t 0 first (n .steps) in
+      let q = stepsEnd n t 0 start (n .steps) in
       let f = three (endsTest n t) (unusedTest n t) (totalsTest n q) h in
-      let ends = three (eqb (getD t 0 0) 1) (eqb (getD t 1 0) 0) (eqb (getD t (64 + 24 * (n .steps - 1)) 0) 4) (f .0) in
+      let ends = three (eqb (getD t 0 0) 1) (eqb (getD t 1 0) 0) (eqb (getD t (64 + 24 * (n .steps - 1)) 0) 33) (f .0) in
       let unused =
       five (zerosTest t 14 64) (zerosTest t (64 + 24 * n .steps) 6208) (zerosTest t (6208 + 8 * n .elements) 14_400)
-      (zerosTest t (14_400 + 8 * n .items) 22_592) (zerosTest t (22_592 + n .literals) 28_672) (f .1) in
+      (zerosTest t (14_400 + 8 * n .items) 22_592) (zerosTest t (22_592 + n .literals) tableSize) (f .1) in
       let totals = three (eqb (q .elements) (n .elements)) (eqb (q .items) (n .items)) (eqb (q .literals) (n .literals)) (f .2) in
       let literals = eqb-true (q .literals) (n .literals) (totals .2) in
-      let back = steps-back n few t bytes room 0 (n .steps) first q (omega (arith, few .steps)) refl (omega (arith, literals, few .literals)) in
+      let back = steps-back n few t bytes room 0 (n .steps) start q (omega (arith, few .steps)) refl (omega (arith, literals, few .literals)) in
       let ss = stepsFrom t 0 (n .steps) in
       let es = allElements ss in
       let e : length es ≡ n .elements = omega (arith, ap (λ (x : Places). x .elements) (back .end), eqb-true (q .elements) (n .elements) (totals .0)) in
       let i : length (allItems ss) ≡ n .items = omega (arith, ap (λ (x : Places). x .items) (back .end), eqb-true (q .items) (n .items) (totals .1)) in
       let l : length (allLiterals es) ≡ n .literals = omega (arith, ap (λ (x : Places). x .literals) (back .end), literals) in
       let count = step-count t in
-      let last = last-row t (n .steps) (few .some) ∙ ends .2 in
+      let more : n .steps ≡ suc (n .steps - 1) = omega (arith, few .some) in
+      let kind = eqb-true (getD t (64 + 24 * (n .steps - 1)) 0) 33 (ends .2) in
+      let last =
+      ap (λ (j : ℕ). lastFinishes (stepsFrom t 0 j)) more
+      ∙ last-read t 0 (n .steps - 1) (ap (λ (j : ℕ). getD t (64 + 24 * j) 0) (zero-front (n .steps - 1)) ∙ kind) in
       record {
         format = eqb-true (getD t 0 0) 1 (ends .0);
         second = eqb-true (getD t 1 0) 0 (ends .1);
@@ -147,7 +173,7 @@ module _ (t : List ℕ) (bytes : (i : ℕ) → getD t i 0 < 256) (room : tableSi
         elementsZeros =
             zeros-found t (6208 + 8 * n .elements) 14_400 (8192 - 8 * n .elements) (omega arith) (omega (arith, few .elements)) (unused .2);
         itemsZeros = zeros-found t (14_400 + 8 * n .items) 22_592 (8192 - 8 * n .items) (omega arith) (omega (arith, few .items)) (unused .3);
-        literalsZeros = zeros-found t (22_592 + n .literals) 28_672 (6080 - n .literals) (omega arith) (omega (arith, few .literals)) (unused .4);
+        literalsZeros = zeros-found t (22_592 + n .literals) tableSize (6080 - n .literals) (omega arith) (omega (arith, few .literals)) (unused .4);
       }
 
   -- and a table that is checked passes all tests
@@ -155,8 +181,8 @@ module _ (t : List ℕ) (bytes : (i : ℕ) → getD t i 0 < 256) (room : tableSi
   unfolding countsTest programIn
   checked-counts c =
       let n = countsIn t in
-      let ok = in-range edition1 (programIn t) (c .inside) in
-      let some = first-step (programIn t .steps) (program-runs edition1 (programIn t) (c .inside) .last) in
+      let ok = in-range current (programIn t) (c .inside) in
+      let some = first-step (programIn t .steps) (program-runs current (programIn t) (c .inside) .last) in
       let count = step-count t in
       rw (
         le-leb 1 (n .steps) (omega arith),
@@ -169,22 +195,26 @@ module _ (t : List ℕ) (bytes : (i : ℕ) → getD t i 0 < 256) (room : tableSi
       )
 
   checked-tests : Few (countsIn t) → Checked t → allTests (countsIn t) t ≡ true
-  unfolding endsTest unusedTest totalsTest places programIn
+  unfolding endsTest unusedTest totalsTest places programIn stepsAt
   checked-tests few c =
       let n = countsIn t in
-      let ok = in-range edition1 (programIn t) (c .inside) in
-      let runs = program-runs edition1 (programIn t) (c .inside) in
+      let ok = in-range current (programIn t) (c .inside) in
+      let runs = program-runs current (programIn t) (c .inside) in
       let ss = programIn t .steps in
       let count = step-count t in
-      let holds = subst (λ (m : ℕ). all (stepHolds edition1 (n .strings) (n .numbers) m) ss ≡ true) count (ok .hold) in
+      let holds = subst (λ (m : ℕ). all (stepHolds current (n .strings) (n .numbers) m) ss ≡ true) count (ok .hold) in
       let walked =
-      steps-forth n few t bytes room 0 first ss (c .steps) holds (omega (arith, c .elements)) (omega (arith, c .items))
+      steps-forth n few t bytes room 0 start ss (c .steps) holds (omega (arith, c .elements)) (omega (arith, c .items))
       (omega (arith, c .literals, ok .literals)) in
-      let end = ap (λ (m : ℕ). stepsEnd n t 0 first m) (sym count) ∙ walked in
+      let end = ap (λ (m : ℕ). stepsEnd n t 0 start m) (sym count) ∙ walked in
       let e : 0 + length (allElements ss) ≡ n .elements = omega (arith, c .elements) in
       let i : 0 + length (allItems ss) ≡ n .items = omega (arith, c .items) in
       let l : 0 + length (allLiterals (allElements ss)) ≡ n .literals = omega (arith, c .literals) in
-      let last = sym (last-row t (n .steps) (few .some)) ∙ runs .last in
+      let more : n .steps ≡ suc (n .steps - 1) = omega (arith, few .some) in
+      let steps = ap (stepsFrom t 0) more in
+      let kind =
+      last-written t 0 0 0 0 (n .steps - 1) (subst (SameSteps t 0 0 0 0) steps (c .steps)) (ap lastFinishes (sym steps) ∙ runs .last) in
+      let last = eq-eqb (getD t (64 + 24 * (n .steps - 1)) 0) 33 (ap (λ (j : ℕ). getD t (64 + 24 * j) 0) (sym (zero-front (n .steps - 1))) ∙ kind) in
       rw (
         eq-eqb (getD t 0 0) 1 (c .format),
         eq-eqb (getD t 1 0) 0 (c .second),
@@ -193,7 +223,7 @@ module _ (t : List ℕ) (bytes : (i : ℕ) → getD t i 0 < 256) (room : tableSi
         zeros-kept t (64 + 24 * n .steps) 6208 (6144 - 24 * n .steps) (omega arith) (c .stepsZeros),
         zeros-kept t (6208 + 8 * n .elements) 14_400 (8192 - 8 * n .elements) (omega arith) (c .elementsZeros),
         zeros-kept t (14_400 + 8 * n .items) 22_592 (8192 - 8 * n .items) (omega arith) (c .itemsZeros),
-        zeros-kept t (22_592 + n .literals) 28_672 (6080 - n .literals) (omega arith) (c .literalsZeros),
+        zeros-kept t (22_592 + n .literals) tableSize (6080 - n .literals) (omega arith) (c .literalsZeros),
         end,
         eq-eqb (0 + length (allElements ss)) (n .elements) e,
         eq-eqb (0 + length (allItems ss)) (n .items) i,
@@ -201,18 +231,18 @@ module _ (t : List ℕ) (bytes : (i : ℕ) → getD t i 0 < 256) (room : tableSi
       )
 
   -- a table with counts out of their limits breaks the rules
-  pub counts-broken : (n : Counts) → CountsRead t n → countsTest n ≡ false → keepsRules edition1 t ≡ false
+  pub counts-broken : (n : Counts) → CountsRead t n → countsTest n ≡ false → keepsRules current t ≡ false
   counts-broken n c h =
-      test-cases (λ b. keepsRules edition1 t ≡ b → b ≡ false) (keepsRules edition1 t)
+      test-cases (λ b. keepsRules current t ≡ b → b ≡ false) (keepsRules current t)
       (λ _ e.
       absurd (true≢false (sym (checked-counts (keeps-checked t room e)) ∙ ap countsTest (counts-same t n c) ∙ h)))
       (λ _ e. refl) refl
 
   -- and any other keeps them where all other tests hold
-  pub tests-rules : (n : Counts) → CountsRead t n → countsTest n ≡ true → allTests n t ≡ keepsRules edition1 t
+  pub tests-rules : (n : Counts) → CountsRead t n → countsTest n ≡ true → allTests n t ≡ keepsRules current t
   tests-rules n c h =
       let same = counts-same t n c in
       let few = counts-few (countsIn t) (ap countsTest same ∙ h) in
       ap (λ (m : Counts). allTests m t) (sym same)
-      ∙ same-truth (allTests (countsIn t) t) (keepsRules edition1 t) (λ e. checked-keeps t bytes room (tests-checked few e))
+      ∙ same-truth (allTests (countsIn t) t) (keepsRules current t) (λ e. checked-keeps t bytes room (tests-checked few e))
       (λ e. checked-tests few (keeps-checked t room e))

@@ -3,34 +3,34 @@
 use mathlib.Core.Bool.{Bool, true, cond}
 use mathlib.Core.List.{List, [], _∷_, _++_}
 use mathlib.Core.Path.{_≡_, refl, sym, _∙_, ap, subst}
-use Prim.Native.Nat.{ℕ, zero, suc, _+_, _*_, _^_, _≤_, _<_}
+use Prim.Native.Nat.{ℕ, zero, suc, _+_, _*_, _%_, _^_, _≤_, _<_}
 use native.Mathlib.Omega.{arith}
 use lib.Dec.{ltb}
 use lib.ListN.{length, getD, length-append}
 use borrow.Author.Tests.{lt-ltb}
 use Rattle.base.specs.Choice.{test-cases, both-true}
-use Rattle.base.specs.Edition.{edition1}
+use Rattle.base.specs.Current.{current, tableSize}
 use Rattle.base.specs.Lists.{all}
 use Rattle.language.specs.Program.{Statement, Step}
+use Rattle.calls.specs.Kinds.{spellStatement}
 use Rattle.calls.specs.Numerals.{numberAt}
 use Rattle.calls.specs.RowLaws.{row-read}
 use Rattle.calls.specs.Rules.{statementHolds, stepHolds}
 use Rattle.calls.specs.Table.{rowBytes, rowOf, elementsOf, itemsOf, allElements, allItems, allLiterals, stepsAt}
 use Rattle.calls.specs.TableReading.{rowAt, statementOfRow, stepIn, stepsFrom}
 use Rattle.calls.specs.YieldingForms.{literals-append}
-use Rattle.rows.specs.Meaning.{tableSize}
 use Rattle.rows.specs.declared.Counts.{Counts}
-use Rattle.rules.specs.Decoded.{places-same, RowBack, row-back}
-use Rattle.rules.specs.Encoded.{row-forth}
-use Rattle.rules.specs.Rows.{step-tests, step-tested}
+use Rattle.rules.specs.Codes.{rowCodeAt, rightingOf}
+use Rattle.rules.specs.Rights.{places-same}
 use Rattle.rules.specs.Same.{StepSame, SameSteps}
+use Rattle.rules.specs.Statements.{RowBack, row-back, row-forth}
 use Rattle.rules.specs.Tests.{places, lost, stretchesOf, cellsEnd, stepTest, stepEnd, stepsEnd, Few}
 use Rattle.rules.specs.Written.{piece-stands, row-written}
 use Rattle.rules.specs.declared.steps.Places.{Places}
 
 module _ (n : Counts) where
   abbrev pub stepOk : Step → Bool
-  stepOk = stepHolds edition1 (n .strings) (n .numbers) (n .steps)
+  stepOk = stepHolds current (n .strings) (n .numbers) (n .steps)
 
   -- the places behind steps
   abbrev pub behind : Places → List Step → Places
@@ -75,16 +75,19 @@ module _ (n : Counts) where
 
     -- a step that is not broken
     step-back : (k : ℕ) (p : Places) → stepEnd n t k p .literals ≤ 4096
-        → RowBack n few t bytes room p (stepEnd n t k p) (rowAt t (stepsAt + 24 * k)) (statementOfRow t (rowAt t (stepsAt + 24 * k)))
+        → RowBack n few t bytes room p (stepEnd n t k p) (rowAt t (stepsAt + 24 * k)) (spellStatement (statementOfRow t (rowAt t (stepsAt + 24 * k))))
     unfolding stepEnd
     step-back k p =
         let r = rowAt t (stepsAt + 24 * k) in
-        let cells = cellsEnd n t p (r .kind) (r .left .place) (stretchesOf (r .kind) (r .right .value)) in
-        test-cases (λ b. stepTest n p r ≡ b → cond b cells lost .literals ≤ 4096 → RowBack n few t bytes room p (cond b cells lost) r (statementOfRow t r))
-        (stepTest n p r) (λ _ e small. row-back n few t bytes room p r (step-tests n p r e) cells refl small) (λ _ e small. absurd (omega arith)) refl
+        let code = rowCodeAt (r .kind) in
+        let right = rightingOf (code % 10) in
+        let cells = cellsEnd n t p right (r .left .place) (stretchesOf right (r .right .value)) in
+        let x = spellStatement (statementOfRow t r) in
+        test-cases (λ b. stepTest n p code r ≡ b → cond b cells lost .literals ≤ 4096 → RowBack n few t bytes room p (cond b cells lost) r x)
+        (stepTest n p code r) (λ _ e small. row-back n few t bytes room p cells r e refl small) (λ _ e small. absurd (omega arith)) refl
 
     pub steps-back : (k m : ℕ) (p q : Places) → k + m ≤ 256 → stepsEnd n t k p m ≡ q → q .literals ≤ 4096 → StepsBack k p q (stepsFrom t k m)
-    unfolding stepsEnd stepsFrom stepIn stepHolds all stepsAt places
+    unfolding stepsEnd stepsFrom stepIn stepHolds all stepsAt places statementHolds elementsOf itemsOf rowOf
     steps-back k zero p q inside e small = record { same = tt; hold = refl; end = sym e ∙ behind-none p }
     steps-back k (suc m) p q inside e small =
         let at = stepsAt + 24 * k in
@@ -93,13 +96,12 @@ module _ (n : Counts) where
         let rest = steps-back (k + 1) m (stepEnd n t k p) q (omega arith) e small in
         let own = step-back k p (omega (arith, ap (λ (y : Places). y .literals) (rest .end), small)) in
         let tail = subst (λ (y : Places). StepsBack (k + 1) y q xs) (own .end) rest in
-        let card = ap (rowBytes (numberAt 2 t (at + 2))) (own .row) in
+        let card = ap (rowBytes (numberAt 2 t (at + 2))) (own .row-is) in
         record {
           same = (
             record {
               row = card ∙ row-written t bytes at (omega arith);
               elements = own .elements;
-              literals = own .literals;
               items = own .items;
             },
             tail .same,
@@ -117,12 +119,10 @@ module _ (n : Counts) where
         let s = x .statement in
         let at = stepsAt + 24 * k in
         let r = rowOf (p .elements) (p .items) s in
-        let ok = both-true (ltb (x .card) (2 ^ 16)) (statementHolds edition1 (n .strings) (n .numbers) (n .steps) s) h in
-        let own =
-        row-forth n few t p s
-        (record { holds = ok .1; elements = same .elements; items = same .items; elementsEnd = e; itemsEnd = i; literalsEnd = l }) in
+        let ok = both-true (ltb (x .card) (2 ^ 16)) (statementHolds current (n .strings) (n .numbers) (n .steps) s) h in
+        let own = row-forth n few t bytes room p s (ok .1) (same .elements) (same .items) e i l in
         let read = row-read t at (x .card) r (piece-stands t at 24 (same .row)) (own .fits) in
-        rw (read, step-tested n p r (own .tested)) (own .end)
+        rw (read, own .tested) (own .end)
 
     pub steps-forth : (k : ℕ) (p : Places) (ss : List Step) → SameSteps t k (p .elements) (p .items) (p .literals) ss → all stepOk ss ≡ true
         → p .elements + length (allElements ss) ≤ n .elements → p .items + length (allItems ss) ≤ n .items

@@ -7,9 +7,8 @@ mod steps;
 ghost use mathlib.Core.Path.{_≡_};
 ghost use Prim.Native.Nat.{_≤_};
 ghost use lib.ListN.{length};
-ghost use Rattle.base.specs.Edition.{edition1};
+ghost use Rattle.base.specs.Current.{current, tableSize};
 ghost use Rattle.calls.specs.Rules.{keepsRules};
-ghost use Rattle.rows.specs.Meaning.{tableSize};
 ghost use Rattle.rules.specs.Tests.{Few, countsTest, zerosTest, unusedTest, endsTest, totalsTest};
 use calls::ELEMENTS_AT;
 use calls::ITEMS_AT;
@@ -73,7 +72,7 @@ fn totals_hold(p: Places, n: Counts) -> bool
 // Whether the table keeps its rules.
 pub fn keeps(table: &[u8]) -> bool
     requires { ⌜ tableSize ≤ length (now table) ⌝ }
-    ensures { λ r. ⌜ r ≡ keepsRules edition1 (now (table .entry)) ⌝ }
+    ensures { λ r. ⌜ r ≡ keepsRules current (now (table .entry)) ⌝ }
 {
     let n = rows::counts_of(table);
     if !counts_hold(n) {

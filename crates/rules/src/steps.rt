@@ -2,15 +2,19 @@
 // and items of its range.
 // Assumes nothing.
 ghost use mathlib.Core.Path.{_≡_};
-ghost use Prim.Native.Nat.{_≤_, _<_};
+ghost use Prim.Native.Nat.{_+_, _/_, _%_, _≤_, _<_};
 ghost use lib.ListN.{length};
-ghost use Rattle.rows.specs.Meaning.{tableSize, cellMeaning, rowMeaning};
-ghost use Rattle.rules.specs.Tests.{Few, Short, Room, Inside, flagsTest, branchTest, leftTest, rightTest, stretchesOf, startTest, stretchesTest, rowTest, lastKind, numbersLeft, cellsEnd, stepEnd, stepsEnd, first};
+ghost use Rattle.base.specs.Current.{tableSize};
+ghost use Rattle.rows.specs.Meaning.{cellMeaning, rowMeaning};
+ghost use Rattle.rules.specs.Codes.{cellCodes, rowCodes, rowCodeAt, flaggingOf, steppingOf, leftingOf, rightingOf};
+ghost use Rattle.rules.specs.Tests.{Few, Short, Room, Inside, flagTest, stepsTest, leftTest, rightTest, stretchesOf, startTest, mostMore, stretchesTest, rowTest, isPattern, lastKind, numbersLeft, patternTest, cellsEnd, stepTest, stepEnd, stepsEnd, start};
 use crate::kinds;
+use crate::kinds::KINDS;
 use base::ROW;
 use calls::RANGE_MORE;
 use calls::RANGE_STEP;
 use calls::STEP_ROW;
+use calls::step_kinds;
 use rows::Cell;
 use rows::Counts;
 use rows::Row;
@@ -29,81 +33,192 @@ pub struct Stretches {
     pub items: usize,
 }
 
-// the last kinds of an element, and of one in a pattern
-const ELEMENT: usize = calls::cell_kinds::LAST_ELEMENT as usize;
+// The table of rows has a number for each kind, 0 where there is none. Its thousands say what the flag is, its hundreds which steps the row
+// leads to, its tens what the left cell is, its ones what the right cell is.
+pub const ROW_KINDS: usize = 82;
 
-const PATTERN: usize = calls::cell_kinds::LAST_FILLER as usize;
+const SET_NUMBER: usize = step_kinds::SET_NUMBER as usize;
 
-// Whether the flag is one of the kind: a sign of comparison, a direction with or without a replacement, or 0.
-fn flags_hold(kind: usize, flag: usize) -> bool
-    ensures { λ x. ⌜ x ≡ flagsTest kind flag ⌝ }
+const SET_STRING: usize = step_kinds::SET_STRING as usize;
+
+const GOTO: usize = step_kinds::GOTO as usize;
+
+const FINISH: usize = step_kinds::FINISH as usize;
+
+const EXECUTE: usize = step_kinds::EXECUTE as usize;
+
+const RETURN: usize = step_kinds::RETURN as usize;
+
+const NULL: usize = step_kinds::NULL as usize;
+
+const NUMERIC: usize = step_kinds::NUMERIC as usize;
+
+const COMPARE: usize = step_kinds::COMPARE as usize;
+
+const SCAN: usize = step_kinds::SCAN as usize;
+
+const REPLACE: usize = step_kinds::REPLACE as usize;
+
+const READ: usize = step_kinds::READ as usize;
+
+const WRITE: usize = step_kinds::WRITE as usize;
+
+const NO_FLAG: usize = 1;
+
+const COMPARISON: usize = 2;
+
+const DIRECTION: usize = 3;
+
+const ONE_STEP: usize = 1;
+
+const BOTH_STEPS: usize = 2;
+
+const NUMBER_LEFT: usize = 1;
+
+const STRING_LEFT: usize = 2;
+
+const PART_LEFT: usize = 3;
+
+const OPERAND_LEFT: usize = 4;
+
+const OPERAND_RIGHT: usize = 1;
+
+const ITEMS_RIGHT: usize = 2;
+
+const ELEMENTS_RIGHT: usize = 3;
+
+const PATTERN_RIGHT: usize = 4;
+
+const REPLACING_RIGHT: usize = 5;
+
+const SETS_NUMBER: usize = 1000 * NO_FLAG + 10 * NUMBER_LEFT + ITEMS_RIGHT;
+
+const SETS_STRING: usize = 1000 * NO_FLAG + 10 * PART_LEFT + ELEMENTS_RIGHT;
+
+const LEADS: usize = 1000 * NO_FLAG + 100 * ONE_STEP;
+
+const ENDS: usize = 1000 * NO_FLAG;
+
+const TESTS_STRING: usize = 1000 * NO_FLAG + 100 * BOTH_STEPS + 10 * STRING_LEFT;
+
+const TESTS_PART: usize = 1000 * NO_FLAG + 100 * BOTH_STEPS + 10 * PART_LEFT;
+
+const COMPARES: usize = 1000 * COMPARISON + 100 * BOTH_STEPS + 10 * OPERAND_LEFT + OPERAND_RIGHT;
+
+const SCANS: usize = 1000 * DIRECTION + 100 * BOTH_STEPS + 10 * PART_LEFT + PATTERN_RIGHT;
+
+const REPLACES: usize = 1000 * DIRECTION + 100 * BOTH_STEPS + 10 * PART_LEFT + REPLACING_RIGHT;
+
+const WRITES: usize = 1000 * NO_FLAG + ELEMENTS_RIGHT;
+
+// the last flags of a comparison and of a direction
+const LAST_COMPARISON: usize = 6;
+
+const LAST_DIRECTION: usize = 2;
+
+pub fn row_codes() -> [usize; ROW_KINDS]
+    ensures { λ r. ⌜ r ≡ rowCodes ⌝ }
 {
-    if kind == 7 {
-        return (1 <= flag) & (flag <= 6);
+    let mut codes: [usize; ROW_KINDS] = [0; ROW_KINDS];
+    codes[SET_NUMBER] = SETS_NUMBER;
+    codes[SET_STRING] = SETS_STRING;
+    codes[GOTO] = LEADS;
+    codes[FINISH] = ENDS;
+    codes[EXECUTE] = LEADS;
+    codes[RETURN] = ENDS;
+    codes[NULL] = TESTS_STRING;
+    codes[NUMERIC] = TESTS_PART;
+    codes[COMPARE] = COMPARES;
+    codes[SCAN] = SCANS;
+    codes[REPLACE] = REPLACES;
+    codes[READ] = TESTS_PART;
+    codes[WRITE] = WRITES;
+    codes
+}
+
+// The number of a kind in the table.
+fn code_of(codes: &[usize; ROW_KINDS], kind: usize) -> usize
+    requires { ⌜ now codes ≡ rowCodes ⌝ }
+    ensures { λ r. ⌜ r ≡ rowCodeAt kind ⌝ }
+{
+    if kind < ROW_KINDS {
+        return codes[kind];
     }
-    if kind == 8 {
-        return (1 <= flag) & (flag <= 4);
+    0
+}
+
+// Whether the flag is one of the kind: a sign of comparison, a direction, or 0.
+fn flags_hold(digit: usize, flag: usize) -> bool
+    ensures { λ x. ⌜ x ≡ flagTest (flaggingOf digit) flag ⌝ }
+{
+    if digit == COMPARISON {
+        return (1 <= flag) & (flag <= LAST_COMPARISON);
+    }
+    if digit == DIRECTION {
+        return (1 <= flag) & (flag <= LAST_DIRECTION);
     }
     flag == 0
 }
 
 // Whether the steps that the row leads to are steps; those that it doesn't lead to are 0.
-fn branch_holds(kind: usize, success: usize, failure: usize, steps: usize) -> bool
-    ensures { λ x. ⌜ x ≡ branchTest kind success failure steps ⌝ }
+fn branch_holds(digit: usize, success: usize, failure: usize, steps: usize) -> bool
+    ensures { λ x. ⌜ x ≡ stepsTest steps (steppingOf digit) success failure ⌝ }
 {
-    if (5 <= kind) & (kind <= 9) {
-        return (success < steps) & (failure < steps);
-    }
-    if (kind == 3) | (kind == 11) {
+    if digit == ONE_STEP {
         return (success < steps) & (failure == 0);
+    }
+    if digit == BOTH_STEPS {
+        return (success < steps) & (failure < steps);
     }
     (success == 0) & (failure == 0)
 }
 
 // Whether the left cell is one of the kind: a number, a string, a part of one, an operand, or nothing.
-fn left_holds(kind: usize, left: Cell, n: Counts) -> bool
-    ensures { λ x. ⌜ x ≡ leftTest n kind (cellMeaning left) ⌝ }
+fn left_holds(cells: &[usize; KINDS], digit: usize, left: Cell, n: Counts) -> bool
+    requires { ⌜ now cells ≡ cellCodes ⌝ }
+    ensures { λ x. ⌜ x ≡ leftTest n (leftingOf digit) (cellMeaning left) ⌝ }
 {
-    if kind == 1 {
-        return kinds::cell_holds(left, 5, 5, n);
+    if digit == NUMBER_LEFT {
+        return kinds::cell_holds(cells, left, kinds::NUMBER, kinds::NUMBER, n);
     }
-    if kind == 5 {
-        return kinds::cell_holds(left, 1, 1, n);
+    if digit == STRING_LEFT {
+        return kinds::cell_holds(cells, left, kinds::STRING, kinds::STRING, n);
     }
-    if kind == 7 {
-        return kinds::cell_holds(left, 4, 9, n);
+    if digit == PART_LEFT {
+        return kinds::cell_holds(cells, left, kinds::STRING, kinds::LAST_PART, n);
     }
-    if (kind == 2) | (kind == 6) | (kind == 8) | (kind == 9) {
-        return kinds::cell_holds(left, 1, 3, n);
+    if digit == OPERAND_LEFT {
+        return kinds::cell_holds(cells, left, kinds::CONSTANT, kinds::LAST_ITEM, n);
     }
-    kinds::cell_holds(left, 0, 0, n)
+    kinds::cell_holds(cells, left, kinds::NOTHING, kinds::NOTHING, n)
 }
 
 // Whether the right cell is one of the kind: an operand, a range, or nothing.
-fn right_holds(kind: usize, right: Cell, n: Counts) -> bool
-    ensures { λ x. ⌜ x ≡ rightTest n kind (cellMeaning right) ⌝ }
+fn right_holds(cells: &[usize; KINDS], digit: usize, right: Cell, n: Counts) -> bool
+    requires { ⌜ now cells ≡ cellCodes ⌝ }
+    ensures { λ x. ⌜ x ≡ rightTest n (rightingOf digit) (cellMeaning right) ⌝ }
 {
-    if kind == 7 {
-        return kinds::cell_holds(right, 4, 9, n);
+    if digit == OPERAND_RIGHT {
+        return kinds::cell_holds(cells, right, kinds::CONSTANT, kinds::LAST_ITEM, n);
     }
-    if (kind == 1) | (kind == 2) | (kind == 8) | (kind == 10) {
-        return kinds::cell_holds(right, 22, 22, n);
+    if (ITEMS_RIGHT <= digit) & (digit <= REPLACING_RIGHT) {
+        return kinds::cell_holds(cells, right, kinds::RANGE, kinds::RANGE, n);
     }
-    kinds::cell_holds(right, 0, 0, n)
+    kinds::cell_holds(cells, right, kinds::NOTHING, kinds::NOTHING, n)
 }
 
 // What the row's range holds.
-fn stretches_of(kind: usize, range: usize) -> Stretches
-    ensures { λ x. ⌜ (x ≡ stretchesOf kind range) × Short x ⌝ }
+fn stretches_of(digit: usize, range: usize) -> Stretches
+    ensures { λ x. ⌜ (x ≡ stretchesOf (rightingOf digit) range) × Short x ⌝ }
 {
-    if kind == 1 {
+    if digit == ITEMS_RIGHT {
         return Stretches {
             first: 0,
             more: range / RANGE_MORE,
             items: range / RANGE_STEP % RANGE_STEP,
         };
     }
-    if (kind == 2) | (kind == 8) | (kind == 10) {
+    if (ELEMENTS_RIGHT <= digit) & (digit <= REPLACING_RIGHT) {
         return Stretches {
             first: range / RANGE_STEP % RANGE_STEP,
             more: range / RANGE_MORE,
@@ -118,82 +233,120 @@ fn stretches_of(kind: usize, range: usize) -> Stretches
 }
 
 // Whether the row's range starts where the ones before it end.
-fn start_holds(kind: usize, range: usize, p: Places) -> bool
-    ensures { λ x. ⌜ x ≡ startTest p kind range ⌝ }
+fn start_holds(digit: usize, range: usize, p: Places) -> bool
+    ensures { λ x. ⌜ x ≡ startTest p (rightingOf digit) range ⌝ }
 {
-    if kind == 1 {
+    if digit == ITEMS_RIGHT {
         return range % RANGE_STEP == p.items;
     }
-    if (kind == 2) | (kind == 8) | (kind == 10) {
+    if (ELEMENTS_RIGHT <= digit) & (digit <= REPLACING_RIGHT) {
         return range % RANGE_STEP == p.elements;
     }
     true
 }
 
-// Whether the stretches are not too long, and end within the header's counts. Only a scan with a replacement has more behind the first.
-fn stretches_hold(kind: usize, flag: usize, s: Stretches, p: Places, n: Counts) -> bool
-    requires { ⌜ Short s × Room p ⌝ }
-    ensures { λ x. ⌜ x ≡ stretchesTest n p kind flag s ⌝ }
+// How many elements may stand behind the first: those of a replacement.
+fn most_more(digit: usize) -> usize
+    ensures { λ x. ⌜ x ≡ mostMore (rightingOf digit) ⌝ }
 {
-    ((s.more == 0) | (kind == 8) & (3 <= flag) & (s.more <= ROW))
+    if digit == REPLACING_RIGHT {
+        return ROW;
+    }
+    0
+}
+
+// Whether the stretches are not too long, and end within the header's counts.
+fn stretches_hold(digit: usize, s: Stretches, p: Places, n: Counts) -> bool
+    requires { ⌜ Short s × Room p ⌝ }
+    ensures { λ x. ⌜ x ≡ stretchesTest n p (rightingOf digit) s ⌝ }
+{
+    (s.more <= most_more(digit))
         & (s.first <= ROW)
         & (p.elements + s.first + s.more <= n.elements)
         & (p.items + s.items <= n.items)
 }
 
 // Whether a row is one of its kind, as far as its own bytes say.
-fn row_holds(r: Row, n: Counts) -> bool
-    ensures { λ x. ⌜ x ≡ rowTest n (rowMeaning r) ⌝ }
+fn row_holds(cells: &[usize; KINDS], code: usize, r: Row, n: Counts) -> bool
+    requires { ⌜ now cells ≡ cellCodes ⌝ }
+    ensures { λ x. ⌜ x ≡ rowTest n code (rowMeaning r) ⌝ }
 {
-    let kind = r.kind;
     let left = r.left;
     let right = r.right;
-    (1 <= kind)
-        & (kind <= 12)
-        & flags_hold(kind, r.flag)
-        & branch_holds(kind, r.success, r.failure, n.steps)
-        & left_holds(kind, left, n)
-        & right_holds(kind, right, n)
+    (1000 <= code)
+        & flags_hold(code / 1000, r.flag)
+        & branch_holds(code / 100 % 10, r.success, r.failure, n.steps)
+        & left_holds(cells, code / 10 % 10, left, n)
+        & right_holds(cells, code % 10, right, n)
+}
+
+// Whether a row's first elements are those of a pattern.
+fn has_pattern(digit: usize) -> bool
+    ensures { λ x. ⌜ x ≡ isPattern (rightingOf digit) ⌝ }
+{
+    (digit == PATTERN_RIGHT) | (digit == REPLACING_RIGHT)
 }
 
 // The last kind that the first elements of a row may have.
-fn last_kind(kind: usize) -> usize
-    ensures { λ x. ⌜ x ≡ lastKind kind ⌝ }
+fn last_kind(digit: usize) -> usize
+    ensures { λ x. ⌜ x ≡ lastKind (rightingOf digit) ⌝ }
 {
-    if kind == 8 {
-        return PATTERN;
+    if has_pattern(digit) {
+        return kinds::LAST_FILLER;
     }
-    ELEMENT
+    kinds::LAST_ELEMENT
 }
 
 // How many numbers are left of a row's items: one where there are items.
-fn numbers_left(kind: usize) -> usize
-    ensures { λ x. ⌜ x ≡ numbersLeft kind ⌝ }
+fn numbers_left(digit: usize) -> usize
+    ensures { λ x. ⌜ x ≡ numbersLeft (rightingOf digit) ⌝ }
 {
-    if kind == 1 {
+    if digit == ITEMS_RIGHT {
         return 1;
     }
     0
 }
 
-// The places behind the elements and items of a row: one number is left of the items, if there are any.
-fn cells_end(t: &[u8], kind: usize, place: usize, s: Stretches, p: Places, n: Counts) -> Places
-    requires { ⌜ (tableSize ≤ length (now t)) × Inside s p ⌝ }
-    ensures { λ x. ⌜ (x ≡ cellsEnd n (now (t .entry)) p kind place s) × Room x ⌝ }
+// Whether the roles of a row's pattern are as they should be, if it has one: no string has the place of a filler left of it, and no filler that
+// of the reference.
+fn pattern_holds(t: &[u8], digit: usize, k: usize, count: usize, reference: usize) -> bool
+    requires { ⌜ (tableSize ≤ length (now t)) × (k + count ≤ 1024) ⌝ }
+    ensures { λ x. ⌜ x ≡ patternTest (rightingOf digit) (now (t .entry)) reference k count ⌝ }
 {
-    let known = kinds::items_end(t, p.items, s.items, n);
+    if has_pattern(digit) {
+        return kinds::roles_hold(t, k, count, reference);
+    }
+    true
+}
+
+// The places behind the elements and items of a row: one number is left of the items, if there are any.
+fn cells_end(
+    t: &[u8],
+    cells: &[usize; KINDS],
+    digit: usize,
+    reference: usize,
+    s: Stretches,
+    p: Places,
+    n: Counts,
+) -> Places
+    requires { ⌜ (tableSize ≤ length (now t)) × (now cells ≡ cellCodes) × Inside s p ⌝ }
+    ensures { λ x. ⌜ (x ≡ cellsEnd n (now (t .entry)) p (rightingOf digit) reference s) × Room x ⌝ }
+{
+    let known = kinds::items_end(t, cells, p.items, s.items, n);
+    let roles = pattern_holds(t, digit, p.elements, s.first, reference);
     let middle = p.elements + s.first;
     let end = kinds::elements_end(
         t,
+        cells,
         p.elements,
         s.first,
-        last_kind(kind),
-        place,
+        last_kind(digit),
         p.literals,
         n,
     );
-    let literals = kinds::elements_end(t, middle, s.more, ELEMENT, place, end, n);
-    if known == numbers_left(kind) {
+    let literals = kinds::elements_end(t, cells, middle, s.more, kinds::LAST_ELEMENT, end, n);
+    let holds = (known == numbers_left(digit)) & roles;
+    if holds {
         return Places {
             elements: middle + s.more,
             items: p.items + s.items,
@@ -208,16 +361,27 @@ fn cells_end(t: &[u8], kind: usize, place: usize, s: Stretches, p: Places, n: Co
 }
 
 // The places behind step k.
-fn step_end(t: &[u8], k: usize, p: Places, n: Counts) -> Places
-    requires { ⌜ (tableSize ≤ length (now t)) × ((k < 256) × (Room p × Few n)) ⌝ }
+fn step_end(
+    t: &[u8],
+    cells: &[usize; KINDS],
+    rows: &[usize; ROW_KINDS],
+    k: usize,
+    p: Places,
+    n: Counts,
+) -> Places
+    requires { ⌜ (tableSize ≤ length (now t)) × (now cells ≡ cellCodes) × (now rows ≡ rowCodes) × (k < 256) × Room p × Few n ⌝ }
     ensures { λ x. ⌜ (x ≡ stepEnd n (now (t .entry)) k p) × Room x ⌝ }
 {
     let r = rows::row_at(t, calls::STEPS_AT + STEP_ROW * k);
-    let kind = r.kind;
+    let code = code_of(rows, r.kind);
     let range = r.right.value;
-    let s = stretches_of(kind, range);
-    if row_holds(r, n) & start_holds(kind, range, p) & stretches_hold(kind, r.flag, s, p, n) {
-        return cells_end(t, kind, r.left.place, s, p, n);
+    let digit = code % 10;
+    let s = stretches_of(digit, range);
+    if row_holds(cells, code, r, n)
+        & start_holds(digit, range, p)
+        & stretches_hold(digit, s, p, n)
+    {
+        return cells_end(t, cells, digit, r.left.place, s, p, n);
     }
     Places {
         elements: 0,
@@ -229,8 +393,10 @@ fn step_end(t: &[u8], k: usize, p: Places, n: Counts) -> Places
 // The places behind all steps.
 pub fn steps_end(t: &[u8], n: Counts) -> Places
     requires { ⌜ (tableSize ≤ length (now t)) × Few n ⌝ }
-    ensures { λ x. ⌜ x ≡ stepsEnd n (now (t .entry)) 0 first (n .steps) ⌝ }
+    ensures { λ x. ⌜ x ≡ stepsEnd n (now (t .entry)) 0 start (n .steps) ⌝ }
 {
+    let cells = kinds::kind_codes();
+    let rows = row_codes();
     let mut p = Places {
         elements: 0,
         items: 0,
@@ -238,7 +404,7 @@ pub fn steps_end(t: &[u8], n: Counts) -> Places
     };
     let mut k: usize = 0;
     while k < n.steps {
-        p = step_end(t, k, p, n);
+        p = step_end(t, &cells, &rows, k, p, n);
         k += 1;
     }
     p

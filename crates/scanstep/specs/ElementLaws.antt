@@ -8,7 +8,7 @@ use native.Mathlib.Nat.{add-zero}
 use lib.IntN.{ℤ, natAbs}
 use lib.ListN.{take, set}
 use borrow.Author.Tests.{lt-ltb}
-use Rattle.base.specs.Edition.{edition1}
+use Rattle.base.specs.Current.{current}
 use Rattle.expressions.specs.Appending.{Adds}
 use Rattle.language.specs.Program as Program
 use Rattle.machine.specs.Expressions.{elementIn}
@@ -62,7 +62,7 @@ module _ (values rows rowsLeft names : List ℕ) (i : ℕ) where
 
   module _ (m : Memory) where
     pub free-put : (s : ℕ) → s < 32 → PutRow rows rowsLeft i 3 0 0
-        → Put values values rows rowsLeft names (set names i s) i 0 (valuedIn edition1 m (Program.freeFiller s))
+        → Put values values rows rowsLeft names (set names i s) i 0 (valuedIn current m (Program.freeFiller s))
     unfolding valuedIn nameOf quietly
     free-put s known p =
         record {
@@ -75,8 +75,8 @@ module _ (values rows rowsLeft names : List ℕ) (i : ℕ) where
         }
 
     -- a value
-    pub value-put : (r : Did) (left : List ℕ) (x : Program.Element) → ValueBy r values left rows rowsLeft i (elementIn edition1 m x)
-        → PutBy r values left rows rowsLeft names (set names i 32) i (valuedIn edition1 m (Program.value x))
+    pub value-put : (r : Did) (left : List ℕ) (x : Program.Element) → ValueBy r values left rows rowsLeft i (elementIn current m x)
+        → PutBy r values left rows rowsLeft names (set names i 32) i (valuedIn current m (Program.value x))
     unfolding valuedIn nameOf quietly _>>=_ noting
     value-put (did.Done notes) left x p =
         let v : List ℕ → Valued = λ w. record { names = none; element = string w } in
@@ -88,4 +88,4 @@ module _ (values rows rowsLeft names : List ℕ) (i : ℕ) where
           places = refl;
           name = refl;
         }
-    value-put (did.Stops k) left x p = stopped (elementIn edition1 m x) (λ w. quietly (record { names = none; element = string w })) k p
+    value-put (did.Stops k) left x p = stopped (elementIn current m x) (λ w. quietly (record { names = none; element = string w })) k p

@@ -5,13 +5,14 @@ use mathlib.Core.Path.{_≡_}
 use Prim.Native.Nat.{ℕ, _+_, _*_, _≤_, _<_}
 use lib.Dec.{ltb}
 use lib.ListN.{length, take, set}
+use Rattle.base.specs.Current.{tableSize}
 use Rattle.convert.specs.Numbers.{InRange}
 use Rattle.convert.specs.declared.Int.{Int}
 use Rattle.expressions.specs.Memory.{Ready}
 use Rattle.machine.specs.Scanning.{Valued, fixedAt}
 use Rattle.pattern.specs.Putting.{PutRow}
 use Rattle.rows.specs.Holds.{ElementHolds, PatternHolds, PatternsHold}
-use Rattle.rows.specs.Meaning.{tableSize, patternsMeaning}
+use Rattle.rows.specs.Meaning.{patternsMeaning}
 use Rattle.rows.specs.declared.Element as Table
 use Rattle.rows.specs.declared.PatternElement.{PatternElement}
 use Rattle.rows.specs.declared.Stretch.{Stretch}

@@ -4,7 +4,7 @@ use mathlib.Core.Path.{_≡_, sym, ap, _∙_}
 use Prim.Native.Nat.{ℕ, _-_, _≤_}
 use native.Mathlib.Omega.{arith}
 use lib.ListN.{length, take}
-use Rattle.base.specs.Edition.{edition1}
+use Rattle.base.specs.Current.{current}
 use Rattle.calls.specs.BufferLaws.{Good, good-short}
 use Rattle.calls.specs.Splices.{splice, length-splice, take-front}
 use Rattle.cells.specs.Contracts.{stringOf}
@@ -57,8 +57,8 @@ module _ (table store state : List ℕ) (s : Scan) where
       let d = directionMeaning (s .direction) in
       let m = memoryIn store state in
       let xs = patternsMeaning table (s .pattern) in
-      ap (λ w. w >>= λ x. patternIn edition1 m xs >>= λ vs.
-      leaving edition1 d x vs (replacementMeaning table (s .replacement)) (withoutFillers xs m) (scanOf vs (turned d (x .reference)))
+      ap (λ w. w >>= λ x. patternIn current m xs >>= λ vs.
+      leaving current d x vs (replacementMeaning table (s .replacement)) (withoutFillers xs m) (scanOf vs (turned d (x .reference)))
       (scanOf vs (turned d (x .reference)) .split)) e
       ∙ noting-none (searchedRest table store state (s .direction) at (s .pattern) (replacementMeaning table (s .replacement)))
 

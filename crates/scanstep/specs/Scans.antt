@@ -4,12 +4,12 @@ use mathlib.Core.Option.{none, some}
 use mathlib.Core.Path.{_≡_}
 use Prim.Native.Nat.{ℕ, _≤_}
 use lib.ListN.{length}
-use Rattle.base.specs.Edition.{edition1}
+use Rattle.base.specs.Current.{current, tableSize}
 use Rattle.calls.specs.BufferLaws.{Good}
 use Rattle.expressions.specs.Memory.{Ready, memoryIn}
 use Rattle.machine.specs.Scanning.{Left, scanningIn}
 use Rattle.rows.specs.Holds.{PartHolds, PatternsHold, ReplacementHolds, ScanHolds, placeIn}
-use Rattle.rows.specs.Meaning.{tableSize, directionMeaning, partMeaning, patternsMeaning, replacementMeaning}
+use Rattle.rows.specs.Meaning.{directionMeaning, partMeaning, patternsMeaning, replacementMeaning}
 use Rattle.rows.specs.declared.Scan.{Scan}
 use Rattle.scanning.specs.Call.{answerNumbers}
 use Rattle.scanning.specs.Splits.{Split}
@@ -52,7 +52,7 @@ pub record Lent (kept values rows names reference scratch out : List ℕ) : Type
 -- the work of the statement in the memory of these buffers
 abbrev pub scanningOf : (table store state : List ℕ) → Scan → Work Left
 scanningOf table store state s =
-    scanningIn edition1 (memoryIn store state) (directionMeaning (s .direction)) (partMeaning (s .part)) (patternsMeaning table (s .pattern))
+    scanningIn current (memoryIn store state) (directionMeaning (s .direction)) (partMeaning (s .part)) (patternsMeaning table (s .pattern))
     (replacementMeaning table (s .replacement))
 
 -- the work is done: the store holds the memory left, and the answer's numbers are all those of the scan

@@ -6,11 +6,12 @@ use mathlib.Core.Path.{_≡_}
 use Prim.Native.Nat.{ℕ, _+_, _≤_}
 use lib.IntN.{ℤ}
 use lib.ListN.{length, drop, getD}
+use Rattle.base.specs.Current.{tableSize}
 use Rattle.base.specs.Lists.{total}
 use Rattle.calls.specs.BufferLaws.{Good}
 use Rattle.cells.specs.Contracts.{stringOf}
 use Rattle.machine.specs.Scanning.{Valued, withoutFillers, naming}
-use Rattle.rows.specs.Meaning.{tableSize, patternsMeaning}
+use Rattle.rows.specs.Meaning.{patternsMeaning}
 use Rattle.rows.specs.declared.Stretch.{Stretch}
 use Rattle.scan.specs.Rows.{GoodRows}
 use Rattle.scanning.specs.Call.{answerNumbers}

@@ -10,7 +10,7 @@ use lib.Dec.{leb}
 use lib.ListN.{length, take, drop, getD, set, length-drop, take-append-drop}
 use lib.Seq.{length-take-le}
 use Rattle.base.specs.Choice.{cond-cases}
-use Rattle.base.specs.Edition.{edition1}
+use Rattle.base.specs.Current.{current}
 use Rattle.base.specs.ListLaws.{stretch-behind}
 use Rattle.base.specs.Lists.{total}
 use Rattle.calls.specs.BufferLaws.{good-short}
@@ -108,11 +108,11 @@ module _ {table store state : List ℕ} {d : Direction} {at : Span} {pattern : S
 
   module _ (r : Option (List Program.Element)) where
     -- the work that is left, for the values and the reference that there are
-    rest-is : searchedRest table store state d at pattern r ≡ noting notes (leaving edition1 way searched vs r nulled answered (answered .split))
+    rest-is : searchedRest table store state d at pattern r ≡ noting notes (leaving current way searched vs r nulled answered (answered .split))
     unfolding _>>=_
     rest-is =
         ap (λ w. w >>= valuedRest table store state d at pattern r) (q .put .work)
-        ∙ ap (λ (l : List ℕ). noting notes (leaving edition1 way searched vs r nulled (scanOf vs l) (scanOf vs l .split))) (sym (q .turned-is))
+        ∙ ap (λ (l : List ℕ). noting notes (leaving current way searched vs r nulled (scanOf vs l) (scanOf vs l .split))) (sym (q .turned-is))
 
     -- no split
     pub missed-scans : {left answer : List ℕ} → Stays store left → Finds false table store left pattern reference answer notes vs
@@ -127,7 +127,7 @@ module _ {table store state : List ℕ} {d : Direction} {at : Span} {pattern : S
                 scanned = answered;
                 work =
                     rest-is
-                    ∙ ap (λ o. noting notes (leaving edition1 way searched vs r nulled answered o)) (f .by .failed)
+                    ∙ ap (λ o. noting notes (leaving current way searched vs r nulled answered o)) (f .by .failed)
                     ∙ ap (λ m. done (end m) (notes + 0)) (f .by .work (numbersIn state))
                     ∙ ap (done (end (memoryIn left state))) (add-zero notes);
                 answer-is = f .numbers;
@@ -138,13 +138,13 @@ module _ {table store state : List ℕ} {d : Direction} {at : Span} {pattern : S
     -- a split: its pieces are named, and the replacement is left
     module _ {left answer : List ℕ} (n : Named table store left pattern reference answer vs) where
       split-rest : searchedRest table store state d at pattern r
-          ≡ noting notes (replacing edition1 way searched (n .split) r (memoryIn left state)
+          ≡ noting notes (replacing current way searched (n .split) r (memoryIn left state)
           >>= λ m. quietly (record { memory = m; scanned = answered }))
       unfolding leaving
       split-rest =
           rest-is
-          ∙ ap (λ o. noting notes (leaving edition1 way searched vs r nulled answered o)) (n .found)
-          ∙ ap (λ m. noting notes (replacing edition1 way searched (n .split) r m >>= λ u. quietly (record { memory = u; scanned = answered })))
+          ∙ ap (λ o. noting notes (leaving current way searched vs r nulled answered o)) (n .found)
+          ∙ ap (λ m. noting notes (replacing current way searched (n .split) r m >>= λ u. quietly (record { memory = u; scanned = answered })))
           (ap (λ (l : List ℕ). naming vs (drop (n .split .start) l) (n .split .lengths) nulled) (sym (q .turned-is)) ∙ n .work (numbersIn state))
 
   -- a split, without a replacement
@@ -177,7 +177,7 @@ module _ {table store state : List ℕ} {d : Direction} {at : Span} {pattern : S
     pub string-same : stringOf named (at .place) ≡ stringOf store (at .place)
     string-same =
         n .others (at .place) no-filler
-        (pattern-names edition1 (memoryIn store state) (at .place) (patternsMeaning table pattern) vs notes (q .put .work) no-filler)
+        (pattern-names current (memoryIn store state) (at .place) (patternsMeaning table pattern) vs notes (q .put .work) no-filler)
 
     pub between-still : Between named (at .place) (at .from) (at .to)
     between-still =
@@ -204,13 +204,13 @@ module _ {table store state : List ℕ} {d : Direction} {at : Span} {pattern : S
           (foundTo way (at .from) (at .to - at .from) start sum) by
 
       -- the replacement is the value stored in their place
-      replacing-stored : replacing edition1 way searched (n .split) (some (elementsMeaning table by)) (memoryIn named state) ≡ stored
+      replacing-stored : replacing current way searched (n .split) (some (elementsMeaning table by)) (memoryIn named state) ≡ stored
       replacing-stored =
           let m = memoryIn named state in
           let v = stringOf store (at .place) in
           let put : (whole : List ℕ) (b r x y : ℕ) → Work Memory =
           λ whole b r x y.
-          stringIn edition1 m (elementsMeaning table by)
+          stringIn current m (elementsMeaning table by)
           >>= λ u. storing (at .place) (replaced whole (foundFrom way b r x y) (foundTo way b r x y) (turned way u)) m in
           let b = length (take (at .from) v) in
           let r = length (stretchOf v (at .from) (at .to)) in
@@ -218,7 +218,7 @@ module _ {table store state : List ℕ} {d : Direction} {at : Span} {pattern : S
           let y = total (λ l. l) (n .split .lengths) in
           let front : b ≡ at .from = length-take-le (at .from) v (omega (arith, q .between .order, q .between .within)) in
           let inside : x + y ≤ r = omega (arith, pieces-inside, start-is, sum-is, reference-length store at (q .between)) in
-          replacing-found edition1 way searched (n .split) (elementsMeaning table by) m inside
+          replacing-found current way searched (n .split) (elementsMeaning table by) m inside
           ∙ ap (λ (l : List ℕ). put l b r x y) (stretches v (at .from) (at .to) (q .between .order) ∙ sym string-same)
           ∙ ap₂ (λ (j k : ℕ). put (stringOf named (at .place)) j k x y) front (reference-length store at (q .between))
           ∙ ap₂ (λ (j k : ℕ). put (stringOf named (at .place)) (at .from) (at .to - at .from) j k) start-is sum-is
@@ -228,7 +228,7 @@ module _ {table store state : List ℕ} {d : Direction} {at : Span} {pattern : S
       few-stored l =
           let m = memoryIn named state in
           let few =
-          few-bind (by .count) 0 (stringIn edition1 m (elementsMeaning table by)) _ (few-elements-spelt edition1 m table (by .from) (by .count))
+          few-bind (by .count) 0 (stringIn current m (elementsMeaning table by)) _ (few-elements-spelt current m table (by .from) (by .count))
           (λ v. few-storing (at .place) _ m) in
           omega (arith, few-done few (l .1))
 
@@ -264,7 +264,7 @@ module _ {table store state : List ℕ} {d : Direction} {at : Span} {pattern : S
             put-back table pattern store saved keeping named back (q .ready .strings) save stays
                 (λ i h e.
                 n .others i e
-                (pattern-names edition1 (memoryIn store state) i (patternsMeaning table pattern) vs notes (q .put .work) e))
+                (pattern-names current (memoryIn store state) i (patternsMeaning table pattern) vs notes (q .put .work) e))
                 (subst (λ (s : List ℕ). Copied table pattern keeping s back) (l .0) restore),
             split-rest (some (elementsMeaning table by)) n ∙ ap rest (replacing-stored ∙ l .1),
           )

@@ -5,7 +5,7 @@ use mathlib.Core.Option.{Option}
 use mathlib.Core.Path.{_≡_}
 use Prim.Native.Nat.{ℕ, _-_, _≤_}
 use lib.ListN.{length, take}
-use Rattle.base.specs.Edition.{edition1}
+use Rattle.base.specs.Current.{current, tableSize}
 use Rattle.base.specs.Lists.{total}
 use Rattle.calls.specs.BufferLaws.{Good}
 use Rattle.cells.specs.Contracts.{stringOf}
@@ -13,7 +13,7 @@ use Rattle.expressions.specs.Memory.{Ready, memoryIn}
 use Rattle.language.specs.Program as Program
 use Rattle.machine.specs.Scanning.{Left, Valued, leaving, patternIn, turned, withoutFillers}
 use Rattle.rows.specs.Holds.{PatternsHold, placeIn}
-use Rattle.rows.specs.Meaning.{tableSize, directionMeaning, patternsMeaning}
+use Rattle.rows.specs.Meaning.{directionMeaning, patternsMeaning}
 use Rattle.rows.specs.declared.Direction.{Direction}
 use Rattle.rows.specs.declared.Scan.{Scan}
 use Rattle.rows.specs.declared.Stretch.{Stretch}
@@ -31,14 +31,14 @@ module _ (table store state : List ℕ) (d : Direction) (at : Span) (pattern : S
   -- what is left of a scan with these values of its pattern
   abbrev pub valuedRest : List Valued → Work Left
   valuedRest vs =
-      leaving edition1 (directionMeaning d) (searchedAt (at .place) (at .from) (at .to) (stringOf store (at .place))) vs r
+      leaving current (directionMeaning d) (searchedAt (at .place) (at .from) (at .to) (stringOf store (at .place))) vs r
       (withoutFillers (patternsMeaning table pattern) (memoryIn store state))
       (scanOf vs (turned (directionMeaning d) (referenceOf store (at .place) (at .from) (at .to))))
       (scanOf vs (turned (directionMeaning d) (referenceOf store (at .place) (at .from) (at .to))) .split)
 
   -- and what is left of it with this reference
   abbrev pub searchedRest : Work Left
-  searchedRest = patternIn edition1 (memoryIn store state) (patternsMeaning table pattern) >>= valuedRest
+  searchedRest = patternIn current (memoryIn store state) (patternsMeaning table pattern) >>= valuedRest
 
 -- an answer whose lengths can be added up
 pub record Counting (answer : List ℕ) (count : ℕ) : Type 0 where
@@ -54,7 +54,7 @@ pub record Findable (table store state : List ℕ) (d : Direction) (at : Span) (
   pub between : Between store (at .place) (at .from) (at .to)
   pub fillers : PatternsHold table (at .place) pattern
   pub turned-is : reference ≡ turned (directionMeaning d) (referenceOf store (at .place) (at .from) (at .to))
-  pub put : AllPut table values rows names pattern notes (patternIn edition1 (memoryIn store state) (patternsMeaning table pattern))
+  pub put : AllPut table values rows names pattern notes (patternIn current (memoryIn store state) (patternsMeaning table pattern))
   pub places : length names ≡ 20
   pub good : Good kept
   pub spare : length scratch ≡ 1024

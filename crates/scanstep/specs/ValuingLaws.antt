@@ -8,7 +8,7 @@ use native.Mathlib.Omega.{arith}
 use lib.Dec.{eqb}
 use borrow.Author.Tests.{ne-eqb}
 use Rattle.base.specs.Choice.{cond-cases}
-use Rattle.base.specs.Edition.{edition1}
+use Rattle.base.specs.Current.{current}
 use Rattle.calls.specs.ReadingLaws.{patterns-more, patterns-none}
 use Rattle.calls.specs.Table.{elementsAt}
 use Rattle.calls.specs.TableReading.{cellAt, patternFrom, patternOfCell}
@@ -43,36 +43,36 @@ quiet-front us v (stop k) = refl
 module _ (m : Memory) where
   -- what a pattern comes to from the values so far and the elements that are left, with the notes so far
   unfoldable pub valuesFrom : ℕ → List Valued → List Program.PatternElement → Work (List Valued)
-  valuesFrom notes us xs = noting notes (patternIn edition1 m xs >>= λ vs. quietly (us ++ vs))
+  valuesFrom notes us xs = noting notes (patternIn current m xs >>= λ vs. quietly (us ++ vs))
 
-  values-begin : (xs : List Program.PatternElement) → patternIn edition1 m xs ≡ valuesFrom 0 [] xs
+  values-begin : (xs : List Program.PatternElement) → patternIn current m xs ≡ valuesFrom 0 [] xs
   unfolding valuesFrom
-  values-begin xs = sym (noting-none (patternIn edition1 m xs >>= λ vs. quietly vs) ∙ quiet (patternIn edition1 m xs))
+  values-begin xs = sym (noting-none (patternIn current m xs >>= λ vs. quietly vs) ∙ quiet (patternIn current m xs))
 
   values-more : (notes more : ℕ) (us : List Valued) (v : Valued) (x : Program.PatternElement) (xs : List Program.PatternElement)
-      → valuedIn edition1 m x ≡ done v more → valuesFrom notes us (x ∷ xs) ≡ valuesFrom (notes + more) (us ++ (v ∷ [])) xs
+      → valuedIn current m x ≡ done v more → valuesFrom notes us (x ∷ xs) ≡ valuesFrom (notes + more) (us ++ (v ∷ [])) xs
   unfolding valuesFrom patternIn _>>=_
   values-more notes more us v x xs e =
-      let rest = patternIn edition1 m xs in
+      let rest = patternIn current m xs in
       let front : (vs : List Valued) → Work (List Valued) = λ vs. quietly (us ++ vs) in
       ap (λ w. noting notes ((w >>= λ u. rest >>= λ vs. quietly (u ∷ vs)) >>= front)) e
       ∙ ap (noting notes) (bind-noting more (rest >>= λ vs. quietly (v ∷ vs)) front ∙ ap (noting more) (quiet-front us v rest))
       ∙ noting-more notes more (rest >>= λ vs. quietly ((us ++ (v ∷ [])) ++ vs))
 
   values-stop : (notes k : ℕ) (us : List Valued) (x : Program.PatternElement) (xs : List Program.PatternElement)
-      → valuedIn edition1 m x ≡ stop k → valuesFrom notes us (x ∷ xs) ≡ stop k
+      → valuedIn current m x ≡ stop k → valuesFrom notes us (x ∷ xs) ≡ stop k
   unfolding valuesFrom patternIn _>>=_ noting
   values-stop notes k us x xs e =
-      ap (λ w. noting notes ((w >>= λ u. patternIn edition1 m xs >>= λ vs. quietly (u ∷ vs)) >>= λ vs. quietly (us ++ vs))) e
+      ap (λ w. noting notes ((w >>= λ u. patternIn current m xs >>= λ vs. quietly (u ∷ vs)) >>= λ vs. quietly (us ++ vs))) e
 
   values-end : (notes : ℕ) (us : List Valued) → valuesFrom notes us [] ≡ done us notes
   unfolding valuesFrom patternIn _>>=_ noting quietly
   values-end notes us = ap (λ v. done v (notes + 0)) (append-nil us) ∙ ap (done us) (add-zero notes)
 
   -- an element gives one note at most
-  pub few-valued : (x : Program.PatternElement) → Few 1 (valuedIn edition1 m x)
+  pub few-valued : (x : Program.PatternElement) → Few 1 (valuedIn current m x)
   unfolding valuedIn fixedAt quietly
-  few-valued (value x) = few-bind 1 0 (elementIn edition1 m x) _ (few-element edition1 m x) (λ v. omega arith)
+  few-valued (value x) = few-bind 1 0 (elementIn current m x) _ (few-element current m x) (λ v. omega arith)
   few-valued (freeFiller s) = omega arith
   few-valued (fixedFiller s n) = cond-cases (Few 1) (isNegative (lengthIn m n)) (λ _. omega arith) (λ _. omega arith)
 
@@ -95,7 +95,7 @@ pub record Valuing (m : Memory) (t : List ℕ) (from count : ℕ) (values rows n
   pub buffers : Buffers values rows names scratch out
   pub most : i ≤ count
   pub few : notes ≤ i
-  pub same : patternIn edition1 m (patternFrom t from count) ≡ valuesFrom m notes valued (patternFrom t (from + i) (count - i))
+  pub same : patternIn current m (patternFrom t from count) ≡ valuesFrom m notes valued (patternFrom t (from + i) (count - i))
   pub clear : (searched : ℕ) → searched < 32 → AllHold t from count searched
       → isFiller searched (patternFrom t from count) ≡ isFiller searched (patternFrom t (from + i) (count - i))
 
@@ -117,7 +117,7 @@ valuing-begins m t from count values rows names scratch out b =
 
 module _ {m : Memory} {t : List ℕ} {from count : ℕ} {values rows names scratch out : List ℕ} {notes i : ℕ}
     (v : Valuing m t from count values rows names scratch out notes i) where
-  pub valuing-ends : count ≤ i → AllPut t values rows names (record { from = from; count = count }) notes (patternIn edition1 m (patternFrom t from count))
+  pub valuing-ends : count ≤ i → AllPut t values rows names (record { from = from; count = count }) notes (patternIn current m (patternFrom t from count))
   unfolding isFiller
   valuing-ends h =
       let all : i ≡ count = omega (arith, v .most) in
@@ -145,7 +145,7 @@ module _ {m : Memory} {t : List ℕ} {from count : ℕ} {values rows names scrat
         ∙ ap₂ (λ (j k : ℕ). patternOfCell t (cellAt t (elementsAt + 8 * (from + i))) ∷ patternFrom t j k) next fewer
         ∙ ap (λ (y : Program.PatternElement). y ∷ rest) (sym (read .means))
 
-    here : patternIn edition1 m (patternFrom t from count) ≡ valuesFrom m notes (v .valued) (patternMeaning t x ∷ rest)
+    here : patternIn current m (patternFrom t from count) ≡ valuesFrom m notes (v .valued) (patternMeaning t x ∷ rest)
     here = v .same ∙ ap (valuesFrom m notes (v .valued)) first
 
     cleared : (searched : ℕ) → searched < 32 → AllHold t from count searched
@@ -157,14 +157,14 @@ module _ {m : Memory} {t : List ℕ} {from count : ℕ} {values rows names scrat
         ∙ ap (λ b. b || isFiller searched rest) (holds-clear t searched known x (h (from + i) x (omega arith) (omega arith) read))
 
     module _ {r : Did} {left rowsLeft namesLeft scratchLeft outLeft : List ℕ}
-        (p : ElementPut r values left rows rowsLeft names namesLeft i scratchLeft outLeft (valuedIn edition1 m (patternMeaning t x))) where
+        (p : ElementPut r values left rows rowsLeft names namesLeft i scratchLeft outLeft (valuedIn current m (patternMeaning t x))) where
       abbrev PutAs : Did → Type 0
-      PutAs d = PutBy d values left rows rowsLeft names namesLeft i (valuedIn edition1 m (patternMeaning t x))
+      PutAs d = PutBy d values left rows rowsLeft names namesLeft i (valuedIn current m (patternMeaning t x))
 
       pub valuing-noted : {more : ℕ} → r ≡ did.Done more → more ≤ 1
       valuing-noted e = few-done (few-valued m (patternMeaning t x)) (subst PutAs e (p .put) .work)
 
-      pub valuing-stops : {k : ℕ} → r ≡ did.Stops k → patternIn edition1 m (patternFrom t from count) ≡ stop k
+      pub valuing-stops : {k : ℕ} → r ≡ did.Stops k → patternIn current m (patternFrom t from count) ≡ stop k
       valuing-stops {k} e = here ∙ values-stop m notes k (v .valued) (patternMeaning t x) rest (subst PutAs e (p .put))
 
       pub valuing-more : {more : ℕ} → r ≡ did.Done more

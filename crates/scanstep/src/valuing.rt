@@ -1,6 +1,6 @@
 // A pattern's values, left to right, as rows for the scan, with the places that the pieces are to name.
 // Each contract is an equation with the definitions of the crate machine.
-ghost use Rattle.base.specs.Edition.{edition1};
+ghost use Rattle.base.specs.Current.{current};
 ghost use Rattle.expressions.specs.Memory.{memoryIn};
 ghost use Rattle.machine.specs.Expressions.{elementIn};
 ghost use Rattle.machine.specs.Scanning.{patternIn, valuedIn};
@@ -51,7 +51,7 @@ fn put_value(
 ) -> Did
     requires { ⌜ ValuePutting (now table) (now store) (now state) x i (now values) (now rows) (now scratch) (now out) ⌝ }
     ensures { λ r. ⌜ ValuePut r (now (values .entry)) (now (values .exit)) (now (rows .entry)) (now (rows .exit)) i (now (scratch .exit)) (now (out .exit))
-        (elementIn edition1 (memoryIn (now (store .entry)) (now (state .entry))) (elementMeaning (now (table .entry)) x)) ⌝ }
+        (elementIn current (memoryIn (now (store .entry)) (now (state .entry))) (elementMeaning (now (table .entry)) x)) ⌝ }
 {
     match expressions::append_element(table, store, state, x, scratch, out, 0) {
         Text::Is { length, notes } => {
@@ -93,7 +93,7 @@ fn put_element(
     requires { ⌜ ElementPutting (now table) (now store) (now state) x i (now values) (now rows) (now names) (now scratch) (now out) ⌝ }
     ensures { λ r. ⌜ ElementPut r (now (values .entry)) (now (values .exit)) (now (rows .entry)) (now (rows .exit)) (now (names .entry)) (now (names .exit)) i
         (now (scratch .exit)) (now (out .exit))
-        (valuedIn edition1 (memoryIn (now (store .entry)) (now (state .entry))) (patternMeaning (now (table .entry)) x)) ⌝ }
+        (valuedIn current (memoryIn (now (store .entry)) (now (state .entry))) (patternMeaning (now (table .entry)) x)) ⌝ }
 {
     match x {
         PatternElement::Value(e) => {
@@ -126,7 +126,7 @@ pub fn pattern_rows(
 ) -> Did
     requires { ⌜ PatternPutting (now table) (now store) (now state) pattern (now values) (now rows) (now names) (now scratch) (now out) ⌝ }
     ensures { λ r. ⌜ PatternPut r (now (table .entry)) (now (values .exit)) (now (rows .exit)) (now (names .exit)) (now (scratch .exit)) (now (out .exit)) pattern
-        (patternIn edition1 (memoryIn (now (store .entry)) (now (state .entry))) (patternsMeaning (now (table .entry)) pattern)) ⌝ }
+        (patternIn current (memoryIn (now (store .entry)) (now (state .entry))) (patternsMeaning (now (table .entry)) pattern)) ⌝ }
 {
     let from = pattern.from;
     let count = pattern.count;

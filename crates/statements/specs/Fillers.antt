@@ -7,12 +7,13 @@ use Prim.Native.Nat.{ℕ, _+_, _≤_, _<_}
 use lib.Dec.{eqb, ltb}
 use lib.IntN.{ℤ}
 use lib.ListN.{length, take, drop, getD}
+use Rattle.base.specs.Current.{tableSize}
 use Rattle.base.specs.Lists.{total}
 use Rattle.calls.specs.BufferLaws.{Good, storeWith}
 use Rattle.cells.specs.Contracts.{stringOf}
 use Rattle.language.specs.Program.{PatternElement, value, freeFiller, fixedFiller}
 use Rattle.machine.specs.Scanning.{Valued, withoutFillers, naming}
-use Rattle.rows.specs.Meaning.{tableSize, patternsMeaning}
+use Rattle.rows.specs.Meaning.{patternsMeaning}
 use Rattle.rows.specs.declared.Stretch.{Stretch}
 use Rattle.scanning.specs.Splits.{free}
 use Rattle.statements.specs.Leaving.{memoryOf, Stays}

@@ -38,24 +38,23 @@ stays-same store g = record { good = g; size = refl; rest = refl }
 
 -- a store with a string set
 pub stays-with : (store : List ℕ) → Good store → (s : ℕ) → s < 32 → (v : List ℕ) → length v ≤ 1024 → Stays store (storeWith store s v)
-unfolding storeSize
 stays-with store g s h v k =
     let cell = cellImage v in
     let wide : length cell ≡ 1026 = length-image v k in
     let at = 1026 * s in
     let one = with-splice store g s v k h in
-    let inside : at + length cell ≤ 32832 = omega arith in
-    let behind : (l : List ℕ) → drop 32832 l ≡ drop (32832 - (at + length cell)) (drop (at + length cell) l) =
+    let inside : at + length cell ≤ storeSize = omega arith in
+    let behind : (l : List ℕ) → drop storeSize l ≡ drop (storeSize - (at + length cell)) (drop (at + length cell) l) =
     λ l.
-    let place : at + length cell + (32832 - (at + length cell)) ≡ 32832 = omega arith in
-    sym (drop-drop (32832 - (at + length cell)) (at + length cell) l ∙ ap (λ (n : ℕ). drop n l) place) in
+    let place : at + length cell + (storeSize - (at + length cell)) ≡ storeSize = omega arith in
+    sym (drop-drop (storeSize - (at + length cell)) (at + length cell) l ∙ ap (λ (n : ℕ). drop n l) place) in
     record {
       good = with-good store g s v k;
       size = ap length one ∙ length-splice store at cell (omega (arith, g .size));
       rest =
-          ap (drop 32832) one
+          ap (drop storeSize) one
           ∙ behind (splice store at cell)
-          ∙ ap (drop (32832 - (at + length cell))) (behind-splice store at cell (omega (arith, g .size)))
+          ∙ ap (drop (storeSize - (at + length cell))) (behind-splice store at cell (omega (arith, g .size)))
           ∙ sym (behind store);
     }
 

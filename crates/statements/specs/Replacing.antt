@@ -1,7 +1,7 @@
 -- The replacement of a scan, as a stretch of the string searched that is set. Assumes nothing.
 use mathlib.Core.List.{List}
 use Prim.Native.Nat.{ℕ}
-use Rattle.base.specs.Edition.{edition1}
+use Rattle.base.specs.Current.{current}
 use Rattle.cells.specs.Contracts.{stringOf, replaced}
 use Rattle.expressions.specs.Memory.{memoryIn}
 use Rattle.language.specs.Program.{Direction}
@@ -15,5 +15,5 @@ use Rattle.values.specs.Work.{Work, _>>=_}
 -- an expression's value, turned round in a BACKSCAN, stored in place of a stretch of a string
 abbrev pub storedTurned : (table store state : List ℕ) → Direction → (place from to : ℕ) → Stretch → Work Memory
 storedTurned table store state d place from to s =
-    stringIn edition1 (memoryIn store state) (elementsMeaning table s)
+    stringIn current (memoryIn store state) (elementsMeaning table s)
     >>= λ v. storing place (replaced (stringOf store place) from to (turned d v)) (memoryIn store state)

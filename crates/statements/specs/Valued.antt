@@ -6,7 +6,7 @@ use Prim.Native.Nat.{ℕ, _+_, _≤_, _<_}
 use lib.Dec.{ltb}
 use lib.IntN.{ℤ}
 use lib.ListN.{length, take, drop, getD, set}
-use Rattle.base.specs.Edition.{edition1}
+use Rattle.base.specs.Current.{current}
 use Rattle.calls.specs.Buffers.{numbersIn}
 use Rattle.calls.specs.Numerals.{biased}
 use Rattle.cells.specs.Contracts.{stringOf, replaced}
@@ -41,7 +41,7 @@ pub record Between (store : List ℕ) (place from to : ℕ) : Type 0 where
 -- an expression's value stored in place of it
 abbrev pub storedBetween : (table store state : List ℕ) → (place from to : ℕ) → Stretch → Work Memory
 storedBetween table store state place from to s =
-    stringIn edition1 (memoryIn store state) (elementsMeaning table s)
+    stringIn current (memoryIn store state) (elementsMeaning table s)
     >>= λ v. storing place (replaced (stringOf store place) from to v) (memoryIn store state)
 
 -- what the work leaves in the store, with the buffers as long as before
@@ -94,4 +94,4 @@ Recorded r state stateLeft output left v n notes =
 abbrev pub Writes : Did → (table store : List ℕ) → Stretch → (state stateLeft output left : List ℕ) → Type 0
 Writes r table store s state stateLeft output left =
     PutBy r state stateLeft output left
-    (λ c. stringIn edition1 (memoryIn store state) (elementsMeaning table s) >>= λ v. shortened v >>= λ w. putting (length output) w c)
+    (λ c. stringIn current (memoryIn store state) (elementsMeaning table s) >>= λ v. shortened v >>= λ w. putting (length output) w c)

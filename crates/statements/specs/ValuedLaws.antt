@@ -11,7 +11,7 @@ use lib.ListN.{length, take, drop, getD, set}
 use lib.Seq.{drop-length, take-all}
 use borrow.Author.Tests.{le-leb, le-ltb, leb-false, leb-true, lt-leb, lt-ltb}
 use Rattle.base.specs.Choice.{test-cases}
-use Rattle.base.specs.Edition.{edition1}
+use Rattle.base.specs.Current.{current}
 use Rattle.calls.specs.Numerals.{biased}
 use Rattle.cells.specs.Contracts.{stringOf, replaced}
 use Rattle.convert.specs.Numbers.{worked}
@@ -58,7 +58,7 @@ assigned r z notes w state left place e h is = record { value = z .value; work =
 
 module _ (table store state : List ℕ) (place : ℕ) (s : Stretch) where
   -- a whole string replaced
-  pub whole-between : setStringIn edition1 (memoryIn store state) (Program.whole place) (elementsMeaning table s)
+  pub whole-between : setStringIn current (memoryIn store state) (Program.whole place) (elementsMeaning table s)
       ≡ storedBetween table store state place 0 (length (stringOf store place)) s
   unfolding setStringIn
   whole-between =
@@ -66,11 +66,11 @@ module _ (table store state : List ℕ) (place : ℕ) (s : Stretch) where
       let same : (v : List ℕ) → v ≡ replaced old 0 (length old) v =
       λ v. sym (ap (λ (l : List ℕ). v ++ l) (drop-length old) ∙ append-nil v) in
       λ i.
-      stringIn edition1 (memoryIn store state) (elementsMeaning table s) >>= λ v. storing place (same v i) (memoryIn store state)
+      stringIn current (memoryIn store state) (elementsMeaning table s) >>= λ v. storing place (same v i) (memoryIn store state)
 
   -- its first bytes replaced
   pub first-between : (n : Program.Length) → isNegative (lengthIn (memoryIn store state) n) ≡ false
-      → setStringIn edition1 (memoryIn store state) (Program.first place n) (elementsMeaning table s)
+      → setStringIn current (memoryIn store state) (Program.first place n) (elementsMeaning table s)
       ≡ storedBetween table store state place 0 (min (natAbs (lengthIn (memoryIn store state) n)) (length (stringOf store place))) s
   unfolding setStringIn stringAt
   first-between n e =
@@ -80,11 +80,11 @@ module _ (table store state : List ℕ) (place : ℕ) (s : Stretch) where
       λ v. ap (λ (l : List ℕ). v ++ l) (sym (drop-least old asked)) in
       rw e refl
       ∙ λ i.
-      stringIn edition1 (memoryIn store state) (elementsMeaning table s) >>= λ v. storing place (same v i) (memoryIn store state)
+      stringIn current (memoryIn store state) (elementsMeaning table s) >>= λ v. storing place (same v i) (memoryIn store state)
 
   -- a negative length
   pub first-none : (n : Program.Length) → isNegative (lengthIn (memoryIn store state) n) ≡ true
-      → setStringIn edition1 (memoryIn store state) (Program.first place n) (elementsMeaning table s) ≡ done (memoryIn store state) 1
+      → setStringIn current (memoryIn store state) (Program.first place n) (elementsMeaning table s) ≡ done (memoryIn store state) 1
   unfolding setStringIn
   first-none n e = rw e
 
@@ -146,9 +146,9 @@ module _ (state output v : List ℕ) (n notes : ℕ) (room : length v ≡ 1024) 
 
 -- how many notes come with a string expression of so many elements
 pub few-notes : (table : List ℕ) (s : Stretch) (m : Memory) {n notes : ℕ} {out : List ℕ}
-    → Values.Spells n notes out (stringIn edition1 m (elementsMeaning table s)) → notes ≤ s .count
+    → Values.Spells n notes out (stringIn current m (elementsMeaning table s)) → notes ≤ s .count
 few-notes table s m p =
-    few-done (few-elements-spelt edition1 m table (s .from) (s .count)) (p .work)
+    few-done (few-elements-spelt current m table (s .from) (s .count)) (p .work)
 
 -- a record of a value that is spelt
 pub spelt-puts : (r : Did) (state stateLeft output left : List ℕ) {out : List ℕ} {n notes : ℕ} {w : Work (List ℕ)} → Values.Spells n notes out w

@@ -3,7 +3,7 @@
 ghost use mathlib.Core.Path.{_≡_};
 ghost use Prim.Native.Nat.{_+_, _<_, _≤_};
 ghost use lib.ListN.{length};
-ghost use Rattle.base.specs.Edition.{edition1};
+ghost use Rattle.base.specs.Current.{current};
 ghost use Rattle.expressions.specs.Memory.{memoryIn};
 ghost use Rattle.expressions.specs.Values.{Valuable, Spellable};
 ghost use Rattle.machine.specs.Expressions.{numericIn};
@@ -35,7 +35,7 @@ pub fn assign(
     requires { ⌜ Valuable (now table) (now store) (now state) s ⌝ }
     requires { ⌜ place < 32 ⌝ }
     ensures { λ r. ⌜ Assigns r (now (state .entry)) (now (state .exit)) place
-        (numericIn edition1 (memoryIn (now (store .entry)) (now (state .entry))) (itemsMeaning (now (table .entry)) s)) ⌝ }
+        (numericIn current (memoryIn (now (store .entry)) (now (state .entry))) (itemsMeaning (now (table .entry)) s)) ⌝ }
 {
     match expressions::numeric_value(table, store, state, s) {
         Number::Is { value, notes } => {
@@ -82,7 +82,7 @@ pub fn set_string(
     requires { ⌜ Spellable (now table) (now store) (now state) s (now scratch) (now out) ⌝ }
     requires { ⌜ PartHolds p ⌝ }
     ensures { λ r. ⌜ Stored r (now (store .entry)) (now (store .exit)) (now (state .entry)) (now (scratch .exit)) (now (out .exit))
-        (setStringIn edition1 (memoryIn (now (store .entry)) (now (state .entry))) (partMeaning p) (elementsMeaning (now (table .entry)) s)) ⌝ }
+        (setStringIn current (memoryIn (now (store .entry)) (now (state .entry))) (partMeaning p) (elementsMeaning (now (table .entry)) s)) ⌝ }
 {
     match p {
         Part::Whole(place) => {

@@ -10,7 +10,7 @@ use lib.IntN.{natAbs}
 use lib.ListN.{length, take, drop, getD, replicate}
 use borrow.Author.Tests.{lt-leb}
 use Rattle.base.specs.Choice.{cond-cases}
-use Rattle.base.specs.Edition.{edition1}
+use Rattle.base.specs.Current.{current, limit}
 use Rattle.base.specs.ListLaws.{drop-next}
 use Rattle.base.specs.Lists.{all}
 use Rattle.calls.specs.Calls.{StartCalled, startCall}
@@ -45,14 +45,14 @@ module _ (f : ℕ → Bool) (l : List ℕ) where
 
 -- a word keeps a number in range
 pub keepsNumber : ℕ → Bool
-keepsNumber n = isInRange edition1 (unbiased n)
+keepsNumber n = isInRange current (unbiased n)
 
-all-numbers : (ns : List ℕ) → all (isInRange edition1) (map unbiased ns) ≡ all keepsNumber ns
+all-numbers : (ns : List ℕ) → all (isInRange current) (map unbiased ns) ≡ all keepsNumber ns
 unfolding all keepsNumber
 all-numbers [] = refl
-all-numbers (n ∷ ns) = ap (λ t. isInRange edition1 (unbiased n) && t) (all-numbers ns)
+all-numbers (n ∷ ns) = ap (λ t. isInRange current (unbiased n) && t) (all-numbers ns)
 
-pub numbers-from : (state : List ℕ) → all (isInRange edition1) (numbersIn state) ≡ allFrom keepsNumber state 21 53
+pub numbers-from : (state : List ℕ) → all (isInRange current) (numbersIn state) ≡ allFrom keepsNumber state 21 53
 unfolding numbersIn numbersAt mostNumbers
 numbers-from state = all-numbers (take 32 (drop 21 state))
 
@@ -61,12 +61,12 @@ unfolding returnsIn returnsAt
 returns-from f state = let count : 5 + getD state 2 0 - 5 ≡ getD state 2 0 = omega arith in rw count
 
 pub number-low : (n : ℕ) → n < lowest → keepsNumber n ≡ false
-unfolding keepsNumber isInRange edition1
-number-low n h = lt-leb (natAbs (unbiased n)) 8_388_607 (omega (arith, size-low n (omega arith)))
+unfolding keepsNumber isInRange current
+number-low n h = lt-leb (natAbs (unbiased n)) limit (omega (arith, size-low n (omega arith)))
 
 pub number-high : (n : ℕ) → highest < n → keepsNumber n ≡ false
-unfolding keepsNumber isInRange edition1
-number-high n h = lt-leb (natAbs (unbiased n)) 8_388_607 (omega (arith, size-high n (omega arith)))
+unfolding keepsNumber isInRange current
+number-high n h = lt-leb (natAbs (unbiased n)) limit (omega (arith, size-high n (omega arith)))
 
 pub number-between : (n : ℕ) → lowest ≤ n → n ≤ highest → keepsNumber n ≡ true
 unfolding keepsNumber
@@ -74,7 +74,7 @@ number-between = NumeralLaws.number-between
 
 -- zeros with 32 numbers that are 0 written over them are the state before the first step
 pub started : splice (replicate 64 0) 21 (replicate 32 140_737_488_355_328) ≡ firstState
-unfolding splice firstState stateLeft stateSize returnsAt numbersAt statusNumber mostReturns mostNumbers fresh freshMemory biased bias
+unfolding splice firstState stateLeft returnsAt numbersAt statusNumber mostReturns mostNumbers fresh freshMemory biased bias
 started = refl
 
 -- whatever the store, starting gives that state
@@ -88,9 +88,9 @@ module _ (steps input output : ℕ) (state : List ℕ) where
       → ltb (getD state 1 0) steps ≡ next
       → leb (getD state 2 0) 16 ≡ count
       → all (λ k. ltb k steps) (returnsIn state) ≡ returns
-      → all (isInRange edition1) (numbersIn state) ≡ numbers
+      → all (isInRange current) (numbersIn state) ≡ numbers
       → leb (getD state 3 0) input ≡ place
       → leb (getD state 4 0) output ≡ written
-      → stateKeeps edition1 steps input output state ≡ (next && (count && (returns && (numbers && (place && written)))))
+      → stateKeeps current steps input output state ≡ (next && (count && (returns && (numbers && (place && written)))))
   unfolding stateKeeps mostReturns
   keeps-tests a b c d e f = λ i. a i && (b i && (c i && (d i && (e i && f i))))

@@ -114,7 +114,7 @@ pub holding-leaves : {e : Edition} {p : Program} {lent : ℕ} {input : List ℕ}
     → Holding e p lent input c b
     → isRunning (c .status) ≡ true
     → Leaves (b .state) input c (b .state)
-unfolding stateIn stateSize
+unfolding stateIn
 holding-leaves {e} {p} {lent} {input} {c} {b} h runs =
     let keeps = ap (λ (n : ℕ). stateKeeps e (length (p .steps)) (length input) n (b .state)) (h .outputLength) ∙ h .stateGood in
     let facts = state-in-range e (length (p .steps)) (length input) (length (b .output)) (b .state) keeps in

@@ -4,9 +4,9 @@ ghost use mathlib.Core.Path.{_≡_};
 ghost use Prim.Native.Nat.{_+_, _-_, _<_, _≤_};
 ghost use lib.Dec.{eqb, ltb};
 ghost use lib.ListN.{length, getD, set};
-ghost use Rattle.base.specs.Edition.{edition1};
+ghost use Rattle.base.specs.Current.{current};
 ghost use Rattle.base.specs.Lists.{all};
-ghost use Rattle.calls.specs.Buffers.{statusOf, firstState, returnsIn, numbersIn, stateKeeps};
+ghost use Rattle.calls.specs.Buffers.{statusOf, firstState, returnsIn, numbersIn, stateKeeps, stateSize};
 ghost use Rattle.calls.specs.Numerals.{biased};
 ghost use Rattle.calls.specs.Promises.{StartPromise, startBack};
 ghost use Rattle.convert.specs.Numbers.{InRange};
@@ -32,7 +32,7 @@ const BEHIND: usize = NUMBERS_AT + base::NUMBERS;
 
 // Whether the returns held are steps of a program with so many.
 fn returns_keep(state: &[u64], steps: usize) -> bool
-    requires { ⌜ (length (now state) ≡ 64) × (getD (now state) 2 0 ≤ 16) ⌝ }
+    requires { ⌜ (length (now state) ≡ stateSize) × (getD (now state) 2 0 ≤ 16) ⌝ }
     ensures { λ r. ⌜ r ≡ all (λ k. ltb k steps) (returnsIn (now (state .entry))) ⌝ }
 {
     let end = RETURNS_AT + (state[HELD_AT] as usize);
@@ -48,8 +48,8 @@ fn returns_keep(state: &[u64], steps: usize) -> bool
 
 // Whether the numbers are in range.
 fn numbers_keep(state: &[u64]) -> bool
-    requires { ⌜ length (now state) ≡ 64 ⌝ }
-    ensures { λ r. ⌜ r ≡ all (isInRange edition1) (numbersIn (now (state .entry))) ⌝ }
+    requires { ⌜ length (now state) ≡ stateSize ⌝ }
+    ensures { λ r. ⌜ r ≡ all (isInRange current) (numbersIn (now (state .entry))) ⌝ }
 {
     let mut i = NUMBERS_AT;
     while i < BEHIND {
@@ -67,7 +67,7 @@ fn numbers_keep(state: &[u64]) -> bool
 
 // Whether a state is in range for a program of so many steps, and so many bytes of input and output.
 pub fn keeps(state: &[u64; STATE_SIZE], steps: usize, input: usize, output: usize) -> bool
-    ensures { λ r. ⌜ r ≡ stateKeeps edition1 steps input output (now (state .entry)) ⌝ }
+    ensures { λ r. ⌜ r ≡ stateKeeps current steps input output (now (state .entry)) ⌝ }
 {
     if steps as u64 <= state[NEXT_AT] {
         return false;

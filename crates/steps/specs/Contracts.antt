@@ -5,7 +5,7 @@ use mathlib.Core.Path.{_≡_}
 use Prim.Native.Nat.{ℕ, _+_, _≤_, _<_}
 use lib.Dec.{ltb}
 use lib.ListN.{length, getD, set, replicate}
-use Rattle.base.specs.Edition.{edition1}
+use Rattle.base.specs.Current.{current, tableSize}
 use Rattle.calls.specs.Buffers.{storeKeeps, stateKeeps}
 use Rattle.calls.specs.Calls.{Buffers, leftOf, StepCalled, carried, RunCalled, outcomeNumber}
 use Rattle.calls.specs.Numerals.{numberAt}
@@ -16,7 +16,7 @@ use Rattle.language.specs.Program as Program
 use Rattle.machine.specs.State.{State}
 use Rattle.machine.specs.Step.{Done, carrying, concluded}
 use Rattle.rows.specs.Holds.{StatementHolds}
-use Rattle.rows.specs.Meaning.{tableSize, statementMeaning}
+use Rattle.rows.specs.Meaning.{statementMeaning}
 use Rattle.rows.specs.declared.Scan.{Scan}
 use Rattle.rows.specs.declared.Statement.{Statement}
 use Rattle.rows.specs.declared.Statement.the-variants as statements
@@ -29,10 +29,10 @@ use Rattle.values.specs.Work.{Work, done}
 -- a table that keeps its rules, a good store and a state in range: only the machine itself turns the step down
 pub record Given (table input : List ℕ) (b : Buffers) : Type 0 where
   pub bytes : tableSize ≤ length table
-  pub keeps : keepsRules edition1 table ≡ true
+  pub keeps : keepsRules current table ≡ true
   pub store-good : storeKeeps (b .store) ≡ true
   pub size : length (b .state) ≡ 64
-  pub range : stateKeeps edition1 (length (programIn table .steps)) (length input) (length (b .output)) (b .state) ≡ true
+  pub range : stateKeeps current (length (programIn table .steps)) (length input) (length (b .output)) (b .state) ≡ true
 
 -- a return is held for RETURN, and there is room for that of EXECUTE
 abbrev pub ReturnsEnough : Statement → ℕ → Type 0
@@ -72,14 +72,14 @@ Works (did.Stops k) input b left answer w = Unmoved b left k w
 
 -- the work of a statement on the machine that the buffers hold
 abbrev pub workOf : (table input : List ℕ) → Buffers → Statement → Work Done
-workOf table input b x = carrying edition1 (length (b .output)) (statementMeaning table x) (machineIn input b)
+workOf table input b x = carrying current (length (b .output)) (statementMeaning table x) (machineIn input b)
 
 pub record WorksOn (r : Did) (table input : List ℕ) (b left : Buffers) (x : Statement) (answer : List ℕ) : Type 0 where
   pub works : Works r input b left answer (workOf table input b x)
 
 -- the step that concludes it
 abbrev pub carriedOut : (table input : List ℕ) → Buffers → Statement → StepCalled
-carriedOut table input b x = carried edition1 table input b (concluded (machineIn input b) (workOf table input b x))
+carriedOut table input b x = carried current table input b (concluded (machineIn input b) (workOf table input b x))
 
 -- a scan carried out on buffers that a step may be given
 abbrev pub DoesScan : Scan → (table : List ℕ) → Did → (b left : Buffers) → (input answer : List ℕ) → Type 0
@@ -120,7 +120,7 @@ pub record RunAnswers (r : RunCalled) (number : ℕ) (result : List ℕ) (left :
 abbrev pub unfitNumber : (table store state : List ℕ) (input output : ℕ) → ℕ
 unfitNumber table store state input output =
     cond (ltb (length table) tableSize) 2
-    (cond (not (keepsRules edition1 table)) 13
+    (cond (not (keepsRules current table)) 13
     (cond (not (storeKeeps store)) 14
-    (cond (not (stateKeeps edition1 (length (programIn table .steps)) input output state)) 15
+    (cond (not (stateKeeps current (length (programIn table .steps)) input output state)) 15
     0)))

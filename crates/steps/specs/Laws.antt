@@ -6,20 +6,20 @@ use Prim.Native.Nat.{ℕ, _+_, _*_, _≤_, _<_}
 use native.Mathlib.Omega.{arith}
 use lib.Dec.{leb, ltb, eqb}
 use lib.ListN.{length, getD, set, replicate, length-replicate}
-use borrow.Author.Tests.{leb-false, ltb-false, ne-eqb, not-false}
-use Rattle.rules.specs.Kinds.{From, from}
-use Rattle.base.specs.Edition.{edition1}
+use borrow.Author.Tests.{leb-false, ltb-false, eqb-true, ne-eqb, not-false}
+use Rattle.base.specs.Choice.{cond-cases}
+use Rattle.base.specs.Current.{current, tableSize}
 use Rattle.base.specs.Lists.{isNil}
 use Rattle.calls.specs.BufferLaws.{Good, image-good, fresh-image}
-use Rattle.calls.specs.Buffers.{returnsIn, storeImage, stateIn, stateKeeps, stateSize, statusOf, storeKeeps}
+use Rattle.calls.specs.Buffers.{returnsIn, storeImage, stateIn, stateKeeps, stateSize, statusOf, storeKeeps, storeSize}
 use Rattle.calls.specs.Calls.{Buffers, carried, givenIn, outOfRange, stepCall, stepRefusal, buffers}
 use Rattle.calls.specs.GivenLaws.{StateInRange, state-in-range, given-holds, returns-count, refusal-none}
 use Rattle.calls.specs.Holding.{Holding}
+use Rattle.calls.specs.Kinds as Kinds
 use Rattle.calls.specs.Numerals.{numberAt}
-use Rattle.calls.specs.RowLaws.{return-row}
 use Rattle.calls.specs.Rules.{keepsRules}
 use Rattle.calls.specs.StepLaws.{Tabled, call-held}
-use Rattle.calls.specs.Table.{Row, row, stepsAt}
+use Rattle.calls.specs.Table.{Row, stepsAt}
 use Rattle.calls.specs.TableReading.{programIn, rowAt, statementOfRow}
 use Rattle.carry.specs.Carrying.{Carries, Standing, Unmoved, machineIn}
 use Rattle.carry.specs.Laws.{stops, scans}
@@ -78,8 +78,8 @@ module _ {table input : List ℕ} {b : Buffers} (g : Given table input b) where
   abbrev c : State
   c = machineIn input b
 
-  facts : StateInRange edition1 (length (p .steps)) (length input) (length (b .output)) (b .state)
-  facts = state-in-range edition1 (length (p .steps)) (length input) (length (b .output)) (b .state) (g .range)
+  facts : StateInRange current (length (p .steps)) (length input) (length (b .output)) (b .state)
+  facts = state-in-range current (length (p .steps)) (length input) (length (b .output)) (b .state) (g .range)
 
   pub given-ready : Ready (b .store) (b .state)
   given-ready = keeps-ready (length (p .steps)) (length input) (length (b .output)) (b .state) (g .size) (g .range) (b .store) (g .store-good)
@@ -102,13 +102,12 @@ module _ {table input : List ℕ} {b : Buffers} (g : Given table input b) where
   pub written-inside : getD (b .state) 4 0 ≤ length (b .output)
   written-inside = facts .written
 
-  pub tabled : Tabled edition1 p table
-  unfolding edition1
+  pub tabled : Tabled current p table
+  unfolding current
   tabled = record { size = g .bytes; keeps = g .keeps; reads = refl }
 
-  pub holding : Holding edition1 p (length (b .output)) input c b
-  unfolding stateSize
-  holding = given-holds edition1 p input b (g .size) (g .store-good) (g .range)
+  pub holding : Holding current p (length (b .output)) input c b
+  holding = given-holds current p input b (g .size) (g .store-good) (g .range)
 
   -- the returns that the machine holds
   pub returns-counted : length (reverse (returnsIn (b .state))) ≡ getD (b .state) 2 0
@@ -142,40 +141,40 @@ module _ {table input : List ℕ} {b : Buffers} (g : Given table input b) where
 
   -- a step that is turned down
   turned-called : (n : ℕ) → turnedDownBy p c ≡ n → eqb n 0 ≡ false
-      → stepCall edition1 table input b ≡ record { number = n; answer = noAnswer; left = b }
+      → stepCall current table input b ≡ record { number = n; answer = noAnswer; left = b }
   turned-called n e q =
-      call-held edition1 p table input tabled (length (b .output)) c b holding false (ap (λ (k : ℕ). eqb k 0) e ∙ q)
+      call-held current p table input tabled (length (b .output)) c b holding false (ap (λ (k : ℕ). eqb k 0) e ∙ q)
       ∙ ap (λ (k : ℕ). record { number = k; answer = noAnswer; left = b }) e
 
   turned-answers : (n : ℕ) → turnedDownBy p c ≡ n → eqb n 0 ≡ false → {number : ℕ} {answer : List ℕ} → number ≡ n
-      → answer ≡ replicate 24 0 → Answers (stepCall edition1 table input b) number answer b
+      → answer ≡ replicate 24 0 → Answers (stepCall current table input b) number answer b
   turned-answers n e q is zeros =
       rw (turned-called n e q) (record { number-is = is; answer-is = zeros ∙ silent-zeros; left-is = refl })
 
   -- 15: the return that it goes to, or room for the one that it holds, is lacking
   pub lacking-answers : lacksNext ≡ true → {number : ℕ} {answer : List ℕ} → number ≡ 15 → answer ≡ replicate 24 0
-      → Answers (stepCall edition1 table input b) number answer b
+      → Answers (stepCall current table input b) number answer b
   lacking-answers h = turned-answers 15 (turned-by true _ h refl) refl
 
   -- 16: the run has ended
   pub ended-answers : lacksNext ≡ false → isRunning (statusOf (getD (b .state) 0 0)) ≡ false
-      → {number : ℕ} {answer : List ℕ} → number ≡ 16 → answer ≡ replicate 24 0 → Answers (stepCall edition1 table input b) number answer b
+      → {number : ℕ} {answer : List ℕ} → number ≡ 16 → answer ≡ replicate 24 0 → Answers (stepCall current table input b) number answer b
   ended-answers h k = turned-answers 16 (turned-by false false h k) refl
 
   -- neither: the step is the work of the statement read there, concluded
   pub carried-called : {x : Statement} → StatementRead table nextRow x → lacksNext ≡ false → isRunning (statusOf (getD (b .state) 0 0)) ≡ true
-      → stepCall edition1 table input b ≡ carriedOut table input b x
+      → stepCall current table input b ≡ carriedOut table input b x
   unfolding step stateIn
   carried-called read h k =
       let goes : eqb (turnedDownBy p c) 0 ≡ true = ap (λ (n : ℕ). eqb n 0) (turned-by false true h k) in
       let here = next-statement ∙ sym (read .means) in
-      call-held edition1 p table input tabled (length (b .output)) c b holding true goes
-      ∙ ap (carried edition1 table input b) (rw (goes, here))
+      call-held current p table input tabled (length (b .output)) c b holding true goes
+      ∙ ap (carried current table input b) (rw (goes, here))
 
   -- what is concluded of a statement's work
   pub concluded-answers : getD (b .state) 0 0 ≡ 0 → (r : Did) (left : Buffers) (answer : List ℕ) (w : Work Done) → Works r input b left answer w
       → {number : ℕ} {state answerLeft : List ℕ} → Concludes r number (left .state) state answer answerLeft
-      → Answers (carried edition1 table input b (concluded (machineIn input b) w)) number answerLeft (buffers (left .store) state (left .output))
+      → Answers (carried current table input b (concluded (machineIn input b) w)) number answerLeft (buffers (left .store) state (left .output))
   unfolding carried concluded
   concluded-answers runs (did.Done notes) left answer w k e =
       rw (k .work)
@@ -221,21 +220,45 @@ module _ {table input : List ℕ} {b : Buffers} {next : ℕ} {x : Statement} (g 
 
 -- what the kind of a row tells of the returns that its statement takes
 module _ (t rs : List ℕ) (r : Row) where
-  pub plain-lacks : r .kind < 11 → lacksReturn (statementOfRow t r) rs ≡ false
-  unfolding lacksReturn statementOfRow row
-  plain-lacks low =
-      let P : ℕ → Type 0 =
-      λ k. lacksReturn (statementOfRow t (row k (r .flag) (r .success) (r .failure) (r .left) (r .right))) rs ≡ false in
-      let each : From P 0 11 = (refl, (refl, (refl, (refl, (refl, (refl, (refl, (refl, (refl, (refl, (refl, tt))))))))))) in
-      from P 0 11 each (r .kind) (omega arith) low
-
-  pub execute-lacks : r .kind ≡ 11 → lacksReturn (statementOfRow t r) rs ≡ leb 16 (length rs)
+  pub execute-lacks : r .kind ≡ Kinds.executeKind .number → lacksReturn (statementOfRow t r) rs ≡ leb 16 (length rs)
   unfolding lacksReturn statementOfRow mostReturns
   execute-lacks h = rw h
 
-  pub return-lacks : 11 < r .kind → lacksReturn (statementOfRow t r) rs ≡ isNil rs
-  unfolding lacksReturn
-  return-lacks high = ap (λ s. lacksReturn s rs) (return-row t r high)
+  pub return-lacks : r .kind ≡ Kinds.returnKind .number → lacksReturn (statementOfRow t r) rs ≡ isNil rs
+  unfolding lacksReturn statementOfRow
+  return-lacks h = rw h
+
+  -- a row of any other kind takes none
+  pub plain-lacks : (r .kind ≡ Kinds.executeKind .number → ⊥) → (r .kind ≡ Kinds.returnKind .number → ⊥)
+      → lacksReturn (statementOfRow t r) rs ≡ false
+  unfolding lacksReturn statementOfRow
+  plain-lacks enters leaves =
+      let P : Program.Statement → Type 0 = λ s. lacksReturn s rs ≡ false in
+      cond-cases P (eqb (r .kind) (Kinds.setNumberKind .number)) (λ _. refl)
+      (λ _.
+      cond-cases P (eqb (r .kind) (Kinds.setStringKind .number)) (λ _. refl)
+      (λ _.
+      cond-cases P (eqb (r .kind) (Kinds.gotoKind .number)) (λ _. refl)
+      (λ _.
+      cond-cases P (eqb (r .kind) (Kinds.finishKind .number)) (λ _. refl)
+      (λ _.
+      cond-cases P (eqb (r .kind) (Kinds.executeKind .number)) (λ h. absurd (enters (eqb-true (r .kind) (Kinds.executeKind .number) h)))
+      (λ _.
+      cond-cases P (eqb (r .kind) (Kinds.returnKind .number)) (λ h. absurd (leaves (eqb-true (r .kind) (Kinds.returnKind .number) h)))
+      (λ _.
+      cond-cases P (eqb (r .kind) (Kinds.nullKind .number)) (λ _. refl)
+      (λ _.
+      cond-cases P (eqb (r .kind) (Kinds.numericKind .number)) (λ _. refl)
+      (λ _.
+      cond-cases P (eqb (r .kind) (Kinds.compareKind .number)) (λ _. refl)
+      (λ _.
+      cond-cases P (eqb (r .kind) (Kinds.scanKind .number)) (λ _. refl)
+      (λ _.
+      cond-cases P (eqb (r .kind) (Kinds.replaceKind .number)) (λ _. refl)
+      (λ _.
+      cond-cases P (eqb (r .kind) (Kinds.readKind .number)) (λ _. refl)
+      (λ _.
+      cond-cases P (eqb (r .kind) (Kinds.writeKind .number)) (λ _. refl) (λ _. refl)))))))))))))
 
 -- returns are enough where none is lacking
 pub enough-returns : (t : List ℕ) (x : Statement) (rs : List ℕ) (held : ℕ) → length rs ≡ held → lacksReturn (statementMeaning t x) rs ≡ false
@@ -282,13 +305,13 @@ scan-stops input b table s store k same w =
     record { work = stopped _ _ k w; same = ap (λ (l : List ℕ). buffers l (b .state) (b .output)) same }
 
 -- zeros are a good store
-zeros-good : Good (replicate 32832 0)
+zeros-good : Good (replicate storeSize 0)
 zeros-good =
     subst Good (append-nil (storeImage (replicate 32 [])) ∙ fresh-image 32) (image-good (replicate 32 []) [] refl
     (replicate-everywhere (λ (v : List ℕ). length v ≤ 1024) 32 [] (omega arith)))
 
 -- and zeros are buffers that a scan can work in
-pub zeros-lent : Lent (replicate 32832 0) (replicate 20480 0) (replicate 240 0) (replicate 20 0) (replicate 1024 0) (replicate 1024 0) (replicate 1024 0)
+pub zeros-lent : Lent (replicate storeSize 0) (replicate 20480 0) (replicate 240 0) (replicate 20 0) (replicate 1024 0) (replicate 1024 0) (replicate 1024 0)
 zeros-lent =
     record {
       good = zeros-good;
@@ -327,15 +350,15 @@ refused-as false false false false n m e h = absurd (omega arith)
 module _ (table input : List ℕ) (b : Buffers) where
   -- buffers that are unfit turn the step down, and are left as they were
   pub unfit-answers : (n : ℕ) → n ≡ unfitNumber table (b .store) (b .state) (length input) (length (b .output)) → 0 < n
-      → {number : ℕ} {answer : List ℕ} → number ≡ n → answer ≡ replicate 24 0 → Answers (stepCall edition1 table input b) number answer b
-  unfolding stepCall stepRefusal outOfRange edition1
+      → {number : ℕ} {answer : List ℕ} → number ≡ n → answer ≡ replicate 24 0 → Answers (stepCall current table input b) number answer b
+  unfolding stepCall stepRefusal outOfRange current
   unfit-answers n e h is zeros =
-      let refusal : stepRefusal edition1 table input b ≡ n =
-      refused-as (ltb (length table) 28672) (not (keepsRules edition1 table)) (not (storeKeeps (b .store))) (outOfRange edition1 table input b)
-      (turnedDownBy (programIn table) (givenIn edition1 table input b)) n e h in
+      let refusal : stepRefusal current table input b ≡ n =
+      refused-as (ltb (length table) tableSize) (not (keepsRules current table)) (not (storeKeeps (b .store))) (outOfRange current table input b)
+      (turnedDownBy (programIn table) (givenIn current table input b)) n e h in
       let some : eqb n 0 ≡ false = ne-eqb n 0 (λ z. omega arith) in
-      let went = carried edition1 table input b (step edition1 (programIn table) (length (b .output)) (givenIn edition1 table input b)) in
-      let called : stepCall edition1 table input b ≡ record { number = n; answer = noAnswer; left = b } =
+      let went = carried current table input b (step current (programIn table) (length (b .output)) (givenIn current table input b)) in
+      let called : stepCall current table input b ≡ record { number = n; answer = noAnswer; left = b } =
       ap (λ (k : ℕ). cond (eqb k 0) went (record { number = k; answer = noAnswer; left = b })) refusal
       ∙ ap (λ (x : Bool). cond x went (record { number = n; answer = noAnswer; left = b })) some in
       rw called (record { number-is = is; answer-is = zeros ∙ silent-zeros; left-is = refl })
@@ -343,8 +366,8 @@ module _ (table input : List ℕ) (b : Buffers) where
   -- and those that aren't are given to the machine
   pub fit-given : 0 ≡ unfitNumber table (b .store) (b .state) (length input) (length (b .output)) → length (b .state) ≡ 64 → Given table input b
   fit-given e size =
-      let tests = refusal-none (ltb (length table) 28672) (keepsRules edition1 table) (storeKeeps (b .store))
-      (not (stateKeeps edition1 (length (programIn table .steps)) (length input) (length (b .output)) (b .state))) 0 (sym e) in
+      let tests = refusal-none (ltb (length table) tableSize) (keepsRules current table) (storeKeeps (b .store))
+      (not (stateKeeps current (length (programIn table .steps)) (length input) (length (b .output)) (b .state))) 0 (sym e) in
       record {
         bytes = ltb-false _ _ (tests .0);
         keeps = tests .1;

@@ -7,28 +7,30 @@ use native.Mathlib.Omega.{arith}
 use lib.Dec.{ltb, eqb}
 use lib.ListN.{length, getD, replicate}
 use borrow.Author.Tests.{le-ltb, lt-ltb}
-use Rattle.base.specs.Edition.{edition1}
+use Rattle.base.specs.Current.{current, tableSize}
 use Rattle.calls.specs.Buffers.{stateKeeps, stateSize, storeKeeps}
 use Rattle.calls.specs.Calls.{Buffers, StepCalled, RunCalled, stepCall, runCall, runBehind, runEnded, withStep, outcomeNumber}
-use Rattle.calls.specs.DemandLaws.{edition1-limit, edition1-wide}
+use Rattle.calls.specs.DemandLaws.{current-limit, current-wide}
 use Rattle.calls.specs.Rules.{keepsRules}
-use Rattle.calls.specs.StopLaws.{passed-holds, refusal-small}
+use Rattle.calls.specs.StopLaws.{passed-holds, refusal-unstopped}
 use Rattle.calls.specs.TableReading.{programIn}
+use Rattle.values.specs.Work.{stopsStep}
+use Rattle.values.specs.WorkLaws.{zero-unstopped}
 use Rattle.steps.specs.Contracts.{Answers, Given, RunAnswers, unfitNumber}
 use Rattle.steps.specs.Laws.{tabled}
 
 -- the buffers that a step leaves may be given to the next
-pub given-next : {table input : List ℕ} {b : Buffers} → Given table input b → Given table input (stepCall edition1 table input b .left)
-unfolding stateSize edition1
+pub given-next : {table input : List ℕ} {b : Buffers} → Given table input b → Given table input (stepCall current table input b .left)
+unfolding current
 given-next {table} {input} {b} g =
-    let left = passed-holds edition1 table input b edition1-limit edition1-wide (g .size) (tabled g) (g .store-good) (g .range) in
+    let left = passed-holds current table input b current-limit current-wide (g .size) (tabled g) (g .store-good) (g .range) in
     record {
       bytes = g .bytes;
       keeps = g .keeps;
       store-good = left .storeGood;
       size = left .stateLength;
       range =
-          ap (λ (n : ℕ). stateKeeps edition1 (length (programIn table .steps)) (length input) n (stepCall edition1 table input b .left .state)) (left .outputLength)
+          ap (λ (n : ℕ). stateKeeps current (length (programIn table .steps)) (length input) n (stepCall current table input b .left .state)) (left .outputLength)
           ∙ left .stateGood;
     }
 
@@ -52,27 +54,27 @@ added-none r =
 
 -- a step that was made, and what it gave
 module _ (table input : List ℕ) (b : Buffers) {number : ℕ} {answer : List ℕ} {left : Buffers}
-    (a : Answers (stepCall edition1 table input b) number answer left) (steps notes k : ℕ) where
+    (a : Answers (stepCall current table input b) number answer left) (steps notes k : ℕ) where
   -- the run that begins with it
   abbrev whole : RunCalled
-  whole = added steps notes (runCall edition1 table input (suc k) b)
+  whole = added steps notes (runCall current table input (suc k) b)
 
   -- the step by what it gave
-  called : stepCall edition1 table input b ≡ record { number = number; answer = answer; left = left }
+  called : stepCall current table input b ≡ record { number = number; answer = answer; left = left }
   called = λ i. record { number = sym (a .number-is) i; answer = sym (a .answer-is) i; left = sym (a .left-is) i }
 
   begun : whole
-      ≡ added steps notes (runBehind (record { number = number; answer = answer; left = left }) (runCall edition1 table input k left))
+      ≡ added steps notes (runBehind (record { number = number; answer = answer; left = left }) (runCall current table input k left))
   unfolding runCall
-  begun = ap (λ (s : StepCalled). added steps notes (runBehind s (runCall edition1 table input k (s .left)))) called
+  begun = ap (λ (s : StepCalled). added steps notes (runBehind s (runCall current table input k (s .left)))) called
 
   -- it was stopped
-  pub run-stopped : 17 ≤ number
-      → RunAnswers (added steps notes (runCall edition1 table input (suc k) b)) number (1 ∷ (number ∷ ((steps + 1) ∷ ((notes + getD answer 3 0) ∷ [])))) left
+  pub run-stopped : stopsStep number ≡ true
+      → RunAnswers (added steps notes (runCall current table input (suc k) b)) number (1 ∷ (number ∷ ((steps + 1) ∷ ((notes + getD answer 3 0) ∷ [])))) left
   unfolding runBehind withStep runEnded outcomeNumber
   run-stopped h =
       let notes-only : notes + getD answer 3 0 ≡ notes + (getD answer 3 0 + 0) = omega arith in
-      rw (begun, lt-ltb 16 number (omega arith))
+      rw (begun, h)
       (record {
         number-is = refl;
         result-is = ap (λ (n : ℕ). 1 ∷ (number ∷ ((steps + 1) ∷ (n ∷ [])))) notes-only;
@@ -80,13 +82,13 @@ module _ (table input : List ℕ) (b : Buffers) {number : ℕ} {answer : List �
       })
 
   -- it was turned down
-  pub run-refused : number ≤ 16 → 0 < number
-      → RunAnswers (added steps notes (runCall edition1 table input (suc k) b)) number (3 ∷ (number ∷ (steps ∷ (notes ∷ [])))) left
+  pub run-refused : stopsStep number ≡ false → 0 < number
+      → RunAnswers (added steps notes (runCall current table input (suc k) b)) number (3 ∷ (number ∷ (steps ∷ (notes ∷ [])))) left
   unfolding runBehind runEnded outcomeNumber
   run-refused h some =
       let same-steps : steps ≡ steps + 0 = omega arith in
       let same-notes : notes ≡ notes + 0 = omega arith in
-      rw (begun, le-ltb 16 number h, lt-ltb 0 number some)
+      rw (begun, h, lt-ltb 0 number some)
       (record {
         number-is = refl;
         result-is = ap₂ (λ (n m : ℕ). 3 ∷ (number ∷ (n ∷ (m ∷ [])))) same-steps same-notes;
@@ -95,11 +97,11 @@ module _ (table input : List ℕ) (b : Buffers) {number : ℕ} {answer : List �
 
   -- it finished
   pub run-finished : number ≡ 0 → eqb (getD (left .state) 0 0) 1 ≡ true
-      → RunAnswers (added steps notes (runCall edition1 table input (suc k) b)) 0 (0 ∷ (0 ∷ ((steps + 1) ∷ ((notes + getD answer 3 0) ∷ [])))) left
+      → RunAnswers (added steps notes (runCall current table input (suc k) b)) 0 (0 ∷ (0 ∷ ((steps + 1) ∷ ((notes + getD answer 3 0) ∷ [])))) left
   unfolding runBehind withStep runEnded outcomeNumber
   run-finished none ends =
       let notes-only : notes + getD answer 3 0 ≡ notes + (getD answer 3 0 + 0) = omega arith in
-      rw (begun, le-ltb 16 number (omega arith), le-ltb 0 number (omega arith), ends)
+      rw (begun, zero-unstopped none, le-ltb 0 number (omega arith), ends)
       (record {
         number-is = refl;
         result-is = ap (λ (n : ℕ). 0 ∷ (0 ∷ ((steps + 1) ∷ (n ∷ [])))) notes-only;
@@ -108,15 +110,15 @@ module _ (table input : List ℕ) (b : Buffers) {number : ℕ} {answer : List �
 
   -- the run goes on
   pub run-goes : number ≡ 0 → eqb (getD (left .state) 0 0) 1 ≡ false
-      → added steps notes (runCall edition1 table input (suc k) b)
-      ≡ added (steps + 1) (notes + getD answer 3 0) (runCall edition1 table input k left)
+      → added steps notes (runCall current table input (suc k) b)
+      ≡ added (steps + 1) (notes + getD answer 3 0) (runCall current table input k left)
   unfolding runBehind withStep
   run-goes none more =
-      let rest = runCall edition1 table input k left in
+      let rest = runCall current table input k left in
       let count : steps + (1 + rest .steps) ≡ steps + 1 + rest .steps = omega arith in
       let all-notes : notes + (getD answer 3 0 + rest .notes) ≡ notes + getD answer 3 0 + rest .notes = omega arith in
       begun
-      ∙ rw (le-ltb 16 number (omega arith), le-ltb 0 number (omega arith), more)
+      ∙ rw (zero-unstopped none, le-ltb 0 number (omega arith), more)
       (λ i. record { outcome = rest .outcome; number = rest .number; steps = count i; notes = all-notes i; left = left-of rest })
     where
       left-of : RunCalled → Buffers
@@ -124,7 +126,7 @@ module _ (table input : List ℕ) (b : Buffers) {number : ℕ} {answer : List �
 
 -- all steps are made
 run-spent : (table input : List ℕ) (b : Buffers) (steps notes : ℕ)
-    → RunAnswers (added steps notes (runCall edition1 table input 0 b)) 0 (2 ∷ (0 ∷ (steps ∷ (notes ∷ [])))) b
+    → RunAnswers (added steps notes (runCall current table input 0 b)) 0 (2 ∷ (0 ∷ (steps ∷ (notes ∷ [])))) b
 unfolding runCall runEnded outcomeNumber
 run-spent table input b steps notes =
     let same-steps : steps ≡ steps + 0 = omega arith in
@@ -140,7 +142,7 @@ pub record Repeats (table input : List ℕ) (first : Buffers) (count steps notes
   pub most : steps ≤ count
   pub few : notes ≤ steps * 4_294_967_295
   pub given : Given table input b
-  pub run : runCall edition1 table input count first ≡ added steps notes (runCall edition1 table input (count - steps) b)
+  pub run : runCall current table input count first ≡ added steps notes (runCall current table input (count - steps) b)
 
 pub repeats-none : (table input : List ℕ) (b : Buffers) (count : ℕ) → Given table input b → Repeats table input b count 0 0 b
 repeats-none table input b count g =
@@ -149,7 +151,7 @@ repeats-none table input b count g =
       most = omega arith;
       few = omega arith;
       given = g;
-      run = added-none (runCall edition1 table input count b) ∙ ap (λ (n : ℕ). added 0 0 (runCall edition1 table input n b)) all-left;
+      run = added-none (runCall current table input count b) ∙ ap (λ (n : ℕ). added 0 0 (runCall current table input n b)) all-left;
     }
 
 -- a promise kept by what `end` says
@@ -160,21 +162,21 @@ ended-as same is p = rw (is .0, is .1, same) p
 -- of a run of one step: before it the buffers are those that were given, behind it the answer is the step's
 pub record Alone (table input : List ℕ) (first : Buffers) (steps : ℕ) (answer : List ℕ) (b : Buffers) : Type 0 where
   pub none : steps ≡ 0 → b ≡ first
-  pub one : steps ≡ 1 → Answers (stepCall edition1 table input first) 0 answer b
+  pub one : steps ≡ 1 → Answers (stepCall current table input first) 0 answer b
 
 pub alone-none : (table input : List ℕ) (b : Buffers) (answer : List ℕ) → Alone table input b 0 answer b
 alone-none table input b answer = record { none = λ _. refl; one = λ e. absurd (omega (arith, e)) }
 
 module _ {table input : List ℕ} {first : Buffers} {steps : ℕ} {answer : List ℕ} {b : Buffers} (r : Alone table input first steps answer b) where
   -- the step that is made next
-  module _ {number : ℕ} {answer′ : List ℕ} {left : Buffers} (a : Answers (stepCall edition1 table input b) number answer′ left) where
-    first-answers : steps ≡ 0 → {n : ℕ} → n ≡ number → Answers (stepCall edition1 table input first) n answer′ left
+  module _ {number : ℕ} {answer′ : List ℕ} {left : Buffers} (a : Answers (stepCall current table input b) number answer′ left) where
+    first-answers : steps ≡ 0 → {n : ℕ} → n ≡ number → Answers (stepCall current table input first) n answer′ left
     first-answers e {n} is =
-        subst (λ (c : Buffers). Answers (stepCall edition1 table input c) n answer′ left) (r .none e)
+        subst (λ (c : Buffers). Answers (stepCall current table input c) n answer′ left) (r .none e)
         (record { number-is = is ∙ a .number-is; answer-is = a .answer-is; left-is = a .left-is })
 
     pub alone-ends : {count : ℕ} → steps < count → {n : ℕ} → n ≡ number → count ≡ 1
-        → Answers (stepCall edition1 table input first) n answer′ left
+        → Answers (stepCall current table input first) n answer′ left
     alone-ends below is one = first-answers (omega (arith, below, one)) is
 
     pub alone-more : number ≤ 0 → Alone table input first (steps + 1) answer′ left
@@ -186,30 +188,30 @@ module _ {table input : List ℕ} {first : Buffers} {steps : ℕ} {answer : List
 
   -- no step is left
   pub alone-spent : {count : ℕ} → steps ≤ count → (steps < count → ⊥) → {n : ℕ} → n ≡ 0 → count ≡ 1
-      → Answers (stepCall edition1 table input first) n answer b
+      → Answers (stepCall current table input first) n answer b
   alone-spent most above is one =
       let a = r .one (omega (arith, most, above, one)) in
       record { number-is = is ∙ a .number-is; answer-is = a .answer-is; left-is = a .left-is }
 
 -- a step more
 module _ {table input : List ℕ} {first : Buffers} {count steps notes : ℕ} {b : Buffers} (r : Repeats table input first count steps notes b)
-    {number : ℕ} {answer : List ℕ} {left : Buffers} (a : Answers (stepCall edition1 table input b) number answer left)
+    {number : ℕ} {answer : List ℕ} {left : Buffers} (a : Answers (stepCall current table input b) number answer left)
     (below : steps < count) where
-  next-run : runCall edition1 table input count first ≡ added steps notes (runCall edition1 table input (suc (count - (steps + 1))) b)
+  next-run : runCall current table input count first ≡ added steps notes (runCall current table input (suc (count - (steps + 1))) b)
   next-run =
       let one-less : count - steps ≡ suc (count - (steps + 1)) = omega arith in
-      r .run ∙ ap (λ (n : ℕ). added steps notes (runCall edition1 table input n b)) one-less
+      r .run ∙ ap (λ (n : ℕ). added steps notes (runCall current table input n b)) one-less
 
-  pub repeats-stopped : 17 ≤ number
-      → RunAnswers (runCall edition1 table input count first) number (1 ∷ (number ∷ ((steps + 1) ∷ ((notes + getD answer 3 0) ∷ [])))) left
+  pub repeats-stopped : stopsStep number ≡ true
+      → RunAnswers (runCall current table input count first) number (1 ∷ (number ∷ ((steps + 1) ∷ ((notes + getD answer 3 0) ∷ [])))) left
   repeats-stopped h = rw next-run (run-stopped table input b a steps notes (count - (steps + 1)) h)
 
-  pub repeats-refused : number < 17 → 0 < number
-      → RunAnswers (runCall edition1 table input count first) number (3 ∷ (number ∷ (steps ∷ (notes ∷ [])))) left
-  repeats-refused h some = rw next-run (run-refused table input b a steps notes (count - (steps + 1)) (omega arith) some)
+  pub repeats-refused : stopsStep number ≡ false → 0 < number
+      → RunAnswers (runCall current table input count first) number (3 ∷ (number ∷ (steps ∷ (notes ∷ [])))) left
+  repeats-refused h some = rw next-run (run-refused table input b a steps notes (count - (steps + 1)) h some)
 
   pub repeats-finished : number ≤ 0 → eqb (getD (left .state) 0 0) 1 ≡ true
-      → RunAnswers (runCall edition1 table input count first) 0 (0 ∷ (0 ∷ ((steps + 1) ∷ ((notes + getD answer 3 0) ∷ [])))) left
+      → RunAnswers (runCall current table input count first) 0 (0 ∷ (0 ∷ ((steps + 1) ∷ ((notes + getD answer 3 0) ∷ [])))) left
   repeats-finished h ends =
       rw next-run (run-finished table input b a steps notes (count - (steps + 1)) (omega arith) ends)
 
@@ -225,7 +227,7 @@ module _ {table input : List ℕ} {first : Buffers} {count steps notes : ℕ} {b
 
 pub repeats-spent : {table input : List ℕ} {first : Buffers} {count steps notes : ℕ} {b : Buffers}
     → Repeats table input first count steps notes b → count ≤ steps
-    → RunAnswers (runCall edition1 table input count first) 0 (2 ∷ (0 ∷ (steps ∷ (notes ∷ [])))) b
+    → RunAnswers (runCall current table input count first) 0 (2 ∷ (0 ∷ (steps ∷ (notes ∷ [])))) b
 repeats-spent {table} {input} {first} {count} {steps} {notes} {b} r h =
     let none-left : count - steps ≡ 0 = omega arith in
     rw (r .run, none-left) (run-spent table input b steps notes)
@@ -233,15 +235,15 @@ repeats-spent {table} {input} {first} {count} {steps} {notes} {b} r h =
 -- the first step is refused before it is made
 pub unfit-run : (table input : List ℕ) (b : Buffers) (n : ℕ)
     → n ≡ unfitNumber table (b .store) (b .state) (length input) (length (b .output)) → 0 < n
-    → Answers (stepCall edition1 table input b) n (replicate 24 0) b → (count : ℕ) → 0 < count
-    → RunAnswers (runCall edition1 table input count b) n (3 ∷ (n ∷ (0 ∷ (0 ∷ [])))) b
+    → Answers (stepCall current table input b) n (replicate 24 0) b → (count : ℕ) → 0 < count
+    → RunAnswers (runCall current table input count b) n (3 ∷ (n ∷ (0 ∷ (0 ∷ [])))) b
 unfit-run table input b n e h a count some =
     let one-less : count ≡ suc (count - 1) = omega arith in
-    let small : n ≤ 16 = rw e (refusal-small (ltb (length table) 28672) (keepsRules edition1 table) (storeKeeps (b .store))
-    (not (stateKeeps edition1 (length (programIn table .steps)) (length input) (length (b .output)) (b .state))) 0 (omega arith)) in
-    rw (one-less, added-none (runCall edition1 table input (suc (count - 1)) b)) (run-refused table input b a 0 0 (count - 1) small h)
+    let unstopped : stopsStep n ≡ false = rw e (refusal-unstopped (ltb (length table) tableSize) (keepsRules current table) (storeKeeps (b .store))
+    (not (stateKeeps current (length (programIn table .steps)) (length input) (length (b .output)) (b .state))) 0 (zero-unstopped refl)) in
+    rw (one-less, added-none (runCall current table input (suc (count - 1)) b)) (run-refused table input b a 0 0 (count - 1) unstopped h)
 
 -- no step is asked for
 pub run-none : (table input : List ℕ) (b : Buffers) (count : ℕ) → count ≡ 0
-    → RunAnswers (runCall edition1 table input count b) 0 (2 ∷ (0 ∷ (0 ∷ (0 ∷ [])))) b
-run-none table input b count e = rw (e, added-none (runCall edition1 table input 0 b)) (run-spent table input b 0 0)
+    → RunAnswers (runCall current table input count b) 0 (2 ∷ (0 ∷ (0 ∷ (0 ∷ [])))) b
+run-none table input b count e = rw (e, added-none (runCall current table input 0 b)) (run-spent table input b 0 0)

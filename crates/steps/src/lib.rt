@@ -7,7 +7,8 @@ ghost use mathlib.Core.List.{List};
 ghost use mathlib.Core.Path.{_≡_};
 ghost use Prim.Native.Nat.{ℕ};
 ghost use lib.ListN.{length, replicate};
-ghost use Rattle.base.specs.Edition.{edition1};
+ghost use Rattle.base.specs.Current.{current};
+ghost use Rattle.calls.specs.Buffers.{stateSize};
 ghost use Rattle.calls.specs.Calls.{stepCall, buffers};
 ghost use Rattle.calls.specs.Promises.{StepPromise, stepBack};
 ghost use Rattle.calls.specs.Table.{Row};
@@ -20,25 +21,21 @@ use base::LONGEST;
 use base::RETURNS;
 use calls::STATE_SIZE;
 use calls::TABLE_SIZE;
+use calls::step_kinds;
 use rows::Statement;
 use scanning::ANSWER_SIZE;
 use scanning::NOTES_AT;
 use statements::Did;
 
-// the kind of a step that is an EXECUTE; what is above it returns
-const EXECUTE: usize = calls::step_kinds::EXECUTE as usize;
-
 // whether a step of this kind lacks the return that it goes to, or room for the one that it holds
-fn lacks_return(kind: usize, held: usize) -> bool
+fn lacks_return(kind: u8, held: usize) -> bool
     ensures { λ r. ⌜ ((t rs : List ℕ) (row : Row) → row .kind ≡ kind → length rs ≡ held → r ≡ lacksReturn (statementOfRow t row) rs) ⌝ }
 {
-    if kind < EXECUTE {
-        return false;
+    match kind {
+        step_kinds::EXECUTE => RETURNS <= held,
+        step_kinds::RETURN => held == 0,
+        _ => false,
     }
-    if kind == EXECUTE {
-        return RETURNS <= held;
-    }
-    held == 0
 }
 
 // carries a statement out, with the buffers that its work takes; the answer, which must say that nothing was scanned, gets what a scan found
@@ -194,7 +191,7 @@ pub fn step_on(
 ) -> u32
     requires { ⌜ Given (now table) (now input) (buffers (now store) (now state) (now output)) ⌝ }
     requires { ⌜ Lent (now kept) (now values) (now rows) (now names) (now reference) (now scratch) (now out) ⌝ }
-    ensures { λ r. ⌜ Answers (stepCall edition1 (now (table .entry)) (now (input .entry)) (buffers (now (store .entry)) (now (state .entry)) (now (output .entry))))
+    ensures { λ r. ⌜ Answers (stepCall current (now (table .entry)) (now (input .entry)) (buffers (now (store .entry)) (now (state .entry)) (now (output .entry))))
         r (now (answer .exit)) (buffers (now (store .exit)) (now (state .exit)) (now (output .exit))) ⌝ }
     ensures { λ _. ⌜ Lent (now (kept .exit)) (now (values .exit)) (now (rows .exit)) (now (names .exit)) (now (reference .exit))
         (now (scratch .exit)) (now (out .exit)) ⌝ }
@@ -228,8 +225,8 @@ pub fn step_on(
 
 // says that a state is 64 numbers, to those who are lent one by its type
 fn sized(state: &[u64])
-    requires { ⌜ length (now state) ≡ 64 ⌝ }
-    ensures { λ _. ⌜ length (now (state .entry)) ≡ 64 ⌝ }
+    requires { ⌜ length (now state) ≡ stateSize ⌝ }
+    ensures { λ _. ⌜ length (now (state .entry)) ≡ stateSize ⌝ }
 {}
 
 // the number by which buffers that no step may be given are turned down, or 0
@@ -241,7 +238,7 @@ pub fn unfit(
     output: usize,
 ) -> u32
     ensures { λ r. ⌜ (r ≡ unfitNumber (now (table .entry)) (now (store .entry)) (now (state .entry)) input output)
-        × (length (now (state .entry)) ≡ 64) ⌝ }
+        × (length (now (state .entry)) ≡ stateSize) ⌝ }
 {
     sized(state);
     if table.len() < TABLE_SIZE {
@@ -270,7 +267,7 @@ pub extern "C" fn strigol_step(
     output: &mut [u8],
     answer: &mut [u32; ANSWER_SIZE],
 ) -> u32
-    ensures { λ r. ⌜ StepPromise edition1 (now (table .entry)) (now (input .entry)) (buffers (now (store .entry)) (now (state .entry)) (now (output .entry)))
+    ensures { λ r. ⌜ StepPromise current (now (table .entry)) (now (input .entry)) (buffers (now (store .entry)) (now (state .entry)) (now (output .entry)))
         (stepBack r (now (answer .exit)) (buffers (now (store .exit)) (now (state .exit)) (now (output .exit)))) ⌝ }
 {
     let n = unfit(table, store, state, input.len(), output.len());

@@ -2,9 +2,10 @@
 ghost use mathlib.Core.List.{[], _∷_};
 ghost use mathlib.Core.Path.{_≡_};
 ghost use lib.ListN.{getD};
-ghost use Rattle.base.specs.Edition.{edition1};
+ghost use Rattle.base.specs.Current.{current};
 ghost use Rattle.calls.specs.Calls.{runCall, stepCall, buffers};
 ghost use Rattle.calls.specs.Promises.{RunPromise, runBack};
+ghost use Rattle.values.specs.Work.{stopsStep};
 ghost use Rattle.steps.specs.Contracts.{Given, Answers, RunAnswers};
 use crate::scans::NAMES_SIZE;
 use crate::scans::ROWS_SIZE;
@@ -26,8 +27,12 @@ pub const RUN_SPENT: u64 = 2;
 
 pub const RUN_REFUSED: u64 = 3;
 
-// the least number by which a step is stopped; those below turn it down
-const FIRST_STOP: u32 = 17;
+// whether a step is stopped by this number; by any other but 0 it is turned down
+fn stops(number: u32) -> bool
+    ensures { λ r. ⌜ r ≡ stopsStep number ⌝ }
+{
+    (number == 17) | ((number == 18) | ((number == 19) | ((number == 20) | (number == 21))))
+}
 
 // the notes of a step
 fn notes_of(answer: &[u32; ANSWER_SIZE]) -> u32
@@ -56,9 +61,9 @@ pub fn repeat(
     answer: &mut [u32; ANSWER_SIZE],
 ) -> u32
     requires { ⌜ Given (now table) (now input) (buffers (now store) (now state) (now output)) ⌝ }
-    ensures { λ r. ⌜ RunAnswers (runCall edition1 (now (table .entry)) (now (input .entry)) count (buffers (now (store .entry)) (now (state .entry)) (now (output .entry))))
+    ensures { λ r. ⌜ RunAnswers (runCall current (now (table .entry)) (now (input .entry)) count (buffers (now (store .entry)) (now (state .entry)) (now (output .entry))))
         r (now (result .exit)) (buffers (now (store .exit)) (now (state .exit)) (now (output .exit))) ⌝ }
-    ensures { λ r. ⌜ (count ≡ 1 → Answers (stepCall edition1 (now (table .entry)) (now (input .entry)) (buffers (now (store .entry)) (now (state .entry)) (now (output .entry))))
+    ensures { λ r. ⌜ (count ≡ 1 → Answers (stepCall current (now (table .entry)) (now (input .entry)) (buffers (now (store .entry)) (now (state .entry)) (now (output .entry))))
         r (now (answer .exit)) (buffers (now (store .exit)) (now (state .exit)) (now (output .exit)))) ⌝ }
 {
     let mut kept = [0u8; STORE_SIZE];
@@ -87,7 +92,7 @@ pub fn repeat(
             answer,
         );
         let more = notes + (notes_of(answer) as u64);
-        if FIRST_STOP <= n {
+        if stops(n) {
             return end(result, RUN_STOPPED, n, done + 1, more);
         }
         if 0 < n {
@@ -113,7 +118,7 @@ pub extern "C" fn strigol_run(
     count: u32,
     result: &mut [u64; 4],
 ) -> u32
-    ensures { λ r. ⌜ RunPromise edition1 (now (table .entry)) (now (input .entry)) count (buffers (now (store .entry)) (now (state .entry)) (now (output .entry)))
+    ensures { λ r. ⌜ RunPromise current (now (table .entry)) (now (input .entry)) count (buffers (now (store .entry)) (now (state .entry)) (now (output .entry)))
         (runBack r (now (result .exit)) (buffers (now (store .exit)) (now (state .exit)) (now (output .exit)))) ⌝ }
 {
     if count == 0 {

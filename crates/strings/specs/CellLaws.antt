@@ -5,15 +5,16 @@ use mathlib.Core.Path.{_≡_, refl, sym, ap, _∙_}
 use Prim.Native.Nat.{ℕ, _+_}
 use lib.IntN.{ℤ, pos}
 use lib.ListN.{drop, getD}
-use Rattle.base.specs.Edition.{edition1}
+use Rattle.base.specs.Current.{current}
 use Rattle.base.specs.Lists.{begins}
 use Rattle.base.specs.Text.{bytes}
+use Rattle.calls.specs.Kinds.{textKind, textByKind, freeKind, fixedKind}
 use Rattle.calls.specs.Numerals.{bias, biased}
 use Rattle.calls.specs.Table as Table
-use Rattle.calls.specs.Table.{lengthCell, elementCell, patternCell, literalIn}
+use Rattle.calls.specs.Table.{patternCell, literalIn}
 use Rattle.cards.specs.Bytes.{isDigit}
 use Rattle.language.specs.Program as Program
-use Rattle.language.specs.Program.{Part, Length, constantly, numbered, Element, PatternElement, freeFiller, fixedFiller}
+use Rattle.language.specs.Program.{Part, whole, first, Length, constantly, numbered, Element, PatternElement, freeFiller, fixedFiller}
 use Rattle.language.specs.Reading.{Role, Met, Read, got, broken, _>>=_, meeting, give, skip}
 use Rattle.language.specs.Strings.{textCall, fillerAt}
 use Rattle.language.specs.Words.{Places, signed, isSign, numberName, bound, stringName, partName}
@@ -21,7 +22,7 @@ use Rattle.met.specs.Entries.{roleOf, metIn}
 use Rattle.met.specs.ReadingLaws.{give-then, skip-then, skip-broken}
 use Rattle.met.specs.declared.Cursor.{Cursor}
 use Rattle.numeric.specs.OperandLaws.{skipped, drop-moved, then-broken, cell-same, place-cell, cell-skip, cell-then, chosen, closed-cell}
-use Rattle.numeric.specs.Operands.{moved, Ready, Gets, CellRead, PlaceRead, placedIn, closedBy}
+use Rattle.numeric.specs.Operands.{moved, Ready, Gets, CellRead, PlaceRead, lengthCell, placedIn, closedBy}
 use Rattle.numeric.specs.declared.operands.Operand as OperandCode
 use Rattle.numeric.specs.declared.operands.Operand.{Operand}
 use Rattle.numeric.specs.declared.operands.Place as PlaceCode
@@ -41,10 +42,9 @@ module _ {A B C : Type 0} {f : A → C} {v : C} {text keys tags : List ℕ} {c :
 
 module _ (p : Places) {text keys tags : List ℕ} {c : Cursor} where
   -- the m of STRING with its `)`
-  pub number-ends : (kind v : ℕ) (q : Place) {k t : List ℕ} → PlaceRead text keys tags c (numberName edition1 p (drop (c .at) text)) q k t
+  pub number-ends : (kind v : ℕ) (q : Place) {k t : List ℕ} → PlaceRead text keys tags c (numberName current p (drop (c .at) text)) q k t
       → (n : Length) → Standing n kind v
       → CellRead bareCell text keys tags c (numberEnd p n (drop (c .at) text)) (closedBy text (placedIn kind v q)) k t
-  unfolding patternCell elementCell
   number-ends kind v q a n same =
       closed-cell (Program.text n) bareCell same (placedIn kind v q) (place-cell kind v q a)
 
@@ -60,7 +60,7 @@ module _ (p : Places) {text keys tags : List ℕ} {c : Cursor} where
 
   -- STRING with a constant
   pub constant-called : (q : Operand) (z : ℤ) (n next : ℕ) {d : Cursor} {k t : List ℕ} → d ≡ moved c n → c .at + n ≡ next
-      → signed edition1 (drop (c .at) text) ≡ give z (drop next text)
+      → signed current (drop (c .at) text) ≡ give z (drop next text)
       → CellRead bareCell text keys tags d (numberFollows p (constantly z) (drop (d .at) text)) q k t
       → CellRead bareCell text keys tags c (constantCall p (drop (c .at) text)) q k t
   constant-called q z n next s place is a =
@@ -76,66 +76,74 @@ unfolding bytes
 number-alone p bs e n = skip-broken (44 ∷ []) bs (λ (_, rest). numberEnd p n rest) e
 
 -- a kind of its own for each n
-pub standing-constant : (z : ℤ) {v : ℕ} → v ≡ biased z → Standing (constantly z) 17 v
-unfolding lengthCell
-standing-constant z e m = ap (Table.cell 17 m) (sym e)
+pub standing-constant : (z : ℤ) {v : ℕ} → v ≡ biased z → Standing (constantly z) (textKind .number) v
+unfolding patternCell
+standing-constant z e m = ap (Table.cell (textKind .number) m) (sym e)
 
-pub standing-number : (i : ℕ) → Standing (numbered i) 18 i
-unfolding lengthCell
+pub standing-number : (i : ℕ) → Standing (numbered i) (textByKind .number) i
+unfolding patternCell
 standing-number i m = refl
+
+-- a fixed filler as a cell with a length
+filler-length : (s : ℕ) (n : Length) → patternCell 0 (fixedFiller s n) ≡ lengthCell (fixedKind .number) s n
+unfolding patternCell lengthCell
+filler-length s (constantly z) = refl
+filler-length s (numbered i) = refl
 
 module _ (p : Places) {text keys tags : List ℕ} {c : Cursor} (ready : Ready text keys tags c) {place : ℕ} {k t : List ℕ} {d : Cursor} where
   -- STRING with a number n, and with m alone
-  module _ (a : Gets (λ j. j) place text keys tags c (numberName edition1 p (drop (c .at) text)) k t d) where
+  module _ (a : Gets (λ j. j) place text keys tags c (numberName current p (drop (c .at) text)) k t d) where
     pub number-comma : (q : Operand) {e : Cursor} {k′ t′ : List ℕ} → e ≡ moved d 1 → begins (44 ∷ []) (drop (d .at) text) ≡ true
-        → ((n : Length) → Standing n 18 place → CellRead bareCell text k t e (numberEnd p n (drop (e .at) text)) q k′ t′)
+        → ((n : Length) → Standing n (textByKind .number) place → CellRead bareCell text k t e (numberEnd p n (drop (e .at) text)) q k′ t′)
         → CellRead bareCell text keys tags c (numberCall p (drop (c .at) text)) q k′ t′
     unfolding bytes
     number-comma q s comma b =
-        let standing : Standing (numbered (a .value)) 18 place = λ m. standing-number (a .value) m ∙ ap (Table.cell 18 m) (a .made) in
+        let standing : Standing (numbered (a .value)) (textByKind .number) place =
+        λ m. standing-number (a .value) m ∙ ap (Table.cell (textByKind .number) m) (a .made) in
         cell-then a (λ (i, rest). numberOrEnd p i rest) bareCell q ready
         (cell-same (chosen _ _ comma ∙ ap (numberEnd p (numbered (a .value))) (sym (drop-moved text d 1 s)))
         (cell-skip 1 q (skipped d 1 s) (b (numbered (a .value)) standing)))
 
     pub number-only : begins (44 ∷ []) (drop (d .at) text) ≡ false
         → CellRead bareCell text keys tags c (numberCall p (drop (c .at) text))
-        (closedBy text (OperandCode.the-variants.Got (record { kind = 17; place = place; value = 140_737_488_355_328 }) d)) k t
-    unfolding bytes patternCell elementCell lengthCell biased bias
+        (closedBy text (OperandCode.the-variants.Got (record { kind = textKind .number; place = place; value = 140_737_488_355_328 }) d)) k t
+    unfolding bytes patternCell biased bias
     number-only none =
-        let v : Operand = OperandCode.the-variants.Got (record { kind = 17; place = place; value = 140_737_488_355_328 }) d in
+        let v : Operand = OperandCode.the-variants.Got (record { kind = textKind .number; place = place; value = 140_737_488_355_328 }) d in
         let only : ℕ × List ℕ → Read Element =
         λ (i, rest). skip (bytes ")") rest >>= λ (_, rest). give (Program.text (constantly (pos 0)) i) rest in
         cell-same (then-same a (λ (i, rest). numberOrEnd p i rest) only (chosen _ _ none))
         (closed-cell (Program.text (constantly (pos 0))) bareCell (λ _. refl) v
-        (place-cell 17 140_737_488_355_328 (PlaceCode.the-variants.Got place d) (record { answer = a })))
+        (place-cell (textKind .number) 140_737_488_355_328 (PlaceCode.the-variants.Got place d) (record { answer = a })))
 
   -- a filler: fixed where `$` and a length follow
-  module _ (a : Gets (λ j. j) place text keys tags c (stringName edition1 p (roleOf 3) (drop (c .at) text)) k t d) where
+  module _ (a : Gets (λ j. j) place text keys tags c (stringName current p (roleOf 3) (drop (c .at) text)) k t d) where
     pub filler-fixed : (q : Operand) {e : Cursor} {k′ t′ : List ℕ} → e ≡ moved d 1 → begins (36 ∷ []) (drop (d .at) text) ≡ true
-        → CellRead (lengthCell 20 place) text k t e (bound edition1 p (drop (e .at) text)) q k′ t′
-        → CellRead (patternCell 0) text keys tags c (fillerAt edition1 p (drop (c .at) text)) (closedBy text q) k′ t′
-    unfolding bytes patternCell fillerAt roleOf
+        → CellRead (lengthCell (fixedKind .number) place) text k t e (bound current p (drop (e .at) text)) q k′ t′
+        → CellRead (patternCell 0) text keys tags c (fillerAt current p (drop (c .at) text)) (closedBy text q) k′ t′
+    unfolding bytes fillerAt roleOf
     filler-fixed q s dollar b =
         let closes : List ℕ → Read PatternElement =
-        λ l. bound edition1 p l >>= λ (n, rest). skip (bytes ")") rest >>= λ (_, rest). give (fixedFiller (a .value) n) rest in
+        λ l. bound current p l >>= λ (n, rest). skip (bytes ")") rest >>= λ (_, rest). give (fixedFiller (a .value) n) rest in
         cell-then a _ (patternCell 0) (closedBy text q) ready
         (cell-same (chosen _ _ dollar ∙ ap closes (sym (drop-moved text d 1 s)))
-        (closed-cell (fixedFiller (a .value)) (patternCell 0) (λ n. ap (λ j. lengthCell 20 j n) (a .made)) q
+        (closed-cell (fixedFiller (a .value)) (patternCell 0)
+        (λ n. filler-length (a .value) n ∙ ap (λ j. lengthCell (fixedKind .number) j n) (a .made)) q
         (cell-skip 1 q (skipped d 1 s) b)))
 
     pub filler-free : begins (36 ∷ []) (drop (d .at) text) ≡ false
-        → CellRead (patternCell 0) text keys tags c (fillerAt edition1 p (drop (c .at) text))
-        (closedBy text (OperandCode.the-variants.Got (record { kind = 19; place = place; value = 0 }) d)) k t
+        → CellRead (patternCell 0) text keys tags c (fillerAt current p (drop (c .at) text))
+        (closedBy text (OperandCode.the-variants.Got (record { kind = freeKind .number; place = place; value = 0 }) d)) k t
     unfolding bytes patternCell fillerAt roleOf
     filler-free none =
-        let v : Operand = OperandCode.the-variants.Got (record { kind = 19; place = place; value = 0 }) d in
+        let v : Operand = OperandCode.the-variants.Got (record { kind = freeKind .number; place = place; value = 0 }) d in
         let free : ℕ × List ℕ → Read PatternElement =
         λ (s, rest). skip (bytes ")") rest >>= λ (_, rest). give (freeFiller s) rest in
         cell-same (then-same a _ free (chosen _ _ none))
         (closed-cell freeFiller (patternCell 0) (λ _. refl) v
-        (place-cell 19 0 (PlaceCode.the-variants.Got place d) (record { answer = a })))
+        (place-cell (freeKind .number) 0 (PlaceCode.the-variants.Got place d) (record { answer = a })))
 
-pub filler-broken : (p : Places) (bs : List ℕ) → stringName edition1 p (roleOf 3) bs ≡ broken → fillerAt edition1 p bs ≡ broken
+pub filler-broken : (p : Places) (bs : List ℕ) → stringName current p (roleOf 3) bs ≡ broken → fillerAt current p bs ≡ broken
 unfolding fillerAt roleOf
 filler-broken p bs e = then-broken _ e
 
@@ -143,13 +151,13 @@ filler-broken p bs e = then-broken _ e
 module _ (p : Places) {text keys tags : List ℕ} {c : Cursor} {q : Operand} {k t : List ℕ} where
   pub text-constant : (isDigit (getD (drop (c .at) text) 0 0) || isSign (drop (c .at) text)) ≡ true
       → CellRead bareCell text keys tags c (constantCall p (drop (c .at) text)) q k t
-      → CellRead bareCell text keys tags c (textCall edition1 p (drop (c .at) text)) q k t
+      → CellRead bareCell text keys tags c (textCall current p (drop (c .at) text)) q k t
   unfolding textCall
   text-constant e a = cell-same (chosen _ _ e) a
 
   pub text-number : (isDigit (getD (drop (c .at) text) 0 0) || isSign (drop (c .at) text)) ≡ false
       → CellRead bareCell text keys tags c (numberCall p (drop (c .at) text)) q k t
-      → CellRead bareCell text keys tags c (textCall edition1 p (drop (c .at) text)) q k t
+      → CellRead bareCell text keys tags c (textCall current p (drop (c .at) text)) q k t
   unfolding textCall
   text-number e a = cell-same (chosen _ _ e) a
 
@@ -159,12 +167,15 @@ pub record Bare (x : PatternElement) : Type 0 where
   pub same : (l : ℕ) → patternCell l x ≡ patternCell 0 x
 
 bare-text : (n : Length) (m : ℕ) → Bare (Program.value (Program.text n m))
-unfolding literalIn patternCell elementCell
-bare-text n m = record { none = refl; same = λ _. refl }
+unfolding literalIn patternCell
+bare-text (constantly z) m = record { none = refl; same = λ _. refl }
+bare-text (numbered i) m = record { none = refl; same = λ _. refl }
 
 bare-part : (x : Part) → Bare (Program.value (Program.part x))
-unfolding literalIn patternCell elementCell
-bare-part x = record { none = refl; same = λ _. refl }
+unfolding literalIn patternCell
+bare-part (whole s) = record { none = refl; same = λ _. refl }
+bare-part (first s (constantly z)) = record { none = refl; same = λ _. refl }
+bare-part (first s (numbered i)) = record { none = refl; same = λ _. refl }
 
 bare-free : (s : ℕ) → Bare (freeFiller s)
 unfolding literalIn patternCell
@@ -172,7 +183,8 @@ bare-free s = record { none = refl; same = λ _. refl }
 
 bare-fixed : (s : ℕ) (n : Length) → Bare (fixedFiller s n)
 unfolding literalIn patternCell
-bare-fixed s n = record { none = refl; same = λ _. refl }
+bare-fixed s (constantly z) = record { none = refl; same = λ _. refl }
+bare-fixed s (numbered i) = record { none = refl; same = λ _. refl }
 
 -- whatever is read is so
 pub data Always {A : Type 0} (P : A → Type 0) : Read A → Type 0 where
@@ -207,7 +219,7 @@ module _ (p : Places) where
   unfolding give
   end-bare n bs = always-then BareElement _ _ (λ m rest. always-then BareElement _ _ (λ _ rest. so (bare-text n m)))
 
-  pub text-bare : (bs : List ℕ) → Always BareElement (textCall edition1 p bs)
+  pub text-bare : (bs : List ℕ) → Always BareElement (textCall current p bs)
   unfolding textCall give
   text-bare bs =
       let constants : Always BareElement (constantCall p bs) =
@@ -221,15 +233,15 @@ module _ (p : Places) where
       always-chosen BareElement (isDigit (getD bs 0 0) || isSign bs) (constantCall p bs) (numberCall p bs) constants numbers
 
   pub part-bare : (roles : List ℕ → List Role) (bs : List ℕ)
-      → Always BareElement (partName edition1 p roles bs >>= λ (x, rest). give (Program.part x) rest)
+      → Always BareElement (partName current p roles bs >>= λ (x, rest). give (Program.part x) rest)
   unfolding give
   part-bare roles bs = always-then BareElement _ _ (λ x rest. so (bare-part x))
 
-  pub filler-bare : (bs : List ℕ) → Always Bare (fillerAt edition1 p bs)
+  pub filler-bare : (bs : List ℕ) → Always Bare (fillerAt current p bs)
   unfolding fillerAt give
   filler-bare bs =
       let fixed : (s : ℕ) (rest : List ℕ)
-      → Always Bare (bound edition1 p rest >>= λ (n, rest). skip (bytes ")") rest >>= λ (_, rest). give (fixedFiller s n) rest) =
+      → Always Bare (bound current p rest >>= λ (n, rest). skip (bytes ")") rest >>= λ (_, rest). give (fixedFiller s n) rest) =
       λ s rest. always-then Bare _ _ (λ n rest. always-then Bare _ _ (λ _ rest. so (bare-fixed s n))) in
       let free : (s : ℕ) (rest : List ℕ) → Always Bare (skip (bytes ")") rest >>= λ (_, rest). give (freeFiller s) rest) =
       λ s rest. always-then Bare _ _ (λ _ rest. so (bare-free s)) in

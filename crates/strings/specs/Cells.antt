@@ -5,11 +5,11 @@ use mathlib.Core.Path.{_≡_}
 use Prim.Native.Nat.{ℕ}
 use lib.IntN.{pos}
 use lib.ListN.{drop}
-use Rattle.base.specs.Edition.{edition1}
+use Rattle.base.specs.Current.{current}
 use Rattle.base.specs.Lists.{begins}
 use Rattle.base.specs.Text.{bytes}
 use Rattle.calls.specs.Table as Table
-use Rattle.calls.specs.Table.{lengthCell, patternCell}
+use Rattle.calls.specs.Table.{patternCell}
 use Rattle.language.specs.Program as Program
 use Rattle.language.specs.Program.{Length, constantly, numbered, Element}
 use Rattle.language.specs.Reading.{Read, _>>=_, give, skip}
@@ -27,14 +27,14 @@ bareCell x = patternCell 0 (Program.value x)
 -- the m of STRING(n,m) with the `)`
 abbrev pub numberEnd : Places → Length → List ℕ → Read Element
 numberEnd p n bs =
-    numberName edition1 p bs >>= λ (m, rest). skip (bytes ")") rest >>= λ (_, rest). give (Program.text n m) rest
+    numberName current p bs >>= λ (m, rest). skip (bytes ")") rest >>= λ (_, rest). give (Program.text n m) rest
 
 abbrev pub numberFollows : Places → Length → List ℕ → Read Element
 numberFollows p n bs = skip (bytes ",") bs >>= λ (_, rest). numberEnd p n rest
 
 -- the two forms of a STRING call
 abbrev pub constantCall : Places → List ℕ → Read Element
-constantCall p bs = signed edition1 bs >>= λ (n, rest). numberFollows p (constantly n) rest
+constantCall p bs = signed current bs >>= λ (n, rest). numberFollows p (constantly n) rest
 
 abbrev pub numberOrEnd : Places → ℕ → List ℕ → Read Element
 numberOrEnd p i rest = elim (begins (bytes ",") rest) [
@@ -43,11 +43,11 @@ numberOrEnd p i rest = elim (begins (bytes ",") rest) [
 ]
 
 abbrev pub numberCall : Places → List ℕ → Read Element
-numberCall p bs = numberName edition1 p bs >>= λ (i, rest). numberOrEnd p i rest
+numberCall p bs = numberName current p bs >>= λ (i, rest). numberOrEnd p i rest
 
 -- a kind and a value are the cell of STRING with this n
 abbrev pub Standing : Length → (kind value : ℕ) → Type 0
-Standing n kind v = (m : ℕ) → lengthCell 17 m n ≡ Table.cell kind m v
+Standing n kind v = (m : ℕ) → bareCell (Program.text n m) ≡ Table.cell kind m v
 
 -- each reader at the cursor
 abbrev pub NumberEnds : (text known keys tags : List ℕ) (c : Cursor) (kind value : ℕ) → Operand → (keys′ tags′ : List ℕ) → Type 0
@@ -65,7 +65,7 @@ abbrev pub NumberCalled : (text known keys tags : List ℕ) (c : Cursor) → Ope
 NumberCalled text known keys tags c = CellRead bareCell text keys tags c (numberCall (placesIn known) (drop (c .at) text))
 
 abbrev pub TextCalled : (text known keys tags : List ℕ) (c : Cursor) → Operand → (keys′ tags′ : List ℕ) → Type 0
-TextCalled text known keys tags c = CellRead bareCell text keys tags c (textCall edition1 (placesIn known) (drop (c .at) text))
+TextCalled text known keys tags c = CellRead bareCell text keys tags c (textCall current (placesIn known) (drop (c .at) text))
 
 abbrev pub FillerRead : (text known keys tags : List ℕ) (c : Cursor) → Operand → (keys′ tags′ : List ℕ) → Type 0
-FillerRead text known keys tags c = CellRead (patternCell 0) text keys tags c (fillerAt edition1 (placesIn known) (drop (c .at) text))
+FillerRead text known keys tags c = CellRead (patternCell 0) text keys tags c (fillerAt current (placesIn known) (drop (c .at) text))

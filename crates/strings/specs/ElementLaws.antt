@@ -26,6 +26,7 @@ use Rattle.numeric.specs.OperandLaws.{noting-more, noting-none, met-nothing}
 use Rattle.numeric.specs.Operands.{Skips, Ready, Noting, Gets}
 use Rattle.numeric.specs.declared.Outcome as OutcomeCode
 use Rattle.numeric.specs.declared.Outcome.{Outcome}
+use Rattle.packer.specs.Letters.{letters-on}
 use Rattle.strings.specs.Elements.{GetsElements, rowsOf, GetsRow, RowAnswer, RowRead}
 
 pub literals-size : (xs ys : List PatternElement) → length (allLiterals (xs ++ ys)) ≡ length (allLiterals xs) + length (allLiterals ys)
@@ -66,7 +67,7 @@ names-elements {c = c} {d = d} table r =
           };
       ready = r .ready;
       few = r .few;
-      short = omega (arith, r .few);
+      short = omega (arith, r .further);
     }
 
 -- nothing is read
@@ -180,6 +181,6 @@ module _ {A : Type 0} {text table keys tags : List ℕ} {c : Cursor} {x : Read A
               longest = r .goes .longest ∙ ap (λ j. ltb Limits.row j || any (ltb Limits.row) rows) (s .goes .longest);
             };
         ready = r .ready;
-        few = omega (arith, r .few, s .at);
+        few = omega (arith, r .few, letters-on text (b .at) (c .at) (omega (arith, s .at)));
         short = omega (arith, r .short, s .at);
       }

@@ -6,15 +6,17 @@ use mathlib.Core.Path.{_≡_}
 use Prim.Native.Nat.{ℕ, _+_, _*_, _-_, _/_, _≤_, _<_}
 use lib.Dec.{eqb, ltb}
 use lib.ListN.{length, take, drop}
-use Rattle.base.specs.Edition.{edition1}
+use Rattle.base.specs.Current.{current, tableSize}
 use Rattle.base.specs.Limits as Limits
 use Rattle.base.specs.Lists.{any}
+use Rattle.calls.specs.Kinds.{literalKind}
 use Rattle.calls.specs.Table as Table
 use Rattle.calls.specs.Table.{allLiterals}
 use Rattle.language.specs.Program.{Element, literal, PatternElement, value}
 use Rattle.language.specs.Reading.{Read, got, broken}
 use Rattle.language.specs.Strings as Strings
 use Rattle.language.specs.Words.{Places, noRole}
+use Rattle.met.specs.Bounds.{farEnough}
 use Rattle.met.specs.Elements.{withElement, withLiterals, withElements}
 use Rattle.met.specs.Entries.{Entry, roleOf, metIn}
 use Rattle.met.specs.Known.{placesIn}
@@ -24,6 +26,8 @@ use Rattle.numeric.specs.declared.operands.Operand as OperandCode
 use Rattle.numeric.specs.declared.operands.Operand.{Operand}
 use Rattle.numeric.specs.declared.Outcome as OutcomeCode
 use Rattle.numeric.specs.declared.Outcome.{Outcome}
+use Rattle.packer.specs.Letters.{letters}
+use Rattle.packer.specs.Packs.{longestText}
 
 -- a cursor d behind c by n names, by these elements and by rows of these lengths
 pub record Passes (c : Cursor) (n : ℕ) (es : List PatternElement) (rows : List ℕ) (d : Cursor) : Type 0 where
@@ -42,7 +46,7 @@ pub record GetsElements {A : Type 0} (text table keys tags : List ℕ) (c : Curs
   pub noting : Noting keys tags (c .names) entries keys′ tags′
   pub goes : Passes c (length entries) es rows d
   pub ready : Ready text keys′ tags′ d
-  pub few : length entries + c .at ≤ d .at
+  pub few : length entries + letters (drop (d .at) text) ≤ letters (drop (c .at) text)
   pub short : length es + c .at ≤ d .at
 
 -- the rows that are met where a row of n elements is read: none where nothing stands
@@ -80,7 +84,7 @@ oneMore c =
 
 -- there are few elements before a cell that was read
 abbrev pub Roomy : Operand → Type 0
-Roomy (OperandCode.the-variants.Got v d) = d .elements < 8_000_000_000
+Roomy (OperandCode.the-variants.Got v d) = d .elements ≤ farEnough
 Roomy OperandCode.the-variants.Broken = Unit {0}
 
 -- the outcome once a cell that was read is written, and the table with it
@@ -95,11 +99,11 @@ celled table OperandCode.the-variants.Broken = table
 -- n literal bytes behind the quote at the cursor can be written
 pub record Spellable (text table : List ℕ) (c : Cursor) (n size : ℕ) : Type 0 where
   pub inside : c .at + 1 + n ≤ length text
-  pub textSize : length text ≤ 32_768
-  pub near : size ≤ 100_000
-  pub elements : c .elements ≤ 5_000_000_000
-  pub literals : c .literals ≤ 5_000_000_000
-  pub tableSize : 28_672 ≤ length table
+  pub textSize : length text ≤ longestText
+  pub near : size ≤ farEnough
+  pub elements : c .elements ≤ farEnough
+  pub literals : c .literals ≤ farEnough
+  pub tableSize : tableSize ≤ length table
 
 -- the cursor behind a literal of n bytes
 abbrev pub spelt : Cursor → (n size : ℕ) → Cursor
@@ -119,7 +123,7 @@ pub record Spelt (text table : List ℕ) (c : Cursor) (n size : ℕ) (table′ :
   pub written :
       table′
       ≡ withElement (withLiterals table (c .literals) (take n (drop (c .at + 1) text))) (c .elements)
-      (Table.cell 16 0 (c .literals + 65_536 * n))
+      (Table.cell (literalKind .number) 0 (c .literals + 65_536 * n))
 
 -- one value is read, which is this element of a pattern
 pub record GetsOne {A : Type 0} (f : A → PatternElement) (text table keys tags : List ℕ) (c : Cursor) (x : Read A) (table′ keys′ tags′ : List ℕ)
@@ -145,11 +149,11 @@ pub record ReadsOne {A : Type 0} (f : A → PatternElement) (text table keys tag
 
 abbrev pub ElementRead : (text known table keys tags : List ℕ) (c : Cursor) (tag : ℕ) → Outcome → (table′ keys′ tags′ : List ℕ) → Type 0
 ElementRead text known table keys tags c tag =
-    ReadsOne value text table keys tags c (Strings.element edition1 (placesIn known) (roleOf (tag / 16)) (drop (c .at) text))
+    ReadsOne value text table keys tags c (Strings.element current (placesIn known) (roleOf (tag / 16)) (drop (c .at) text))
 
 abbrev pub PatternElementRead : (text known table keys tags : List ℕ) (c : Cursor) → Outcome → (table′ keys′ tags′ : List ℕ) → Type 0
 PatternElementRead text known table keys tags c =
-    ReadsOne (λ x. x) text table keys tags c (Strings.patternElement edition1 (placesIn known) (drop (c .at) text))
+    ReadsOne (λ x. x) text table keys tags c (Strings.patternElement current (placesIn known) (drop (c .at) text))
 
 -- what a row has: elements of a pattern, or of a string expression
 abbrev pub Valued : Bool → Type 0
@@ -161,8 +165,8 @@ shown true = λ x. x
 shown false = value
 
 abbrev pub readOne : (b : Bool) → Places → List ℕ → Read (Valued b)
-readOne true p = Strings.patternElement edition1 p
-readOne false p = Strings.element edition1 p noRole
+readOne true p = Strings.patternElement current p
+readOne false p = Strings.element current p noRole
 
 abbrev pub OneRead : (text known table keys tags : List ℕ) (c : Cursor) (b : Bool) → Outcome → (table′ keys′ tags′ : List ℕ) → Type 0
 OneRead text known table keys tags c b =
@@ -218,8 +222,8 @@ shownRow true = λ xs. xs
 shownRow false = map value
 
 abbrev pub readRow : (b : Bool) → Places → List ℕ → Read (List (Valued b))
-readRow true p = Strings.pattern edition1 p
-readRow false p = Strings.stringExpression edition1 p
+readRow true p = Strings.pattern current p
+readRow false p = Strings.stringExpression current p
 
 abbrev pub RowsRead : (text known table keys tags : List ℕ) (c : Cursor) (b : Bool) → Outcome → (table′ keys′ tags′ : List ℕ) → Type 0
 RowsRead text known table keys tags c b =

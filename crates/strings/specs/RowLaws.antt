@@ -10,13 +10,14 @@ use lib.ListN.{length, take, drop, length-drop, length-map, drop-of-length-le}
 use lib.Seq.{drop-drop, length-take-le, take-take}
 use borrow.Author.Tests.{ltb-true, ltb-false, lt-ltb, le-ltb, ne-eqb}
 use Rattle.base.specs.Choice.{test-cases}
-use Rattle.base.specs.Edition.{edition1}
+use Rattle.base.specs.Current.{current}
 use Rattle.base.specs.Limits as Limits
 use Rattle.base.specs.Lists.{any, begins}
 use Rattle.base.specs.ListLaws.{begins-iff, begins-inside}
 use Rattle.base.specs.Text.{bytes}
+use Rattle.calls.specs.Kinds.{literalKind, parts}
 use Rattle.calls.specs.Table as Table
-use Rattle.calls.specs.Table.{partCell, range, elementCell, patternCell, literalIn, allLiterals}
+use Rattle.calls.specs.Table.{partCell, range, patternCell, literalIn, allLiterals}
 use Rattle.cards.specs.Bytes.{quote}
 use Rattle.language.specs.Program.{literal, part, PatternElement, value}
 use Rattle.language.specs.Reading.{Role, Met, both, aRow, aLiteral, Read, got, broken, _>>=_, meeting, give}
@@ -34,6 +35,7 @@ use Rattle.numeric.specs.declared.operands.Operand as OperandCode
 use Rattle.numeric.specs.declared.operands.Operand.{Operand}
 use Rattle.numeric.specs.declared.Outcome as OutcomeCode
 use Rattle.numeric.specs.declared.Outcome.{Outcome}
+use Rattle.packer.specs.Letters.{letters-on}
 use Rattle.strings.specs.CellLaws.{Bare, Always, always-got, text-bare, part-bare, filler-bare}
 use Rattle.strings.specs.Cells.{bareCell}
 use Rattle.strings.specs.ElementLaws.{elements-none, elements-give, elements-then, elements-broken, elements-skip}
@@ -65,7 +67,7 @@ pub literal-spelt : {text table keys tags : List ℕ} {c : Cursor} (n size : ℕ
     → c .at + 1 + n ≤ length text → c .at + size ≤ length text → n < size
     → literalAt (drop (c .at + 1) text) ≡ got (take n (drop (c .at + 1) text)) (aLiteral n) (drop (c .at + size) text)
     → Spelt text table c n size t d → LiteralRead text table keys tags c t d
-unfolding aLiteral metIn gather allLiterals literalIn patternCell elementCell range any
+unfolding aLiteral metIn gather allLiterals literalIn patternCell range any
 literal-spelt {text} {table} {keys} {tags} {c} n size {t} {d} ready inside end more is s =
     let w = take n (drop (c .at + 1) text) in
     let count : length w ≡ n = length-take-le n (drop (c .at + 1) text) (omega (arith, length-drop (c .at + 1) text)) in
@@ -76,6 +78,7 @@ literal-spelt {text} {table} {keys} {tags} {c} n size {t} {d} ready inside end m
     let items : d .items ≡ c .items = ap (λ (z : Cursor). z .items) (s .goes) in
     let elements : d .elements ≡ c .elements + 1 = ap (λ (z : Cursor). z .elements) (s .goes) in
     let literals : d .literals ≡ c .literals + n = ap (λ (z : Cursor). z .literals) (s .goes) in
+    let fewer = letters-on text (c .at) (d .at) (omega arith) in
     record {
       element = w;
       gets =
@@ -86,7 +89,7 @@ literal-spelt {text} {table} {keys} {tags} {c} n size {t} {d} ready inside end m
                 ∙ ap₂ (λ (i j : ℕ). got w (metIn [] 0 [] i) (drop j text)) (sym all) (sym at);
             written =
                 s .written
-                ∙ ap (λ j. withElement (withLiterals table (c .literals) w) (c .elements) (Table.cell 16 0 j)) place
+                ∙ ap (λ j. withElement (withLiterals table (c .literals) w) (c .elements) (Table.cell (literalKind .number) 0 j)) place
                 ∙ sym (elements-one table (c .elements) (c .literals) (value (literal w)));
             noting = noting-none (c .names);
             goes =
@@ -102,14 +105,14 @@ literal-spelt {text} {table} {keys} {tags} {c} n size {t} {d} ready inside end m
                 record {
                   textSize = ready .textSize;
                   inside = omega arith;
-                  names = omega (arith, ready .names);
+                  names = omega (arith, ready .names, fewer);
                   items = omega (arith, ready .items);
                   elements = omega (arith, ready .elements);
                   literals = omega (arith, ready .literals);
                   keysSize = ready .keysSize;
                   tagsSize = ready .tagsSize;
                 };
-            few = omega arith;
+            few = omega (arith, fewer);
             short = omega arith;
           };
       further = omega arith;
@@ -205,7 +208,7 @@ one-written {f = f} {text} {table} {keys} {tags} {c} {x} q {r} {t} {k} {g} e a =
 -- an element by its first bytes
 module _ (p : Places) (roles : List ℕ → List Role) {text table keys tags : List ℕ} {c : Cursor} (ready : Ready text keys tags c) where
   pub element-literal : {t : List ℕ} {d : Cursor} → begins (34 ∷ []) (drop (c .at) text) ≡ true → LiteralRead text table keys tags c t d
-      → ReadsOne value text table keys tags c (Strings.element edition1 p roles (drop (c .at) text)) (OutcomeCode.the-variants.Got d) t keys tags
+      → ReadsOne value text table keys tags c (Strings.element current p roles (drop (c .at) text)) (OutcomeCode.the-variants.Got d) t keys tags
   unfolding Strings.element bytes
   element-literal e a =
       one-same (chosen _ _ e ∙ ap (λ (l : List ℕ). literalAt l >>= λ (w, rest). give (literal w) rest) (drop-drop 1 (c .at) text))
@@ -213,17 +216,17 @@ module _ (p : Places) (roles : List ℕ → List Role) {text table keys tags : L
 
   module _ (no : begins (34 ∷ []) (drop (c .at) text) ≡ false) where
     pub element-text : (q : Operand) {d : Cursor} {k t : List ℕ} → d ≡ moved c 7 → begins (bytes "STRING(") (drop (c .at) text) ≡ true
-        → CellRead bareCell text keys tags d (textCall edition1 p (drop (d .at) text)) q k t
-        → ReadsOne value text table keys tags c (Strings.element edition1 p roles (drop (c .at) text)) (written q) (celled table q) k t
+        → CellRead bareCell text keys tags d (textCall current p (drop (d .at) text)) q k t
+        → ReadsOne value text table keys tags c (Strings.element current p roles (drop (c .at) text)) (written q) (celled table q) k t
     unfolding Strings.element bytes
     element-text q {d} s e a =
-        one-same (chosen _ _ no ∙ chosen _ _ e ∙ ap (textCall edition1 p) (sym (drop-moved text c 7 s)))
+        one-same (chosen _ _ no ∙ chosen _ _ e ∙ ap (textCall current p) (sym (drop-moved text c 7 s)))
         (cell-element value table q ready (text-bare p (drop (d .at) text)) (cell-skip 7 q (skipped c 7 s) a))
 
     pub element-part : (q : Operand) {k t : List ℕ} → begins (bytes "STRING(") (drop (c .at) text) ≡ false
-        → CellRead (partCell 0) text keys tags c (partName edition1 p roles (drop (c .at) text)) q k t
-        → ReadsOne value text table keys tags c (Strings.element edition1 p roles (drop (c .at) text)) (written q) (celled table q) k t
-    unfolding Strings.element bytes patternCell elementCell
+        → CellRead (partCell parts) text keys tags c (partName current p roles (drop (c .at) text)) q k t
+        → ReadsOne value text table keys tags c (Strings.element current p roles (drop (c .at) text)) (written q) (celled table q) k t
+    unfolding Strings.element bytes patternCell partCell
     element-part q e a =
         one-same (chosen _ _ no ∙ chosen _ _ e)
         (cell-element value table q ready (part-bare p roles (drop (c .at) text)) (cell-made part bareCell q (λ _. refl) a))
@@ -232,16 +235,16 @@ module _ (p : Places) (roles : List ℕ → List Role) {text table keys tags : L
 module _ (p : Places) {text table keys tags : List ℕ} {c : Cursor} where
   pub pattern-filler : Ready text keys tags c → (q : Operand) {d : Cursor} {k t : List ℕ} → d ≡ moved c 1
       → begins (40 ∷ []) (drop (c .at) text) ≡ true
-      → CellRead (patternCell 0) text keys tags d (fillerAt edition1 p (drop (d .at) text)) q k t
-      → ReadsOne (λ x. x) text table keys tags c (Strings.patternElement edition1 p (drop (c .at) text)) (written q) (celled table q) k t
+      → CellRead (patternCell 0) text keys tags d (fillerAt current p (drop (d .at) text)) q k t
+      → ReadsOne (λ x. x) text table keys tags c (Strings.patternElement current p (drop (c .at) text)) (written q) (celled table q) k t
   unfolding Strings.patternElement bytes
   pattern-filler ready q {d} s e a =
-      one-same (chosen _ _ e ∙ ap (fillerAt edition1 p) (sym (drop-moved text c 1 s)))
+      one-same (chosen _ _ e ∙ ap (fillerAt current p) (sym (drop-moved text c 1 s)))
       (cell-element (λ x. x) table q ready (filler-bare p (drop (d .at) text)) (cell-skip 1 q (skipped c 1 s) a))
 
   pub pattern-value : (r : Outcome) {t k g : List ℕ} → begins (40 ∷ []) (drop (c .at) text) ≡ false
-      → ReadsOne value text table keys tags c (Strings.element edition1 p (roleOf 2) (drop (c .at) text)) r t k g
-      → ReadsOne (λ x. x) text table keys tags c (Strings.patternElement edition1 p (drop (c .at) text)) r t k g
+      → ReadsOne value text table keys tags c (Strings.element current p (roleOf 2) (drop (c .at) text)) r t k g
+      → ReadsOne (λ x. x) text table keys tags c (Strings.patternElement current p (drop (c .at) text)) r t k g
   unfolding Strings.patternElement bytes roleOf
   pattern-value (OutcomeCode.the-variants.Got d) e a = one-same (chosen _ _ e) (record { answer = one-made value (λ x. x) (a .answer) })
   pattern-value OutcomeCode.the-variants.Broken e a = record { answer = chosen _ _ e ∙ then-broken _ (a .answer) }
@@ -255,7 +258,7 @@ module _ (known : List ℕ) {text table keys tags : List ℕ} {c : Cursor} {b : 
   one-string e a =
       subst (λ z. OneRead text known table keys tags c z r t k g) (sym e)
       (subst
-      (λ roles. ReadsOne value text table keys tags c (Strings.element edition1 (placesIn known) roles (drop (c .at) text)) r t k g)
+      (λ roles. ReadsOne value text table keys tags c (Strings.element current (placesIn known) roles (drop (c .at) text)) r t k g)
       role-none a)
 
 -- where a comma stands one turn is taken

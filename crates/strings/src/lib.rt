@@ -4,6 +4,7 @@
 pub mod cells;
 pub mod literals;
 
+use calls::cell_kinds;
 use cells::filler;
 use cells::text_call;
 use literals::literal;
@@ -23,7 +24,9 @@ use words::stands_at;
 ghost use mathlib.Core.Path.{_≡_};
 ghost use Prim.Native.Nat.{_≤_, _<_};
 ghost use lib.ListN.{length, drop};
+ghost use Rattle.base.specs.Current.{tableSize};
 ghost use Rattle.language.specs.Strings.{nothingHere};
+ghost use Rattle.met.specs.Bounds.{farEnough};
 ghost use Rattle.met.specs.Elements.{withElement};
 ghost use Rattle.met.specs.Known.{Counted};
 ghost use Rattle.numeric.specs.Operands.{Ready, StringTag, meaning};
@@ -31,7 +34,7 @@ ghost use Rattle.strings.specs.Elements.{oneMore, Roomy, written, celled
 
 // writes a cell as the next element
 fn put(table: &mut [u8], c: Cursor, v: Cell) -> Cursor
-    requires { ⌜ (28672 ≤ length (now table)) × (c .elements < 8_000_000_000) ⌝ }
+    requires { ⌜ (tableSize ≤ length (now table)) × (c .elements ≤ farEnough) ⌝ }
     ensures { λ r. ⌜ (r ≡ oneMore c) × (now (table .exit) ≡ withElement (now (table .entry)) (c .elements) (meaning v)) ⌝ }
 {
     put_element(table, c.elements, v.kind, v.place, v.value);
@@ -47,7 +50,7 @@ fn put(table: &mut [u8], c: Cursor, v: Cell) -> Cursor
 
 // writes the cell that was read, if one was
 fn write_cell(table: &mut [u8], r: Operand) -> Outcome
-    requires { ⌜ (28672 ≤ length (now table)) × Roomy r ⌝ }
+    requires { ⌜ (tableSize ≤ length (now table)) × Roomy r ⌝ }
     ensures { λ q. ⌜ (q ≡ written r) × (now (table .exit) ≡ celled (now (table .entry)) r) ⌝ }
 {
     match r {
@@ -68,7 +71,7 @@ fn element(
 ) -> Outcome
     requires { ⌜ Ready (now text) (now keys) (now tags) c ⌝ }
     requires { ⌜ Counted (now known) ⌝ }
-    requires { ⌜ (28672 ≤ length (now table)) × StringTag tag ⌝ }
+    requires { ⌜ (tableSize ≤ length (now table)) × StringTag tag ⌝ }
     ensures { λ r. ⌜ ElementRead (now (text .entry)) (now (known .entry)) (now (table .entry)) (now (keys .entry)) (now (tags .entry)) c tag r (now (table .exit)) (now (keys .exit)) (now (tags .exit)) ⌝ }
 {
     let at = c.at;
@@ -78,7 +81,10 @@ fn element(
     if begins_at(text, at, b"STRING(") {
         return write_cell(table, text_call(text, known, keys, tags, skip(c, 7)));
     }
-    write_cell(table, read_part(text, known, keys, tags, c, 0, tag))
+    write_cell(
+        table,
+        read_part(text, known, keys, tags, c, cell_kinds::STRING, tag),
+    )
 }
 
 // an element of a pattern
@@ -92,7 +98,7 @@ fn pattern_element(
 ) -> Outcome
     requires { ⌜ Ready (now text) (now keys) (now tags) c ⌝ }
     requires { ⌜ Counted (now known) ⌝ }
-    requires { ⌜ 28672 ≤ length (now table) ⌝ }
+    requires { ⌜ tableSize ≤ length (now table) ⌝ }
     ensures { λ r. ⌜ PatternElementRead (now (text .entry)) (now (known .entry)) (now (table .entry)) (now (keys .entry)) (now (tags .entry)) c r (now (table .exit)) (now (keys .exit)) (now (tags .exit)) ⌝ }
 {
     if stands_at(text, c.at, b'(') {
@@ -113,7 +119,7 @@ fn one(
 ) -> Outcome
     requires { ⌜ Ready (now text) (now keys) (now tags) c ⌝ }
     requires { ⌜ Counted (now known) ⌝ }
-    requires { ⌜ 28672 ≤ length (now table) ⌝ }
+    requires { ⌜ tableSize ≤ length (now table) ⌝ }
     ensures { λ r. ⌜ OneRead (now (text .entry)) (now (known .entry)) (now (table .entry)) (now (keys .entry)) (now (tags .entry)) c patterned r (now (table .exit)) (now (keys .exit)) (now (tags .exit)) ⌝ }
 {
     if patterned {
@@ -134,7 +140,7 @@ fn more(
 ) -> Outcome
     requires { ⌜ Ready (now text) (now keys) (now tags) c ⌝ }
     requires { ⌜ Counted (now known) ⌝ }
-    requires { ⌜ 28672 ≤ length (now table) ⌝ }
+    requires { ⌜ tableSize ≤ length (now table) ⌝ }
     ensures { λ r. ⌜ MoreRead (now (text .entry)) (now (known .entry)) (now (table .entry)) (now (keys .entry)) (now (tags .entry)) c patterned r (now (table .exit)) (now (keys .exit)) (now (tags .exit)) ⌝ }
 {
     let mut d = c;
@@ -193,7 +199,7 @@ pub fn row(
 ) -> Outcome
     requires { ⌜ Ready (now text) (now keys) (now tags) c ⌝ }
     requires { ⌜ Counted (now known) ⌝ }
-    requires { ⌜ 28672 ≤ length (now table) ⌝ }
+    requires { ⌜ tableSize ≤ length (now table) ⌝ }
     ensures { λ r. ⌜ RowsRead (now (text .entry)) (now (known .entry)) (now (table .entry)) (now (keys .entry)) (now (tags .entry)) c patterned r (now (table .exit)) (now (keys .exit)) (now (tags .exit)) ⌝ }
 {
     if nothing_here(text, c.at) {

@@ -11,9 +11,12 @@ ghost use mathlib.Core.List.{List};
 ghost use Prim.Native.Nat.{ℕ, _≤_, _<_};
 ghost use lib.Dec.{eqb};
 ghost use lib.ListN.{length, drop};
+ghost use Rattle.base.specs.Current.{tableSize};
 ghost use Rattle.cards.specs.Bytes.{quote};
 ghost use Rattle.language.specs.Words.{run};
+ghost use Rattle.met.specs.Bounds.{farEnough};
 ghost use Rattle.numeric.specs.Operands.{Ready};
+ghost use Rattle.packer.specs.Packs.{longestText};
 ghost use Rattle.words.specs.Places.{Counts};
 ghost use Rattle.strings.specs.Elements.{Spellable, Spelt, LiteralRead};
 
@@ -46,9 +49,9 @@ fn put_literal(text: &[u8], table: &mut [u8], c: Cursor, n: usize, size: usize) 
 
 // a literal at its first quote: `""` behind it is one quote, else it goes up to the next quote
 pub fn literal(text: &[u8], table: &mut [u8], c: Cursor) -> Cursor
-    requires { ⌜ (c .at < length (now text)) × (length (now text) ≤ 32768) ⌝ }
-    requires { ⌜ (c .elements ≤ 5_000_000_000) × (c .literals ≤ 5_000_000_000) ⌝ }
-    requires { ⌜ 28672 ≤ length (now table) ⌝ }
+    requires { ⌜ (c .at < length (now text)) × (length (now text) ≤ longestText) ⌝ }
+    requires { ⌜ (c .elements ≤ farEnough) × (c .literals ≤ farEnough) ⌝ }
+    requires { ⌜ tableSize ≤ length (now table) ⌝ }
     ensures { λ r. ⌜ ((keys tags : List ℕ) → Ready (now (text .entry)) keys tags c → LiteralRead (now (text .entry)) (now (table .entry)) keys tags c (now (table .exit)) r) ⌝ }
 {
     let at = c.at + 1;

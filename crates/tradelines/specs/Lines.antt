@@ -7,7 +7,7 @@ use Prim.Native.Nat.{ℕ}
 use Prim.Native.String.{String}
 use lib.Dec.{eqb}
 use lib.IntN.{ℤ, pos, negsuc}
-use Rattle.base.specs.Edition.{edition1}
+use Rattle.base.specs.Current.{current}
 use Rattle.base.specs.Lists.{same, all}
 use Rattle.base.specs.Text.{bytes}
 use Rattle.computing.specs.{everything}
@@ -112,9 +112,9 @@ numberRight z (stop n) = false
 
 pub isRight : Line → Bool
 isRight (scans d r p x split trials s v) =
-    leavesRight split trials s (bytes v) (scanningIn edition1 (withString freshMemory 0 (bytes r)) d (whole 0) p x)
+    leavesRight split trials s (bytes v) (scanningIn current (withString freshMemory 0 (bytes r)) d (whole 0) p x)
 isRight (writes n m v notes) = textRight (bytes v) notes (textOf n m)
-isRight (reads v z) = numberRight z (numberOf edition1 (bytes v))
+isRight (reads v z) = numberRight z (numberOf current (bytes v))
 
 -- E9 "P1 to P12 form one table whose correctness under those definitions is a single fact"
 pub lines-right : all isRight lines ≡ true

@@ -3,14 +3,14 @@ use mathlib.Core.List.{List, _++_}
 use mathlib.Core.Path.{_≡_, refl}
 use Prim.Native.Nat.{ℕ}
 use Prim.Native.String.{String}
-use Rattle.base.specs.Edition.{edition1}
+use Rattle.base.specs.Current.{current}
 use Rattle.base.specs.Text.{bytes}
 use Rattle.calls.specs.Strigol.{printed}
 use Rattle.computing.specs.{everything}
 
 -- what the program prints for a deck and an input
 unfoldable pub prints : (deck input : String) → List ℕ
-prints deck input = printed edition1 (bytes deck) (bytes input)
+prints deck input = printed current (bytes deck) (bytes input)
 
 -- L16 "On lines `W7,120`, `NOTE`, `B2,35` it prints `W7 0120`, `B2 0155`, `FINISHED,0,14,0`."
 pub lots :

@@ -1,7 +1,13 @@
--- Work with its notes, or the number that stops it. Assumes nothing.
+-- Work with its notes, or the number that stops it, and which numbers stop a step. Assumes nothing.
+use mathlib.Core.Bool.{Bool, _||_}
 use Prim.Native.Nat.{ℕ, _+_}
+use lib.Dec.{eqb}
 
--- done with a value and so many notes, or stopped by 17 to 21
+-- Q17 "17 to 21 mark the state stopped, no more": the numbers that stop a step; every other but 0 turns it down
+unfoldable pub stopsStep : ℕ → Bool
+stopsStep n = eqb n 17 || (eqb n 18 || (eqb n 19 || (eqb n 20 || eqb n 21)))
+
+-- done with a value and so many notes, or stopped by a number that stops a step
 pub data Work (A : Type 0) : Type 0 where
   done : A → ℕ → Work A
   stop : ℕ → Work A

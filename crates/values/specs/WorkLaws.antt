@@ -1,8 +1,9 @@
--- Laws of work: notes on top of others, work behind work. Assumes nothing.
+-- Laws of work: notes on top of others, work behind work, a number that stops. Assumes nothing.
+use mathlib.Core.Bool.{true, false, true≢false}
 use mathlib.Core.Path.{_≡_, refl, sym, _∙_, ap}
 use Prim.Native.Nat.{ℕ, _+_}
 use native.Mathlib.Nat.{add-assoc, add-zero, zero-add}
-use Rattle.values.specs.Work.{Work, done, stop, noting, quietly, _>>=_}
+use Rattle.values.specs.Work.{stopsStep, Work, done, stop, noting, quietly, _>>=_}
 
 -- notes on top of others
 module _ {A : Type 0} where
@@ -42,3 +43,11 @@ pub bound-twice : {A B C : Type 0} (w : Work A) (f : A → Work B) (g : B → Wo
 unfolding _>>=_
 bound-twice (done a n) f g = sym (bind-noting n (f a) g)
 bound-twice (stop k) f g = refl
+
+-- 0 stops nothing, and what stops is not 0
+pub zero-unstopped : {n : ℕ} → n ≡ 0 → stopsStep n ≡ false
+unfolding stopsStep
+zero-unstopped none = ap stopsStep none
+
+pub stops-some : {n : ℕ} → stopsStep n ≡ true → ¬ (n ≡ 0)
+stops-some h none = true≢false (sym h ∙ zero-unstopped none)

@@ -7,11 +7,12 @@ use Prim.Native.String.{String}
 use lib.Dec.{leb, eqb}
 use lib.IntN.{ℤ, natAbs}
 use lib.ListN.{length, drop, getD}
-use Rattle.base.specs.Edition.{edition1}
+use Rattle.base.specs.Current.{current}
 use Rattle.base.specs.Lists.{same, begins, all}
 use Rattle.base.specs.Text.{bytes}
 use Rattle.calls.specs.Strigol.{printed}
-use Rattle.cards.specs.Cards.{entries, lines}
+use Rattle.cards.specs.Cards.{lines}
+use Rattle.cards.specs.Entries.{entries}
 use Rattle.computing.specs.{everything}
 use Rattle.judgement.specs.Deck as Deck
 use Rattle.judgement.specs.Deck.{Judgement, accepted, Judged, passed, judge, judgeFrom}
@@ -91,7 +92,7 @@ module _ (stringNames numberNames : List (List ℕ)) (p : Program) (size : ℕ) 
   unfoldable pub steps : ℕ → ℕ → State → List ℕ
   steps zero k c = []
   steps (suc n) k c =
-      let s = step edition1 p 300 c in
+      let s = step current p 300 c in
       let rest = steps n (suc k) (s .state) in
       line k s ++ following (s .state .status) rest
     where
@@ -113,7 +114,7 @@ traced j input (Deck.Judgement.refused n c) = bytes "REFUSED " ++ (digits n ++ (
 traced j input (accepted p) = steps (stringNames j) (numberNames j) p (length input) 60 1 (fresh input)
 
 unfoldable pub trace : (deck input : List ℕ) → List ℕ
-trace deck input = traced (judgeFrom edition1 nothingKnown (entries edition1 deck)) input (judge edition1 deck)
+trace deck input = traced (judgeFrom current nothingKnown (entries current deck)) input (judge current deck)
 
 -- a deck with its input gives this trace
 unfoldable pub agrees : (deck input expected : String) → Bool
@@ -124,7 +125,7 @@ agrees deck input expected = same (trace (bytes deck) (bytes input)) (bytes expe
 unfoldable pub agreesWhole : (deck input expected output : String) → Bool
 unfolding everything agrees
 agreesWhole deck input expected output =
-    agrees deck input expected && same (printed edition1 (bytes deck) (bytes input)) (bytes output)
+    agrees deck input expected && same (printed current (bytes deck) (bytes input)) (bytes output)
 
 -- The scans are lines `REFERENCE ELEMENT.. => answer`. A reference is in hex, `-` if null; `s:HEX` is a string, `f:N` a fixed filler, `x` a
 -- free one; the answer is `start;lengths trials` or `FAIL trials`.

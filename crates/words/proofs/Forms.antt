@@ -6,11 +6,11 @@ use Prim.Native.Nat.{ℕ, _+_, _-_, _≤_, _<_}
 use lib.ListN.{length, take, drop, getD}
 use lib.Seq.{drop-drop}
 use borrow.Author.Tests.{le-leb, lt-leb, lt-ltb, le-ltb}
-use Rattle.base.specs.Edition.{edition1}
+use Rattle.base.specs.Current.{current, limit}
 use Rattle.base.specs.Lists.{begins}
 use Rattle.base.specs.Text.{bytes}
 use Rattle.cards.specs.Bytes.{isLetter, isDigit, isNameByte}
-use Rattle.convert.specs.Numbers.{limit, Capped}
+use Rattle.convert.specs.Numbers.{Capped}
 use Rattle.language.specs.Keywords.{Kind, Leading, REPLACEMENT, UNKNOWN, longest, keywords, leading, boundLength, isReplacement}
 use Rattle.language.specs.Reading.{broken, give}
 use Rattle.language.specs.Words.{run, nameLength, decimalFrom, unsigned}
@@ -41,17 +41,17 @@ module _ (bs : List ℕ) where
   bound-name n m e h name = rw (boundLength, ← e, lt-leb 1 n h, ← name)
 
   -- a constant: no digits, a value above the limit, and one in range
-  pub unsigned-none : (n : ℕ) → n ≡ run isDigit bs → n ≡ 0 → broken ≡ unsigned edition1 bs
+  pub unsigned-none : (n : ℕ) → n ≡ run isDigit bs → n ≡ 0 → broken ≡ unsigned current bs
   unfolding unsigned
   unsigned-none n e z = rw (unsigned, ← e, z)
 
   module _ (n v : ℕ) (e : n ≡ run isDigit bs) (some : 1 ≤ n) (c : Capped v (decimalFrom 0 (take n bs))) where
-    pub unsigned-above : limit < v → broken ≡ unsigned edition1 bs
-    unfolding unsigned edition1
+    pub unsigned-above : limit < v → broken ≡ unsigned current bs
+    unfolding unsigned current
     unsigned-above h = rw (unsigned, ← e, le-leb 1 n some, lt-leb (decimalFrom 0 (take n bs)) limit (c .above h))
 
-    pub unsigned-is : v ≤ limit → give v (drop n bs) ≡ unsigned edition1 bs
-    unfolding unsigned edition1
+    pub unsigned-is : v ≤ limit → give v (drop n bs) ≡ unsigned current bs
+    unfolding unsigned current
     unsigned-is h = rw (unsigned, ← e, le-leb 1 n some, ← c .same h, le-leb v limit h) (rw (← e, ← c .same h))
 
   -- a replacement, by the tests in their order

@@ -7,7 +7,7 @@ use native.Mathlib.Omega.{arith}
 use lib.IntN.{ℤ, pos, negℤ, natAbs}
 use lib.ListN.{drop}
 use lib.Seq.{drop-drop}
-use Rattle.base.specs.Edition.{edition1}
+use Rattle.base.specs.Current.{current}
 use Rattle.base.specs.Lists.{begins}
 use Rattle.base.specs.Text.{bytes}
 use Rattle.convert.specs.declared.Int.{Int}
@@ -58,7 +58,7 @@ with-ends f text at from le Plain.the-variants.Broken h = tt
 module _ (text : List ℕ) (at : ℕ) where
   -- the constant at a place, behind its sign if it has one
   pub reads-signed : (f : ℕ → ℤ) → ((v : ℕ) → natAbs (f v) ≡ v) → (from : ℕ) → at ≤ from → (c : Constant) → Reads text from c
-      → signed edition1 (drop at text) ≡ with f (unsigned edition1 (drop from text)) → ReadsSigned text at (signedBy f c)
+      → signed current (drop at text) ≡ with f (unsigned current (drop from text)) → ReadsSigned text at (signedBy f c)
   reads-signed f size from le c h e =
       record {
         read = with-read f text c ∙ ap (with f) (h .read) ∙ sym e;
@@ -68,17 +68,17 @@ module _ (text : List ℕ) (at : ℕ) where
 
   -- where the code finds it
   pub signed-minus : begins (45 ∷ []) (drop at text) ≡ true
-      → signed edition1 (drop at text) ≡ with (λ v. negℤ (pos v)) (unsigned edition1 (drop (at + 1) text))
+      → signed current (drop at text) ≡ with (λ v. negℤ (pos v)) (unsigned current (drop (at + 1) text))
   unfolding signed bytes
   signed-minus e = rw (signed, e, drop-drop)
 
   module _ (e : begins (45 ∷ []) (drop at text) ≡ false) where
     pub signed-plus : begins (43 ∷ []) (drop at text) ≡ true
-        → signed edition1 (drop at text) ≡ with pos (unsigned edition1 (drop (at + 1) text))
+        → signed current (drop at text) ≡ with pos (unsigned current (drop (at + 1) text))
     unfolding signed bytes
     signed-plus f = rw (signed, e, f, drop-drop)
 
     pub signed-none : begins (43 ∷ []) (drop at text) ≡ false
-        → signed edition1 (drop at text) ≡ with pos (unsigned edition1 (drop at text))
+        → signed current (drop at text) ≡ with pos (unsigned current (drop at text))
     unfolding signed bytes
     signed-none f = rw (signed, e, f)

@@ -4,8 +4,8 @@ use mathlib.Core.Path.{_≡_}
 use Prim.Native.Nat.{ℕ, _≤_, _<_}
 use lib.IntN.{ℤ}
 use lib.ListN.{length, drop}
-use Rattle.base.specs.Edition.{edition1}
-use Rattle.convert.specs.Numbers.{limit, InRange}
+use Rattle.base.specs.Current.{current, limit}
+use Rattle.convert.specs.Numbers.{InRange}
 use Rattle.language.specs.Reading.{Read, broken, give}
 use Rattle.language.specs.Words.{unsigned, signed}
 use Rattle.words.specs.declared.constants.Constant as Plain
@@ -30,7 +30,7 @@ constantRead text Plain.the-variants.Broken = broken
 
 -- the constant at a place of a text
 pub record Reads (text : List ℕ) (at : ℕ) (r : Constant) : Type 0 where
-  pub read : constantRead text r ≡ unsigned edition1 (drop at text)
+  pub read : constantRead text r ≡ unsigned current (drop at text)
   pub range : InLimit r
   pub ends : Ends text at r
 
@@ -53,6 +53,6 @@ signedRead text (Signed.the-variants.Is value next) = give (value .value) (drop 
 signedRead text Signed.the-variants.Broken = broken
 
 pub record ReadsSigned (text : List ℕ) (at : ℕ) (r : SignedConstant) : Type 0 where
-  pub read : signedRead text r ≡ signed edition1 (drop at text)
+  pub read : signedRead text r ≡ signed current (drop at text)
   pub range : SignedInRange r
   pub ends : SignedEnds text at r

@@ -9,10 +9,10 @@ use lib.Dec.{leb}
 use lib.ListN.{length, take, drop, getD}
 use borrow.Author.Tests.{leb-true, le-leb, lt-leb}
 use Rattle.base.specs.Choice.{test-cases, cond-cases}
-use Rattle.base.specs.Edition.{edition1}
+use Rattle.base.specs.Current.{current, limit}
 use Rattle.base.specs.Lists.{all}
 use Rattle.cards.specs.Bytes.{isLetter, isNameByte}
-use Rattle.convert.specs.Numbers.{limit, InRange}
+use Rattle.convert.specs.Numbers.{InRange}
 use Rattle.convert.specs.declared.Int.{Int}
 use Rattle.language.specs.Reading.{broken, give}
 use Rattle.language.specs.Words.{run, nameLength, name, unsigned, signed}
@@ -41,6 +41,13 @@ name-short bs =
     cond-cases (λ n. n ≤ 8) (isLetter (getD bs 0 0) && leb (run isNameByte bs) 8)
     (λ e. leb-true (run isNameByte bs) 8 (and-eq-true-iff (isLetter (getD bs 0 0)) (leb (run isNameByte bs) 8) .0 e .1)) (λ _. omega arith)
 
+-- a name begins with a letter
+pub name-first : (bs : List ℕ) → 1 ≤ nameLength bs → isLetter (getD bs 0 0) ≡ true
+unfolding nameLength
+name-first bs =
+    cond-cases (λ n. 1 ≤ n → isLetter (getD bs 0 0) ≡ true) (isLetter (getD bs 0 0) && leb (run isNameByte bs) 8)
+    (λ e _. and-eq-true-iff (isLetter (getD bs 0 0)) (leb (run isNameByte bs) 8) .0 e .0) (λ _ h. absurd (omega arith))
+
 -- the bytes of a run pass its test
 run-all : (f : ℕ → Bool) (bs : List ℕ) → all f (take (run f bs) bs) ≡ true
 unfolding run all
@@ -62,7 +69,7 @@ name-keys bs = name-bytes (take (nameLength bs) bs) (name-letters bs)
 
 -- the constant at a place
 module _ {text : List ℕ} {at : ℕ} {r : Constant} (a : Reads text at r) where
-  pub constant-is : {v next : ℕ} → r ≡ Plain.the-variants.Is v next → unsigned edition1 (drop at text) ≡ give v (drop next text)
+  pub constant-is : {v next : ℕ} → r ≡ Plain.the-variants.Is v next → unsigned current (drop at text) ≡ give v (drop next text)
   constant-is e = sym (a .read) ∙ ap (constantRead text) e
 
   pub constant-range : {v next : ℕ} → r ≡ Plain.the-variants.Is v next → v ≤ limit
@@ -71,12 +78,12 @@ module _ {text : List ℕ} {at : ℕ} {r : Constant} (a : Reads text at r) where
   pub constant-ends : {v next : ℕ} → r ≡ Plain.the-variants.Is v next → (at < next) × (next ≤ length text)
   constant-ends e = subst (Ends text at) e (a .ends)
 
-  pub constant-broken : r ≡ Plain.the-variants.Broken → unsigned edition1 (drop at text) ≡ broken
+  pub constant-broken : r ≡ Plain.the-variants.Broken → unsigned current (drop at text) ≡ broken
   constant-broken e = sym (a .read) ∙ ap (constantRead text) e
 
 -- the same of one that may have a sign
 module _ {text : List ℕ} {at : ℕ} {r : SignedConstant} (a : ReadsSigned text at r) where
-  pub signed-is : {z : Int} {next : ℕ} → r ≡ Signed.the-variants.Is z next → signed edition1 (drop at text) ≡ give (z .value) (drop next text)
+  pub signed-is : {z : Int} {next : ℕ} → r ≡ Signed.the-variants.Is z next → signed current (drop at text) ≡ give (z .value) (drop next text)
   signed-is e = sym (a .read) ∙ ap (signedRead text) e
 
   pub signed-range : {z : Int} {next : ℕ} → r ≡ Signed.the-variants.Is z next → InRange z
@@ -85,5 +92,5 @@ module _ {text : List ℕ} {at : ℕ} {r : SignedConstant} (a : ReadsSigned text
   pub signed-ends : {z : Int} {next : ℕ} → r ≡ Signed.the-variants.Is z next → (at < next) × (next ≤ length text)
   signed-ends e = subst (SignedEnds text at) e (a .ends)
 
-  pub signed-broken : r ≡ Signed.the-variants.Broken → signed edition1 (drop at text) ≡ broken
+  pub signed-broken : r ≡ Signed.the-variants.Broken → signed current (drop at text) ≡ broken
   signed-broken e = sym (a .read) ∙ ap (signedRead text) e

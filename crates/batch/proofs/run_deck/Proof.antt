@@ -6,7 +6,7 @@ use Prim.Native.Nat.{ℕ, _≤_}
 use native.Mathlib.Omega.{arith}
 use lib.ListN.{length, take, drop, replicate, length-replicate}
 use lib.Seq.{length-take-le, length-front}
-use Rattle.base.specs.Edition.{edition1}
+use Rattle.base.specs.Current.{current, tableSize}
 use Rattle.calls.specs.Buffers.{storeSize}
 use Rattle.calls.specs.Promises.{readBack, runBack}
 use Rattle.calls.specs.Strigol.{lentOutput, mostSteps}
@@ -43,14 +43,14 @@ printing : (c : tie.After-strigol-run) →
     RunPrints (start c .args .deck .now) (start c .args .input .now)
     (runBack (run .result) (run .last .1 .1 .1 .1 .1 .1 .0)
     (record { store = run .last .1 .0; state = run .last .1 .1 .0; output = run .last .1 .1 .1 .1 .0 }))
-unfolding lentOutput mostSteps storeSize
+unfolding lentOutput mostSteps
 printing c =
     let read = begun c .before .before .before .before .before .strigol-read in
-    run-printed (replicate 28672 0) (replicate 32832 0) (take 16384 (start c .args .out .now)) (read .last .1 .1 .0)
+    run-printed (replicate tableSize 0) (replicate storeSize 0) (take 16384 (start c .args .out .now)) (read .last .1 .1 .0)
     (ap (λ (n : ℕ). readBack n (read .last .1 .1 .0) (read .last .1 .0)) (sym (begun c .before .before .before .if1 .left)) ∙ read .ensures .does)
     (begun c .strigol-start .ensures .does)
     (c .strigol-run .ensures)
-    (omega (arith, length-replicate {A = ℕ} 32832 0))
+    (omega (arith, length-replicate {A = ℕ} storeSize 0))
     (length-take-le 16384 (start c .args .out .now) (room (start c)))
     (start c .pre .kept-input)
 
@@ -70,7 +70,7 @@ same-length : tie.Need-same-length
 same-length c = search needs
 
 returns : tie.Need-returns
-unfolding edition1 outcomeOf
+unfolding current outcomeOf
 returns c =
     let s = c .before .before .before .before .before .before .before .before .before .before .before .before .before in
     let read = c .before .before .before .before .before .before .before .strigol-read in
@@ -79,8 +79,8 @@ returns c =
       within = put .within;
       bytes = put .holds
           ∙ sym
-          (refused-printed (s .args .deck .now) (s .args .input .now) (replicate 28672 0) (s .pre .kept-deck)
-          (readBack (read .result) (read .last .1 .1 .0) (read .last .1 .0)) (read .ensures .does) (omega (arith, length-replicate {A = ℕ} 28672 0))
+          (refused-printed (s .args .deck .now) (s .args .input .now) (replicate tableSize 0) (s .pre .kept-deck)
+          (readBack (read .result) (read .last .1 .1 .0) (read .last .1 .0)) (read .ensures .does) (omega (arith, length-replicate {A = ℕ} tableSize 0))
           (c .before .before .before .before .before .if1 .taken));
     }
 

@@ -13,10 +13,9 @@ same-length : tie.Need-same-length
 same-length c = search needs
 
 returns : tie.Need-returns
-unfolding storeSize
 returns c =
     let a = c .before .before .before .before .before .args in
-    c .before .before .blank .ensures ∙ zeros-front (a .store .now) 32832
+    c .before .before .blank .ensures ∙ zeros-front (a .store .now) storeSize
 
 pub clear-spec : {M : Type 1} → statement M
 clear-spec = tie.close (tie.spec blank-requires same-length returns)

@@ -4,7 +4,7 @@ use mathlib.Core.Bool.{_&&_}
 use mathlib.Core.Path.{_≡_, refl, sym, ap, _∙_}
 use Prim.Native.Nat.{_+_, _*_, _-_}
 use borrow.Author.Tests.{not-false, not-true}
-use Rattle.calls.specs.Buffers.{cellsKeep}
+use Rattle.calls.specs.Buffers.{cellsKeep, storeSize}
 use Rattle.cells.specs.CellLaws.{cells-more, cells-none, keeps-small, keeps-cells}
 use borrow.Author.Needs.{needs}
 use native.Mathlib.Omega.{arith}
@@ -12,7 +12,7 @@ use Rattle.cells.proofs.keeps.Statement.{statement}
 use Rattle.cells.proofs.keeps.Tie as tie
 
 abbrev Inv-loop : tie.InvT-loop
-Inv-loop store at₀ left₀ at left = (at + 1026 * left ≡ 32832) × (cellsKeep store 0 32 ≡ cellsKeep store at left)
+Inv-loop store at₀ left₀ at left = (at + 1026 * left ≡ storeSize) × (cellsKeep store 0 32 ≡ cellsKeep store at left)
 
 abbrev μ-loop : tie.MeasureT-loop
 μ-loop store at₀ left₀ at left = left

@@ -3,8 +3,8 @@
 use Prim.Native.Nat.{_≤_}
 use native.Mathlib.Omega.{arith}
 use lib.IntN.{ℤ, natAbs, _+ℤ_}
+use Rattle.base.specs.Current.{limit}
 use Rattle.values.specs.Numbers.{sum}
-use Rattle.convert.specs.Numbers.{limit}
 use Rattle.convert.proofs.Numbers.{Works, works, sum-size, held-as}
 use Rattle.convert.proofs.add.Statement.{statement}
 use Rattle.convert.proofs.add.Tie as tie

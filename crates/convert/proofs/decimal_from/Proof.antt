@@ -5,8 +5,8 @@ use mathlib.Core.Path.{_≡_, refl, sym, ap, _∙_}
 use Prim.Native.Nat.{ℕ, _+_, _*_, _-_, _≤_}
 use native.Mathlib.Omega.{arith}
 use lib.ListN.{length, drop}
+use Rattle.base.specs.Current.{limit}
 use Rattle.values.specs.Conversion.{decimal}
-use Rattle.convert.specs.Numbers.{limit}
 use Rattle.convert.proofs.Reading.{decimal-next, decimal-end, decimal-grows}
 use Rattle.convert.proofs.decimal_from.Statement.{statement}
 use Rattle.convert.proofs.decimal_from.Tie as tie

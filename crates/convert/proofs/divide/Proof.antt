@@ -8,8 +8,8 @@ use lib.Signed.{quotZ}
 use mir.Syntax.{w64}
 use mir.Val.{ofZ}
 use borrow.Author.Tests.{eq-eqb, ne-eqb}
+use Rattle.base.specs.Current.{limit}
 use Rattle.values.specs.Numbers.{quotient}
-use Rattle.convert.specs.Numbers.{limit}
 use Rattle.convert.proofs.Numbers.{Works, works, quotient-size, held-as}
 use Rattle.convert.proofs.divide.Statement.{statement}
 use Rattle.convert.proofs.divide.Tie as tie

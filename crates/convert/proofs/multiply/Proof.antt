@@ -5,8 +5,8 @@ use Prim.Native.Nat.{_≤_}
 use native.Mathlib.Nat.{mul-le-mul}
 use native.Mathlib.Omega.{arith}
 use lib.IntN.{ℤ, natAbs, _*ℤ_}
+use Rattle.base.specs.Current.{limit}
 use Rattle.values.specs.Numbers.{product}
-use Rattle.convert.specs.Numbers.{limit}
 use Rattle.convert.proofs.Numbers.{Works, works, product-size, held-as}
 use Rattle.convert.proofs.multiply.Statement.{statement}
 use Rattle.convert.proofs.multiply.Tie as tie

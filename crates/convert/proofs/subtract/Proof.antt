@@ -3,8 +3,8 @@
 use Prim.Native.Nat.{_≤_}
 use native.Mathlib.Omega.{arith}
 use lib.IntN.{ℤ, natAbs, negℤ, _-ℤ_}
+use Rattle.base.specs.Current.{limit}
 use Rattle.values.specs.Numbers.{difference}
-use Rattle.convert.specs.Numbers.{limit}
 use Rattle.convert.proofs.Numbers.{Works, works, sum-size, negative-size, held-as}
 use Rattle.convert.proofs.subtract.Statement.{statement}
 use Rattle.convert.proofs.subtract.Tie as tie

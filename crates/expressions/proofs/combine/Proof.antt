@@ -4,7 +4,7 @@ use borrow.Author.Needs.{needs}
 use mathlib.Core.Path.{_≡_, ap, ap₂, _∙_}
 use Prim.Native.Nat.{_+_, _-_}
 use native.Mathlib.Omega.{arith}
-use Rattle.base.specs.Edition.{edition1}
+use Rattle.base.specs.Current.{current}
 use Rattle.machine.specs.Expressions.{operation}
 use Rattle.rows.specs.Meaning.{operatorMeaning}
 use Rattle.expressions.specs.Waiting.{pushed, waitingIn}
@@ -45,7 +45,7 @@ returns c m =
     let b = c .before .before .before .before .before .waiting-at .ensures .value in
     let one : known - 2 + 1 ≡ known - 1 = omega arith in
     taken-as one
-    (ap (pushed (waitingIn w (known - 2))) (c .before .before .operation .ensures .work ∙ ap₂ (operation edition1 o) a b)
+    (ap (pushed (waitingIn w (known - 2))) (c .before .before .operation .ensures .work ∙ ap₂ (operation current o) a b)
     ∙ operator-takes m w known o (s .pre .1 .0))
     (c .keep .ensures)
 

@@ -5,7 +5,7 @@ use mathlib.Core.Bool.{Bool}
 use mathlib.Core.Path.{sym, ap, _∙_}
 use Prim.Native.Nat.{_+_}
 use native.Mathlib.Omega.{arith}
-use Rattle.base.specs.Edition.{edition1}
+use Rattle.base.specs.Current.{current}
 use Rattle.convert.specs.Laws.{number-is, number-stops}
 use Rattle.convert.specs.Numbers.{comparison}
 use Rattle.machine.specs.Expressions.{operandIn, compared, testIn}
@@ -75,7 +75,7 @@ returns-3 c =
     let s = c .before .before .before .before .before in
     let m = memoryIn (s .args .store .now) (s .args .state .now) in
     let left = number-stops (c .before .before .before .quick-value .ensures) (c .before .k2 .given .1) in
-    sym (first-stops (compared (comparison (s .args .x .sign))) (operandIn edition1 m (operandMeaning (s .args .x .right))) left)
+    sym (first-stops (compared (comparison (s .args .x .sign))) (operandIn current m (operandMeaning (s .args .x .right))) left)
 
 pub compares-spec : {M : Type 1} → statement M
 compares-spec =

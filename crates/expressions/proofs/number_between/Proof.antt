@@ -6,7 +6,7 @@ use Prim.Native.Nat.{_-_}
 use native.Mathlib.Omega.{arith}
 use lib.IntN.{ℤ}
 use lib.ListN.{take, drop}
-use Rattle.base.specs.Edition.{edition1}
+use Rattle.base.specs.Current.{current}
 use Rattle.values.specs.Conversion as Conversion
 use Rattle.values.specs.Work.{Work, _>>=_}
 use Rattle.expressions.specs.Notes.{Few, few-more, few-number}
@@ -29,7 +29,7 @@ noted-requires : tie.Need-noted-requires
 noted-requires c κs =
     let s = c .before .before .before in
     let string = take (s .args .ends .to - s .args .ends .from) (drop (s .args .ends .from) (s .args .store .now)) in
-    let few = few-more 1 2 (Conversion.numberOf edition1 string) (omega arith) (few-number edition1 string) in
+    let few = few-more 1 2 (Conversion.numberOf current string) (omega arith) (few-number current string) in
     (omega (arith, s .pre .few), subst (λ (w : Work ℤ). Few 2 w) (sym (c .number-of .ensures .work)) few)
 
 returns : tie.Need-returns
@@ -37,7 +37,7 @@ unfolding _>>=_
 returns c =
     let s = c .before .before .before .before in
     let string = take (s .args .ends .to - s .args .ends .from) (drop (s .args .ends .from) (s .args .store .now)) in
-    c .noted .ensures (Conversion.numberOf edition1 string) (c .before .number-of .ensures)
+    c .noted .ensures (Conversion.numberOf current string) (c .before .number-of .ensures)
 
 pub number-between-spec : {M : Type 1} → statement M
 number-between-spec =

@@ -3,6 +3,7 @@
 use borrow.Author.Needs.{needs}
 use mathlib.Core.Path.{subst}
 use Prim.Native.Nat.{ℕ, _≤_}
+use Rattle.calls.specs.Kinds.{constantKind}
 use Rattle.expressions.proofs.numeric_value.Statement.{statement}
 use Rattle.expressions.proofs.numeric_value.Tie as tie
 
@@ -17,7 +18,7 @@ pair-value-requires c κs = (
   c .before .before .before .before .before .before .before .pre,
   record {
     three = c .before .before .before .if1 .taken;
-    middle = subst (λ (k : ℕ). k ≤ 9) (c .before .item-kind .ensures) (c .if2 .taken);
+    middle = subst (λ (k : ℕ). constantKind .number ≤ k) (c .before .item-kind .ensures) (c .if2 .taken);
   },
 )
 

@@ -4,8 +4,8 @@ use borrow.Author.Needs.{needs}
 use mathlib.Core.Path.{sym, ap, subst, _∙_}
 use native.Mathlib.Omega.{arith}
 use lib.IntN.{ℤ}
-use Rattle.base.specs.Edition.{edition1}
-use Rattle.calls.specs.TableReading.{operatorOfKind}
+use Rattle.base.specs.Current.{current}
+use Rattle.rows.specs.Reading.{operatorOfKind}
 use Rattle.convert.specs.Laws.{number-is, number-range, number-stops}
 use Rattle.convert.specs.Numbers.{Answers}
 use Rattle.language.specs.Program.{Operator}
@@ -80,8 +80,8 @@ noted-requires c κs =
     let x = c .before .before .before .before .before .before .before .before .before .a .given in
     let y = c .before .before .before .before .b .given in
     let o = operatorMeaning (c .before .operator-of .result) in
-    let made = operation edition1 o (x .0 .0 .value) (y .0 .0 .value) in
-    let few = few-more 0 2 made (omega arith) (few-operation edition1 o (x .0 .0 .value) (y .0 .0 .value)) in (
+    let made = operation current o (x .0 .0 .value) (y .0 .0 .value) in
+    let few = few-more 0 2 made (omega arith) (few-operation current o (x .0 .0 .value) (y .0 .0 .value)) in (
       omega (
         arith,
         operand-notes m (operandMeaning (c .before .before .before .before .before .before .before .before .before .before .before .before .operand-at .result)) (c .before .before .before .before .before .before .before .before .before .before .before .quick-value .ensures) (x .1),
@@ -103,23 +103,23 @@ returns c =
     let items = pair-items (s .pre .0 .items) (s .pre .1) in
     let x = c .before .before .before .before .before .before .before .before .before .before .a .given in
     let y = c .before .before .before .before .before .b .given in
-    let left = ap (operandIn edition1 m) (sym (c .before .before .before .before .before .before .before .before .before .before .before .before .before .operand-at .ensures)) ∙ number-is (c .before .before .before .before .before .before .before .before .before .before .before .before .quick-value .ensures) (x .1) in
-    let right = ap (operandIn edition1 m) (sym (c .before .before .before .before .before .before .before .before .operand-at2 .ensures)) ∙ number-is (c .before .before .before .before .before .before .before .quick-value2 .ensures) (y .1) in
+    let left = ap (operandIn current m) (sym (c .before .before .before .before .before .before .before .before .before .before .before .before .before .operand-at .ensures)) ∙ number-is (c .before .before .before .before .before .before .before .before .before .before .before .before .quick-value .ensures) (x .1) in
+    let right = ap (operandIn current m) (sym (c .before .before .before .before .before .before .before .before .operand-at2 .ensures)) ∙ number-is (c .before .before .before .before .before .before .before .quick-value2 .ensures) (y .1) in
     let sign = c .before .before .operator-of .ensures ∙ ap operatorOfKind (c .before .before .before .item-kind .ensures) in
     let o = operatorOfKind (third (s .pre .0 .items) (s .pre .1) .kind) in
     let made =
-    subst (λ (q : Operator). Answers (c .before .operation .result) (operation edition1 q (x .0 .0 .value) (y .0 .0 .value))) sign
+    subst (λ (q : Operator). Answers (c .before .operation .result) (operation current q (x .0 .0 .value) (y .0 .0 .value))) sign
     (c .before .operation .ensures) in
     subst (Answers (c .noted .result)) (sym (pair-works m items left right))
-    (c .noted .ensures (operation edition1 o (x .0 .0 .value) (y .0 .0 .value)) made)
+    (c .noted .ensures (operation current o (x .0 .0 .value) (y .0 .0 .value)) made)
 
 returns-2 : tie.Need-returns-2
 returns-2 c =
     let s = c .before .before .before .before .before .before .before .before .before .before .before .before in
     let m = memoryIn (s .args .store .now) (s .args .state .now) in
     let items = pair-items (s .pre .0 .items) (s .pre .1) in
-    let left = ap (operandIn edition1 m) (sym (c .before .before .before .before .before .before .before .before .before .operand-at .ensures)) ∙ number-is (c .before .before .before .before .before .before .before .before .quick-value .ensures) (c .before .before .before .before .before .before .a .given .1) in
-    let right = ap (operandIn edition1 m) (sym (c .before .before .before .before .operand-at2 .ensures)) ∙ number-stops (c .before .before .before .quick-value2 .ensures) (c .before .k .given .1) in
+    let left = ap (operandIn current m) (sym (c .before .before .before .before .before .before .before .before .before .operand-at .ensures)) ∙ number-is (c .before .before .before .before .before .before .before .before .quick-value .ensures) (c .before .before .before .before .before .before .a .given .1) in
+    let right = ap (operandIn current m) (sym (c .before .before .before .before .operand-at2 .ensures)) ∙ number-stops (c .before .before .before .quick-value2 .ensures) (c .before .k .given .1) in
     record { work = sym (pair-second-stops m items left right); range = tt }
 
 returns-3 : tie.Need-returns-3
@@ -127,7 +127,7 @@ returns-3 c =
     let s = c .before .before .before .before .before .before .before in
     let m = memoryIn (s .args .store .now) (s .args .state .now) in
     let items = pair-items (s .pre .0 .items) (s .pre .1) in
-    let left = ap (operandIn edition1 m) (sym (c .before .before .before .before .operand-at .ensures)) ∙ number-stops (c .before .before .before .quick-value .ensures) (c .before .k2 .given .1) in
+    let left = ap (operandIn current m) (sym (c .before .before .before .before .operand-at .ensures)) ∙ number-stops (c .before .before .before .quick-value .ensures) (c .before .k2 .given .1) in
     record { work = sym (pair-first-stops m items left); range = tt }
 
 pub pair-value-spec : {M : Type 1} → statement M

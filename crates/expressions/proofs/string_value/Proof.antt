@@ -3,7 +3,7 @@
 use borrow.Author.Needs.{needs}
 use Prim.Native.Nat.{_≤_}
 use native.Mathlib.Omega.{arith}
-use Rattle.rows.specs.Meaning.{tableSize}
+use Rattle.base.specs.Current.{tableSize}
 use Rattle.expressions.specs.Memory.{memoryIn}
 use Rattle.expressions.proofs.Spelling.{Spelling, spelling-begins, spelling-ends, spelling-noted, spelling-stops, spelling-more}
 use Rattle.expressions.proofs.string_value.Statement.{statement}

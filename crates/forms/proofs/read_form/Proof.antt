@@ -6,8 +6,9 @@ use mathlib.Core.Path.{_≡_, refl, ap}
 use Prim.Native.Nat.{ℕ}
 use native.Mathlib.Omega.{arith}
 use lib.ListN.{drop}
-use Rattle.base.specs.Edition.{edition1}
+use Rattle.base.specs.Current.{current}
 use Rattle.branches.specs.Places.{numberIn}
+use Rattle.calls.specs.Kinds.{finishKind, returnKind}
 use Rattle.calls.specs.Table as Table
 use Rattle.calls.specs.Table.{rowOf, elementsOf, itemsOf, directionNumber, noCell}
 use Rattle.language.specs.Forms.{formOf, gotoForm, routineForm, executeForm}
@@ -41,7 +42,7 @@ module _ (c : tie.After-skip) where
 
   of-kind : {table : List ℕ} (kind : Kind) → kindOf (c .before .leading .result .kind) ≡ kind → (q : Form) {t k g : List ℕ}
       → FormAt
-      (formOf edition1 (numberIn (c .before .before .before .before .args .known .now)) (placesIn (c .before .before .before .before .args .known .now)) kind (drop (c .skip .result .at) (c .before .before .before .before .args .text .now)))
+      (formOf current (numberIn (c .before .before .before .before .args .known .now)) (placesIn (c .before .before .before .before .args .known .now)) kind (drop (c .skip .result .at) (c .before .before .before .before .args .text .now)))
       (c .before .before .before .before .args .text .now) table (c .before .before .before .before .args .keys .now) (c .before .before .before .before .args .tags .now) (c .skip .result) q t k g
       → StatementFormRead (c .before .before .before .before .args .text .now) (c .before .before .before .before .args .known .now) table (c .before .before .before .before .args .keys .now) (c .before .before .before .before .args .tags .now) (c .before .before .before .before .args .c) q t k g
   of-kind =
@@ -94,13 +95,13 @@ enum-told-8 : tie.Need-enum-told-8
 enum-told-8 c = search needs
 
 scan-form-requires : tie.Need-scan-form-requires
-scan-form-requires c κs = (ready (c .before .before .before .before .before), (c .before .before .before .before .before .before .before .before .before .pre .1 .0, (c .before .before .before .before .before .before .before .before .before .pre .1 .1, omega arith)))
+scan-form-requires c κs = (ready (c .before .before .before .before .before), c .before .before .before .before .before .before .before .before .before .pre .1)
 
 enum-told-9 : tie.Need-enum-told-9
 enum-told-9 c = search needs
 
 scan-form-requires-2 : tie.Need-scan-form-requires-2
-scan-form-requires-2 c κs = (ready (c .before .before .before .before .before), (c .before .before .before .before .before .before .before .before .before .pre .1 .0, (c .before .before .before .before .before .before .before .before .before .pre .1 .1, omega arith)))
+scan-form-requires-2 c κs = (ready (c .before .before .before .before .before), c .before .before .before .before .before .before .before .before .before .pre .1)
 
 enum-told-10 : tie.Need-enum-told-10
 enum-told-10 c = search needs
@@ -172,19 +173,19 @@ returns-4 : tie.Need-returns-4
 unfolding formOf rowOf elementsOf itemsOf Table.row noCell
 returns-4 c =
     of-kind (c .before .before .before) END (ap kindOf (c .before .enum-told4 .given .1))
-    (c .plain-form .result) (form-ends (c .plain-form .ensures) (plain-read finish 4 (ready (c .before .before .before)) refl refl refl))
+    (c .plain-form .result) (form-ends (c .plain-form .ensures) (plain-read finish (finishKind .number) (ready (c .before .before .before)) refl refl refl))
 
 returns-5 : tie.Need-returns-5
 unfolding formOf
 returns-5 c =
     of-kind (c .before .before .before .before .before) GOTO (ap kindOf (c .before .before .before .enum-told5 .given .1))
-    (c .target-form .result) (c .target-form .ensures (gotoForm edition1 (numberIn (c .before .before .before .before .before .before .before .before .before .args .known .now)) (placesIn (c .before .before .before .before .before .before .before .before .before .args .known .now))) (goto-leads (c .before .before .before .before .before .before .before .before .before .args .known .now)) (c .before .before .before .before .before .before .before .before .before .args .table .now))
+    (c .target-form .result) (c .target-form .ensures (gotoForm current (numberIn (c .before .before .before .before .before .before .before .before .before .args .known .now)) (placesIn (c .before .before .before .before .before .before .before .before .before .args .known .now))) (goto-leads (c .before .before .before .before .before .before .before .before .before .args .known .now)) (c .before .before .before .before .before .before .before .before .before .args .table .now))
 
 returns-6 : tie.Need-returns-6
 unfolding formOf rowOf elementsOf itemsOf Table.row noCell
 returns-6 c =
     of-kind (c .before .before .before) EXIT (ap kindOf (c .before .enum-told6 .given .1))
-    (c .plain-form2 .result) (form-ends (c .plain-form2 .ensures) (plain-read finish 4 (ready (c .before .before .before)) refl refl refl))
+    (c .plain-form2 .result) (form-ends (c .plain-form2 .ensures) (plain-read finish (finishKind .number) (ready (c .before .before .before)) refl refl refl))
 
 returns-7 : tie.Need-returns-7
 unfolding formOf
@@ -238,25 +239,25 @@ returns-13 : tie.Need-returns-13
 unfolding formOf
 returns-13 c =
     of-kind (c .before .before .before .before .before) ROUTINE (ap kindOf (c .before .before .before .enum-told13 .given .1))
-    (c .target-form2 .result) (c .target-form2 .ensures (routineForm edition1 (numberIn (c .before .before .before .before .before .before .before .before .before .args .known .now)) (placesIn (c .before .before .before .before .before .before .before .before .before .args .known .now))) (routine-leads (c .before .before .before .before .before .before .before .before .before .args .known .now)) (c .before .before .before .before .before .before .before .before .before .args .table .now))
+    (c .target-form2 .result) (c .target-form2 .ensures (routineForm current (numberIn (c .before .before .before .before .before .before .before .before .before .args .known .now)) (placesIn (c .before .before .before .before .before .before .before .before .before .args .known .now))) (routine-leads (c .before .before .before .before .before .before .before .before .before .args .known .now)) (c .before .before .before .before .before .before .before .before .before .args .table .now))
 
 returns-14 : tie.Need-returns-14
 unfolding formOf
 returns-14 c =
     of-kind (c .before .before .before .before .before) EXECUTE (ap kindOf (c .before .before .before .enum-told14 .given .1))
-    (c .target-form3 .result) (c .target-form3 .ensures (executeForm edition1 (numberIn (c .before .before .before .before .before .before .before .before .before .args .known .now)) (placesIn (c .before .before .before .before .before .before .before .before .before .args .known .now))) (execute-leads (c .before .before .before .before .before .before .before .before .before .args .known .now)) (c .before .before .before .before .before .before .before .before .before .args .table .now))
+    (c .target-form3 .result) (c .target-form3 .ensures (executeForm current (numberIn (c .before .before .before .before .before .before .before .before .before .args .known .now)) (placesIn (c .before .before .before .before .before .before .before .before .before .args .known .now))) (execute-leads (c .before .before .before .before .before .before .before .before .before .args .known .now)) (c .before .before .before .before .before .before .before .before .before .args .table .now))
 
 returns-15 : tie.Need-returns-15
 unfolding formOf rowOf elementsOf itemsOf Table.row noCell
 returns-15 c =
     of-kind (c .before .before .before) ENDROUTINE (ap kindOf (c .before .enum-told15 .given .1))
-    (c .plain-form3 .result) (form-ends (c .plain-form3 .ensures) (plain-read return 12 (ready (c .before .before .before)) refl refl refl))
+    (c .plain-form3 .result) (form-ends (c .plain-form3 .ensures) (plain-read return (returnKind .number) (ready (c .before .before .before)) refl refl refl))
 
 returns-16 : tie.Need-returns-16
 unfolding formOf rowOf elementsOf itemsOf Table.row noCell
 returns-16 c =
     of-kind (c .before .before .before) RETURN (ap kindOf (c .before .enum-told16 .given .1))
-    (c .plain-form4 .result) (form-ends (c .plain-form4 .ensures) (plain-read return 12 (ready (c .before .before .before)) refl refl refl))
+    (c .plain-form4 .result) (form-ends (c .plain-form4 .ensures) (plain-read return (returnKind .number) (ready (c .before .before .before)) refl refl refl))
 
 returns-17 : tie.Need-returns-17
 unfolding formOf

@@ -1,9 +1,8 @@
 -- `forms::read_statement` notes the label, if there is one, and reads the statement.
 -- Assumes nothing.
-use mathlib.Core.Path.{sym, subst, _∙_}
+use mathlib.Core.Path.{sym, _∙_}
 use native.Mathlib.Omega.{arith}
 use borrow.Author.Tests.{not-true, not-false}
-use Rattle.forms.specs.Contracts.{Wording}
 use Rattle.forms.specs.Labels.{statement-off, statement-plain, statement-unnamed, statement-named, form-unlabelled, form-labelled, starts-labelled}
 use Rattle.forms.specs.StageLaws.{form-same}
 use borrow.Author.Needs.{needs}
@@ -12,10 +11,8 @@ use Rattle.forms.proofs.read_statement.Tie as tie
 
 returns : tie.Need-returns
 returns c =
-    λ labelBytes raw w.
-    record {
-      answer = statement-off (c .before .before .before .args .known .now) (subst (Wording labelBytes raw (c .before .before .before .args .text .now) (c .before .before .before .args .label)) (not-true _ (c .if1 .taken)) w);
-    }
+    let a = c .before .before .before .args in
+    λ labelBytes _. record { answer = statement-off (a .known .now) (a .text .now) labelBytes (not-true _ (c .if1 .taken)) }
 
 read-form-requires : tie.Need-read-form-requires
 read-form-requires c κs = search needs
@@ -25,10 +22,12 @@ same-length c = search needs
 
 returns-2 : tie.Need-returns-2
 returns-2 c =
-    λ labelBytes raw w.
-    let whole = subst (Wording labelBytes raw (c .before .before .before .before .before .before .before .before .before .before .args .text .now) (c .before .before .before .before .before .before .before .before .before .before .args .label)) (not-false _ (c .before .before .before .before .before .before .before .if1 .left)) w in
-    let s = c .before .before .before .before .before .before .before .before .before .before .pre .0 in
-    form-same (statement-plain (c .before .before .before .before .before .before .before .before .before .before .args .known .now) labelBytes whole (c .before .before .before .before .before .before .if2 .taken))
+    let t = c .before .before .before .before .before .before .before in
+    let p = t .before .before .before in
+    let s = p .pre .0 in
+    λ labelBytes w.
+    form-same
+    (statement-plain (p .args .known .now) (p .args .text .now) labelBytes w (not-false _ (t .if1 .left)) (c .before .before .before .before .before .before .if2 .taken))
     (form-unlabelled (omega (arith, s), omega (arith, s)) (c .before .before .read-form .result) (c .before .before .read-form .ensures))
 
 is-name-requires : tie.Need-is-name-requires
@@ -36,29 +35,37 @@ is-name-requires c κs = search needs
 
 returns-3 : tie.Need-returns-3
 returns-3 c =
-    λ labelBytes raw w.
-    let whole = subst (Wording labelBytes raw (c .before .before .before .before .before .before .args .text .now) (c .before .before .before .before .before .before .args .label)) (not-false _ (c .before .before .before .if1 .left)) w in
+    let a = c .before .before .before .before .before .before .args in
+    λ labelBytes w.
     record {
       answer =
-          statement-unnamed (c .before .before .before .before .before .before .args .known .now) labelBytes whole (c .before .before .if2 .left) (sym (c .before .is-name .ensures) ∙ not-true _ (c .if3 .taken));
+          statement-unnamed (a .known .now) (a .text .now) labelBytes (a .whole) w (c .before .before .if2 .left)
+          (sym (c .before .is-name .ensures) ∙ not-true _ (c .if3 .taken));
     }
 
 note-name-requires : tie.Need-note-name-requires
 note-name-requires c κs = search needs
 
 read-form-requires-2 : tie.Need-read-form-requires-2
-read-form-requires-2 c κs = (starts-labelled (c .before .before .before .before .before .before .before .before .before .before .before .before .pre .0) (c .before .before .before .before .before .before .before .before .before .before .before .before .pre .1 .0) (c .before .before .before .note-name .ensures), c .before .before .before .before .before .before .before .before .before .before .before .before .pre .1 .1)
+read-form-requires-2 c κs =
+    let p = c .before .before .before .before .before .before .before .before .before .before .before .before .pre in
+    (starts-labelled (p .0) (p .1 .0) (c .before .before .before .note-name .ensures), p .1 .1)
 
 same-length-2 : tie.Need-same-length-2
 same-length-2 c = search needs
 
 returns-4 : tie.Need-returns-4
 returns-4 c =
-    λ labelBytes raw w.
-    let whole = subst (Wording labelBytes raw (c .before .before .before .before .before .before .before .before .before .before .before .before .before .before .before .args .text .now) (c .before .before .before .before .before .before .before .before .before .before .before .before .before .before .before .args .label)) (not-false _ (c .before .before .before .before .before .before .before .before .before .before .before .before .if1 .left)) w in
-    let s = c .before .before .before .before .before .before .before .before .before .before .before .before .before .before .before .pre .0 in
-    form-same (statement-named (c .before .before .before .before .before .before .before .before .before .before .before .before .before .before .before .args .known .now) labelBytes whole (c .before .before .before .before .before .before .before .before .before .before .before .if2 .left) (sym (c .before .before .before .before .before .before .before .before .before .before .is-name .ensures) ∙ not-false _ (c .before .before .before .before .before .before .before .before .before .if3 .left)))
-    (form-labelled (omega (arith, s), omega (arith, s)) (c .before .before .before .before .before .before .note-name .ensures) (c .before .before .read-form2 .result) (c .before .before .read-form2 .ensures))
+    let n = c .before .before .before .before .before .before in
+    let t = n .before .before .before .before .before .before in
+    let p = t .before .before .before in
+    let s = p .pre .0 in
+    λ labelBytes w.
+    form-same
+    (statement-named (p .args .known .now) (p .args .text .now) labelBytes w (not-false _ (t .if1 .left))
+    (n .before .before .before .before .before .if2 .left) (sym (n .before .before .before .before .is-name .ensures) ∙ not-false _ (n .before .before .before .if3 .left)))
+    (form-labelled (omega (arith, s), omega (arith, s)) (n .note-name .ensures) (c .before .before .read-form2 .result)
+    (c .before .before .read-form2 .ensures))
 
 pub read-statement-spec : {M : Type 1} → statement M
 read-statement-spec =

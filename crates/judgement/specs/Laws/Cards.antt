@@ -11,7 +11,8 @@ use lib.ListN.{length}
 use Rattle.base.specs.Choice.{test-cases}
 use Rattle.base.specs.Edition.{Edition}
 use Rattle.cards.specs.Bytes.{newline}
-use Rattle.cards.specs.Cards.{onFirst, lines, Entry, entries}
+use Rattle.cards.specs.Cards.{onFirst, lines}
+use Rattle.cards.specs.Entries.{Entry, entries}
 use Rattle.language.specs.Placed.{Each, each-map, each-join}
 use Rattle.language.specs.Program.{Statement, Step, Program}
 use Rattle.language.specs.Reading.{Read, got, broken}
@@ -51,8 +52,8 @@ steps-cards : (e : Edition) (k : Known) {n : ℕ} {es : List Entry} → CardsIn 
 unfolding stepsFrom Each
 steps-cards e k empty i = tt
 steps-cards e k (line low high h) i = steps-cards e k h i
-steps-cards e k {n} (form {card} {label} {text} low high h) i =
-    let read = stepRead card (readStatement e (isOneOf (numbers k)) (placesOf k (suc i)) label text) in
+steps-cards e k {n} (form {card} {label} {complete} {text} low high h) i =
+    let read = stepRead card (readStatement e (isOneOf (numbers k)) (placesOf k (suc i)) label complete text) in
     each-join (λ (s : Step). s .card ≤ n) read _ (step-card n card _ high) (steps-cards e k h (elim read [ [] ↦ i | s ∷ ss ↦ suc i ]))
 
 -- the card of a step is at most the number of bytes

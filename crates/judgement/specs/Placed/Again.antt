@@ -6,8 +6,7 @@ use mathlib.Core.Option.{Option, none, some}
 use mathlib.Core.Path.{_≡_, refl}
 use Prim.Native.Nat.{ℕ, suc, _<_}
 use Rattle.base.specs.Edition.{Edition}
-use Rattle.cards.specs.Cards.{Entry, skipped, statement}
-use Rattle.cards.specs.Packing.{packed}
+use Rattle.cards.specs.Entries.{Entry, skipped, statement}
 use Rattle.language.specs.Alike.{Alike, both, SameStep}
 use Rattle.language.specs.Keywords.{leading}
 use Rattle.language.specs.Placed.{Each, PlacedBy}
@@ -32,26 +31,26 @@ IsStep false (some s) = ⊥
 pub data Again (e : Edition) (whole : Known) : Known → List Entry → Type 0 where
   ends : Again e whole whole []
   past : {k : Known} {card : ℕ} {es : List Entry} → Again e whole k es → Again e whole k (skipped card true ∷ es)
-  reads : {k : Known} {card : ℕ} {label text : List ℕ} {es : List Entry} (s : Option Statement) (m : Met) (rest : List ℕ)
-      → readStatement e (isOneOf (numbers whole)) (placesOf whole (suc (k .steps))) label text ≡ got s m rest
-      → IsStep (isStep (leading (packed text) .kind)) s
-      → Passes k (leading (packed text) .kind) m
+  reads : {k : Known} {card : ℕ} {label : List ℕ} {complete : Bool} {text : List ℕ} {es : List Entry} (s : Option Statement) (m : Met) (rest : List ℕ)
+      → readStatement e (isOneOf (numbers whole)) (placesOf whole (suc (k .steps))) label complete text ≡ got s m rest
+      → IsStep (isStep (leading text .kind)) s
+      → Passes k (leading text .kind) m
       → Each (NamesOf whole) (m .used)
-      → (isInner (leading (packed text) .kind) ≡ true → suc (k .steps) < whole .steps)
-      → Again e whole (learn k (leading (packed text) .kind) m) es
-      → Again e whole k (statement card true label text ∷ es)
+      → (isInner (leading text .kind) ≡ true → suc (k .steps) < whole .steps)
+      → Again e whole (learn k (leading text .kind) m) es
+      → Again e whole k (statement card true label complete text ∷ es)
 
 -- a statement read alike is read again
-again-reads : {e : Edition} {whole k : Known} {card : ℕ} {label text : List ℕ} {es : List Entry}
+again-reads : {e : Edition} {whole k : Known} {card : ℕ} {label : List ℕ} {complete : Bool} {text : List ℕ} {es : List Entry}
     {s : Option Statement} {m : Met} {rest : List ℕ} {read : Read (Option Statement)} (step : Bool)
     → Alike (SameStep step) (got s m rest) read
-    → readStatement e (isOneOf (numbers whole)) (placesOf whole (suc (k .steps))) label text ≡ read
-    → isStep (leading (packed text) .kind) ≡ step
-    → Passes k (leading (packed text) .kind) m
+    → readStatement e (isOneOf (numbers whole)) (placesOf whole (suc (k .steps))) label complete text ≡ read
+    → isStep (leading text .kind) ≡ step
+    → Passes k (leading text .kind) m
     → Each (NamesOf whole) (m .used)
-    → (isInner (leading (packed text) .kind) ≡ true → suc (k .steps) < whole .steps)
-    → Again e whole (learn k (leading (packed text) .kind) m) es
-    → Again e whole k (statement card true label text ∷ es)
+    → (isInner (leading text .kind) ≡ true → suc (k .steps) < whole .steps)
+    → Again e whole (learn k (leading text .kind) m) es
+    → Again e whole k (statement card true label complete text ∷ es)
 again-reads true (both {a = some a} {b = some b} {m} {rest} r) q step p used next j = reads (some b) m rest q (rw step tt) p used next j
 again-reads true (both {a = some a} {b = none} r) q step p used next j = absurd r
 again-reads true (both {a = none} r) q step p used next j = absurd r
@@ -74,7 +73,7 @@ passed-again {e} {whole} j = (placed, further j)
     further : {k : Known} {es : List Entry} → Judging e k es (passed whole) → Again e whole k es
     further (ended _) = ends
     further (skips j) = past (further j)
-    further (learns {k} {card} {label} {text} s m rest q p j) =
-        again-reads (isStep (leading (packed text) .kind))
-        (passed-alike e whole one k label text s m rest q j) refl refl p
-        (used-known k (leading (packed text) .kind) m j) (next-below k (leading (packed text) .kind) m j) (further j)
+    further (learns {k} {card} {label} {whole = complete} {text} s m rest q p j) =
+        again-reads (isStep (leading text .kind))
+        (passed-alike e whole one k label complete text s m rest q j) refl refl p
+        (used-known k (leading text .kind) m j) (next-below k (leading text .kind) m j) (further j)

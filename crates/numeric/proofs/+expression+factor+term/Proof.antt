@@ -7,8 +7,9 @@ use native.Mathlib.Omega.{arith}
 use lib.ListN.{length, drop}
 use borrow.Author.Needs.{needs}
 use borrow.Author.Tests.{lt-ltb, le-ltb, not-true, not-false}
-use Rattle.base.specs.Edition.{edition1}
+use Rattle.base.specs.Current.{current}
 use Rattle.base.specs.Text.{bytes}
+use Rattle.calls.specs.Kinds.{operatorNumber, signNumber}
 use Rattle.language.specs.Fuel.{termFrom, moreTermsFrom, factorFrom, moreFactorsFrom}
 use Rattle.language.specs.Numeric.{deepest}
 use Rattle.met.specs.Known.{placesIn}
@@ -53,7 +54,7 @@ abbrev μ-term : Measures 5 term-kinds.ps ℕ
 
 abbrev expression-Inv : expression-lts.InvT-loop
 expression-Inv text known table₀ keys₀ tags₀ depth kind₀ d₀ table keys tags kind d =
-    Joining (termFrom edition1 (placesIn known) depth) (moreTermsFrom edition1 (placesIn known) depth) text table₀ keys₀ tags₀ kind₀ d₀
+    Joining (termFrom current (placesIn known) depth) (moreTermsFrom current (placesIn known) depth) text table₀ keys₀ tags₀ kind₀ d₀
     table keys tags kind d
 
 abbrev expression-μ-loop : expression-lts.MeasureT-loop
@@ -61,7 +62,7 @@ expression-μ-loop text known table₀ keys₀ tags₀ depth kind₀ d₀ table 
 
 abbrev term-Inv : term-lts.InvT-loop
 term-Inv text known table₀ keys₀ tags₀ depth kind₀ d₀ table keys tags kind d =
-    Joining (factorFrom edition1 (placesIn known) depth) (moreFactorsFrom edition1 (placesIn known) depth) text table₀ keys₀ tags₀ kind₀ d₀
+    Joining (factorFrom current (placesIn known) depth) (moreFactorsFrom current (placesIn known) depth) text table₀ keys₀ tags₀ kind₀ d₀
     table keys tags kind d
 
 abbrev term-μ-loop : term-lts.MeasureT-loop
@@ -129,11 +130,13 @@ module _ (t : ℕ) where
   -- ---- expression
 
   expression-skip-requires : expression-lts.Need-skip-requires expression-claims expression-at expression.Post expression-Inv expression-μ-loop
+  unfolding signNumber
   expression-skip-requires c κs =
       let start = c .before .before .before .before in
       omega (arith, sign-told _ _ (c .before .mark-kind .ensures) .inside (start .pre .1 .0 .inside), c .size .ensures, start .pre .1 .0)
 
   expression-loop-holds : expression-lts.Need-loop-holds expression-claims expression-at expression.Post expression-Inv expression-μ-loop
+  unfolding signNumber
   expression-loop-holds c =
       joining-signed (c .before .before .before .before .before .pre .1 .0) (sign-told _ _ (c .before .before .mark-kind .ensures)) (c .before .size .ensures)
       (c .skip .ensures)
@@ -154,6 +157,7 @@ module _ (t : ℕ) where
       one .term .kept .1 .1 .0 ∙ one .before .before .before .before .loop .inv .sameSize
 
   expression-returns : expression-lts.Need-returns expression-claims expression-at expression.Post expression-Inv expression-μ-loop
+  unfolding signNumber
   expression-returns c =
       let one = c .before .before .before .before in
       let head = one .before .before .before .before in
@@ -177,6 +181,7 @@ module _ (t : ℕ) where
       put .put-kind .kept .0 ∙ one .term .kept .1 .1 .0 ∙ one .before .before .before .before .loop .inv .sameSize
 
   expression-returns-2 : expression-lts.Need-returns-2 expression-claims expression-at expression.Post expression-Inv expression-μ-loop
+  unfolding operatorNumber signNumber
   expression-returns-2 c =
       let put = c .before .before .before .before in
       let got = put .before .before .before in
@@ -197,6 +202,7 @@ module _ (t : ℕ) where
       omega (arith, ready-behind (head .loop .inv) (one .term .ensures) (got .e .given .1) (put .put-kind .ensures))
 
   expression-loop-less : expression-lts.Need-loop-less expression-claims expression-at expression.Post expression-Inv expression-μ-loop
+  unfolding operatorNumber
   expression-loop-less c =
       let put = c .before .before .before .before .before in
       let got = put .before .before .before in
@@ -208,6 +214,7 @@ module _ (t : ℕ) where
       (c .before .if1 .left) (c .skip2 .ensures)
 
   expression-loop-again : expression-lts.Need-loop-again expression-claims expression-at expression.Post expression-Inv expression-μ-loop
+  unfolding operatorNumber
   expression-loop-again c =
       let put = c .before .before .before .before .before in
       let got = put .before .before .before in
@@ -318,6 +325,7 @@ module _ (t : ℕ) where
       put .put-kind .kept .0 ∙ one .factor .kept .1 .1 .0 ∙ one .before .before .before .before .loop .inv .sameSize
 
   term-returns-2 : term-lts.Need-returns-2 term-claims term-at term.Post term-Inv term-μ-loop
+  unfolding operatorNumber
   term-returns-2 c =
       let put = c .before .before .before .before in
       let got = put .before .before .before in
@@ -337,6 +345,7 @@ module _ (t : ℕ) where
       omega (arith, ready-behind (head .loop .inv) (one .factor .ensures) (got .e .given .1) (put .put-kind .ensures))
 
   term-loop-less : term-lts.Need-loop-less term-claims term-at term.Post term-Inv term-μ-loop
+  unfolding operatorNumber
   term-loop-less c =
       let put = c .before .before .before .before .before in
       let got = put .before .before .before in
@@ -348,6 +357,7 @@ module _ (t : ℕ) where
       (c .before .if1 .left) (c .skip .ensures)
 
   term-loop-again : term-lts.Need-loop-again term-claims term-at term.Post term-Inv term-μ-loop
+  unfolding operatorNumber
   term-loop-again c =
       let put = c .before .before .before .before .before in
       let got = put .before .before .before in

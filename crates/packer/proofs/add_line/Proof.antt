@@ -1,7 +1,9 @@
 -- `packer::add_line` adds a line.
 -- Assumes nothing.
 use Rattle.packer.proofs.Parts.{added, text-fits}
+use Rattle.packer.specs.Packs.{longestText}
 use borrow.Author.Needs.{needs}
+use Rattle.packer.specs.Packs.{longestText}
 use native.Mathlib.Omega.{arith}
 use Rattle.packer.proofs.add_line.Statement.{statement}
 use Rattle.packer.proofs.add_line.Tie as tie
@@ -18,7 +20,7 @@ pack-requires c κs =
     let text = c .before .text-of in
     record {
       size = c .before .before .before .before .before .pre .size;
-      room = text-fits (a .line .now) (text .result .now) (a .s .packing .length) 32768 (text .ensures) (omega arith);
+      room = text-fits (a .line .now) (text .result .now) (a .s .packing .length) longestText (text .ensures) (omega arith);
     }
 
 sound-line-requires : tie.Need-sound-line-requires

@@ -1,12 +1,12 @@
 -- `rows::branch_of` meets its contract.
 -- Assumes nothing.
 use mathlib.Core.Path.{refl}
-use Rattle.calls.specs.TableReading.{branchOf}
+use Rattle.calls.specs.TableReading.{stepsIn}
 use Rattle.rows.proofs.branch_of.Statement.{statement}
 use Rattle.rows.proofs.branch_of.Tie as tie
 
 returns : tie.Need-returns
-unfolding branchOf
+unfolding stepsIn
 returns c = refl
 
 pub branch-of-spec : {M : Type 1} → statement M

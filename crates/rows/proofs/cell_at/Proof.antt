@@ -32,7 +32,15 @@ returns c =
     let kinds = c .before .before .before .wide .ensures .0 in
     let places = c .before .wide2 .ensures .0 in
     let values = c .number6 .ensures .0 in
-    record { same = λ i. record { kind = kinds i; place = places i; value = values i }; small = record { place = c .before .wide2 .ensures .1; value = c .number6 .ensures .1 } }
+    record {
+      same = λ i. record { kind = kinds i; place = places i; value = values i };
+      small =
+          record {
+            kind = c .before .before .before .wide .ensures .1;
+            place = c .before .wide2 .ensures .1;
+            value = c .number6 .ensures .1;
+          };
+    }
 
 pub cell-at-spec : {M : Type 1} → statement M
 cell-at-spec =

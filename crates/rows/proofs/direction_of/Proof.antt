@@ -1,15 +1,14 @@
 -- `rows::direction_of` meets its contract.
 -- Assumes nothing.
-use Rattle.rows.specs.Meaning.{rowMeaning}
 use Rattle.rows.proofs.Steps.{goes-forward, goes-backward}
 use Rattle.rows.proofs.direction_of.Statement.{statement}
 use Rattle.rows.proofs.direction_of.Tie as tie
 
 returns : tie.Need-returns
-returns c = goes-forward (rowMeaning (c .before .before .args .r)) (c .if1 .taken)
+returns c = goes-forward (c .before .args .flag) (c .if1 .taken)
 
 returns-2 : tie.Need-returns-2
-returns-2 c = goes-backward (rowMeaning (c .before .before .args .r)) (c .if1 .left)
+returns-2 c = goes-backward (c .before .args .flag) (c .if1 .left)
 
 pub direction-of-spec : {M : Type 1} → statement M
 direction-of-spec = tie.close (tie.spec returns returns-2)

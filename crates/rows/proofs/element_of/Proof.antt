@@ -4,16 +4,12 @@ use borrow.Author.Needs.{needs}
 use native.Mathlib.Omega.{arith}
 use Rattle.calls.specs.TableReading.{rangeFrom, rangeCount}
 use Rattle.rows.specs.Meaning.{cellMeaning}
-use Rattle.rows.proofs.Cells.{part-element, literal-element, text-element}
+use Rattle.rows.proofs.Cells.{literal-element, text-element, numbered-text-element, part-element}
 use Rattle.rows.proofs.element_of.Statement.{statement}
 use Rattle.rows.proofs.element_of.Tie as tie
 
-part-of-requires : tie.Need-part-of-requires
-part-of-requires c κs = search needs
-
-returns : tie.Need-returns
-returns c t =
-    part-element (cellMeaning (c .before .before .before .args .c)) t (c .part-of .result) (c .before .if1 .taken) (c .part-of .ensures)
+cast-kind : tie.Need-cast-kind
+cast-kind c = search needs
 
 stretch-of-requires : tie.Need-stretch-of-requires
 stretch-of-requires c κs = search needs
@@ -30,32 +26,42 @@ add-t7 : tie.Need-add-t7
 unfolding rangeFrom rangeCount
 add-t7 c = omega arith
 
-returns-2 : tie.Need-returns-2
-returns-2 c t =
-    let stretch = c .before .before .before .stretch-of in
-    let second = c .before .before .before .before in
-    literal-element (cellMeaning (second .before .before .before .before .args .c)) t (stretch .result) (second .if2 .taken)
-    (stretch .ensures)
+unbias-requires : tie.Need-unbias-requires
+unbias-requires c κs = search needs
 
-length-of-requires : tie.Need-length-of-requires
-length-of-requires c κs = search needs
+part-of-requires : tie.Need-part-of-requires
+part-of-requires c κs = search needs
+
+returns : tie.Need-returns
+returns c t =
+    let stretch = c .before .before .before .stretch-of in
+    let kind = c .before .before .before .before .match .keys1 in
+    literal-element (cellMeaning (c .before .before .before .before .before .before .args .c)) t (stretch .result) kind (stretch .ensures)
+
+returns-2 : tie.Need-returns-2
+returns-2 c t = text-element (cellMeaning (c .before .before .before .args .c)) t (c .unbias .result) (c .before .match .keys2) (c .unbias .ensures)
 
 returns-3 : tie.Need-returns-3
-returns-3 c t =
-    let first = c .before .before .before in
-    text-element (cellMeaning (first .before .before .args .c)) t (c .length-of .result) (first .if1 .left) (c .before .if2 .left)
-    (c .length-of .ensures)
+returns-3 c t = numbered-text-element (cellMeaning (c .before .before .args .c)) t (c .match .keys3)
+
+returns-4 : tie.Need-returns-4
+returns-4 c t =
+    let others = c .before .match .rest in
+    part-element (cellMeaning (c .before .before .before .args .c)) t (c .part-of .result) (others .0 .0 .1) (others .0 .1) (others .1)
+    (c .part-of .ensures)
 
 pub element-of-spec : {M : Type 1} → statement M
 element-of-spec =
     tie.close
     (tie.spec
-    part-of-requires
-    returns
+    cast-kind
     stretch-of-requires
     add-t5
     add-t6
     add-t7
+    unbias-requires
+    part-of-requires
+    returns
     returns-2
-    length-of-requires
-    returns-3)
+    returns-3
+    returns-4)

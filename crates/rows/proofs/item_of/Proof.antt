@@ -1,44 +1,60 @@
 -- `rows::item_of` meets its contract.
 -- Assumes nothing.
 use borrow.Author.Needs.{needs}
+use Rattle.calls.specs.Kinds.{operatorNumber, signNumber}
+use Rattle.calls.specs.TableReading.{itemOfCell}
 use Rattle.rows.specs.Meaning.{cellMeaning}
-use Rattle.rows.proofs.Cells.{operand-item, operator-item, sign-item}
+use Rattle.rows.proofs.Cells.{operand-item}
 use Rattle.rows.proofs.item_of.Statement.{statement}
 use Rattle.rows.proofs.item_of.Tie as tie
+
+cast-kind : tie.Need-cast-kind
+cast-kind c = search needs
 
 operand-of-requires : tie.Need-operand-of-requires
 operand-of-requires c κs = search needs
 
 returns : tie.Need-returns
-returns c =
-    operand-item (cellMeaning (c .before .before .before .args .c)) (c .operand-of .result) (c .before .if1 .taken)
-    (c .operand-of .ensures)
-
-operator-of-requires : tie.Need-operator-of-requires
-operator-of-requires c κs = search needs
+unfolding itemOfCell
+returns c = rw (c .match .keys1)
 
 returns-2 : tie.Need-returns-2
-returns-2 c =
-    let first = c .before .before .before in
-    operator-item (cellMeaning (first .before .before .args .c)) (c .operator-of .result) (first .if1 .left) (c .before .if2 .taken)
-    (c .operator-of .ensures)
-
-sign-of-requires : tie.Need-sign-of-requires
-sign-of-requires c κs = search needs
+unfolding itemOfCell
+returns-2 c = rw (c .match .keys2)
 
 returns-3 : tie.Need-returns-3
-returns-3 c =
-    let first = c .before .before .before in
-    sign-item (cellMeaning (first .before .before .args .c)) (c .sign-of .result) (first .if1 .left) (c .before .if2 .left)
-    (c .sign-of .ensures)
+unfolding itemOfCell
+returns-3 c = rw (c .match .keys3)
+
+returns-4 : tie.Need-returns-4
+unfolding itemOfCell
+returns-4 c = rw (c .match .keys4)
+
+returns-5 : tie.Need-returns-5
+unfolding itemOfCell
+returns-5 c = rw (c .match .keys5)
+
+returns-6 : tie.Need-returns-6
+unfolding itemOfCell
+returns-6 c = rw (c .match .keys6)
+
+returns-7 : tie.Need-returns-7
+unfolding operatorNumber signNumber
+returns-7 c =
+    let others = c .before .match .rest in
+    operand-item (cellMeaning (c .before .before .before .args .c)) (c .operand-of .result) (others .0 .0 .0 .0 .0 .1) (others .0 .0 .0 .0 .1)
+    (others .0 .0 .0 .1) (others .0 .0 .1) (others .0 .1) (others .1) (c .operand-of .ensures)
 
 pub item-of-spec : {M : Type 1} → statement M
 item-of-spec =
     tie.close
     (tie.spec
+    cast-kind
     operand-of-requires
     returns
-    operator-of-requires
     returns-2
-    sign-of-requires
-    returns-3)
+    returns-3
+    returns-4
+    returns-5
+    returns-6
+    returns-7)

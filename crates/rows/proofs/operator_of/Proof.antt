@@ -1,7 +1,7 @@
 -- `rows::operator_of` meets its contract.
 -- Assumes nothing.
 use borrow.Author.Tests.{ne-eqb}
-use Rattle.calls.specs.TableReading.{operatorOfKind}
+use Rattle.rows.specs.Reading.{operatorOfKind}
 use Rattle.rows.proofs.operator_of.Statement.{statement}
 use Rattle.rows.proofs.operator_of.Tie as tie
 
@@ -22,7 +22,7 @@ unfolding operatorOfKind
 returns-4 c =
     let kind = c .before .args .kind in
     let others = c .match .rest in
-    rw (ne-eqb kind 10 (others .0 .0 .1), ne-eqb kind 11 (others .0 .1), ne-eqb kind 12 (others .1))
+    rw (ne-eqb kind 16 (others .0 .0 .1), ne-eqb kind 17 (others .0 .1), ne-eqb kind 18 (others .1))
 
 pub operator-of-spec : {M : Type 1} → statement M
 operator-of-spec = tie.close (tie.spec returns returns-2 returns-3 returns-4)

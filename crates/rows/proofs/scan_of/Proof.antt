@@ -1,6 +1,7 @@
 -- `rows::scan_of` meets its contract.
 -- Assumes nothing.
 use borrow.Author.Needs.{needs}
+use mathlib.Core.Path.{refl}
 use Rattle.rows.proofs.scan_of.Statement.{statement}
 use Rattle.rows.proofs.scan_of.Tie as tie
 
@@ -13,29 +14,19 @@ part-of-requires c κs = search needs
 stretch-of-requires : tie.Need-stretch-of-requires
 stretch-of-requires c κs = search needs
 
-replacement-of-requires : tie.Need-replacement-of-requires
-replacement-of-requires c κs = search needs
-
 branch-of-requires : tie.Need-branch-of-requires
 branch-of-requires c κs = search needs
 
 returns : tie.Need-returns
-returns c t =
+returns c =
     record {
-      direction = c .before .before .before .before .direction-of .ensures;
-      part = c .before .before .before .part-of .ensures;
+      direction = c .before .before .before .direction-of .ensures;
+      part = c .before .before .part-of .ensures;
       branch = c .branch-of .ensures;
-      pattern = c .before .before .stretch-of .ensures;
-      replacement = c .before .replacement-of .ensures t;
+      pattern = c .before .stretch-of .ensures;
+      replacement = refl;
     }
 
 pub scan-of-spec : {M : Type 1} → statement M
 scan-of-spec =
-    tie.close
-    (tie.spec
-    direction-of-requires
-    part-of-requires
-    stretch-of-requires
-    replacement-of-requires
-    branch-of-requires
-    returns)
+    tie.close (tie.spec direction-of-requires part-of-requires stretch-of-requires branch-of-requires returns)

@@ -1,13 +1,15 @@
 -- `rows::statement_of` meets its contract. Each kind has its law.
 -- Assumes nothing.
 use borrow.Author.Needs.{needs}
-use mathlib.Core.Logic.{inl, inr}
+use mathlib.Core.Bool.{false}
 use mathlib.Core.Path.{_≡_}
-use Prim.Native.Nat.{_<_}
-use native.Mathlib.Omega.{arith}
+use Prim.Native.Nat.{ℕ}
+use lib.Dec.{eqb}
+use borrow.Author.Tests.{ne-eqb}
+use Rattle.calls.specs.TableReading.{statementOfRow}
 use Rattle.rows.specs.Meaning.{rowMeaning}
-use Rattle.rows.proofs.Steps.{set-number, set-string, goes-to, finishes, tests-null, tests-numeric, tests-operands}
-use Rattle.rows.proofs.Steps.{scans, reads, writes, executes, returns-there}
+use Rattle.rows.proofs.Steps.{set-number, set-string, goes-to, finishes, executes, returns-there, tests-null, tests-numeric, compares}
+use Rattle.rows.proofs.Steps.{scans, replaces, reads, writes}
 use Rattle.rows.proofs.statement_of.Statement.{statement}
 use Rattle.rows.proofs.statement_of.Tie as tie
 
@@ -41,6 +43,12 @@ branch-of-requires-3 c κs = search needs
 scan-of-requires : tie.Need-scan-of-requires
 scan-of-requires c κs = search needs
 
+behind-of-requires : tie.Need-behind-of-requires
+behind-of-requires c κs = search needs
+
+scan-of-requires-2 : tie.Need-scan-of-requires-2
+scan-of-requires-2 c κs = search needs
+
 part-of-requires-3 : tie.Need-part-of-requires-3
 part-of-requires-3 c κs = search needs
 
@@ -68,52 +76,74 @@ returns-4 : tie.Need-returns-4
 returns-4 c t = finishes (rowMeaning (c .before .before .args .r)) t (c .match .keys4)
 
 returns-5 : tie.Need-returns-5
-returns-5 c t =
-    tests-null (rowMeaning (c .before .before .before .args .r)) t (c .branch-of .result) (c .before .match .keys5) (c .branch-of .ensures)
+returns-5 c t = executes (rowMeaning (c .before .before .args .r)) t (c .match .keys5)
 
 returns-6 : tie.Need-returns-6
-returns-6 c t =
-    let part = c .before .part-of2 in
-    let branch = c .branch-of2 in
-    tests-numeric (rowMeaning (c .before .before .before .before .args .r)) t (part .result) (branch .result) (c .before .before .match .keys6)
-    (part .ensures) (branch .ensures)
+returns-6 c t = returns-there (rowMeaning (c .before .before .args .r)) t (c .match .keys6)
 
 returns-7 : tie.Need-returns-7
 returns-7 c t =
-    let operands = c .before .if-of in
-    let branch = c .branch-of3 in
-    tests-operands (rowMeaning (c .before .before .before .before .args .r)) t (operands .result) (branch .result)
-    (c .before .before .match .keys7) (operands .ensures) (branch .ensures)
+    tests-null (rowMeaning (c .before .before .before .args .r)) t (c .branch-of .result) (c .before .match .keys7) (c .branch-of .ensures)
 
 returns-8 : tie.Need-returns-8
 returns-8 c t =
-    scans (rowMeaning (c .before .before .before .args .r)) t (c .scan-of .result) (c .before .match .keys8) (c .scan-of .ensures t)
+    let part = c .before .part-of2 in
+    let branch = c .branch-of2 in
+    tests-numeric (rowMeaning (c .before .before .before .before .args .r)) t (part .result) (branch .result) (c .before .before .match .keys8)
+    (part .ensures) (branch .ensures)
 
 returns-9 : tie.Need-returns-9
 returns-9 c t =
-    let part = c .before .part-of3 in
-    let branch = c .branch-of4 in
-    reads (rowMeaning (c .before .before .before .before .args .r)) t (part .result) (branch .result) (c .before .before .match .keys9)
-    (part .ensures) (branch .ensures)
+    let operands = c .before .if-of in
+    let branch = c .branch-of3 in
+    compares (rowMeaning (c .before .before .before .before .args .r)) t (operands .result) (branch .result) (c .before .before .match .keys9)
+    (operands .ensures) (branch .ensures)
 
 returns-10 : tie.Need-returns-10
-returns-10 c t =
-    writes (rowMeaning (c .before .before .before .args .r)) t (c .stretch-of3 .result) (c .before .match .keys10) (c .stretch-of3 .ensures)
+returns-10 c t = scans (rowMeaning (c .before .before .before .args .r)) t (c .scan-of .result) (c .before .match .keys10) (c .scan-of .ensures)
 
 returns-11 : tie.Need-returns-11
-returns-11 c t = executes (rowMeaning (c .before .before .args .r)) t (c .match .keys11)
+returns-11 c t =
+    let behind = c .before .behind-of in
+    replaces (rowMeaning (c .before .before .before .before .args .r)) t (c .scan-of2 .result) (behind .result) (c .before .before .match .keys11)
+    (behind .ensures) (c .scan-of2 .ensures)
 
 returns-12 : tie.Need-returns-12
 returns-12 c t =
-    let r = c .before .before .args .r in
-    let above = c .match .rest in
-    let ifs = above .0 .0 .0 .0 in
-    let below = ifs .0 .0 .0 in
-    let zero : r .kind ≡ 0 → ⊥ = λ e. ifs .1 (inl e) in
-    let seven : r .kind ≡ 7 → ⊥ = λ e. ifs .1 (inr e) in
-    let past4 : 4 < r .kind = omega (arith, below .0 .0 .0 .1, below .0 .0 .1, below .0 .1, below .1) in
-    let past7 : 7 < r .kind = omega (arith, ifs .0 .0 .1, ifs .0 .1) in
-    returns-there (rowMeaning r) t (omega (arith, above .0 .0 .0 .1, above .0 .0 .1, above .0 .1, above .1))
+    let part = c .before .part-of3 in
+    let branch = c .branch-of4 in
+    reads (rowMeaning (c .before .before .before .before .args .r)) t (part .result) (branch .result) (c .before .before .match .keys12)
+    (part .ensures) (branch .ensures)
+
+returns-13 : tie.Need-returns-13
+returns-13 c t =
+    writes (rowMeaning (c .before .before .before .args .r)) t (c .stretch-of3 .result) (c .before .match .keys13) (c .stretch-of3 .ensures)
+
+returns-14 : tie.Need-returns-14
+unfolding statementOfRow
+returns-14 c t =
+    let kind = c .before .before .args .r .kind in
+    let others = c .match .rest in
+    let none : (n : ℕ) → (kind ≡ n → ⊥) → eqb kind n ≡ false = ne-eqb kind in
+    record {
+      means =
+          rw (
+            none 16 (others .0 .0 .0 .0 .0 .0 .0 .0 .0 .0 .0 .0 .1),
+            none 17 (others .0 .0 .0 .0 .0 .0 .0 .0 .0 .0 .0 .1),
+            none 32 (others .0 .0 .0 .0 .0 .0 .0 .0 .0 .0 .1),
+            none 33 (others .0 .0 .0 .0 .0 .0 .0 .0 .0 .1),
+            none 34 (others .0 .0 .0 .0 .0 .0 .0 .0 .1),
+            none 35 (others .0 .0 .0 .0 .0 .0 .0 .1),
+            none 48 (others .0 .0 .0 .0 .0 .0 .1),
+            none 49 (others .0 .0 .0 .0 .0 .1),
+            none 50 (others .0 .0 .0 .0 .1),
+            none 64 (others .0 .0 .0 .1),
+            none 65 (others .0 .0 .1),
+            none 80 (others .0 .1),
+            none 81 (others .1),
+          );
+      stretches = tt;
+    }
 
 pub statement-of-spec : {M : Type 1} → statement M
 statement-of-spec =
@@ -129,6 +159,8 @@ statement-of-spec =
     if-of-requires
     branch-of-requires-3
     scan-of-requires
+    behind-of-requires
+    scan-of-requires-2
     part-of-requires-3
     branch-of-requires-4
     stretch-of-requires-3
@@ -143,4 +175,6 @@ statement-of-spec =
     returns-9
     returns-10
     returns-11
-    returns-12)
+    returns-12
+    returns-13
+    returns-14)

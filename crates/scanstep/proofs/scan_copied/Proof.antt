@@ -4,7 +4,7 @@ use Prim.Native.Nat.{ℕ, _-_}
 use native.Mathlib.Omega.{arith}
 use lib.Seq.{length-take-le}
 use borrow.Author.Needs.{needs}
-use Rattle.base.specs.Edition.{edition1}
+use Rattle.base.specs.Current.{current}
 use Rattle.expressions.specs.Memory.{memoryIn}
 use Rattle.machine.specs.Scanning.{patternIn}
 use Rattle.rows.specs.Holds.{PatternsHold}
@@ -51,7 +51,7 @@ scan-valued-requires c κs =
         turned-is = r .turned-is;
         put =
             subst (λ (d : Did). AllBy d (a .table .now) bytes lines places (a .s .pattern)
-            (patternIn edition1 (memoryIn (a .store .now) (a .state .now)) (patternsMeaning (a .table .now) (a .s .pattern))))
+            (patternIn current (memoryIn (a .store .now) (a .state .now)) (patternsMeaning (a .table .now) (a .s .pattern))))
             (c .before .before .before .before .before .before .before .before .before .before .notes .given .1) (put .pattern-rows .ensures .put);
         places = buffers .places;
         good = s .pre .1 .good;
@@ -117,7 +117,7 @@ returns-2 c =
     let bytes = put .pattern-rows .last .1 .1 .1 .1 .0 in
     let lines = put .pattern-rows .last .1 .1 .1 .1 .1 .0 in
     let places = put .pattern-rows .last .1 .1 .1 .1 .1 .1 .0 in
-    let work = (patternIn edition1 (memoryIn (a .store .now) (a .state .now)) (patternsMeaning (a .table .now) (a .s .pattern))) in
+    let work = (patternIn current (memoryIn (a .store .now) (a .state .now)) (patternsMeaning (a .table .now) (a .s .pattern))) in
     let buffers = put .pattern-rows .ensures .buffers in (
       record {
         scans = (

@@ -5,7 +5,7 @@ use mathlib.Core.Bool.{true}
 use lib.Dec.{ltb}
 use borrow.Author.Needs.{needs}
 use borrow.Author.Tests.{le-leb, le-ltb, lt-leb, lt-ltb, not-false, not-true}
-use Rattle.base.specs.Edition.{edition1}
+use Rattle.base.specs.Current.{current}
 use Rattle.base.specs.Lists.{all}
 use Rattle.calls.specs.Buffers.{returnsIn, numbersIn}
 use Rattle.values.specs.Numbers.{isInRange}
@@ -19,7 +19,7 @@ returns-pass : (c : tie.Else3) → (let a = c .before .before .before .before .b
 returns-pass c = sym (c .before .returns-keep .ensures) ∙ not-false _ (c .if3 .left)
 
 numbers-pass : (c : tie.Else4) → (let a = c .before .before .before .before .before .before .before .before .before .before .args in
-    all (isInRange edition1) (numbersIn (a .state .now)) ≡ true)
+    all (isInRange current) (numbersIn (a .state .now)) ≡ true)
 numbers-pass c = sym (c .before .numbers-keep .ensures) ∙ not-false _ (c .if4 .left)
 
 element-copy-out-if1 : tie.Need-element-copy-out-if1

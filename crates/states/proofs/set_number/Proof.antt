@@ -11,10 +11,10 @@ use mir.Syntax.{w64}
 use mir.Val.{SFits, ofZ, toZ}
 use borrow.Author.Needs.{needs}
 use borrow.Author.Tests.{le-ltb}
+use Rattle.base.specs.Current.{limit}
 use Rattle.calls.specs.Numerals.{bias, biased}
 use Rattle.calls.specs.NumeralLaws.{biased-small}
 use Rattle.convert.specs.Laws.{fits, plain}
-use Rattle.convert.specs.Numbers.{limit}
 use Rattle.states.proofs.set_number.Statement.{statement}
 use Rattle.states.proofs.set_number.Tie as tie
 

@@ -3,6 +3,7 @@
 use mathlib.Core.Path.{refl, sym, ap, subst, _∙_}
 use native.Mathlib.Omega.{arith}
 use Rattle.base.specs.Text.{bytes}
+use Rattle.calls.specs.Kinds.{parts, nullKind}
 use Rattle.met.specs.Known.{placesIn}
 use Rattle.numeric.specs.OperandLaws.{ready-moved, place-cell, cell-inside}
 use Rattle.numeric.specs.Operands.{Inside, placedIn}
@@ -36,14 +37,15 @@ placed-requires c κs = search needs
 tested-requires : tie.Need-tested-requires
 tested-requires c κs =
     let s = c .before .read-string in
-    subst (Inside (c .before .before .before .before .before .before .before .before .before .args .text .now)) (sym (c .placed .ensures)) (cell-inside (placedIn 1 0 (s .result)) (place-cell 1 0 (s .result) (s .ensures)))
+    let text = c .before .before .before .before .before .before .before .before .before .args .text .now in
+    subst (Inside text) (sym (c .placed .ensures)) (cell-inside (placedIn parts 0 (s .result)) (place-cell parts 0 (s .result) (s .ensures)))
 
 returns : tie.Need-returns
 unfolding bytes
 returns c =
     let a = c .before .before .before .before .before .before .before .before .before .before .args in
     let s = c .before .before .read-string in
-    draft-ends (c .tested .ensures ∙ ap (testedBy (a .text .now) 5) (c .before .placed .ensures))
+    draft-ends (c .tested .ensures ∙ ap (testedBy (a .text .now) (nullKind .number)) (c .before .placed .ensures))
     (test-null (placesIn (a .known .now)) (c .before .before .before .skip .ensures) (sym (c .before .before .before .before .before .before .before .begins-at .ensures) ∙ c .before .before .before .before .before .before .if1 .taken) (s .result) (s .ensures))
 
 slice-aggregate-begins-at-2 : tie.Need-slice-aggregate-begins-at-2

@@ -1,7 +1,9 @@
 -- `branches::tests::signed_constant` reads a constant into its cell.
 -- Assumes nothing.
 use mathlib.Core.Path.{ap, sym}
+use Prim.Native.Nat.{ℕ}
 use native.Mathlib.Omega.{arith}
+use Rattle.calls.specs.Kinds.{constantKind}
 use Rattle.calls.specs.Numerals.{biased}
 use Rattle.calls.specs.Table as Table
 use Rattle.words.specs.Laws.{signed-is, signed-range, signed-ends, signed-broken}
@@ -36,11 +38,13 @@ returns-2 c =
     let u = c .before .before .before .before .before .signed .ensures in
     let e = c .before .before .before .value .given .1 in
     let z = c .before .before .before .value .given .0 .0 .value in
+    let constantCell : ℕ → Table.Cell = Table.cell (constantKind .number) 0 in
     λ keys tags ready.
     record {
       answer =
-          value-got (λ i. Table.cell 4 0 (biased i)) z (Table.cell 4 0 (c .before .with-bias .result)) (c .before .before .before .value .given .0 .1 .0) ready (signed-is u e)
-          (signed-ends u e .0) (signed-ends u e .1) (ap (Table.cell 4 0) (sym (c .before .with-bias .ensures))) (c .skip .ensures);
+          value-got (λ i. constantCell (biased i)) z (constantCell (c .before .with-bias .result))
+          (c .before .before .before .value .given .0 .1 .0) ready (signed-is u e)
+          (signed-ends u e .0) (signed-ends u e .1) (ap constantCell (sym (c .before .with-bias .ensures))) (c .skip .ensures);
     }
 
 pub signed-constant-spec : {M : Type 1} → statement M

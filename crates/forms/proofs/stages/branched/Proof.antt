@@ -2,7 +2,7 @@
 -- Assumes nothing.
 use mathlib.Core.List.{[]}
 use mathlib.Core.Path.{sym, ap, _∙_}
-use Rattle.base.specs.Edition.{edition1}
+use Rattle.base.specs.Current.{current}
 use Rattle.met.specs.Known.{placesIn}
 use Rattle.branches.specs.Places.{numberIn}
 use Rattle.language.specs.Forms.{branch}
@@ -34,16 +34,16 @@ with-steps-requires : tie.Need-with-steps-requires
 with-steps-requires c κs = search needs
 
 returns : tie.Need-returns
-returns c = λ table. stage-none (branch edition1 (numberIn (c .before .before .before .args .known .now)) (placesIn (c .before .before .before .args .known .now))) (λ _. withBranch) (λ _. []) (c .enum-told .given .1)
+returns c = λ table. stage-none (branch current (numberIn (c .before .before .before .args .known .now)) (placesIn (c .before .before .before .args .known .now))) (λ _. withBranch) (λ _. []) (c .enum-told .given .1)
 
 returns-2 : tie.Need-returns-2
-returns-2 c = λ table. stage-broken (branch edition1 (numberIn (c .before .before .before .before .before .before .before .before .before .args .known .now)) (placesIn (c .before .before .before .before .before .before .before .before .before .args .known .now))) (λ _. withBranch) (λ _. []) (c .before .before .before .before .before .before .r .given .1) (branch-none (c .before .before .read-branch .ensures) (c .enum-told2 .given .1))
+returns-2 c = λ table. stage-broken (branch current (numberIn (c .before .before .before .before .before .before .before .before .before .args .known .now)) (placesIn (c .before .before .before .before .before .before .before .before .before .args .known .now))) (λ _. withBranch) (λ _. []) (c .before .before .before .before .before .before .r .given .1) (branch-none (c .before .before .read-branch .ensures) (c .enum-told2 .given .1))
 
 returns-3 : tie.Need-returns-3
 returns-3 c =
     let a = branch-case (c .before .before .before .before .read-branch .ensures) (c .before .before .b .given .1) in
     λ table.
-    stage-got (branch edition1 (numberIn (c .before .before .before .before .before .before .before .before .before .before .before .args .known .now)) (placesIn (c .before .before .before .before .before .before .before .before .before .before .before .args .known .now))) (λ _. withBranch) (λ _. []) (c .before .before .before .before .before .before .before .before .r .given .1)
+    stage-got (branch current (numberIn (c .before .before .before .before .before .before .before .before .before .before .before .args .known .now)) (placesIn (c .before .before .before .before .before .before .before .before .before .before .before .args .known .now))) (λ _. withBranch) (λ _. []) (c .before .before .before .before .before .before .before .before .r .given .1)
     (drawn-names (withBranch) table a
     (steps-made (c .before .before .before .before .before .before .before .before .r .given .0 .0) (c .with-steps .ensures) ∙ ap (λ (b : Branch). withBranch b (rowMeaning (c .before .before .before .before .before .before .before .before .r .given .0 .0))) (sym (a .made))))
 

@@ -3,7 +3,7 @@
 use mathlib.Core.List.{[]}
 use mathlib.Core.Path.{sym, ap, _∙_}
 use lib.ListN.{drop}
-use Rattle.base.specs.Edition.{edition1}
+use Rattle.base.specs.Current.{current}
 use Rattle.branches.specs.Places.{numberIn}
 use Rattle.branches.specs.Rows.{rowMeaning}
 use Rattle.language.specs.Forms.{branchIfAny}
@@ -41,14 +41,14 @@ with-steps-requires : tie.Need-with-steps-requires
 with-steps-requires c κs = search needs
 
 returns-2 : tie.Need-returns-2
-returns-2 c = λ table. stage-none (branchIfAny edition1 (numberIn (c .before .before .before .args .known .now)) (placesIn (c .before .before .before .args .known .now))) (λ _. withBranch) (λ _. []) (c .enum-told .given .1)
+returns-2 c = λ table. stage-none (branchIfAny current (numberIn (c .before .before .before .args .known .now)) (placesIn (c .before .before .before .args .known .now))) (λ _. withBranch) (λ _. []) (c .enum-told .given .1)
 
 returns-3 : tie.Need-returns-3
 returns-3 c =
     let a = c .before .before .before .before .before .before .before .before .args in
     let row = c .before .before .before .before .before .r .given .0 .0 in
     λ table.
-    stage-got (branchIfAny edition1 (numberIn (c .before .before .before .before .before .before .before .before .args .known .now)) (placesIn (c .before .before .before .before .before .before .before .before .args .known .now))) (λ _. withBranch) (λ _. []) (c .before .before .before .before .before .r .given .1)
+    stage-got (branchIfAny current (numberIn (c .before .before .before .before .before .before .before .before .args .known .now)) (placesIn (c .before .before .before .before .before .before .before .before .args .known .now))) (λ _. withBranch) (λ _. []) (c .before .before .before .before .before .r .given .1)
     (branch-not (a .known .now) table row _ (c .before .before .before .before .before .r .given .0 .1 .0) (standing-case (c .before .before .before .before .before .r .given .1) (c .before .before .before .before .before .before .before .before .pre .0))
     (sym (c .before .before .before .stands-at .ensures) ∙ c .before .before .if1 .left)
     (steps-made row (c .with-steps .ensures) ∙ ap (λ n. withSteps n n (rowMeaning row)) (c .before .next-step .ensures)))

@@ -2,10 +2,11 @@
 -- Assumes nothing.
 use mathlib.Core.List.{[]}
 use mathlib.Core.Path.{sym, ap, _∙_}
-use Rattle.base.specs.Edition.{edition1}
+use Rattle.base.specs.Current.{current}
 use Rattle.met.specs.Known.{placesIn}
 use Prim.Native.Nat.{_/_}
 use native.Mathlib.Omega.{arith}
+use Rattle.calls.specs.Kinds.{parts}
 use Rattle.calls.specs.Table as Table
 use Rattle.calls.specs.Table.{partCell}
 use Rattle.language.specs.Words.{partName}
@@ -37,17 +38,17 @@ with-left-requires : tie.Need-with-left-requires
 with-left-requires c κs = search needs
 
 returns : tie.Need-returns
-returns c = λ table. stage-none (partName edition1 (placesIn (c .before .before .before .args .known .now)) (roleOf (c .before .before .before .args .tag / 16))) (λ _. (λ p. withLeft (partCell 0 p))) (λ _. []) (c .enum-told .given .1)
+returns c = λ table. stage-none (partName current (placesIn (c .before .before .before .args .known .now)) (roleOf (c .before .before .before .args .tag / 16))) (λ _. (λ p. withLeft (partCell parts p))) (λ _. []) (c .enum-told .given .1)
 
 returns-2 : tie.Need-returns-2
-returns-2 c = λ table. stage-broken (partName edition1 (placesIn (c .before .before .before .before .before .before .before .before .before .args .known .now)) (roleOf (c .before .before .before .before .before .before .before .before .before .args .tag / 16))) (λ _. (λ p. withLeft (partCell 0 p))) (λ _. []) (c .before .before .before .before .before .before .r .given .1) (cell-none (c .before .before .read-part .ensures) (c .enum-told2 .given .1))
+returns-2 c = λ table. stage-broken (partName current (placesIn (c .before .before .before .before .before .before .before .before .before .args .known .now)) (roleOf (c .before .before .before .before .before .before .before .before .before .args .tag / 16))) (λ _. (λ p. withLeft (partCell parts p))) (λ _. []) (c .before .before .before .before .before .before .r .given .1) (cell-none (c .before .before .read-part .ensures) (c .enum-told2 .given .1))
 
 returns-3 : tie.Need-returns-3
 returns-3 c =
     let a = cell-case (c .before .before .before .before .read-part .ensures) (c .before .before .left .given .1) in
     λ table.
-    stage-got (partName edition1 (placesIn (c .before .before .before .before .before .before .before .before .before .before .before .args .known .now)) (roleOf (c .before .before .before .before .before .before .before .before .before .before .before .args .tag / 16))) (λ _. (λ p. withLeft (partCell 0 p))) (λ _. []) (c .before .before .before .before .before .before .before .before .r .given .1)
-    (drawn-names ((λ p. withLeft (partCell 0 p))) table a
+    stage-got (partName current (placesIn (c .before .before .before .before .before .before .before .before .before .before .before .args .known .now)) (roleOf (c .before .before .before .before .before .before .before .before .before .before .before .args .tag / 16))) (λ _. (λ p. withLeft (partCell parts p))) (λ _. []) (c .before .before .before .before .before .before .before .before .r .given .1)
+    (drawn-names ((λ p. withLeft (partCell parts p))) table a
     (left-made (c .before .before .before .before .before .before .before .before .r .given .0 .0) (c .with-left .ensures) ∙ ap (λ (v : Table.Cell). withLeft v (rowMeaning (c .before .before .before .before .before .before .before .before .r .given .0 .0))) (sym (a .made))))
 
 pub left-part-spec : {M : Type 1} → statement M

@@ -7,7 +7,7 @@ use Prim.Native.Nat.{_+_, _≤_}
 use lib.ListN.{drop}
 use native.Mathlib.Omega.{arith}
 use borrow.Author.Tests.{not-true, not-false}
-use Rattle.base.specs.Edition.{edition1}
+use Rattle.base.specs.Current.{current}
 use Rattle.base.specs.Lists.{begins}
 use Rattle.language.specs.Program.{value}
 use Rattle.language.specs.Strings.{stringExpression}
@@ -54,7 +54,7 @@ module _ (c : tie.After-row) where
       (mark .before .before .before .before .before .before .args .table .now)
       (mark .before .before .before .before .before .before .args .keys .now)
       (mark .before .before .before .before .before .before .args .tags .now) (moved (here mark) 1)
-      (stringExpression edition1 (placesIn (mark .before .before .before .before .before .before .args .known .now))
+      (stringExpression current (placesIn (mark .before .before .before .before .before .before .args .known .now))
       (drop (here mark .at + 1) (mark .before .before .before .before .before .before .args .text .now)))
       (c .row .result) (c .row .last .1 .1 .0) (c .row .last .1 .1 .1 .0)
       (c .row .last .1 .1 .1 .1 .0)
@@ -64,7 +64,7 @@ module _ (c : tie.After-row) where
       subst
       (λ z.
       RowRead (map value) (a .text .now) (a .table .now) (a .keys .now) (a .tags .now) z
-      (stringExpression edition1 (placesIn (a .known .now)) (drop (z .at) (a .text .now))) (s .result) (s .last .1 .1 .0) (s .last .1 .1 .1 .0)
+      (stringExpression current (placesIn (a .known .now)) (drop (z .at) (a .text .now))) (s .result) (s .last .1 .1 .0) (s .last .1 .1 .1 .0)
       (s .last .1 .1 .1 .1 .0))
       (c .before .skip .ensures) (s .ensures)
 
@@ -72,7 +72,7 @@ returns : tie.Need-returns
 returns c =
     let a = c .before .before .before .before .before .before .before .args in
     stage-got _ _ _ (c .before .before .before .r .given .1)
-    (replaced-not (a .known .now) (a .direction) (a .from) (before (c .before) .0) (sym (c .before .stands-at .ensures) ∙ not-true _ (c .if1 .taken)))
+    (replaced-not (a .known .now) (a .from) (before (c .before) .0) (sym (c .before .stands-at .ensures) ∙ not-true _ (c .if1 .taken)))
 
 skip-requires : tie.Need-skip-requires
 skip-requires c κs = omega (arith, before (c .before .before .before .before) .0)
@@ -82,7 +82,7 @@ row-requires c κs =
     let a = c .before .before .before .before .before .before .before .before .before .before .before .args in
     let mark = sym (c .before .before .before .before .before .stands-at .ensures) ∙ not-false _ (c .before .before .before .before .if1 .left) in (
       ready-moved (61 ∷ []) (before (c .before .before .before .before .before) .0) (c .skip .ensures) mark,
-      (c .before .before .before .before .before .before .before .before .before .before .before .pre .1 .0, c .before .before .before .before .before .before .before .before .before .before .before .pre .1 .1 .0),
+      (c .before .before .before .before .before .before .before .before .before .before .before .pre .1 .0, c .before .before .before .before .before .before .before .before .before .before .before .pre .1 .1),
     )
 
 enum-told-2 : tie.Need-enum-told-2
@@ -102,9 +102,6 @@ range-cell-requires c κs =
     let start = before (c .before .before .before .before .before .before .before .before .before .before .before .before .before .before) in
     let row = row-case (read (c .before .before .before .before .before .before .before .before)) (c .before .before .before .before .d .given .1) .gets in
     (omega (arith, start .1, start .0), (omega (arith, start .0), omega (arith, row .short, row .goes .elements, row .ready)))
-
-add-with-right : tie.Need-add-with-right
-add-with-right c = omega (arith, c .before .before .before .before .before .before .before .before .before .before .before .before .before .before .before .before .before .before .before .before .before .pre .1 .1 .1)
 
 with-right-requires : tie.Need-with-right-requires
 with-right-requires c κs = search needs
@@ -130,7 +127,7 @@ returns-4 c =
     let a = c .before .before .before .before .before .before .before .before .before .before .before .before .before .before .before .before .before .before .before .before .before .before .args in
     let s = c .before .before .before .before .before .before .before .before .before .before in
     stage-got _ _ _ (c .before .before .before .before .before .before .before .before .before .before .before .before .before .before .before .before .before .before .r .given .1)
-    (replaced-got (a .known .now) (a .direction) (a .from) (marked s) (row-case (read s) (c .before .before .before .before .before .before .d .given .1)) (c .with-right .ensures)
+    (replaced-got (a .known .now) (a .from) (marked s) (row-case (read s) (c .before .before .before .before .before .before .d .given .1)) (c .with-right .ensures)
     (c .before .range-cell .ensures))
 
 pub replaced-spec : {M : Type 1} → statement M
@@ -148,7 +145,6 @@ replaced-spec =
     sub-range-cell
     sub-range-cell-2
     range-cell-requires
-    add-with-right
     with-right-requires
     returns-2
     same-length

@@ -2,7 +2,7 @@
 -- Assumes nothing.
 use mathlib.Core.List.{[]}
 use mathlib.Core.Path.{sym}
-use Rattle.base.specs.Edition.{edition1}
+use Rattle.base.specs.Current.{current}
 use Rattle.met.specs.Known.{placesIn}
 use Rattle.branches.specs.Tests.{testAlone}
 use Rattle.language.specs.Numeric as Numeric
@@ -28,16 +28,16 @@ enum-known-test : tie.Need-enum-known-test
 enum-known-test c = search needs
 
 returns : tie.Need-returns
-returns c = λ table. stage-none (Numeric.test edition1 (placesIn (c .before .before .before .args .known .now))) (λ _. (λ t _. testAlone t)) (λ _. []) (c .enum-told .given .1)
+returns c = λ table. stage-none (Numeric.test current (placesIn (c .before .before .before .args .known .now))) (λ _. (λ t _. testAlone t)) (λ _. []) (c .enum-told .given .1)
 
 returns-2 : tie.Need-returns-2
-returns-2 c = λ table. stage-broken (Numeric.test edition1 (placesIn (c .before .before .before .before .before .before .before .before .before .args .known .now))) (λ _. (λ t _. testAlone t)) (λ _. []) (c .before .before .before .before .before .before .r .given .1) (draft-none (c .before .before .read-test .ensures) (c .enum-told2 .given .1))
+returns-2 c = λ table. stage-broken (Numeric.test current (placesIn (c .before .before .before .before .before .before .before .before .before .args .known .now))) (λ _. (λ t _. testAlone t)) (λ _. []) (c .before .before .before .before .before .before .r .given .1) (draft-none (c .before .before .read-test .ensures) (c .enum-told2 .given .1))
 
 returns-3 : tie.Need-returns-3
 returns-3 c =
     let a = draft-case (c .before .before .before .read-test .ensures) (c .before .test .given .1) in
     λ table.
-    stage-got (Numeric.test edition1 (placesIn (c .before .before .before .before .before .before .before .before .before .before .args .known .now))) (λ _. (λ t _. testAlone t)) (λ _. []) (c .before .before .before .before .before .before .before .r .given .1)
+    stage-got (Numeric.test current (placesIn (c .before .before .before .before .before .before .before .before .before .before .args .known .now))) (λ _. (λ t _. testAlone t)) (λ _. []) (c .before .before .before .before .before .before .before .r .given .1)
     (drawn-names ((λ t _. testAlone t)) table a
     (sym (a .made)))
 

@@ -2,6 +2,7 @@
 -- Assumes nothing.
 use mathlib.Core.List.{[]}
 use mathlib.Core.Path.{sym, ap, subst, _∙_}
+use Rattle.calls.specs.Kinds.{nullKind}
 use Rattle.forms.specs.Rows.{begunAs}
 use Rattle.forms.specs.StageLaws.{standing-inward, marked-standing, form-ends}
 use Rattle.forms.specs.Stages.{Inward, Standing, markedBy}
@@ -19,7 +20,7 @@ marked-requires c κs = subst (Inward (c .before .before .args .text .now)) (sym
 tested-requires : tie.Need-tested-requires
 tested-requires c κs = (
   subst (Standing (c .before .before .before .before .before .args .text .now) (c .before .before .before .before .before .args .keys .now) (c .before .before .before .before .before .args .tags .now)) (sym (c .before .before .marked .ensures ∙ ap (markedBy (c .before .before .before .before .before .args .text .now) 40) (c .before .before .before .begun .ensures)))
-      (marked-standing (c .before .before .before .before .before .args .text .now) 40 (c .before .before .before .before .before .args .keys .now) (c .before .before .before .before .before .args .tags .now) (begunAs 5 0 (c .before .before .before .before .before .args .c)) (c .before .before .before .before .before .pre .0)),
+      (marked-standing (c .before .before .before .before .before .args .text .now) 40 (c .before .before .before .before .before .args .keys .now) (c .before .before .before .before .before .args .tags .now) (begunAs (nullKind .number) 0 (c .before .before .before .before .before .args .c)) (c .before .before .before .before .before .pre .0)),
   c .before .before .before .before .before .pre .1,
 )
 

@@ -3,9 +3,10 @@
 use mathlib.Core.List.{[]}
 use mathlib.Core.Path.{refl, sym, ap, subst, _∙_}
 use native.Mathlib.Omega.{arith}
+use Rattle.calls.specs.Kinds.{scanKind}
 use Rattle.forms.specs.Rows.{begunAs}
 use Rattle.forms.specs.StageLaws.{standing-inward, marked-standing, from-draft, form-ends, following, marked-following}
-use Rattle.forms.specs.Stages.{Standing, Following, ReplacedStage}
+use Rattle.forms.specs.Stages.{Standing, Following}
 use Rattle.forms.specs.StepLaws.{scan-read}
 use borrow.Author.Needs.{needs}
 use Rattle.forms.proofs.steps.scan_form.Statement.{statement}
@@ -24,7 +25,7 @@ right-row-requires : tie.Need-right-row-requires
 right-row-requires c κs = (
   subst (Standing (c .before .before .before .before .before .before .before .before .before .before .args .text .now) (c .before .before .before .before .left-part .last .1 .1 .0) (c .before .before .before .before .left-part .last .1 .1 .1 .0)) (sym (c .before .before .before .marked .ensures))
       (marked-standing (c .before .before .before .before .before .before .before .before .before .before .args .text .now) 91 (c .before .before .before .before .left-part .last .1 .1 .0) (c .before .before .before .before .left-part .last .1 .1 .1 .0) (c .before .before .before .before .left-part .result) (c .before .before .before .before .left-part .ensures [] .stands)),
-  (c .before .before .before .before .before .before .before .before .before .before .pre .1 .0, c .before .before .before .before .before .before .before .before .before .before .pre .1 .1 .0),
+  (c .before .before .before .before .before .before .before .before .before .before .pre .1 .0, c .before .before .before .before .before .before .before .before .before .before .pre .1 .1),
 )
 
 marked-requires-2 : tie.Need-marked-requires-2
@@ -36,13 +37,13 @@ replaced-requires c κs =
     let l = c .before .before .before .before .before .before .before .before .before .before .before .left-part in
     let r = c .before .before .before .before .before .before .right-row in
     let from = a .c .elements in
-    let part = following from (begunAs 8 (a .direction) (a .c)) (l .result) (c .before .before .before .before .before .before .before .before .before .before .before .before .before .before .before .before .before .pre .0, omega arith) (from-draft (c .before .before .before .before .before .before .before .before .before .before .before .before .begun .ensures) (l .ensures [])) in
+    let part = following from (begunAs (scanKind .number) (a .direction) (a .c)) (l .result) (c .before .before .before .before .before .before .before .before .before .before .before .before .before .before .before .before .before .pre .0, omega arith) (from-draft (c .before .before .before .before .before .before .before .before .before .before .before .before .begun .ensures) (l .ensures [])) in
     let opened = subst (Following (a .text .now) (l .last .1 .1 .0) (l .last .1 .1 .1 .0) from) (sym (c .before .before .before .before .before .before .before .before .before .before .marked .ensures))
     (marked-following (a .text .now) 91 (l .last .1 .1 .0) (l .last .1 .1 .1 .0) from (l .result) part) in
     let sought = following from (c .before .before .before .before .before .before .before .before .before .before .marked .result) (r .result) opened (r .ensures) in
     let closed = subst (Following (a .text .now) (r .last .1 .1 .1 .0) (r .last .1 .1 .1 .1 .0) from) (sym (c .before .before .before .marked2 .ensures))
     (marked-following (a .text .now) 93 (r .last .1 .1 .1 .0) (r .last .1 .1 .1 .1 .0) from (r .result) sought) in
-    (closed, (c .before .before .before .before .before .before .before .before .before .before .before .before .before .before .before .before .before .pre .1 .0, (omega (arith, r .kept .1 .1 .0, c .before .before .before .before .before .before .before .before .before .before .before .before .before .before .before .before .before .pre .1 .1 .0), c .before .before .before .before .before .before .before .before .before .before .before .before .before .before .before .before .before .pre .1 .1 .1)))
+    (closed, (c .before .before .before .before .before .before .before .before .before .before .before .before .before .before .before .before .before .pre .1 .0, omega (arith, r .kept .1 .1 .0, c .before .before .before .before .before .before .before .before .before .before .before .before .before .before .before .before .before .pre .1 .1)))
 
 branched-if-any-requires : tie.Need-branched-if-any-requires
 branched-if-any-requires c κs = (c .before .before .before .before .replaced .ensures .stands, c .before .before .before .before .before .before .before .before .before .before .before .before .before .before .before .before .before .before .before .before .before .before .pre .1 .0)
@@ -62,13 +63,9 @@ returns c =
     form-ends (c .ended .ensures)
     (scan-read (a .known .now) way (c .before .before .before .before .before .before .before .before .before .before .before .before .before .before .before .before .before .before .before .before .before .before .before .before .pre .0) (c .before .before .before .before .before .before .before .before .before .before .before .before .before .before .before .before .before .before .left-part .result) (c .before .before .before .before .before .before .before .before .before .before .before .before .before .before .before .before .before .marked .result) (r .result) (c .before .before .before .before .before .before .before .before .before .before .marked2 .result) (p .result)
     (c .before .branched-if-any .result)
-    (λ t. from-draft (c .before .before .before .before .before .before .before .before .before .before .before .before .before .before .before .before .before .before .before .begun .ensures ∙ ap (λ n. begunAs 8 n (a .c)) (sym e)) (c .before .before .before .before .before .before .before .before .before .before .before .before .before .before .before .before .before .before .left-part .ensures t)) (c .before .before .before .before .before .before .before .before .before .before .before .before .before .before .before .before .before .marked .ensures) (r .ensures)
+    (λ t. from-draft (c .before .before .before .before .before .before .before .before .before .before .before .before .before .before .before .before .before .before .before .begun .ensures ∙ ap (λ n. begunAs (scanKind .number) n (a .c)) (sym e)) (c .before .before .before .before .before .before .before .before .before .before .before .before .before .before .before .before .before .before .left-part .ensures t)) (c .before .before .before .before .before .before .before .before .before .before .before .before .before .before .before .before .before .marked .ensures) (r .ensures)
     (c .before .before .before .before .before .before .before .before .before .before .marked2 .ensures)
-    (subst
-    (λ n.
-    ReplacedStage (a .text .now) (a .known .now) (r .last .1 .1 .0) (r .last .1 .1 .1 .0) (r .last .1 .1 .1 .1 .0) (a .c .elements) n
-    (c .before .before .before .before .before .before .before .before .before .before .marked2 .result) (p .result) (p .last .1 .1 .0) (p .last .1 .1 .1 .0) (p .last .1 .1 .1 .1 .0))
-    (sym e) (p .ensures)) (c .before .branched-if-any .ensures))
+    (p .ensures) (c .before .branched-if-any .ensures))
 
 pub scan-form-spec : {M : Type 1} → statement M
 scan-form-spec =

@@ -2,6 +2,7 @@
 -- Assumes nothing.
 use mathlib.Core.Path.{refl, sym, ap, subst, _∙_}
 use Rattle.base.specs.Text.{bytes}
+use Rattle.calls.specs.Kinds.{lengthKind}
 use Rattle.met.specs.Known.{placesIn}
 use Rattle.numeric.specs.OperandLaws.{ready-moved, place-cell, cell-ends, cell-inside, called-length, called-number, called-plain}
 use Rattle.numeric.specs.Operands.{Inside, placedIn, closedBy}
@@ -35,7 +36,9 @@ closed-requires : tie.Need-closed-requires
 unfolding bytes
 closed-requires c κs =
     let s = c .before .read-string in
-    subst (Inside (c .before .before .before .before .before .before .before .before .before .args .text .now)) (sym (c .placed .ensures)) (cell-inside (placedIn 6 0 (s .result)) (place-cell 6 0 (s .result) (s .ensures)))
+    let text = c .before .before .before .before .before .before .before .before .before .args .text .now in
+    subst (Inside text) (sym (c .placed .ensures))
+    (cell-inside (placedIn (lengthKind .number) 0 (s .result)) (place-cell (lengthKind .number) 0 (s .result) (s .ensures)))
 
 returns : tie.Need-returns
 unfolding bytes

@@ -5,7 +5,7 @@ use native.Mathlib.Omega.{arith}
 use lib.ListN.{drop}
 use Rattle.met.specs.declared.Cursor.{Cursor}
 use Rattle.words.specs.Laws.{name-broken}
-use Rattle.numeric.specs.OperandLaws.{name-got, skipped}
+use Rattle.numeric.specs.OperandLaws.{name-got, name-notable, skipped}
 use borrow.Author.Needs.{needs}
 use Rattle.numeric.proofs.operands.read_name.Statement.{statement}
 use Rattle.numeric.proofs.operands.read_name.Tie as tie
@@ -22,7 +22,9 @@ key-of-requires : tie.Need-key-of-requires
 key-of-requires c κs = search needs
 
 note-name-requires : tie.Need-note-name-requires
-note-name-requires c κs = search needs
+note-name-requires c κs =
+    let n = c .before .before .before .before .name-length in
+    name-notable (c .before .before .before .before .before .before .pre) (n .ensures) (omega arith)
 
 skip-requires : tie.Need-skip-requires
 skip-requires c κs =

@@ -49,11 +49,8 @@ returns c =
     let s = c .before .before .before .before .before .before .before .before .before .read-string in
     let g = place-case (s .ensures) (c .before .before .before .before .before .before .before .place .given .1) in
     let dollar = sym (c .before .before .before .before .before .stands-at .ensures) ∙ c .before .before .before .before .if1 .taken in
-    part-first (placesIn (a .known .now)) (a .shift) (roleOf (a .tag / 16)) g (p .pre .0) dollar (c .read-bound .result) (c .before .skip .ensures)
+    part-first (placesIn (a .known .now)) (a .kind) (roleOf (a .tag / 16)) g (p .pre .0) dollar (c .read-bound .result) (c .before .skip .ensures)
     (c .read-bound .ensures)
-
-add-t19 : tie.Need-add-t19
-add-t19 c = search needs
 
 returns-2 : tie.Need-returns-2
 returns-2 c =
@@ -69,7 +66,7 @@ returns-3 c =
     let a = c .before .before .before .before .before .before .before .before .before .args in
     record {
       answer =
-          part-whole (placesIn (a .known .now)) (a .shift) (roleOf (a .tag / 16))
+          part-whole (placesIn (a .known .now)) (a .kind) (roleOf (a .tag / 16))
           (place-case (c .before .before .before .before .before .read-string .ensures) (c .before .before .before .place .given .1))
           (sym (c .before .stands-at .ensures) ∙ c .if1 .left);
     }
@@ -86,6 +83,5 @@ read-part-spec =
     add-read-bound
     read-bound-requires
     returns
-    add-t19
     returns-2
     returns-3)

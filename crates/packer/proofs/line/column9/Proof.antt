@@ -1,7 +1,7 @@
 -- `packer::line::column9` answers the byte in column 9.
 -- Assumes nothing.
 use Prim.Native.Nat.{ℕ}
-use Rattle.base.specs.Edition.{edition1}
+use Rattle.base.specs.Current.{current}
 use Rattle.cards.specs.Cards.{column9}
 use borrow.Author.Needs.{needs}
 use lib.ListN.{getD}
@@ -17,7 +17,7 @@ byte-or-blank-requires : tie.Need-byte-or-blank-requires
 byte-or-blank-requires c κs = search needs
 
 returns : tie.Need-returns
-unfolding column9 edition1
+unfolding column9 current
 returns c = c .byte-or-blank .ensures ∙ ap (λ (l : List ℕ). getD l 8 32) (c .before .front .ensures)
 
 pub column9-spec : {M : Type 1} → statement M

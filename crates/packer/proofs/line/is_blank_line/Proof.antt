@@ -1,7 +1,7 @@
 -- `packer::line::is_blank_line` answers whether columns 1 to 72 are blank. The invariant: the bytes from i on tell.
 -- Assumes nothing.
 use Prim.Native.Nat.{_-_, _≤_}
-use Rattle.base.specs.Edition.{edition1}
+use Rattle.base.specs.Current.{current}
 use Rattle.base.specs.ListLaws.{all-end}
 use Rattle.base.specs.Lists.{all}
 use Rattle.cards.specs.Bytes.{isBlank}
@@ -34,7 +34,7 @@ is-blank-requires : tie.Need-is-blank-requires Inv-loop μ-loop
 is-blank-requires c κs = search needs
 
 returns : tie.Need-returns Inv-loop μ-loop
-unfolding isBlankLine edition1
+unfolding isBlankLine current
 returns c =
     let front = c .before .before .before .before .before .front in
     let s = c .before .before .before .before .loop in
@@ -55,7 +55,7 @@ loop-again c =
     (omega arith, all-more isBlank bytes (s .i) (omega arith) blank ∙ s .inv .1)
 
 returns-2 : tie.Need-returns-2 Inv-loop μ-loop
-unfolding isBlankLine edition1
+unfolding isBlankLine current
 returns-2 c =
     let bytes = c .before .before .front .result .now in
     let s = c .before .loop in

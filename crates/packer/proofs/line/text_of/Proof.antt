@@ -1,7 +1,7 @@
 -- `packer::line::text_of` answers columns 10 to 72.
 -- Assumes nothing.
 use Prim.Native.Nat.{ℕ}
-use Rattle.base.specs.Edition.{edition1}
+use Rattle.base.specs.Current.{current}
 use Rattle.cards.specs.Cards.{textOf}
 use borrow.Author.Needs.{needs}
 use lib.ListN.{drop}
@@ -17,7 +17,7 @@ behind-requires : tie.Need-behind-requires
 behind-requires c κs = search needs
 
 returns : tie.Need-returns
-unfolding textOf edition1
+unfolding textOf current
 returns c = c .behind .ensures ∙ ap (λ (l : List ℕ). drop 9 l) (c .before .front .ensures)
 
 pub text-of-spec : {M : Type 1} → statement M

@@ -24,7 +24,7 @@ returns-2 c =
 
 slice-aggregate-judge-packed : tie.Need-slice-aggregate-judge-packed
 slice-aggregate-judge-packed c =
-    let p = c .before .before .before .before .before .before in sym (length-take-le (p .args .e .length) (p .args .text .now) (p .pre .0 .worded .fits))
+    let p = c .before .before .before .before .before .before in sym (length-take-le (p .args .e .length) (p .args .text .now) (p .pre .0 .fits))
 
 judge-packed-requires : tie.Need-judge-packed-requires
 judge-packed-requires c κs =

@@ -27,9 +27,9 @@ returns : tie.Need-returns
 returns c =
     let p = c .before .before .before .before .before .before in
     let arrs = arrays (p .args .known .now) (p .args .name-keys .now) (p .args .name-purposes .now) (p .args .use-keys .now) (p .args .use-scopes .now) (p .args .use-purposes .now) in (
-      (λ label raw w.
-          misplaced-numbered arrs (c .before .before .before .leading .result .kind) label raw (p .args .text .now)
-          (ap (λ l. l .kind) (c .before .before .before .leading .ensures)) (w .bytes)
+      (λ label w.
+          misplaced-numbered arrs (c .before .before .before .leading .result .kind) label (p .args .e .whole) (p .args .text .now)
+          (ap (λ l. l .kind) (c .before .before .before .leading .ensures))
           (λ taken k h. sym (c .before .is-misplaced .ensures .misplaced arrs refl taken k h) ∙ c .if1 .taken)),
       stays-not (λ z. omega arith),
     )
@@ -40,7 +40,8 @@ start-requires c κs = search needs
 read-statement-requires : tie.Need-read-statement-requires
 read-statement-requires c κs =
     let p = c .before .before .before .before .before .before .before .before .before .before .before .before in (
-      starts (p .pre .0 .holds) (p .pre .0 .small) (p .pre .1 .keysSize) (p .pre .1 .tagsSize) (c .before .before .before .before .start .ensures),
+      starts (p .pre .0 .holds) (p .pre .0 .small) (omega (arith, p .pre .0 .room)) (p .pre .1 .keysSize) (p .pre .1 .tagsSize)
+          (c .before .before .before .before .start .ensures),
       (ap (λ d. d .names) (c .before .before .before .before .start .ensures), (p .pre .0 .holds .counted, p .pre .1 .tableSize)),
     )
 
@@ -54,11 +55,11 @@ returns-2 : tie.Need-returns-2
 returns-2 c =
     let p = c .before .before .before .before .before .before .before .before .before .before .before .before .before .before .before .before .before in
     let arrs = arrays (p .args .known .now) (p .args .name-keys .now) (p .args .name-purposes .now) (p .args .use-keys .now) (p .args .use-scopes .now) (p .args .use-purposes .now) in (
-      (λ label raw w.
-          broken-numbered arrs (c .before .before .before .before .before .before .before .before .before .before .before .before .before .before .leading .result .kind) label raw (p .args .text .now)
-          (ap (λ l. l .kind) (c .before .before .before .before .before .before .before .before .before .before .before .before .before .before .leading .ensures)) (w .bytes)
+      (λ label w.
+          broken-numbered arrs (c .before .before .before .before .before .before .before .before .before .before .before .before .before .before .leading .result .kind) label (p .args .e .whole) (p .args .text .now)
+          (ap (λ l. l .kind) (c .before .before .before .before .before .before .before .before .before .before .before .before .before .before .leading .ensures))
           (λ taken k h. sym (c .before .before .before .before .before .before .before .before .before .before .before .before .is-misplaced .ensures .misplaced arrs refl taken k h) ∙ c .before .before .before .before .before .before .before .before .before .before .before .if1 .left)
-          (broken-case (c .before .before .before .before .read-statement .ensures label raw w) (c .enum-told .given .1))),
+          (broken-case (c .before .before .before .before .read-statement .ensures label w) (c .enum-told .given .1))),
       stays-not (λ z. omega arith),
     )
 
@@ -73,8 +74,8 @@ judge-statement-requires c κs =
     let q = c .before .before .before .before .before .before .before .before .before .before .before .before .before .before .before .before .before .before .before .before .before .before .before .before .pre .0 in
     let read = c .before .before .before .before .before .before .before .before .before .before .before .read-statement in
     let f =
-    ⊎-elim (λ w. no-step-to (read .ensures (q .label) (q .raw) (q .wording)) (w .1 .given .1) (w .3))
-    (λ w. step-to (read .ensures (q .label) (q .raw) (q .wording)) (w .1 .given .1) (w .3)) (c .before .before .before .before .before .before .before .before .match .came) in
+    ⊎-elim (λ w. no-step-to (read .ensures (q .label) (q .keyed)) (w .1 .given .1) (w .3))
+    (λ w. step-to (read .ensures (q .label) (q .keyed)) (w .1 .given .1) (w .3)) (c .before .before .before .before .before .before .before .before .match .came) in
     formed-judgeable q (ap (λ d. d .names) (c .before .before .before .before .before .before .before .before .before .before .before .before .before .before .before .before .start .ensures)) (f .formed)
 
 same-length-2 : tie.Need-same-length-2
@@ -87,14 +88,14 @@ returns-3 c =
     let q = p .pre .0 in
     let read = c .before .before .before .before .before .before .before .before .before .before .before .before .read-statement in
     let f =
-    ⊎-elim (λ w. no-step-to (read .ensures (q .label) (q .raw) (q .wording)) (w .1 .given .1) (w .3))
-    (λ w. step-to (read .ensures (q .label) (q .raw) (q .wording)) (w .1 .given .1) (w .3)) (c .before .before .before .before .before .before .before .before .before .match .came) in (
-      (λ label raw t.
-          formed-numbered arrs (c .before .before .before .before .before .before .before .before .before .before .before .before .before .before .before .before .before .before .before .before .before .before .leading .result .kind) label raw (p .args .text .now)
-          (ap (λ l. l .kind) (c .before .before .before .before .before .before .before .before .before .before .before .before .before .before .before .before .before .before .before .before .before .before .leading .ensures)) (t .bytes)
+    ⊎-elim (λ w. no-step-to (read .ensures (q .label) (q .keyed)) (w .1 .given .1) (w .3))
+    (λ w. step-to (read .ensures (q .label) (q .keyed)) (w .1 .given .1) (w .3)) (c .before .before .before .before .before .before .before .before .before .match .came) in (
+      (λ label t.
+          formed-numbered arrs (c .before .before .before .before .before .before .before .before .before .before .before .before .before .before .before .before .before .before .before .before .before .before .leading .result .kind) label (p .args .e .whole) (p .args .text .now)
+          (ap (λ l. l .kind) (c .before .before .before .before .before .before .before .before .before .before .before .before .before .before .before .before .before .before .before .before .before .before .leading .ensures))
           (λ taken k h. sym (c .before .before .before .before .before .before .before .before .before .before .before .before .before .before .before .before .before .before .before .before .is-misplaced .ensures .misplaced arrs refl taken k h) ∙ c .before .before .before .before .before .before .before .before .before .before .before .before .before .before .before .before .before .before .before .if1 .left)
           (c .before .before .before .before .before .before .before .before .before .before .before .before .before .before .before .before .before .start .ensures)
-          (⊎-elim (λ w. no-step-to (read .ensures label raw t) (w .1 .given .1) (w .3)) (λ w. step-to (read .ensures label raw t) (w .1 .given .1) (w .3))
+          (⊎-elim (λ w. no-step-to (read .ensures label t) (w .1 .given .1) (w .3)) (λ w. step-to (read .ensures label t) (w .1 .given .1) (w .3))
           (c .before .before .before .before .before .before .before .before .before .match .came) .formed)
           (c .judge-statement .ensures)),
       record { keysSize = λ _. f .formed .keysSize; tagsSize = λ _. f .formed .tagsSize },

@@ -5,6 +5,7 @@ use lib.ListN.{length}
 use mathlib.Core.Path.{_≡_, refl, _∙_}
 use native.Mathlib.Omega.{arith}
 use Rattle.naming.specs.Arrays.{arrays}
+use Rattle.packer.specs.Packs.{longestText}
 use Rattle.reader.specs.DeckLaws.{Judging, judging-held, judging-none, judging-more, judging-refused, judging-ends}
 use Rattle.reader.specs.Judging.{Lent}
 use Rattle.reader.proofs.judge.judge_statements.Statement.{statement}
@@ -17,7 +18,7 @@ use Rattle.reader.proofs.judge.judge_entry.Reads as judge-entry-reads
 abbrev Inv-loop : tie.InvT-loop
 Inv-loop deck known₀ name-keys₀ name-purposes₀ use-keys₀ use-scopes₀ use-purposes₀ text₀ keys₀ tags₀ table₀ from₀ card₀ known name-keys name-purposes use-keys use-scopes use-purposes text keys tags table from card =
     Judging deck (arrays known name-keys name-purposes use-keys use-scopes use-purposes) from card
-    × Lent keys tags table × (length text ≡ 32_768) × (length table ≡ length table₀)
+    × Lent keys tags table × (length text ≡ longestText) × (length table ≡ length table₀)
 
 abbrev μ-loop : tie.MeasureT-loop
 μ-loop deck known₀ name-keys₀ name-purposes₀ use-keys₀ use-scopes₀ use-purposes₀ text₀ keys₀ tags₀ table₀ from₀ card₀ known name-keys name-purposes use-keys use-scopes use-purposes text keys tags table from card =

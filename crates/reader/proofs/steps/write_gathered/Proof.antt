@@ -34,8 +34,13 @@ slice-aggregate-write-packed c =
 write-packed-requires : tie.Need-write-packed-requires
 write-packed-requires c κs =
     let p = c .before .before .before .before .before .before .before .before .before in (
-      (p .pre .0 .0, p .pre .0 .1, omega (arith, length-take-le (p .args .e .length) (p .args .text .now) (p .pre .0 .3), p .pre .0 .2)),
-      (counted-next (p .pre .1 .0) _, p .pre .1 .1),
+      (
+        p .pre .0 .0,
+        p .pre .0 .1,
+        omega (arith, length-take-le (p .args .e .length) (p .args .text .now) (p .pre .0 .3), p .pre .0 .2),
+        p .pre .1 .0,
+      ),
+      (counted-next (p .pre .1 .1 .0) _, p .pre .1 .1 .1),
     )
 
 same-length : tie.Need-same-length

@@ -44,21 +44,21 @@ same-length c = search needs
 
 returns : tie.Need-returns
 returns c =
-    λ label raw w v m rest q. absurd (not-broken (broken-case (c .before .before .before .before .read-statement .ensures label raw w) (c .enum-told .given .1)) q)
+    λ label w v m rest q. absurd (not-broken (broken-case (c .before .before .before .before .read-statement .ensures label w) (c .enum-told .given .1)) q)
 
 same-length-2 : tie.Need-same-length-2
 same-length-2 c = search needs
 
 returns-2 : tie.Need-returns-2
 returns-2 c =
-    λ label raw w v m rest q. none-written q (c .passed .ensures) (no-step-case (c .before .before .before .before .before .read-statement .ensures label raw w) (c .before .enum-told2 .given .1))
+    λ label w v m rest q. none-written q (c .passed .ensures) (no-step-case (c .before .before .before .before .before .read-statement .ensures label w) (c .before .enum-told2 .given .1))
 
 same-length-3 : tie.Need-same-length-3
 same-length-3 c = search needs
 
 returns-3 : tie.Need-returns-3
 returns-3 c =
-    λ label raw w v m rest q. step-written q (step-case (c .before .before .before .before .before .before .before .before .before .before .before .before .read-statement .ensures label raw w) (c .before .before .before .before .before .before .before .before .row .given .1)) (c .before .before .before .before .before .put-row .ensures)
+    λ label w v m rest q. step-written q (step-case (c .before .before .before .before .before .before .before .before .before .before .before .before .read-statement .ensures label w) (c .before .before .before .before .before .before .before .before .row .given .1)) (c .before .before .before .before .before .put-row .ensures)
 
 pub write-packed-spec : {M : Type 1} → statement M
 write-packed-spec =

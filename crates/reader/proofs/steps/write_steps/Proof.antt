@@ -4,6 +4,7 @@ use mathlib.Core.Path.{_≡_, refl, _∙_}
 use Prim.Native.Nat.{_+_, _-_}
 use lib.ListN.{length}
 use native.Mathlib.Omega.{arith}
+use Rattle.packer.specs.Packs.{longestText}
 use Rattle.reader.specs.Judging.{Lent}
 use Rattle.reader.specs.Steps.{Whole}
 use Rattle.reader.specs.StepsLaws.{Ongoing, ongoing-none, ongoing-small, ongoing-more, ongoing-ends}
@@ -16,7 +17,7 @@ use Rattle.reader.proofs.steps.write_entry.Reads as write-entry-reads
 abbrev Inv-loop : tie.InvT-loop
 Inv-loop deck known₀ text₀ keys₀ tags₀ table₀ p₀ known text keys tags table p =
     ((w : Whole deck known₀) → Ongoing deck known₀ table₀ (w .whole) (w .arrays) (w .taken) known p table)
-    × Lent keys tags table × (length text ≡ 32_768) × (length table ≡ length table₀)
+    × Lent keys tags table × (length text ≡ longestText) × (length table ≡ length table₀)
 
 abbrev μ-loop : tie.MeasureT-loop
 μ-loop deck known₀ text₀ keys₀ tags₀ table₀ p₀ known text keys tags table p =

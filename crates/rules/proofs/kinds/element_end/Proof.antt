@@ -1,64 +1,64 @@
 -- `rules::kinds::element_end` meets its contract.
 -- Assumes nothing.
-use Rattle.rows.specs.Meaning.{cellMeaning}
-use Rattle.rules.specs.Turns.{element-end-small}
-use mathlib.Core.Bool.{true, false}
-use mathlib.Core.Path.{_≡_}
-use Prim.Native.Nat.{_+_}
+use mathlib.Core.Bool.{Bool, _&&_}
+use mathlib.Core.Path.{sym, _∙_, ap, ap₂}
+use Prim.Native.Nat.{ℕ, _+_}
 use native.Mathlib.Omega.{arith}
-use Rattle.rules.specs.Tests.{elementTest, elementEnd}
+use Rattle.rows.specs.Meaning.{cellMeaning}
+use Rattle.rules.specs.CellTests.{ownLength}
+use Rattle.rules.specs.Elements.{literalTest, element-ends, element-breaks, element-inside}
 use borrow.Author.Needs.{needs}
 use Rattle.rules.proofs.kinds.element_end.Statement.{statement}
 use Rattle.rules.proofs.kinds.element_end.Tie as tie
 
-element-own-requires : tie.Need-element-own-requires
-element-own-requires c κs = search needs
+code-of-requires : tie.Need-code-of-requires
+code-of-requires c κs = search needs
 
 cell-holds-requires : tie.Need-cell-holds-requires
 cell-holds-requires c κs = search needs
 
-mul-if1 : tie.Need-mul-if1
-mul-if1 c = search needs
+literal-holds-requires : tie.Need-literal-holds-requires
+literal-holds-requires c κs = search needs
 
-add-if1 : tie.Need-add-if1
-add-if1 c = search needs
-
-add-if1-2 : tie.Need-add-if1-2
-add-if1-2 c = search needs
+own-length-requires : tie.Need-own-length-requires
+own-length-requires c κs = search needs
 
 add-result : tie.Need-add-result
 add-result c = search needs
 
 returns : tie.Need-returns
-unfolding elementTest elementEnd
 returns c =
-    let a = c .before .before .before .before .before .args in
-    let holds = c .before .before .before .cell-holds in
-    let own = c .before .before .before .before .element-own in
-    let test : elementTest (a .n) (a .high) (a .reference) (a .at) (cellMeaning (a .c)) ≡ true =
-    rw (holds .ensures, own .ensures .0) at (c .if1 .taken) in
-    let same : a .at + own .result ≡ elementEnd (a .n) (a .high) (a .reference) (a .at) (cellMeaning (a .c)) = rw (test, own .ensures .0) in
-    (same, rw same (element-end-small (a .n) (a .high) (a .reference) (a .at) (cellMeaning (a .c))))
+    let tests = c .before .before in
+    let own = tests .before .before in
+    let a = own .before .args in
+    let code = own .code-of .ensures in
+    let holds =
+    sym (ap₂ (λ (x y : Bool). x && y) (tests .before .cell-holds .ensures) (tests .literal-holds .ensures ∙ ap (λ (k : ℕ). literalTest k (a .at) (a .c .value)) code))
+    ∙ c .before .if1 .taken in
+    let size = c .own-length .ensures .0 ∙ ap (λ (k : ℕ). ownLength k (a .c .value)) code in (
+      sym (element-ends (a .n .strings) (a .n .numbers) (a .n .steps) (a .high) (a .at) (cellMeaning (a .c)) holds ∙ ap (λ (m : ℕ). a .at + m) (sym size)),
+      omega (arith, size, element-inside (a .n .strings) (a .n .numbers) (a .n .steps) (a .high) (a .at) (cellMeaning (a .c)) holds),
+    )
 
 returns-2 : tie.Need-returns-2
-unfolding elementTest elementEnd
 returns-2 c =
-    let holds = c .before .before .before .cell-holds in
-    let own = c .before .before .before .before .element-own in
-    let a = c .before .before .before .before .before .args in
-    let test : elementTest (a .n) (a .high) (a .reference) (a .at) (cellMeaning (a .c)) ≡ false =
-    rw (holds .ensures, own .ensures .0) at (c .if1 .left) in
-    (rw test, omega arith)
+    let tests = c .before in
+    let own = tests .before .before in
+    let a = own .before .args in
+    let code = own .code-of .ensures in
+    let broken =
+    sym (ap₂ (λ (x y : Bool). x && y) (tests .before .cell-holds .ensures) (tests .literal-holds .ensures ∙ ap (λ (k : ℕ). literalTest k (a .at) (a .c .value)) code))
+    ∙ c .if1 .left in
+    (sym (element-breaks (a .n .strings) (a .n .numbers) (a .n .steps) (a .high) (a .at) (cellMeaning (a .c)) broken), omega arith)
 
 pub element-end-spec : {M : Type 1} → statement M
 element-end-spec =
     tie.close
     (tie.spec
-    element-own-requires
+    code-of-requires
     cell-holds-requires
-    mul-if1
-    add-if1
-    add-if1-2
+    literal-holds-requires
+    own-length-requires
     add-result
     returns
     returns-2)

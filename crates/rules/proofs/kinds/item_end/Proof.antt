@@ -19,13 +19,13 @@ cell-holds-requires c κs = search needs
 returns : tie.Need-returns
 returns c =
     let a = c .before .before .before .args in
-    (sym (item-other (a .n) (a .known) (cellMeaning (a .c)) (sym (c .before .cell-holds .ensures) ∙ not-true _ (c .if1 .taken))), omega arith)
+    (sym (item-other (a .n .strings) (a .n .numbers) (a .n .steps) (a .known) (cellMeaning (a .c)) (sym (c .before .cell-holds .ensures) ∙ not-true _ (c .if1 .taken))), omega arith)
 
 returns-2 : tie.Need-returns-2
 returns-2 c =
     let used = c .before .before .before in
     let a = used .before .args in
-    (sym (item-few (a .n) (a .known) (cellMeaning (a .c)) (omega (arith, used .item-used .ensures .0, c .if2 .taken))), omega arith)
+    (sym (item-few (a .n .strings) (a .n .numbers) (a .n .steps) (a .known) (cellMeaning (a .c)) (omega (arith, used .item-used .ensures .0, c .if2 .taken))), omega arith)
 
 add-left : tie.Need-add-left
 add-left c = search needs
@@ -37,7 +37,7 @@ returns-3 : tie.Need-returns-3
 returns-3 c =
     let used = c .before .before .before .before in
     let a = used .before .args in
-    (sym (item-many (a .n) (a .known) (cellMeaning (a .c)) (omega (arith, used .item-used .ensures .0, c .if3 .taken))), omega arith)
+    (sym (item-many (a .n .strings) (a .n .numbers) (a .n .steps) (a .known) (cellMeaning (a .c)) (omega (arith, used .item-used .ensures .0, c .if3 .taken))), omega arith)
 
 returns-4 : tie.Need-returns-4
 returns-4 c =
@@ -46,7 +46,7 @@ returns-4 c =
     let holds = sym (c .before .before .before .cell-holds .ensures) ∙ not-false _ (c .before .before .if1 .left) in
     let taken = used .item-used .ensures .0 in
     let same =
-    sym (item-holds (a .n) (a .known) (cellMeaning (a .c)) holds (omega (arith, taken, c .before .if2 .left)) (omega (arith, taken, c .if3 .left))) in
+    sym (item-holds (a .n .strings) (a .n .numbers) (a .n .steps) (a .known) (cellMeaning (a .c)) holds (omega (arith, taken, c .before .if2 .left)) (omega (arith, taken, c .if3 .left))) in
     (ap (λ (u : ℕ). a .known + 1 - u) taken ∙ same, omega (arith, c .if3 .left))
 
 pub item-end-spec : {M : Type 1} → statement M

@@ -4,22 +4,23 @@ use mathlib.Core.Path.{_≡_, ap, _∙_}
 use Prim.Native.Nat.{_+_, _-_, _≤_}
 use native.Mathlib.Omega.{arith}
 use Rattle.calls.specs.Table.{itemsAt}
-use Rattle.rules.specs.Tests.{itemEnd, itemsEnd}
+use Rattle.rules.specs.Items.{itemEnd, itemsEnd}
 use Rattle.rules.specs.Turns.{walk-start, walk-more, walk-done, items-walk}
+use borrow.Author.Needs.{needs}
 use Rattle.rules.proofs.kinds.items_end.Statement.{statement}
 use Rattle.rules.proofs.kinds.items_end.Tie as tie
 
 abbrev Inv-loop : tie.InvT-loop
-Inv-loop t k count n known₀ i₀ known i =
-    (known ≤ 65_536) × (i ≤ count) × (itemsEnd n t k 0 count ≡ itemsEnd n t (k + i) known (count - i))
+Inv-loop t codes k count n known₀ i₀ known i =
+    (known ≤ 65_536) × (i ≤ count) × (itemsEnd (n .strings) (n .numbers) (n .steps) t k 0 count ≡ itemsEnd (n .strings) (n .numbers) (n .steps) t (k + i) known (count - i))
 
 abbrev μ-loop : tie.MeasureT-loop
-μ-loop t k count n known₀ i₀ known i = count - i
+μ-loop t codes k count n known₀ i₀ known i = count - i
 
 loop-holds : tie.Need-loop-holds Inv-loop μ-loop
 loop-holds c =
     let a = c .before .args in
-    (omega arith, omega arith, walk-start (items-walk (a .n) (a .t .now)) (a .count) (a .k) (a .k + 0) (omega arith))
+    (omega arith, omega arith, walk-start (items-walk (a .n .strings) (a .n .numbers) (a .n .steps) (a .t .now)) (a .count) (a .k) (a .k + 0) (omega arith))
 
 add-cell-at : tie.Need-add-cell-at Inv-loop μ-loop
 add-cell-at c = omega arith
@@ -34,7 +35,7 @@ cell-at-requires : tie.Need-cell-at-requires Inv-loop μ-loop
 cell-at-requires c κs = omega arith
 
 item-end-requires : tie.Need-item-end-requires Inv-loop μ-loop
-item-end-requires c κs = omega arith
+item-end-requires c κs = search needs
 
 add-i : tie.Need-add-i Inv-loop μ-loop
 add-i c = omega arith
@@ -48,15 +49,15 @@ loop-again c =
     let l = c .before .before .before .loop in
     let a = c .before .before .before .before .before .args in
     let cell = c .before .cell-at .ensures .same in
-    let end = c .item-end .ensures .0 ∙ ap (itemEnd (a .n) (l .known)) cell in
-    let more = walk-more (items-walk (a .n) (a .t .now)) (a .count) (l .i) (a .k + l .i) (a .k + (l .i + 1)) (l .inv .2) (c .before .before .loop-test .taken) (omega arith) end in
+    let end = c .item-end .ensures .0 ∙ ap (itemEnd (a .n .strings) (a .n .numbers) (a .n .steps) (l .known)) cell in
+    let more = walk-more (items-walk (a .n .strings) (a .n .numbers) (a .n .steps) (a .t .now)) (a .count) (l .i) (a .k + l .i) (a .k + (l .i + 1)) (l .inv .2) (c .before .before .loop-test .taken) (omega arith) end in
     (c .item-end .ensures .1, omega arith, more)
 
 returns : tie.Need-returns Inv-loop μ-loop
 returns c =
     let l = c .before .loop in
     let a = c .before .before .before .args in
-    walk-done (items-walk (a .n) (a .t .now)) (a .count) (l .i) (a .k + l .i) (l .inv .2) (c .loop-test .left)
+    walk-done (items-walk (a .n .strings) (a .n .numbers) (a .n .steps) (a .t .now)) (a .count) (l .i) (a .k + l .i) (l .inv .2) (c .loop-test .left)
 
 pub items-end-spec : {M : Type 1} → statement M
 items-end-spec =

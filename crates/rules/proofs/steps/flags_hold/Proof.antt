@@ -1,20 +1,21 @@
 -- `rules::steps::flags_hold` meets its contract.
 -- Assumes nothing.
 use borrow.Author.Tests.{ne-eqb}
-use Rattle.rules.specs.Tests.{flagsTest}
+use Rattle.rules.specs.Codes.{flaggingOf}
+use Rattle.rules.specs.Tests.{flagTest}
 use Rattle.rules.proofs.steps.flags_hold.Statement.{statement}
 use Rattle.rules.proofs.steps.flags_hold.Tie as tie
 
 returns : tie.Need-returns
-unfolding flagsTest
+unfolding flagTest flaggingOf
 returns c = rw (c .if1 .taken)
 
 returns-2 : tie.Need-returns-2
-unfolding flagsTest
+unfolding flagTest flaggingOf
 returns-2 c = rw (c .if2 .taken)
 
 returns-3 : tie.Need-returns-3
-unfolding flagsTest
+unfolding flagTest flaggingOf
 returns-3 c = rw (ne-eqb _ _ (c .before .if1 .left), ne-eqb _ _ (c .if2 .left))
 
 pub flags-hold-spec : {M : Type 1} → statement M

@@ -1,17 +1,16 @@
 -- `rules::steps::numbers_left` meets its contract.
 -- Assumes nothing.
 use borrow.Author.Tests.{ne-eqb}
-use Rattle.rules.specs.Tests.{numbersLeft}
+use mathlib.Core.Path.{sym, _∙_}
+use Rattle.rules.specs.Turns.{left-told}
 use Rattle.rules.proofs.steps.numbers_left.Statement.{statement}
 use Rattle.rules.proofs.steps.numbers_left.Tie as tie
 
 returns : tie.Need-returns
-unfolding numbersLeft
-returns c = rw (c .if1 .taken)
+returns c = sym (left-told _ ∙ rw (c .if1 .taken))
 
 returns-2 : tie.Need-returns-2
-unfolding numbersLeft
-returns-2 c = rw (ne-eqb _ _ (c .if1 .left))
+returns-2 c = sym (left-told _ ∙ rw (ne-eqb _ _ (c .if1 .left)))
 
 pub numbers-left-spec : {M : Type 1} → statement M
 numbers-left-spec = tie.close (tie.spec returns returns-2)

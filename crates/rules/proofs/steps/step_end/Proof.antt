@@ -1,12 +1,13 @@
 -- `rules::steps::step_end` meets its contract.
 -- Assumes nothing.
-use Rattle.calls.specs.Table.{stepsAt}
-use Rattle.rules.specs.Turns.{step-told}
-use Rattle.rules.specs.Tests.{lost, cellsEnd, stepEnd}
 use mathlib.Core.Bool.{cond, _&&_}
 use mathlib.Core.Path.{_≡_, sym, _∙_}
-use Rattle.rules.specs.Turns.{stretches-inside}
+use Prim.Native.Nat.{_%_}
+use Rattle.calls.specs.Table.{stepsAt}
+use Rattle.rules.specs.Codes.{rightingOf}
 use Rattle.rules.specs.Conjunctions.{three}
+use Rattle.rules.specs.Tests.{lost, cellsEnd, stepEnd}
+use Rattle.rules.specs.Turns.{step-told, stretches-inside}
 use borrow.Author.Needs.{needs}
 use Rattle.rules.proofs.steps.step_end.Statement.{statement}
 use Rattle.rules.proofs.steps.step_end.Tie as tie
@@ -19,6 +20,9 @@ add-row-at c = search needs
 
 row-at-requires : tie.Need-row-at-requires
 row-at-requires c κs = search needs
+
+code-of-requires : tie.Need-code-of-requires
+code-of-requires c κs = search needs
 
 stretches-of-requires : tie.Need-stretches-of-requires
 stretches-of-requires c κs = search needs
@@ -34,16 +38,19 @@ stretches-hold-requires c κs = search needs
 
 -- the places behind the step, by the tests of its row
 told : (c : tie.After-stretches-hold)
-    → (let a = c .before .before .before .before .before .before .args in
-    let r = c .before .before .before .before .row-at .result in
+    → (let row = c .before .before in
+    let code = row .before .before .code-of .result in
+    let r = row .before .before .before .row-at .result in
+    let a = row .before .before .before .before .before .args in
     stepEnd (a .n) (a .t .now) (a .k) (a .p)
-    ≡ cond ((c .before .before .row-holds .result && c .before .start-holds .result) && c .stretches-hold .result)
-    (cellsEnd (a .n) (a .t .now) (a .p) (r .kind) (r .left .place) (c .before .before .before .stretches-of .result)) lost)
+    ≡ cond ((row .row-holds .result && c .before .start-holds .result) && c .stretches-hold .result)
+    (cellsEnd (a .n) (a .t .now) (a .p) (rightingOf (code % 10)) (r .left .place) (row .before .stretches-of .result)) lost)
 unfolding stepsAt
 told c =
     let row = c .before .before in
-    let a = row .before .before .before .before .args in
-    step-told (a .n) (a .t .now) (a .k) (a .p) (row .before .before .row-at .ensures .same) (row .before .stretches-of .ensures .0)
+    let code = row .before .before in
+    let a = code .before .before .before .args in
+    step-told (a .n) (a .t .now) (a .k) (a .p) (code .before .row-at .ensures .same) (code .code-of .ensures) (row .before .stretches-of .ensures .0)
     (row .row-holds .ensures) (c .before .start-holds .ensures) (c .stretches-hold .ensures)
 
 cells-end-requires : tie.Need-cells-end-requires
@@ -51,12 +58,13 @@ cells-end-requires c κs =
     let stretches = c .before .stretches-hold in
     let start = c .before .before .start-holds in
     let row = c .before .before .before in
-    let s = row .before .stretches-of in
-    let a = row .before .before .before .before in
+    let code = row .before .before in
+    let a = code .before .before .before in
     let tests = three (row .row-holds .result) (start .result) (stretches .result) (c .if1 .taken) in
-    let r = row .before .before .row-at .result in
-    let inside = stretches-inside (a .args .n) (a .args .p) (r .kind) (r .flag) (s .result) (a .pre .1 .1 .1) (a .pre .1 .1 .0) (sym (stretches .ensures) ∙ tests .2) in
-    (a .pre .0, inside)
+    let inside =
+    stretches-inside (a .args .n) (a .args .p) (rightingOf (code .code-of .result % 10)) (row .before .stretches-of .result) (a .pre .5) (a .pre .4)
+    (sym (stretches .ensures) ∙ tests .2) in
+    (a .pre .0, a .pre .1, inside)
 
 returns : tie.Need-returns
 returns c = (c .cells-end .ensures .0 ∙ sym (rw (c .before .if1 .taken) at (told (c .before .before))), c .cells-end .ensures .1)
@@ -71,6 +79,7 @@ step-end-spec =
     mul-row-at
     add-row-at
     row-at-requires
+    code-of-requires
     stretches-of-requires
     row-holds-requires
     start-holds-requires

@@ -2,29 +2,41 @@
 -- Assumes nothing.
 use mathlib.Core.Path.{_≡_, refl}
 use Prim.Native.Nat.{_+_, _-_, _≤_}
-use borrow.Author.Needs.{needs}
 use native.Mathlib.Omega.{arith}
-use Rattle.rules.specs.Tests.{Room, first, stepsEnd}
+use borrow.Author.Needs.{needs}
+use Rattle.rules.specs.Codes.{cellCodes, rowCodes}
+use Rattle.rules.specs.Tests.{Room, start, stepsEnd}
 use Rattle.rules.specs.Turns.{walk-start, walk-more, walk-done, steps-walk}
 use Rattle.rules.proofs.steps.steps_end.Statement.{statement}
 use Rattle.rules.proofs.steps.steps_end.Tie as tie
 
 abbrev Inv-loop : tie.InvT-loop
-Inv-loop t n p₀ k₀ p k =
-    Room p × (k ≤ n .steps) × (stepsEnd n t 0 first (n .steps) ≡ stepsEnd n t k p (n .steps - k))
+Inv-loop t n cells rows p₀ k₀ p k =
+    (cells ≡ cellCodes)
+    × (rows ≡ rowCodes)
+    × Room p
+    × (k ≤ n .steps)
+    × (stepsEnd n t 0 start (n .steps) ≡ stepsEnd n t k p (n .steps - k))
 
 abbrev μ-loop : tie.MeasureT-loop
-μ-loop t n p₀ k₀ p k = n .steps - k
+μ-loop t n cells rows p₀ k₀ p k = n .steps - k
+
+kind-codes-requires : tie.Need-kind-codes-requires Inv-loop μ-loop
+kind-codes-requires c κs = search needs
+
+row-codes-requires : tie.Need-row-codes-requires Inv-loop μ-loop
+row-codes-requires c κs = search needs
 
 loop-holds : tie.Need-loop-holds Inv-loop μ-loop
 loop-holds c =
-    let a = c .before .args in
-    (search needs, omega arith, walk-start (steps-walk (a .n) (a .t .now)) (a .n .steps) 0 0 refl)
+    let a = c .before .before .before .args in
+    (c .before .kind-codes .ensures, c .row-codes .ensures, search needs, omega arith, walk-start (steps-walk (a .n) (a .t .now)) (a .n .steps) 0 0 refl)
 
 step-end-requires : tie.Need-step-end-requires Inv-loop μ-loop
 step-end-requires c κs =
-    let a = c .before .before .before .before in
-    (a .pre .0, (omega (arith, a .pre .1 .steps, c .if1 .taken), (c .before .before .loop .inv .0, a .pre .1)))
+    let inv = c .before .before .before .before .loop .inv in
+    let a = c .before .before .before .before .before .before .before .before in
+    (a .pre .0, inv .0, inv .1, omega (arith, a .pre .1 .steps, c .before .before .if1 .taken), inv .2, a .pre .1)
 
 add-k : tie.Need-add-k Inv-loop μ-loop
 add-k c = omega arith
@@ -34,20 +46,29 @@ loop-less c = omega arith
 
 loop-again : tie.Need-loop-again Inv-loop μ-loop
 loop-again c =
-    let l = c .before .before .before .loop in
-    let a = c .before .before .before .before .before .args in (
-      c .step-end .ensures .1,
-      omega (arith, c .before .if1 .taken),
-      walk-more (steps-walk (a .n) (a .t .now)) (a .n .steps) (l .k) (l .k) (l .k + 1) (l .inv .2) (c .before .if1 .taken) refl (c .step-end .ensures .0),
-    )
+    let l = c .before .before .before .before .before .loop in
+    let a = c .before .before .before .before .before .before .before .before .before .args in
+    let taken = c .before .before .before .if1 .taken in
+    let more = walk-more (steps-walk (a .n) (a .t .now)) (a .n .steps) (l .k) (l .k) (l .k + 1) (l .inv .4) taken refl (c .step-end .ensures .0) in
+    (l .inv .0, l .inv .1, c .step-end .ensures .1, omega (arith, taken), more)
 
 returns : tie.Need-returns Inv-loop μ-loop
 returns c =
     let l = c .before .before .loop in
-    let a = c .before .before .before .before .args in
-    walk-done (steps-walk (a .n) (a .t .now)) (a .n .steps) (l .k) (l .k) (l .inv .2) (c .if1 .left)
+    let a = c .before .before .before .before .before .before .args in
+    walk-done (steps-walk (a .n) (a .t .now)) (a .n .steps) (l .k) (l .k) (l .inv .4) (c .if1 .left)
 
 pub steps-end-spec : {M : Type 1} → statement M
 steps-end-spec =
     tie.close
-    (tie.spec Inv-loop μ-loop loop-holds step-end-requires add-k loop-less loop-again returns)
+    (tie.spec
+    Inv-loop
+    μ-loop
+    kind-codes-requires
+    row-codes-requires
+    loop-holds
+    step-end-requires
+    add-k
+    loop-less
+    loop-again
+    returns)

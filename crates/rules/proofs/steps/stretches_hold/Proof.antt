@@ -1,10 +1,12 @@
 -- `rules::steps::stretches_hold` meets its contract.
 -- Assumes nothing.
-use mathlib.Core.Path.{refl}
 use Rattle.rules.specs.Tests.{stretchesTest}
 use borrow.Author.Needs.{needs}
 use Rattle.rules.proofs.steps.stretches_hold.Statement.{statement}
 use Rattle.rules.proofs.steps.stretches_hold.Tie as tie
+
+most-more-requires : tie.Need-most-more-requires
+most-more-requires c κs = search needs
 
 add-result : tie.Need-add-result
 add-result c = search needs
@@ -17,7 +19,8 @@ add-result-3 c = search needs
 
 returns : tie.Need-returns
 unfolding stretchesTest
-returns c = refl
+returns c = rw (c .before .before .before .before .before .before .before .before .before .most-more .ensures)
 
 pub stretches-hold-spec : {M : Type 1} → statement M
-stretches-hold-spec = tie.close (tie.spec add-result add-result-2 add-result-3 returns)
+stretches-hold-spec =
+    tie.close (tie.spec most-more-requires add-result add-result-2 add-result-3 returns)

@@ -4,7 +4,7 @@ use native.Mathlib.Omega.{arith}
 use lib.IntN.{ℤ}
 use lib.ListN.{length-set, set}
 use borrow.Author.Needs.{needs}
-use Rattle.base.specs.Edition.{edition1}
+use Rattle.base.specs.Current.{current}
 use Rattle.expressions.specs.Memory.{memoryIn}
 use Rattle.machine.specs.Scanning.{fixedAt, valuedIn}
 use Rattle.rows.specs.Holds.{PatternHolds}
@@ -99,7 +99,7 @@ returns c =
     record {
       put =
           subst (λ (x : PatternElement). PutBy (put .put-value .result) (a .values .now) values (a .rows .now) rows (a .names .now) (set (a .names .now) (a .i) 32)
-          (a .i) (valuedIn edition1 m (patternMeaning (a .table .now) x)))
+          (a .i) (valuedIn current m (patternMeaning (a .table .now) x)))
           (sym (told .x .given .1))
           (value-put (a .values .now) (a .rows .now) rows (a .names .now) (a .i) m (put .put-value .result) values
           (elementMeaning (a .table .now) (told .x .given .0 .0)) (e .put));
@@ -132,7 +132,7 @@ returns-2 c =
     record {
       put =
           subst (λ (x : PatternElement). PutBy (did.Done 0) (a .values .now) (a .values .now) (a .rows .now) rows (a .names .now)
-          (set (a .names .now) (a .i) place) (a .i) (valuedIn edition1 m (patternMeaning (a .table .now) x)))
+          (set (a .names .now) (a .i) place) (a .i) (valuedIn current m (patternMeaning (a .table .now) x)))
           (sym (told .x2 .given .1))
           (free-put (a .values .now) (a .rows .now) rows (a .names .now) (a .i) m place (holds .place) (put .put-row .ensures));
       buffers =
@@ -167,7 +167,7 @@ returns-3 c =
     record {
       put =
           subst (λ (x : PatternElement). PutBy (did.Done (put .put-fixed .result)) (a .values .now) (a .values .now) (a .rows .now) rows (a .names .now)
-          names (a .i) (valuedIn edition1 m (patternMeaning (a .table .now) x)))
+          names (a .i) (valuedIn current m (patternMeaning (a .table .now) x)))
           (sym (told .x3 .given .1))
           (subst (λ (z : ℤ). Put (a .values .now) (a .values .now) (a .rows .now) rows (a .names .now) names (a .i) (put .put-fixed .result) (fixedAt place z))
           (valued .length-value .ensures (a .store .now) .value)

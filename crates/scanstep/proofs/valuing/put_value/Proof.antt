@@ -1,7 +1,7 @@
 -- `valuing::put_value` meets its contract: the value that was appended to an empty buffer is put into the row. Assumes nothing.
 use mathlib.Core.Path.{subst}
 use borrow.Author.Needs.{needs}
-use Rattle.base.specs.Edition.{edition1}
+use Rattle.base.specs.Current.{current}
 use Rattle.convert.specs.declared.Text.{Text}
 use Rattle.expressions.specs.Appending.{Added}
 use Rattle.expressions.specs.Memory.{memoryIn}
@@ -25,7 +25,7 @@ put-string-requires c κs =
     let a = s .args in
     let adds =
     subst (λ (r : Text). Added r (a .out .now) (added .append-element .last .1 .1 .1 .1 .1 .0) 0
-    (elementIn edition1 (memoryIn (a .store .now) (a .state .now)) (elementMeaning (a .table .now) (a .x))))
+    (elementIn current (memoryIn (a .store .now) (a .state .now)) (elementMeaning (a .table .now) (a .x))))
     (told .length .given .1) (added .append-element .ensures .0 .added) in
     record {
       strings = s .pre .strings;
@@ -51,7 +51,7 @@ returns c =
     let added = told .before .before in
     let s = added .before .before .before .before .before .before .before in
     let a = s .args in
-    let work = elementIn edition1 (memoryIn (a .store .now) (a .state .now)) (elementMeaning (a .table .now) (a .x)) in
+    let work = elementIn current (memoryIn (a .store .now) (a .state .now)) (elementMeaning (a .table .now) (a .x)) in
     let after = added .append-element .last .1 .1 .1 .1 .1 .0 in
     let adds = subst (λ (r : Text). Added r (a .out .now) after 0 work) (told .length .given .1) (added .append-element .ensures .0 .added) in
     record {
@@ -73,7 +73,7 @@ returns-2 c =
     let added = told .before .before in
     let s = added .before .before .before .before .before .before .before in
     let a = s .args in
-    let work = elementIn edition1 (memoryIn (a .store .now) (a .state .now)) (elementMeaning (a .table .now) (a .x)) in
+    let work = elementIn current (memoryIn (a .store .now) (a .state .now)) (elementMeaning (a .table .now) (a .x)) in
     let after = added .append-element .last .1 .1 .1 .1 .1 .0 in
     record {
       put = subst (λ (r : Text). Added r (a .out .now) after 0 work) (told .k .given .1) (added .append-element .ensures .0 .added);

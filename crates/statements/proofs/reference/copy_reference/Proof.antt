@@ -6,6 +6,7 @@ use native.Mathlib.Omega.{arith}
 use lib.ListN.{length, take, drop}
 use Rattle.base.specs.ListLaws.{stretch-few}
 use Rattle.calls.specs.BufferLaws.{good-short}
+use Rattle.calls.specs.Buffers.{storeSize}
 use Rattle.calls.specs.Splices.{splice}
 use Rattle.machine.specs.Scanning.{turned}
 use Rattle.rows.specs.Meaning.{directionMeaning}
@@ -31,7 +32,7 @@ record Inside (c : tie.After-string-start) : Type 0 where
   order : c .before .before .args .from ≤ c .before .before .args .to
   short : c .before .before .args .to ≤ 1024
   end : c .string-start .result + c .before .before .args .to ≤ length (c .before .before .args .store .now)
-  small : c .string-start .result + c .before .before .args .to ≤ 32832
+  small : c .string-start .result + c .before .before .args .to ≤ storeSize
 
 inside : (c : tie.After-string-start) → Inside c
 inside c =

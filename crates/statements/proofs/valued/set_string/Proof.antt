@@ -5,7 +5,7 @@ use Prim.Native.Nat.{ℕ, min}
 use native.Mathlib.Nat.{min-le-right}
 use native.Mathlib.Omega.{arith}
 use lib.IntN.{natAbs}
-use Rattle.base.specs.Edition.{edition1}
+use Rattle.base.specs.Current.{current}
 use Rattle.expressions.specs.Memory.{memoryIn}
 use Rattle.machine.specs.Step.{setStringIn}
 use Rattle.rows.specs.Holds.{PartHolds}
@@ -61,7 +61,7 @@ returns c =
     record {
       leaves = (
         stays-same (a .store .now) (s .pre .0 .ready .strings),
-        ap (λ p. setStringIn edition1 m (partMeaning p) (elementsMeaning (a .table .now) (a .s))) (told .1)
+        ap (λ p. setStringIn current m (partMeaning p) (elementsMeaning (a .table .now) (a .s))) (told .1)
             ∙ first-none (a .table .now) (a .store .now) (a .state .now) (told .0 .0) (a .s) n below,
       );
       spare = s .pre .0 .spare;
@@ -107,7 +107,7 @@ returns-2 c =
     let told = measured .before .before .before .p .given in
     let m = memoryIn (a .store .now) (a .state .now) in
     stored-as _ (a .store .now) _ (a .state .now) _ _ _ _
-    (ap (λ p. setStringIn edition1 m (partMeaning p) (elementsMeaning (a .table .now) (a .s))) (told .1)
+    (ap (λ p. setStringIn current m (partMeaning p) (elementsMeaning (a .table .now) (a .s))) (told .1)
     ∙ whole-between (a .table .now) (a .store .now) (a .state .now) (told .0 .0) (a .s)
     ∙ ap (λ (n : ℕ). storedBetween (a .table .now) (a .store .now) (a .state .now) (told .0 .0) 0 n (a .s))
     (sym (measured .string-length .ensures .0)))
@@ -129,7 +129,7 @@ returns-3 c =
     let gives = valued .length-value .ensures (a .store .now) in
     let natural = negative-as gives (sized .before .before .is-negative .ensures) (sized .before .if1 .left) in
     stored-as _ (a .store .now) _ (a .state .now) _ _ _ _
-    (ap (λ p. setStringIn edition1 m (partMeaning p) (elementsMeaning (a .table .now) (a .s))) (told .1)
+    (ap (λ p. setStringIn current m (partMeaning p) (elementsMeaning (a .table .now) (a .s))) (told .1)
     ∙ first-between (a .table .now) (a .store .now) (a .state .now) (told .0 .0) (a .s) n natural
     ∙ ap (λ (j : ℕ). storedBetween (a .table .now) (a .store .now) (a .state .now) (told .0 .0) 0 j (a .s))
     (sym

@@ -5,6 +5,7 @@ use mathlib.Core.Path.{_≡_, refl, ap, _∙_}
 use Prim.Native.Nat.{ℕ, _+_, _*_, _-_}
 use native.Mathlib.Omega.{arith}
 use lib.ListN.{take, drop}
+use Rattle.calls.specs.Kinds.{literalKind}
 use Rattle.calls.specs.Table as Table
 use Rattle.met.specs.Elements.{withElement, withLiterals}
 use borrow.Author.Needs.{needs}
@@ -58,7 +59,7 @@ returns c =
       goes = refl;
       written =
           c .before .before .before .before .before .put-element .ensures
-          ∙ ap (λ (t : List ℕ). withElement t (a .c .elements) (Table.cell 16 0 (a .c .literals + 65_536 * a .n)))
+          ∙ ap (λ (t : List ℕ). withElement t (a .c .elements) (Table.cell (literalKind .number) 0 (a .c .literals + 65_536 * a .n)))
           (c .before .before .before .before .before .before .before .before .before .before .put-literals .ensures
           ∙ ap (λ (j : ℕ). withLiterals (a .table .now) (a .c .literals) (take j (drop (a .c .at + 1) (a .text .now)))) size);
     }
