@@ -1,4 +1,7 @@
--- Every count and length that document 01 fixes once and for all, named here once. Assumes nothing.
+-- The counts and lengths that document 01 fixes for every edition, named here once. Named elsewhere: what an edition fixes (Edition); the columns
+-- of a card (cards/Cards) and the 8 bytes of a name (language/Words: nameLength); the sizes of a cell and of the store (calls/Buffers); what the
+-- program keeps, lends and runs (calls/Strigol). The team's own are those of its layouts (calls/Table, calls/Buffers, scanning/Call) and the
+-- numbers that may wait in an expression (calls/Rules: mostWaiting). Assumes nothing.
 use Prim.Native.Nat.{ℕ}
 
 -- Q10 "256 statements, 32 strings, 32 numbers, 64 labels or 16 routines declared"

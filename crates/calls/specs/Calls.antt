@@ -150,7 +150,7 @@ returned r =
 unfoldable pub runEnded : Outcome → ℕ → Buffers → RunCalled
 runEnded o n b = record { outcome = o; number = n; steps = 0; notes = 0; left = b }
 
--- R6 "A finishing or stopping step counts as done, one turned down doesn't."
+-- R6 "A finishing or stopping step counts as done, one turned down doesn't."; the answer has its notes at place 3 (scanning/Call: splitNumbers)
 unfoldable pub withStep : StepCalled → RunCalled → RunCalled
 withStep s r =
     record {
@@ -161,7 +161,8 @@ withStep s r =
       left = r .left;
     }
 
--- a run behind a step, from how the step ended and what the rest of the run would come to
+-- A run behind a step, from how the step ended and what the rest of the run would come to: 17 to 21 stopped it; any other number but 0, so 2 or
+-- 13 to 16, turned it down; with 0 the state's first number tells its status, and 1 is finished (calls/Buffers: statusNumber).
 unfoldable pub runBehind : StepCalled → RunCalled → RunCalled
 runBehind s rest =
     cond (stopsStep (s .number)) (withStep s (runEnded STOPPED (s .number) (s .left)))

@@ -53,7 +53,9 @@ module _ (e : Edition) where
   unfoldable pub textOf : List ℕ → List ℕ
   textOf line = drop 9 (e .columns line)
 
-  -- C5, Q3: a line joined to the statement that comes behind it, whose label is ignored; "a joined line is a comment, blank or missing"
+  -- C5, Q3: a line in front of what the lines behind it make up: the deck is gone through from its last line back. The first statement there
+  -- is taken in, and its label is ignored; it is unsound where "a joined line is a comment, blank or missing". A `/` line that is joined makes it
+  -- unsound too, and joins no line itself: what comes behind it is a statement of its own.
   unfoldable pub joined : ℕ → List ℕ → List Unpacked → List Unpacked
   joined n line [] = statement n false (labelOf line) (textOf line) ∷ []
   joined n line (skipped c s ∷ rest) = statement n false (labelOf line) (textOf line) ∷ (skipped c s ∷ rest)

@@ -83,7 +83,7 @@ pub fn set_string(
     move_on(state, next, did)
 }
 
-// GOTO, LABEL and ROUTINE: on to a step
+// GOTO to the step of its label, and ROUTINE to the one behind its ENDROUTINE
 pub fn go_to(state: &mut [u64; STATE_SIZE], k: usize) -> Did
     ensures { λ r. ⌜ ((store input output : List ℕ) → Does (Program.goto k) r
         (buffers store (now (state .entry)) output) (buffers store (now (state .exit)) output) input) ⌝ }

@@ -40,7 +40,8 @@ judgeFrom e k (statement card sound label whole text ∷ rest) =
     let n = statementNumber k kind sound form in
     elim (eqb n 0) [ true ↦ judgeFrom e (learn k kind (metBy form)) rest | false ↦ refused n card ]
 
--- Q11 "A label or routine used is undefined, or a branch crosses a routine's border."
+-- Q11 "A label or routine used is undefined, or a branch crosses a routine's border."; S10 "A branch stays inside its routine, or outside all
+-- of them.": a label of that name must stand in the scope it is used in; a routine may be declared anywhere
 unfoldable pub is11 : Known → Bool
 is11 k =
     any (λ u. not (any (λ l. same (u .name) (l .name) && same (u .scope) (l .scope)) (k .labels))) (k .branches)
@@ -98,7 +99,9 @@ stepRead card (got (some s) m rest) = record { card = card; statement = s } ∷ 
 stepRead card (got none m rest) = []
 stepRead card broken = []
 
--- the steps from number n on
+-- The steps from number n on, of entries that passed: they are read a second time, with what is known of the whole deck. Each is read as it was
+-- judged. Places change only the numbers in a statement, not its form or what it meets (language/Alike); and a bare name before `=` that is a
+-- number in the end was one already, or 6 would have found its second purpose. (Law judgement/Placed/Again: passed-again.)
 unfoldable pub stepsFrom : Edition → Known → ℕ → List Entry → List Step
 stepsFrom e k n [] = []
 stepsFrom e k n (skipped card sound ∷ rest) = stepsFrom e k n rest

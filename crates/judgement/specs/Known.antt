@@ -101,6 +101,7 @@ unfoldable pub closed : ℕ → List Routine → List Routine
 closed s [] = []
 closed s (r ∷ rs) = record { name = r .name; entry = r .entry; exit = s } ∷ rs
 
+-- S8 "A ROUTINE statement stands outside its routine, ENDROUTINE inside.": the scope changes behind them
 unfoldable pub scopeAfter : Kind → List (List ℕ) → List ℕ → List ℕ
 scopeAfter kind [] scope = cond (sameKind kind ENDROUTINE) [] scope
 scopeAfter kind (n ∷ ns) scope = n

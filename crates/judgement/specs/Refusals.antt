@@ -97,7 +97,8 @@ is9 k kind =
     || ((sameKind kind RETURN || sameKind kind ENDROUTINE) && outside)
 
 -- Q10 "A count passes 256 statements, 32 strings, 32 numbers, 64 labels or 16 routines declared, 20 elements in an expression, 1,024
--- elements, 1,024 operands and `+ - * /` in numeric expressions, or 4,096 literal bytes.", with the statement that met these
+-- elements, 1,024 operands and `+ - * /` in numeric expressions, or 4,096 literal bytes.": the counts are those behind the statement, not before
+-- it. k is what is known with the statement (metNumber), m what the statement met by itself.
 unfoldable pub is10 : Known → Met → Bool
 is10 k m =
     ltb Limits.statements (k .statements)

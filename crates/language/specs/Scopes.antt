@@ -22,7 +22,7 @@ use Rattle.language.specs.Program.{
 
 -- the routine that each step stands in, by name (outside all routines the name is empty), and which routine executes which
 module _ (scope : ℕ → List ℕ) (Executes : (first second : List ℕ) → Type 0) where
-  -- Q11 no branch "crosses a routine's border": a step in the scope of another
+  -- S10 "A branch stays inside its routine, or outside all of them.", Q11: a step in the scope of another
   abbrev pub Stays : (here there : ℕ) → Type 0
   Stays here there = scope there ≡ scope here
 

@@ -37,7 +37,9 @@ use Rattle.language.specs.Reading.{
 }
 use Rattle.language.specs.Words.{Places, run, signed, isSign, noRole, numberName, bound, stringName, partName}
 
--- C9 the bytes of a literal behind its first quote: `""` makes the literal of one quote, else all up to the next quote
+-- C9 the bytes of a literal behind its first quote: `""` makes the literal of one quote, else all up to the next quote. It also takes one
+-- without a byte or without its last quote. The guard is cards/Packing: literalsWhole, asked of the statement's text before it was packed: where
+-- it fails the form is broken, whatever is read here (judgement/Refusals: labelled).
 unfoldable pub literalAt : List ℕ → Read (List ℕ)
 literalAt bs = elim (begins (bytes "\"\"") bs) [
   | true ↦ got (quote ∷ []) (aLiteral 1) (drop 2 bs)

@@ -12,7 +12,9 @@ use Rattle.cards.specs.Bytes.{isLetter, isDigit, isNameByte}
 use Rattle.language.specs.Program.{Length, constantly, numbered, Part, whole, first}
 use Rattle.language.specs.Reading.{number, string, Role, Met, naming, Read, got, broken, give, _>>=_}
 
--- the places that names have in the program, and the step behind the one that is read
+-- The places that names have in the program, and the step behind the one that is read. A deck is read twice by the same forms: the first time
+-- it is judged, and all places are 0, for a label or routine may stand further on (judgement/Deck: unplaced); the second time all names are
+-- known (judgement/Deck: placesOf), and the forms give the program.
 pub record Places : Type 0 where
   pub string : List ℕ → ℕ
   pub number : List ℕ → ℕ

@@ -37,7 +37,7 @@ pub record Searched : Type 0 where
   pub reference : List ℕ
   pub behind : List ℕ
 
--- N7 "the reference is turned round"
+-- N7 "the reference is turned round" in a BACKSCAN; turned once more it is as it was, which turns it back (machine/Bounds: turned-twice)
 unfoldable pub turned : Direction → List ℕ → List ℕ
 turned forward r = r
 turned backward r = reverse r
@@ -105,7 +105,8 @@ unfoldable pub storing : ℕ → List ℕ → Memory → Work Memory
 storing s v m = cond (leb (length v) longestString) (quietly (withString m s v)) (stop 20)
 
 -- N5 "replacement, if the statement has `=`, its expression valued now, with the string searched still old and unturned"; N7 "scanned and
--- replaced in, and turned back"
+-- replaced in, and turned back". The value goes in as it is and is turned once, with the reference around it; L14 has "turning the replacement
+-- twice" as a mistake. P9: "ABC" is scanned as "CBA", so X is "C", Y is "BA" and Y,X is "BAC", which turned back is "CAB".
 unfoldable pub replacing : Edition → Direction → Searched → Split → Option (List Program.Element) → Memory → Work Memory
 replacing e d x s none m = quietly m
 replacing e d x s (some xs) m = do
@@ -117,7 +118,8 @@ pub record Left : Type 0 where
   pub memory : Memory
   pub scanned : Scanned
 
--- N8 "Failure leaves fillers null and the reference as it was."
+-- N8 "Failure leaves fillers null and the reference as it was.": m has its fillers made null already, and nothing is stored. Otherwise the pieces
+-- are cut from the reference as it was scanned, in a BACKSCAN turned once, and named so; L14 has "fillers turned back after BACKSCAN" as a mistake.
 unfoldable pub leaving : Edition → Direction → Searched → List Valued → Option (List Program.Element) → Memory → Scanned → Option Split → Work Left
 leaving e d x vs r m a none = quietly (record { memory = m; scanned = a })
 leaving e d x vs r m a (some s) = do

@@ -1,4 +1,6 @@
 -- Document 01, "Scan": the scan step by step, with the trials it makes. A place is what is left of the reference from there.
+-- N9 a group is a row of strings and fixed fillers up to the next free filler or the pattern's end; it is tested whole at one place. Groups in turn
+-- move to the right, the first one by the start, each other one by the length of the free filler before it.
 -- Assumes nothing.
 use mathlib.Core.Bool.{Bool, true, false}
 use mathlib.Core.List.{List, [], _∷_}
@@ -10,7 +12,8 @@ use Rattle.base.specs.Lists.{begins}
 use Rattle.scanning.specs.Splits.{Element, string, fixed, free, Split}
 
 -- How a row of elements fared at a place, each with the trials made: the lengths of the pieces found; N12 "Too few bytes left fails the
--- whole scan; other bytes move the group one place right."
+-- whole scan; other bytes move the group one place right." Further right there are still fewer bytes for the same row, so `few` ends the moves
+-- of this group and of those before it: none of them can fit any more (FirstFit: Says).
 pub data Tried : Type 0 where
   found : List ℕ → ℕ → Tried
   other : ℕ → Tried
@@ -72,6 +75,8 @@ answered (found (start ∷ ls) n) = record { split = some (record { start = star
 answered (other n) = record { split = none; trials = n }
 answered (few n) = record { split = none; trials = n }
 
--- N10 "The first group is tried from place 0"
+-- N10 "The first group is tried from place 0". P8 worked, "AB" by "B","C", which is one group: at place 0 "B" finds other bytes, `other 1`, and
+-- moves on; at place 1 "B" passes and "C" finds no byte left, `few 1` and with the trial of "B" `few 2`. That ends it: with the trial at place 0
+-- `few 3`, so no split and 3 trials.
 unfoldable pub scan : List Element → List ℕ → Scanned
 scan p r = answered (slide (match p) r)

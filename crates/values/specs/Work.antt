@@ -13,7 +13,7 @@ pub data Work (A : Type 0) : Type 0 where
   stop : ℕ → Work A
 
 module _ {A : Type 0} where
-  -- D4 "17 to 21: the first met in order of work": notes add up until then
+  -- so many notes more, where it is done
   unfoldable pub noting : ℕ → Work A → Work A
   noting n (done a m) = done a (n + m)
   noting n (stop k) = stop k
@@ -22,6 +22,8 @@ module _ {A : Type 0} where
   quietly a = done a 0
 
 module _ {A B : Type 0} where
+  -- D4 "17 to 21: the first met in order of work": what is done goes on to what comes next, and their notes add up; what is stopped goes no
+  -- further, so its number is the first met, and the notes are gone
   infixl 20 _>>=_
   unfoldable pub _>>=_ : Work A → (A → Work B) → Work B
   done a n >>= next = noting n (next a)
