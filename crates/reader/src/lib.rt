@@ -88,8 +88,7 @@ fn read_deck(deck: &[u8], table: &mut [u8]) -> Verdict
 }
 
 // The deck call: 0 with the deck's program in the table; or a number and its card, the table zeroed, by 1 and 2 left as it was.
-#[no_mangle]
-pub extern "C" fn strigol_read(deck: &[u8], table: &mut [u8], card: &mut u32) -> u32
+pub fn strigol_read(deck: &[u8], table: &mut [u8], card: &mut u32) -> u32
     ensures { λ r. ⌜ ReadPromise current (now (deck .entry)) (now (table .entry)) (readBack r (now (card .exit)) (now (table .exit))) ⌝ }
 {
     *card = 0;

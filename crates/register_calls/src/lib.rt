@@ -72,8 +72,7 @@ fn open_old(buffer: &mut [u8], n: usize, currency: &[u8])
 }
 
 // Opens the register, or opens it again.
-#[no_mangle]
-pub extern "C" fn strigol_register_open(buffer: &mut [u8], currency: &[u8]) -> u32
+pub fn strigol_register_open(buffer: &mut [u8], currency: &[u8]) -> u32
     ensures { λ r. ⌜ OpenPromise (now (buffer .entry)) (now (currency .entry)) (bufferBack r (now (buffer .exit))) ⌝ }
 {
     if !is_currency(currency) {
@@ -147,8 +146,7 @@ fn offer_to(buffer: &mut [u8], line: &[u8], n: usize, keys: &[u64]) -> u32
 }
 
 // Offers a line to the register.
-#[no_mangle]
-pub extern "C" fn strigol_register_offer(buffer: &mut [u8], line: &[u8]) -> u32
+pub fn strigol_register_offer(buffer: &mut [u8], line: &[u8]) -> u32
     ensures { λ r. ⌜ OfferPromise (now (buffer .entry)) (now (line .entry)) (bufferBack r (now (buffer .exit))) ⌝ }
 {
     let mut keys = [0; LINES];
@@ -172,8 +170,7 @@ fn put_line(buffer: &[u8], place: usize, line: &mut [u8; LINE_SIZE]) -> usize
 }
 
 // Hands out the line of a place.
-#[no_mangle]
-pub extern "C" fn strigol_register_line(
+pub fn strigol_register_line(
     buffer: &[u8],
     place: u64,
     line: &mut [u8; LINE_SIZE],

@@ -271,8 +271,7 @@ fn put_report(buffer: &[u8], n: usize, output: &mut [u8], length: &mut u32) -> u
 }
 
 // Puts the closing report of the register.
-#[no_mangle]
-pub extern "C" fn strigol_register_report(buffer: &[u8], output: &mut [u8], length: &mut u32) -> u32
+pub fn strigol_register_report(buffer: &[u8], output: &mut [u8], length: &mut u32) -> u32
     ensures { λ r. ⌜ ReportPromise (now (buffer .entry)) (now (output .entry)) (reportBack r (now (output .exit)) (now (length .exit))) ⌝ }
 {
     let mut keys = [0; LINES];

@@ -397,8 +397,7 @@ fn scan_rows(
 }
 
 // The scan call: 0 and the scan's answer, or 22, 23 or 24 and no split.
-#[no_mangle]
-pub extern "C" fn strigol_scan(
+pub fn strigol_scan(
     reference: &[u8],
     values: &[u8],
     elements: &[u8],

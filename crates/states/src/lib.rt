@@ -180,8 +180,7 @@ pub fn start(state: &mut [u64; STATE_SIZE])
 }
 
 // The starting call: the state before the first step, and the store zeroed; 14 if the store is too small, which then stays.
-#[no_mangle]
-pub extern "C" fn strigol_start(store: &mut [u8], state: &mut [u64; STATE_SIZE]) -> u32
+pub fn strigol_start(store: &mut [u8], state: &mut [u64; STATE_SIZE]) -> u32
     ensures { λ r. ⌜ StartPromise (now (store .entry)) (startBack r (now (store .exit)) (now (state .exit))) ⌝ }
 {
     start(state);

@@ -258,8 +258,7 @@ pub fn unfit(
 }
 
 // The step call: a run of one step.
-#[no_mangle]
-pub extern "C" fn strigol_step(
+pub fn strigol_step(
     table: &[u8],
     store: &mut [u8],
     state: &mut [u64; STATE_SIZE],

@@ -108,8 +108,7 @@ pub fn repeat(
 }
 
 // The run call: so many steps at most. A run of more is a run again on what the last one left.
-#[no_mangle]
-pub extern "C" fn strigol_run(
+pub fn strigol_run(
     table: &[u8],
     store: &mut [u8],
     state: &mut [u64; STATE_SIZE],
