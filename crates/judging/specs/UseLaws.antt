@@ -7,7 +7,7 @@ use native.Mathlib.Nat.{add-zero}
 use native.Mathlib.Omega.{arith}
 use lib.Dec.{eqb}
 use lib.ListN.{length, take, drop, getD, set, length-set, length-append, length-drop}
-use lib.Seq.{getD-set-same, getD-set-other, take-set-le, take-set-lt, drop-set-lt, drop-set-add, drop-at, drop-length, take-all, length-take-le}
+use lib.Seq.{getD-set-same, getD-set-other, take-set-le, take-set-lt, drop-set-lt, drop-set-add, drop-at, drop-length, length-take-le}
 use borrow.Author.Tests.{ne-eqb}
 use borrow.Rule.Slice.PartMut.{midOf, putMid, take-put}
 use Rattle.base.specs.Lists.{keep}
@@ -17,6 +17,7 @@ use Rattle.met.specs.Contracts.{namesRoom}
 use Rattle.met.specs.Entries.{Entry, entry, nameOf, gather, usedBy}
 use Rattle.met.specs.From.{valuesFrom, from-last}
 use Rattle.met.specs.Holding.{usesFrom}
+use Rattle.naming.specs.ArrayLaws.{rest-whole}
 use Rattle.naming.specs.Arrays.{entryIn, metFrom, arrays}
 use Rattle.judging.specs.NamesFor.{used-label, used-routine, made-next}
 use Rattle.judging.specs.Uses.{UseArrays, inParts, heldUses, usesPut, usesTo, Spacious, useOf, usesBy, UsedOne, Used}
@@ -188,10 +189,7 @@ module _ (u₀ : UseArrays) (n scope : ℕ) (keys tags : List ℕ) (met : ℕ) w
       let all : i ≡ met = omega (arith, v .inside) in
       subst (λ m. Used u₀ n scope (metFrom keys tags 0 m) u′ r) all (v .so)
 
--- what stands behind the names, lent and given back
-rest-whole : (l : List ℕ) → take (length l - namesRoom) (drop namesRoom l) ≡ drop namesRoom l
-rest-whole l = take-all (length l - namesRoom) (drop namesRoom l) (omega (arith, length-drop namesRoom l))
-
+-- what stands behind the names is given back
 rest-new : (l u : List ℕ) → namesRoom ≤ length l → drop namesRoom (putMid namesRoom (length l - namesRoom) l u) ≡ u
 rest-new l u long =
     drop-at (take namesRoom l) (u ++ drop (length l - namesRoom) (drop namesRoom l)) namesRoom (length-take-le namesRoom l long)
@@ -207,9 +205,9 @@ module _ (known symbols purposes : List ℕ) where
   uses-lent =
       λ t.
       record {
-        keys = take namesRoom (rest-whole symbols t);
-        scopes = drop namesRoom (rest-whole symbols t);
-        purposes = rest-whole purposes t;
+        keys = take namesRoom (rest-whole namesRoom symbols t);
+        scopes = drop namesRoom (rest-whole namesRoom symbols t);
+        purposes = rest-whole namesRoom purposes t;
       }
 
   pub spacious-lent : {n : ℕ} → Spacious (heldUses (arrays known symbols purposes)) n → Spacious lent n

@@ -37,7 +37,8 @@ pub fn note_uses(
     met: usize,
 ) -> usize
     requires { ⌜ Spacious (inParts (now uses) (now purposes)) (n + met) × Sized (now keys) (now tags) met ⌝ }
-    ensures { λ r. ⌜ Used (inParts (now (uses .entry)) (now (purposes .entry))) n scope (metFrom (now (keys .entry)) (now (tags .entry)) 0 met) (inParts (now (uses .exit)) (now (purposes .exit))) r ⌝ }
+    ensures { λ r. ⌜ Used (inParts (now (uses .entry)) (now (purposes .entry))) n scope (metFrom (now (keys .entry)) (now (tags .entry)) 0 met)
+        (inParts (now (uses .exit)) (now (purposes .exit))) r ⌝ }
 {
     let mut count = n;
     let mut i: usize = 0;

@@ -2,11 +2,11 @@
 use mathlib.Core.Bool.{Bool, _||_, or-comm, or-false}
 use mathlib.Core.List.{List, [], _∷_, _++_}
 use mathlib.Core.Path.{_≡_, refl, _∙_, ap, ap₂}
-use Prim.Native.Nat.{ℕ, zero, suc, _+_, _*_, _<_}
+use Prim.Native.Nat.{ℕ, zero, suc, _+_, _-_, _*_, _<_}
 use native.Mathlib.Omega.{arith}
 use lib.Dec.{eqb}
 use lib.ListN.{length, take, drop, getD, length-drop}
-use lib.Seq.{take-at, drop-at}
+use lib.Seq.{take-at, drop-at, take-all}
 use Rattle.base.specs.Lists.{same, any}
 use Rattle.judgement.specs.Known.{Label}
 use Rattle.judgement.specs.Names.{any-append}
@@ -26,6 +26,10 @@ two-regions l e = omega (arith, length-drop namesRoom l)
 
 pub three-regions : (l : List ℕ) → length (drop namesRoom (drop namesRoom l)) ≡ namesRoom → length l ≡ 3 * namesRoom
 three-regions l e = omega (arith, two-regions (drop namesRoom l) e, length-drop namesRoom l)
+
+-- what stands from a place on, as it is lent
+pub rest-whole : (n : ℕ) (l : List ℕ) → take (length l - n) (drop n l) ≡ drop n l
+rest-whole n l = take-all (length l - n) (drop n l) (omega (arith, length-drop n l))
 
 -- other names in front
 pub names-put : (known symbols purposes keys purposes′ : List ℕ) → length keys ≡ namesRoom → length purposes′ ≡ namesRoom
