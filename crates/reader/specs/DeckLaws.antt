@@ -187,22 +187,22 @@ module _ {deck : List ℕ} {a : Arrays} (p : Passed deck a) where
 
 -- the uses as they are lent
 module _ (known symbols purposes : List ℕ) where
-  abbrev keys : List ℕ
-  keys = take namesRoom (drop namesRoom symbols)
+  abbrev pub keysLent : List ℕ
+  keysLent = take namesRoom (drop namesRoom symbols)
 
-  abbrev scopesLent : List ℕ
-  scopesLent = take (length symbols - (2 * namesRoom)) (drop (2 * namesRoom) symbols)
+  abbrev pub scopesLent : List ℕ
+  scopesLent = take (length symbols - 2 * namesRoom) (drop (2 * namesRoom) symbols)
 
-  abbrev purposesLent : List ℕ
+  abbrev pub purposesLent : List ℕ
   purposesLent = take (length purposes - namesRoom) (drop namesRoom purposes)
 
   scopes-same : scopesLent ≡ drop namesRoom (drop namesRoom symbols)
   scopes-same = rest-whole (2 * namesRoom) symbols ∙ sym (drop-drop namesRoom namesRoom symbols)
 
-  pub lent-closable : ClosableIn (arrays known symbols purposes) → Closable known keys scopesLent purposesLent
+  pub lent-closable : ClosableIn (arrays known symbols purposes) → Closable known keysLent scopesLent purposesLent
   lent-closable p =
-      subst (λ s. Closable known keys s purposesLent) (sym scopes-same)
-      (subst (Closable known keys (drop namesRoom (drop namesRoom symbols))) (sym (rest-whole namesRoom purposes)) p)
+      subst (λ s. Closable known keysLent s purposesLent) (sym scopes-same)
+      (subst (Closable known keysLent (drop namesRoom (drop namesRoom symbols))) (sym (rest-whole namesRoom purposes)) p)
 
-  pub lent-held : closedBy (heldIn known keys scopesLent purposesLent) ≡ closedIn (arrays known symbols purposes)
-  lent-held = ap₂ {C = Verdict} (λ s p. closedBy (heldIn known keys s p)) scopes-same (rest-whole namesRoom purposes)
+  pub lent-held : closedBy (heldIn known keysLent scopesLent purposesLent) ≡ closedIn (arrays known symbols purposes)
+  lent-held = ap₂ {C = Verdict} (λ s p. closedBy (heldIn known keysLent s p)) scopes-same (rest-whole namesRoom purposes)

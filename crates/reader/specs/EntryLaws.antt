@@ -164,7 +164,6 @@ module _ {deck : List ℕ} {from : ℕ} {text : List ℕ} {e : Gathered} (g : Ga
       record {
         refuses = λ z card k h. refuses-entry a a′ number n card k h z;
         goes = λ z card k h. goes-entry a a′ number n card k h z;
-        onward = g .onward;
         paced = g .paced;
         inside = g .inside;
       }

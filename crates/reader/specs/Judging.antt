@@ -102,7 +102,6 @@ pub record EntryJudged (deck : List ℕ) (from : ℕ) (e : Gathered) (a : Arrays
   pub refuses : (r ≡ 0 → ⊥) → (card : ℕ) (k : Known) → Holds a from k
       → judgeFrom current k (entriesFrom current card (Cards.lines (drop from deck))) ≡ Deck.Judged.refused r card
   pub goes : r ≡ 0 → (card : ℕ) (k : Known) → Holds a from k → Going deck from card k (e .lines) (e .next) a′
-  pub onward : from < e .next
   pub paced : from + e .lines ≤ e .next
   pub inside : e .next ≤ length deck + 1
 

@@ -30,6 +30,9 @@ ghost use Rattle.naming.specs.Arrays.{arrays};
 ghost use Rattle.packer.specs.Packs.{longestText};
 ghost use Rattle.reader.specs.Judging.{Lent, Stays, startAt, Readied, Entered, PackedNumbered, EntryNumbered, endedIn, ClosableIn, closedIn, StatementsJudged, DeckJudged};
 
+// where the uses' scopes stand among the symbols, behind the names and the uses
+const SCOPES: usize = 2 * NAMES;
+
 // a number with its card, 0 if the deck passes
 pub struct Verdict {
     pub number: u32,
@@ -157,9 +160,6 @@ fn judge_statements(
     }
     ended(known)
 }
-
-// where the uses' scopes stand among the symbols, behind the names and the uses
-const SCOPES: usize = 2 * NAMES;
 
 // 11 and 12 of a deck whose statements passed
 fn closed(known: &[u64; KNOWN], symbols: &[u64], purposes: &[u8]) -> Verdict
