@@ -1,7 +1,6 @@
 // Which routine executes which, by their places: place i executes place j where pair 17 × i + j is true.
 // Assumes nothing.
 use met::KNOWN;
-use met::NAMES;
 use met::places::ROUTINE_KEYS;
 use met::places::USE_COUNT;
 use met::tags::ROUTINE;
@@ -46,9 +45,9 @@ fn note_use(known: &[u64; KNOWN], count: usize, pairs: &mut [bool; PAIRS], scope
 pub fn executed_pairs(
     known: &[u64; KNOWN],
     count: usize,
-    use_keys: &[u64; NAMES],
-    use_scopes: &[u64; NAMES],
-    use_purposes: &[u8; NAMES],
+    use_keys: &[u64],
+    use_scopes: &[u64],
+    use_purposes: &[u8],
 ) -> [bool; PAIRS]
     requires { ⌜ Closable (now known) (now use_keys) (now use_scopes) (now use_purposes) ⌝ }
     requires { ⌜ count ≤ 17 ⌝ }

@@ -7,7 +7,6 @@ pub mod rounds;
 use defined::is_lost;
 use executed::executed_pairs;
 use met::KNOWN;
-use met::NAMES;
 use met::places::ROUTINE_COUNT;
 use met::places::USE_COUNT;
 use rounds::comes_back;
@@ -19,9 +18,9 @@ ghost use Rattle.judgement.specs.Deck.{is11, is12};
 // 11: whether a label or routine used is undefined, or a branch crosses a routine's border
 pub fn undefined_or_crossing(
     known: &[u64; KNOWN],
-    use_keys: &[u64; NAMES],
-    use_scopes: &[u64; NAMES],
-    use_purposes: &[u8; NAMES],
+    use_keys: &[u64],
+    use_scopes: &[u64],
+    use_purposes: &[u8],
 ) -> bool
     requires { ⌜ Closable (now known) (now use_keys) (now use_scopes) (now use_purposes) ⌝ }
     ensures { λ r.
@@ -41,9 +40,9 @@ pub fn undefined_or_crossing(
 // 12: whether a routine executes itself, directly or through others; of a deck that 11 does not turn down
 pub fn executes_itself(
     known: &[u64; KNOWN],
-    use_keys: &[u64; NAMES],
-    use_scopes: &[u64; NAMES],
-    use_purposes: &[u8; NAMES],
+    use_keys: &[u64],
+    use_scopes: &[u64],
+    use_purposes: &[u8],
 ) -> bool
     requires { ⌜ Closable (now known) (now use_keys) (now use_scopes) (now use_purposes) ⌝ }
     ensures { λ r.

@@ -27,6 +27,7 @@ use Rattle.met.specs.declared.Cursor.{Cursor}
 use Rattle.numeric.specs.Operands.{Noting}
 use Rattle.forms.specs.declared.Form as FormCode
 use Rattle.forms.specs.declared.Form.{Form}
+use Rattle.packer.specs.Keys.{LabelKey}
 use Rattle.packer.specs.Letters.{letters}
 use Rattle.packer.specs.Packs.{longestText}
 
@@ -93,8 +94,10 @@ abbrev pub StatementFormRead : (text known table keys tags : List ℕ) (c : Curs
 StatementFormRead text known table keys tags c =
     FormRead (letters text) table keys tags c (statementForm current (numberIn known) (placesIn known) text)
 
--- the statement with its label: one name more
-abbrev pub StatementRead : (labelBytes : List ℕ) (whole : Bool) (text known table keys tags : List ℕ) (c : Cursor) → Form
+-- the statement with its label, of any bytes that have the label's key: one name more
+abbrev pub StatementRead : (label : ℕ) (whole : Bool) (text known table keys tags : List ℕ) (c : Cursor) → Form
     → (table′ keys′ tags′ : List ℕ) → Type 0
-StatementRead labelBytes whole text known table keys tags c =
-    FormRead (letters text + 1) table keys tags c (readStatement current (numberIn known) (placesIn known) labelBytes whole text)
+StatementRead label whole text known table keys tags c r table′ keys′ tags′ =
+    (labelBytes : List ℕ) → LabelKey labelBytes label
+    → FormRead (letters text + 1) table keys tags c (readStatement current (numberIn known) (placesIn known) labelBytes whole text) r
+    table′ keys′ tags′

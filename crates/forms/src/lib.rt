@@ -27,15 +27,13 @@ use steps::scan_form;
 use steps::target_form;
 use words::keywords::Kind;
 use words::keywords::leading;
-ghost use mathlib.Core.List.{List};
 ghost use mathlib.Core.Path.{_≡_};
-ghost use Prim.Native.Nat.{ℕ, _≤_};
+ghost use Prim.Native.Nat.{_≤_};
 ghost use lib.ListN.{length};
 ghost use Rattle.base.specs.Current.{tableSize};
 ghost use Rattle.forms.specs.Contracts.{Starts, StatementFormRead, StatementRead};
 ghost use Rattle.forms.specs.Labels.{nameShown};
 ghost use Rattle.met.specs.Known.{Counted};
-ghost use Rattle.packer.specs.Keys.{LabelKey};
 
 // the form is broken; or the statement is no step, or a step with its row, read up to this cursor
 pub enum Form {
@@ -56,7 +54,8 @@ pub fn read_form(
     requires { ⌜ Starts (now text) (now keys) (now tags) c ⌝ }
     requires { ⌜ Counted (now known) ⌝ }
     requires { ⌜ tableSize ≤ length (now table) ⌝ }
-    ensures { λ r. ⌜ StatementFormRead (now (text .entry)) (now (known .entry)) (now (table .entry)) (now (keys .entry)) (now (tags .entry)) c r (now (table .exit)) (now (keys .exit)) (now (tags .exit)) ⌝ }
+    ensures { λ r. ⌜ StatementFormRead (now (text .entry)) (now (known .entry)) (now (table .entry)) (now (keys .entry)) (now (tags .entry)) c r
+        (now (table .exit)) (now (keys .exit)) (now (tags .exit)) ⌝ }
 {
     let lead = leading(text);
     let d = skip(c, lead.size);
@@ -122,7 +121,8 @@ pub fn read_statement(
     requires { ⌜ c .names ≡ 0 ⌝ }
     requires { ⌜ Counted (now known) ⌝ }
     requires { ⌜ tableSize ≤ length (now table) ⌝ }
-    ensures { λ r. ⌜ ((labelBytes : List ℕ) → LabelKey labelBytes label → StatementRead labelBytes whole (now (text .entry)) (now (known .entry)) (now (table .entry)) (now (keys .entry)) (now (tags .entry)) c r (now (table .exit)) (now (keys .exit)) (now (tags .exit))) ⌝ }
+    ensures { λ r. ⌜ StatementRead label whole (now (text .entry)) (now (known .entry)) (now (table .entry)) (now (keys .entry)) (now (tags .entry)) c r
+        (now (table .exit)) (now (keys .exit)) (now (tags .exit)) ⌝ }
 {
     if !whole {
         return Form::Broken;

@@ -253,7 +253,8 @@ pub fn right_row(
     requires { ⌜ Standing (now text) (now keys) (now tags) r ⌝ }
     requires { ⌜ Counted (now known) ⌝ }
     requires { ⌜ tableSize ≤ length (now table) ⌝ }
-    ensures { λ q. ⌜ RowStage (now (text .entry)) (now (known .entry)) patterned (now (table .entry)) (now (keys .entry)) (now (tags .entry)) r q (now (table .exit)) (now (keys .exit)) (now (tags .exit)) ⌝ }
+    ensures { λ q. ⌜ RowStage (now (text .entry)) (now (known .entry)) patterned (now (table .entry)) (now (keys .entry)) (now (tags .entry)) r q
+        (now (table .exit)) (now (keys .exit)) (now (tags .exit)) ⌝ }
 {
     match r {
         Draft::Broken => Draft::Broken,
@@ -280,7 +281,8 @@ pub fn replaced(
     requires { ⌜ Following (now text) (now keys) (now tags) from r ⌝ }
     requires { ⌜ Counted (now known) ⌝ }
     requires { ⌜ tableSize ≤ length (now table) ⌝ }
-    ensures { λ q. ⌜ ReplacedStage (now (text .entry)) (now (known .entry)) (now (table .entry)) (now (keys .entry)) (now (tags .entry)) from r q (now (table .exit)) (now (keys .exit)) (now (tags .exit)) ⌝ }
+    ensures { λ q. ⌜ ReplacedStage (now (text .entry)) (now (known .entry)) (now (table .entry)) (now (keys .entry)) (now (tags .entry)) from r q
+        (now (table .exit)) (now (keys .exit)) (now (tags .exit)) ⌝ }
 {
     match r {
         Draft::Broken => Draft::Broken,

@@ -195,7 +195,8 @@ fn string_form(
     requires { ⌜ Ready (now text) (now keys) (now tags) c ⌝ }
     requires { ⌜ Counted (now known) ⌝ }
     requires { ⌜ tableSize ≤ length (now table) ⌝ }
-    ensures { λ r. ⌜ StringSetRead (now (text .entry)) (now (known .entry)) (now (table .entry)) (now (keys .entry)) (now (tags .entry)) c r (now (table .exit)) (now (keys .exit)) (now (tags .exit)) ⌝ }
+    ensures { λ r. ⌜ StringSetRead (now (text .entry)) (now (known .entry)) (now (table .entry)) (now (keys .entry)) (now (tags .entry)) c r
+        (now (table .exit)) (now (keys .exit)) (now (tags .exit)) ⌝ }
 {
     let part = left_part(
         text,
@@ -222,7 +223,8 @@ pub fn scan_form(
     requires { ⌜ Ready (now text) (now keys) (now tags) c ⌝ }
     requires { ⌜ Counted (now known) ⌝ }
     requires { ⌜ tableSize ≤ length (now table) ⌝ }
-    ensures { λ r. ⌜ ScanRead (now (text .entry)) (now (known .entry)) (now (table .entry)) (now (keys .entry)) (now (tags .entry)) c direction r (now (table .exit)) (now (keys .exit)) (now (tags .exit)) ⌝ }
+    ensures { λ r. ⌜ ScanRead (now (text .entry)) (now (known .entry)) (now (table .entry)) (now (keys .entry)) (now (tags .entry)) c direction r
+        (now (table .exit)) (now (keys .exit)) (now (tags .exit)) ⌝ }
 {
     let part = left_part(
         text,
@@ -253,7 +255,8 @@ fn assigned(
     requires { ⌜ Ready (now text) (now keys) (now tags) c ⌝ }
     requires { ⌜ Counted (now known) ⌝ }
     requires { ⌜ tableSize ≤ length (now table) ⌝ }
-    ensures { λ r. ⌜ AssignedRead (now (text .entry)) (now (known .entry)) (now (table .entry)) (now (keys .entry)) (now (tags .entry)) c place r (now (table .exit)) (now (keys .exit)) (now (tags .exit)) ⌝ }
+    ensures { λ r. ⌜ AssignedRead (now (text .entry)) (now (known .entry)) (now (table .entry)) (now (keys .entry)) (now (tags .entry)) c place r
+        (now (table .exit)) (now (keys .exit)) (now (tags .exit)) ⌝ }
 {
     match expression(text, known, table, keys, tags, c, 0) {
         Outcome::Broken => Form::Broken,
@@ -294,7 +297,8 @@ fn number_form(
     requires { ⌜ Ready (now text) (now keys) (now tags) c ⌝ }
     requires { ⌜ Counted (now known) ⌝ }
     requires { ⌜ tableSize ≤ length (now table) ⌝ }
-    ensures { λ r. ⌜ NumberSetRead (now (text .entry)) (now (known .entry)) (now (table .entry)) (now (keys .entry)) (now (tags .entry)) c r (now (table .exit)) (now (keys .exit)) (now (tags .exit)) ⌝ }
+    ensures { λ r. ⌜ NumberSetRead (now (text .entry)) (now (known .entry)) (now (table .entry)) (now (keys .entry)) (now (tags .entry)) c r
+        (now (table .exit)) (now (keys .exit)) (now (tags .exit)) ⌝ }
 {
     match read_number(text, known, keys, tags, c) {
         Place::Broken => Form::Broken,
@@ -332,7 +336,8 @@ pub fn replacement_form(
     requires { ⌜ Ready (now text) (now keys) (now tags) c ⌝ }
     requires { ⌜ Counted (now known) ⌝ }
     requires { ⌜ tableSize ≤ length (now table) ⌝ }
-    ensures { λ r. ⌜ ReplacementRead (now (text .entry)) (now (known .entry)) (now (table .entry)) (now (keys .entry)) (now (tags .entry)) c r (now (table .exit)) (now (keys .exit)) (now (tags .exit)) ⌝ }
+    ensures { λ r. ⌜ ReplacementRead (now (text .entry)) (now (known .entry)) (now (table .entry)) (now (keys .entry)) (now (tags .entry)) c r
+        (now (table .exit)) (now (keys .exit)) (now (tags .exit)) ⌝ }
 {
     if sets_number(text, known, c.at) {
         return number_form(text, known, table, keys, tags, c);

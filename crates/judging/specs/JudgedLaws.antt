@@ -21,10 +21,10 @@ use Rattle.met.specs.Entries.{Entry, nameOf, nameFrom, gather, declaredBy, used
 use Rattle.met.specs.From.{length-from}
 use Rattle.met.specs.Holding.{Arrays, Holds, namesFrom, namesIn, usesIn}
 use Rattle.met.specs.Known.{stringKeys, numberKeys, labelIn, labelsIn, routinesIn, labelCountAt, routineCountAt, statementCountAt, stepCountAt}
-use Rattle.met.specs.Known.{endedAt, scopeAt, elementCountAt, itemCountAt, literalCountAt}
+use Rattle.met.specs.Known.{endedAt, scopeAt, elementCountAt, itemCountAt, literalCountAt, nameCountAt}
 use Rattle.met.specs.KnownLaws.{name-same, length-routines}
 use Rattle.met.specs.declared.Cursor.{Cursor}
-use Rattle.naming.specs.Arrays.{entryIn, metFrom, arrays}
+use Rattle.naming.specs.Arrays.{entryIn, metFrom, namesPut}
 use Rattle.naming.specs.Declaring.{declaredIn, undeclaredIn}
 use Rattle.naming.specs.Judged.{namesOf, namesNumber, NamesJudged}
 use Rattle.naming.specs.declared.Verdict.{Verdict}
@@ -169,9 +169,10 @@ module _ (a : Arrays) (taken : ℕ) (k : Known) (h : Holds a taken k) (kind : Ke
 module _ (a : Arrays) (taken : ℕ) (k : Known) (h : Holds a taken k) (kind : Keywords.Kind) (keys tags : List ℕ) (c : Cursor)
     (items : ℕ) (rows : List ℕ) (literals : ℕ) (counts : Tallied k c items rows literals) (nameKeys′ namePurposes′ : List ℕ) (v : Verdict)
     (names : NamesJudged (a .known) (a .nameKeys) (a .namePurposes) keys tags (c .names) nameKeys′ namePurposes′ v) (zero-is : v .number ≡ 0)
-    (known′ useKeys′ useScopes′ usePurposes′ : List ℕ)
-    (l : Learnt (a .known) nameKeys′ namePurposes′ (a .useKeys) (a .useScopes) (a .usePurposes) (metFrom keys tags 0 (c .names)) c
-    (kindNumber kind) (v .count) known′ useKeys′ useScopes′ usePurposes′) where
+    (a′ : Arrays) (l : Learnt (namesPut a nameKeys′ namePurposes′) (metFrom keys tags 0 (c .names)) c (kindNumber kind) (v .count) a′) where
+  abbrev known′ : List ℕ
+  known′ = a′ .known
+
   abbrev es : List Entry
   es = metFrom keys tags 0 (c .names)
 
@@ -200,8 +201,7 @@ module _ (a : Arrays) (taken : ℕ) (k : Known) (h : Holds a taken k) (kind : Ke
       ∙ ap (λ (rs : List Routine). cond (eqb (kindNumber kind) 14) (closed (suc (k .steps)) (k .routines)) rs)
       (opened-is k (routineNames es) (l .opened) (l .opens))
 
-  uses-are : (usesIn 1 (arrays known′ nameKeys′ namePurposes′ useKeys′ useScopes′ usePurposes′) ≡ behind .branches)
-      × (usesIn 2 (arrays known′ nameKeys′ namePurposes′ useKeys′ useScopes′ usePurposes′) ≡ behind .executes)
+  uses-are : (usesIn 1 a′ ≡ behind .branches) × (usesIn 2 a′ ≡ behind .executes)
   unfolding learn metIn usesIn usesAt usesBy
   uses-are = (
     l .used .branches
@@ -273,8 +273,7 @@ module _ (a : Arrays) (taken : ℕ) (k : Known) (h : Holds a taken k) (kind : Ke
   scope-names = ap (scopeAfter kind (namesFor routine (gather declaredBy es))) (h .scope)
 
   -- where 10 does not apply the arrays hold what is known behind the statement
-  pub learnt-holds : isOver known′ (c .longest) ≡ false → (taken′ : ℕ) → taken + c .names ≤ taken′
-      → Holds (arrays known′ nameKeys′ namePurposes′ useKeys′ useScopes′ usePurposes′) taken′ behind
+  pub learnt-holds : isOver known′ (c .longest) ≡ false → (taken′ : ℕ) → taken + c .names ≤ taken′ → Holds a′ taken′ behind
   unfolding isOver namesIn stringKeys numberKeys learn metIn
   learnt-holds none taken′ room =
       let p₁ = neither-true (ltb 256 (getD known′ statementCountAt 0)) _ none in
@@ -299,8 +298,8 @@ module _ (a : Arrays) (taken : ℕ) (k : Known) (h : Holds a taken k) (kind : Ke
               labels = l .fewLabels;
               routines = l .fewRoutines;
             };
-        nameKeysSize = names .keysSize;
-        namePurposesSize = names .purposesSize;
+        nameKeysSize = ap length (l .nameKeys) ∙ names .keysSize;
+        namePurposesSize = ap length (l .namePurposes) ∙ names .purposesSize;
         useKeysSize = l .used .keysSize;
         useScopesSize = l .used .scopesSize;
         usePurposesSize = l .used .purposesSize;
@@ -330,7 +329,10 @@ module _ (a : Arrays) (taken : ℕ) (k : Known) (h : Holds a taken k) (kind : Ke
             ap (map nameOf) (cells-part known′ 35 (getD known′ 1 0) (omega (arith, l .shows .size)))
             ∙ numbers-cut
             ∙ cut-whole 33 (Known.numbers behind) (omega (arith, number-count));
-        names = ap (namesFrom nameKeys′ namePurposes′ 0) (l .names) ∙ names-are;
+        names =
+            ap₂ {C = List Naming} (λ ks ps. namesFrom ks ps 0 (getD known′ nameCountAt 0)) (l .nameKeys) (l .namePurposes)
+            ∙ ap (namesFrom nameKeys′ namePurposes′ 0) (l .names)
+            ∙ names-are;
         labels = labels-cut ∙ cut-whole 65 (behind .labels) (omega (arith, label-count));
         routines = routines-are;
         branches = uses-are .0;

@@ -1,6 +1,6 @@
 -- The contracts of judging, put together. Assumes nothing.
 use mathlib.Core.Bool.{Bool, true, false, cond, not, _||_, Bool·beq, or-true}
-use mathlib.Core.List.{List, map}
+use mathlib.Core.List.{List, _++_, map}
 use mathlib.Core.Path.{_≡_, refl, sym, _∙_, ap, subst}
 use Prim.Native.Nat.{ℕ, _+_, _-_, _≤_}
 use native.Mathlib.Omega.{arith}
@@ -13,13 +13,14 @@ use Rattle.judgement.specs.Known.{Known, namesFor}
 use Rattle.judgement.specs.Refusals.{metNumber}
 use Rattle.language.specs.Keywords.{kindNumber}
 use Rattle.language.specs.Reading.{Purpose, number, string}
+use Rattle.met.specs.Contracts.{namesRoom}
 use Rattle.met.specs.Entries.{Entry, nameOf, metIn}
 use Rattle.met.specs.From.{length-from}
 use Rattle.met.specs.Holding.{Arrays, Holds, namesFrom, namesIn}
 use Rattle.met.specs.Known.{stringKeys, numberKeys, statementCountAt, endedAt, scopeAt, nameCountAt}
 use Rattle.met.specs.declared.Cursor.{Cursor}
-use Rattle.naming.specs.ArrayLaws.{names-kept}
-use Rattle.naming.specs.Arrays.{knownIn, metFrom, arrays}
+use Rattle.naming.specs.ArrayLaws.{names-put, names-kept}
+use Rattle.naming.specs.Arrays.{knownIn, metFrom, arrays, namesPut}
 use Rattle.naming.specs.Judged.{namesNumber, Named, NamesJudged}
 use Rattle.naming.specs.declared.Verdict.{Verdict}
 use Rattle.words.specs.Kinds.{kindOf}
@@ -108,7 +109,7 @@ module _ (a : Arrays) (keys tags : List ℕ) (c : Cursor) (ready : Judgeable a k
       is ∙ sym (take-all 33 (namesFor q (namesIn a)) (omega arith)) ∙ ap (λ ns. take 33 (namesFor q ns)) (sym names-same)
 
   -- and can learn the statement
-  pub learnable : Learnable known nameKeys′ namePurposes′ (a .useKeys) (a .useScopes) (a .usePurposes) keys tags (c .names) (v .count)
+  pub learnable : Learnable (namesPut a nameKeys′ namePurposes′) keys tags (c .names) (v .count)
   unfolding knownIn stringKeys numberKeys Known.strings Known.numbers
   learnable =
       let h = ready .held in
@@ -167,37 +168,47 @@ module _ (a : Arrays) (keys tags : List ℕ) (c : Cursor) (ready : Judgeable a k
             learnt = λ e taken k h items rows literals b taken′ room. absurd (omega arith);
           }
 
-      module _ (w : wrongIn n (getD known scopeAt 0) ≡ false) (known′ useKeys′ useScopes′ usePurposes′ : List ℕ)
-          (l : Learnt known nameKeys′ namePurposes′ (a .useKeys) (a .useScopes) (a .usePurposes) es c n (v .count) known′ useKeys′ useScopes′
-          usePurposes′) where
+      module _ (w : wrongIn n (getD known scopeAt 0) ≡ false) (a′ : Arrays) (l : Learnt (namesPut a nameKeys′ namePurposes′) es c n (v .count) a′) where
         right : wrongIn (kindNumber (kindOf kind)) (getD known scopeAt 0) ≡ false
         right = ap (λ x. wrongIn x (getD known scopeAt 0)) (sym is) ∙ w
 
-        learnt′ : Learnt known nameKeys′ namePurposes′ (a .useKeys) (a .useScopes) (a .usePurposes) es c (kindNumber (kindOf kind)) (v .count) known′
-            useKeys′ useScopes′ usePurposes′
-        learnt′ =
-            subst
-            (λ x. Learnt known nameKeys′ namePurposes′ (a .useKeys) (a .useScopes) (a .usePurposes) es c x (v .count) known′ useKeys′ useScopes′ usePurposes′)
-            is l
+        learnt′ : Learnt (namesPut a nameKeys′ namePurposes′) es c (kindNumber (kindOf kind)) (v .count) a′
+        learnt′ = subst (λ x. Learnt (namesPut a nameKeys′ namePurposes′) es c x (v .count) a′) is l
 
-        ten : (t : Bool) → isOver known′ (c .longest) ≡ t → (taken : ℕ) (k : Known) → Holds a taken k → (items : ℕ) (rows : List ℕ) (literals : ℕ)
+        ten : (t : Bool) → isOver (a′ .known) (c .longest) ≡ t → (taken : ℕ) (k : Known) → Holds a taken k → (items : ℕ) (rows : List ℕ) (literals : ℕ)
             → Tallied k c items rows literals → cond t 10 0 ≡ metNumber k (kindOf kind) (metIn es items rows literals)
         ten t e taken k h items rows literals b =
             ap (λ x. cond x 10 0)
-            (sym e ∙ over-is a taken k h (kindOf kind) keys tags c items rows literals b nameKeys′ namePurposes′ v names z known′ useKeys′ useScopes′
-            usePurposes′ learnt′)
+            (sym e ∙ over-is a taken k h (kindOf kind) keys tags c items rows literals b nameKeys′ namePurposes′ v names z a′ learnt′)
             ∙ number-rest a taken k h (kindOf kind) es items rows literals (v .number) number-is z right
 
-        pub judged-over : (a′ : Arrays) → isOver known′ (c .longest) ≡ true → StatementJudged a keys tags c kind a′ 10
-        judged-over a′ e =
+        pub judged-over : isOver (a′ .known) (c .longest) ≡ true → StatementJudged a keys tags c kind a′ 10
+        judged-over e =
             record { number = ten true e; learnt = λ f taken k h items rows literals b taken′ room. absurd (omega arith) }
 
-        pub judged-zero : isOver known′ (c .longest) ≡ false
-            → StatementJudged a keys tags c kind (arrays known′ nameKeys′ namePurposes′ useKeys′ useScopes′ usePurposes′) 0
+        pub judged-zero : isOver (a′ .known) (c .longest) ≡ false → StatementJudged a keys tags c kind a′ 0
         judged-zero e =
             record {
               number = ten false e;
               learnt = λ f taken k h items rows literals b taken′ room.
-                  learnt-holds a taken k h (kindOf kind) keys tags c items rows literals b nameKeys′ namePurposes′ v names z known′ useKeys′
-                  useScopes′ usePurposes′ learnt′ e taken′ room;
+                  learnt-holds a taken k h (kindOf kind) keys tags c items rows literals b nameKeys′ namePurposes′ v names z a′ learnt′ e taken′ room;
             }
+
+-- the names put in front of two arrays
+module _ (known symbols purposes keys tags : List ℕ) (c : Cursor) (ready : Judgeable (arrays known symbols purposes) keys tags c)
+    (nameKeys′ namePurposes′ : List ℕ) (v : Verdict)
+    (names : NamesJudged known (take namesRoom symbols) (take namesRoom purposes) keys tags (c .names) nameKeys′ namePurposes′ v) where
+  abbrev put : Arrays
+  put = arrays known (nameKeys′ ++ drop namesRoom symbols) (namePurposes′ ++ drop namesRoom purposes)
+
+  named′ : put ≡ namesPut (arrays known symbols purposes) nameKeys′ namePurposes′
+  named′ = names-put known symbols purposes nameKeys′ namePurposes′ (names .keysSize) (names .purposesSize)
+
+  pub put-learnable : Learnable put keys tags (c .names) (v .count)
+  put-learnable =
+      subst (λ b. Learnable b keys tags (c .names) (v .count)) (sym named′)
+      (learnable (arrays known symbols purposes) keys tags c ready nameKeys′ namePurposes′ v names)
+
+  pub put-learnt : {kind : ℕ} {a′ : Arrays} → Learnt put (metFrom keys tags 0 (c .names)) c kind (v .count) a′
+      → Learnt (namesPut (arrays known symbols purposes) nameKeys′ namePurposes′) (metFrom keys tags 0 (c .names)) c kind (v .count) a′
+  put-learnt {kind} {a′} l = subst (λ b. Learnt b (metFrom keys tags 0 (c .names)) c kind (v .count) a′) named′ l

@@ -1,6 +1,6 @@
 -- The parts of learning a statement put together. Assumes nothing.
 use mathlib.Core.List.{List, _++_, map}
-use mathlib.Core.Path.{_≡_, sym, _∙_, ap, ap₂, subst}
+use mathlib.Core.Path.{_≡_, refl, sym, _∙_, ap, ap₂, subst}
 use Prim.Native.Nat.{ℕ, _+_, _≤_, _<_}
 use native.Mathlib.Omega.{arith}
 use lib.ListN.{length, take, getD}
@@ -8,6 +8,7 @@ use lib.Seq.{sets, length-sets}
 use Rattle.judgement.specs.Known.{Label, Routine}
 use Rattle.met.specs.Entries.{Entry, nameOf}
 use Rattle.met.specs.From.{from-kept}
+use Rattle.met.specs.Holding.{Arrays}
 use Rattle.met.specs.Known.{labelIn, labelsFrom, labelsIn, routinesDown, routinesIn, labelCountAt, routineCountAt, statementCountAt, stepCountAt}
 use Rattle.met.specs.Known.{scopeAt, useCountAt, labelKeysAt, labelStepsAt, labelScopesAt, routineKeysAt, routineEntriesAt, routineExitsAt}
 use Rattle.met.specs.Known.{knownSize}
@@ -20,7 +21,7 @@ use Rattle.judging.specs.Learning.{Learnt}
 use Rattle.judging.specs.Listing.{Shows, Listed}
 use Rattle.judging.specs.RoutineLaws.{routines-kept, routine-kept}
 use Rattle.judging.specs.Routines.{routineNames, Opens, routinesBehind, scopeBehind, Routed}
-use Rattle.judging.specs.Uses.{Used}
+use Rattle.judging.specs.Uses.{UseArrays, heldUses, usesPut, Used}
 use Rattle.judging.specs.declared.routines.Opened.{Opened}
 
 -- labels and routines are kept where their numbers are
@@ -58,12 +59,14 @@ shows-same l m keys purposes i size f s =
     }
 
 -- names, labels, uses, routines and counts, one after the other
-module _ (known known₁ known₂ known₃ known₄ nameKeys namePurposes useKeys useScopes usePurposes useKeys′ useScopes′ usePurposes′ : List ℕ)
-    (es : List Entry) (c : Cursor) (kind count behind uses : ℕ) (opened : Opened) (few : getD known labelCountAt 0 ≤ 65)
-    (m₁ : Listed known known₁ nameKeys namePurposes count) (m₂ : Labelled known₁ es known₂)
-    (u : Used useKeys useScopes usePurposes (getD known useCountAt 0) (getD known scopeAt 0) es useKeys′ useScopes′ usePurposes′ uses)
-    (o : Opens (routineNames es) opened) (m₃ : Routed known₂ opened kind known₃) (b : behind ≡ scopeBehind (getD known scopeAt 0) opened kind)
+module _ (a : Arrays) (known₁ known₂ known₃ known₄ : List ℕ) (v : UseArrays) (es : List Entry) (c : Cursor) (kind count behind uses : ℕ)
+    (opened : Opened) (few : getD (a .known) labelCountAt 0 ≤ 65) (m₁ : Listed (a .known) known₁ (a .nameKeys) (a .namePurposes) count)
+    (m₂ : Labelled known₁ es known₂) (u : Used (heldUses a) (getD (a .known) useCountAt 0) (getD (a .known) scopeAt 0) es v uses)
+    (o : Opens (routineNames es) opened) (m₃ : Routed known₂ opened kind known₃) (b : behind ≡ scopeBehind (getD (a .known) scopeAt 0) opened kind)
     (m₄ : known₄ ≡ counted known₃ c kind behind count uses) where
+  abbrev known : List ℕ
+  known = a .known
+
   abbrev counts : List ℕ
   counts = countsBehind known₃ c kind behind count uses
 
@@ -87,9 +90,9 @@ module _ (known known₁ known₂ known₃ known₄ nameKeys namePurposes useKey
   middle : (j : ℕ) → 70 ≤ j → j < 80 → getD known₃ j 0 ≡ getD known j 0
   middle j h g = m₃ .middle j h (omega arith) ∙ m₂ .middle j (omega arith) g ∙ m₁ .kept j (omega arith)
 
-  names-shown : Shows known₄ nameKeys namePurposes count
+  names-shown : Shows known₄ (a .nameKeys) (a .namePurposes) count
   names-shown =
-      shows-same known₁ known₄ nameKeys namePurposes count size₄
+      shows-same known₁ known₄ (a .nameKeys) (a .namePurposes) count size₄
       (λ j h. below j (omega arith) ∙ m₃ .low j (omega arith) ∙ m₂ .low j h) (m₁ .shows)
 
   label-count : getD known₄ labelCountAt 0 ≡ getD known₂ labelCountAt 0
@@ -112,11 +115,13 @@ module _ (known known₁ known₂ known₃ known₄ nameKeys namePurposes useKey
       (routines-same known known₂ (m₂ .middle 69 (omega arith) (omega arith) ∙ m₁ .kept 69 (omega arith))
       (λ j h. m₂ .high j h ∙ m₁ .kept j (omega arith)))
 
-  pub learnt-all : Learnt known nameKeys namePurposes useKeys useScopes usePurposes es c kind count known₄ useKeys′ useScopes′ usePurposes′
+  pub learnt-all : Learnt a es c kind count (usesPut a known₄ v)
   learnt-all =
       record {
         opened = opened;
         opens = o;
+        nameKeys = refl;
+        namePurposes = refl;
         shows = names-shown;
         fewLabels = omega (arith, label-count, m₂ .few);
         labels = labels-are;
@@ -131,8 +136,7 @@ module _ (known known₁ known₂ known₃ known₄ nameKeys namePurposes useKey
         literals = inside 6 (omega arith);
         names = inside 7 (omega arith);
         used =
-            subst (Used useKeys useScopes usePurposes (getD known useCountAt 0) (getD known scopeAt 0) es useKeys′ useScopes′ usePurposes′)
-            (sym (inside 8 (omega arith))) u;
+            subst (Used (heldUses a) (getD known useCountAt 0) (getD known scopeAt 0) es v) (sym (inside 8 (omega arith))) u;
       }
 
 -- a number that is kept stays below its bound

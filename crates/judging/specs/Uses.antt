@@ -4,18 +4,47 @@ use mathlib.Core.List.{List, [], _∷_, _++_, map}
 use mathlib.Core.Path.{_≡_}
 use Prim.Native.Nat.{ℕ, _+_, _%_, _≤_}
 use lib.Dec.{eqb}
-use lib.ListN.{length}
+use lib.ListN.{length, take, drop}
 use Rattle.judgement.specs.Known.{Use, namesFor}
 use Rattle.language.specs.Reading.{Purpose, label, routine}
 use Rattle.met.specs.Contracts.{namesRoom}
 use Rattle.met.specs.Entries.{Entry, nameOf, gather, usedBy}
-use Rattle.met.specs.Holding.{usesFrom}
+use Rattle.met.specs.Holding.{Arrays, usesFrom}
 
--- three arrays of uses have their sizes, and room for n
-pub record Spacious (keys scopes purposes : List ℕ) (n : ℕ) : Type 0 where
-  pub keysSize : length keys ≡ namesRoom
-  pub scopesSize : length scopes ≡ namesRoom
-  pub purposesSize : length purposes ≡ namesRoom
+-- uses: their keys, the keys of their scopes and their purposes' numbers
+pub record UseArrays : Type 0 where
+  pub keys : List ℕ
+  pub scopes : List ℕ
+  pub purposes : List ℕ
+
+-- by two arrays, of which the first has the keys and behind them the scopes
+abbrev pub inParts : (uses purposes : List ℕ) → UseArrays
+inParts uses purposes = record { keys = take namesRoom uses; scopes = drop namesRoom uses; purposes = purposes }
+
+-- those of all arrays, and all arrays with others
+abbrev pub heldUses : Arrays → UseArrays
+heldUses a = record { keys = a .useKeys; scopes = a .useScopes; purposes = a .usePurposes }
+
+abbrev pub usesPut : Arrays → (known : List ℕ) → UseArrays → Arrays
+usesPut a known u =
+    record {
+      known = known;
+      nameKeys = a .nameKeys;
+      namePurposes = a .namePurposes;
+      useKeys = u .keys;
+      useScopes = u .scopes;
+      usePurposes = u .purposes;
+    }
+
+-- n of them with a purpose's number
+abbrev pub usesTo : ℕ → UseArrays → ℕ → List Use
+usesTo p u = usesFrom p (u .keys) (u .scopes) (u .purposes) 0
+
+-- the arrays of uses have their sizes, and room for n
+pub record Spacious (u : UseArrays) (n : ℕ) : Type 0 where
+  pub keysSize : length (u .keys) ≡ namesRoom
+  pub scopesSize : length (u .scopes) ≡ namesRoom
+  pub purposesSize : length (u .purposes) ≡ namesRoom
   pub room : n ≤ namesRoom
 
 -- a use by keys
@@ -27,19 +56,19 @@ unfoldable pub usesBy : (scope : List ℕ) → Purpose → List Entry → List U
 usesBy scope p es = map (λ n. record { name = n; scope = scope }) (namesFor p (gather usedBy es))
 
 -- a name met is noted if it is a label or a routine used
-pub record UsedOne (keys scopes purposes : List ℕ) (n key scope tag : ℕ) (keys′ scopes′ purposes′ : List ℕ) (r : ℕ) : Type 0 where
-  pub keysSize : length keys′ ≡ namesRoom
-  pub scopesSize : length scopes′ ≡ namesRoom
-  pub purposesSize : length purposes′ ≡ namesRoom
+pub record UsedOne (u : UseArrays) (n key scope tag : ℕ) (u′ : UseArrays) (r : ℕ) : Type 0 where
+  pub keysSize : length (u′ .keys) ≡ namesRoom
+  pub scopesSize : length (u′ .scopes) ≡ namesRoom
+  pub purposesSize : length (u′ .purposes) ≡ namesRoom
   pub few : r ≤ n + 1
-  pub branches : usesFrom 1 keys′ scopes′ purposes′ 0 r ≡ usesFrom 1 keys scopes purposes 0 n ++ cond (eqb (tag % 16) 1) (useOf key scope ∷ []) []
-  pub executes : usesFrom 2 keys′ scopes′ purposes′ 0 r ≡ usesFrom 2 keys scopes purposes 0 n ++ cond (eqb (tag % 16) 2) (useOf key scope ∷ []) []
+  pub branches : usesTo 1 u′ r ≡ usesTo 1 u n ++ cond (eqb (tag % 16) 1) (useOf key scope ∷ []) []
+  pub executes : usesTo 2 u′ r ≡ usesTo 2 u n ++ cond (eqb (tag % 16) 2) (useOf key scope ∷ []) []
 
 -- those of entries are noted behind n
-pub record Used (keys scopes purposes : List ℕ) (n scope : ℕ) (es : List Entry) (keys′ scopes′ purposes′ : List ℕ) (r : ℕ) : Type 0 where
-  pub keysSize : length keys′ ≡ namesRoom
-  pub scopesSize : length scopes′ ≡ namesRoom
-  pub purposesSize : length purposes′ ≡ namesRoom
+pub record Used (u : UseArrays) (n scope : ℕ) (es : List Entry) (u′ : UseArrays) (r : ℕ) : Type 0 where
+  pub keysSize : length (u′ .keys) ≡ namesRoom
+  pub scopesSize : length (u′ .scopes) ≡ namesRoom
+  pub purposesSize : length (u′ .purposes) ≡ namesRoom
   pub few : r ≤ n + length es
-  pub branches : usesFrom 1 keys′ scopes′ purposes′ 0 r ≡ usesFrom 1 keys scopes purposes 0 n ++ usesBy (nameOf scope) label es
-  pub executes : usesFrom 2 keys′ scopes′ purposes′ 0 r ≡ usesFrom 2 keys scopes purposes 0 n ++ usesBy (nameOf scope) routine es
+  pub branches : usesTo 1 u′ r ≡ usesTo 1 u n ++ usesBy (nameOf scope) label es
+  pub executes : usesTo 2 u′ r ≡ usesTo 2 u n ++ usesBy (nameOf scope) routine es

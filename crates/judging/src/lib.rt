@@ -52,29 +52,27 @@ pub fn is_misplaced(known: &[u64; KNOWN], kind: Kind) -> bool
 // learns what a statement adds: the names are there already
 fn learn(
     known: &mut [u64; KNOWN],
-    name_keys: &[u64; NAMES],
-    name_purposes: &[u8; NAMES],
-    use_keys: &mut [u64; NAMES],
-    use_scopes: &mut [u64; NAMES],
-    use_purposes: &mut [u8; NAMES],
+    symbols: &mut [u64],
+    purposes: &mut [u8],
     keys: &[u64; NAMES],
     tags: &[u8; NAMES],
     c: Cursor,
     kind: u8,
     count: usize,
 )
-    requires { ⌜ Learnable (now known) (now «name_keys») (now «name_purposes») (now «use_keys») (now «use_scopes») (now «use_purposes») (now keys) (now tags) (c .names) count ⌝ }
-    ensures { λ _. ⌜ Learnt (now (known .entry)) (now («name_keys» .entry)) (now («name_purposes» .entry)) (now («use_keys» .entry)) (now («use_scopes» .entry)) (now («use_purposes» .entry)) (metFrom (now (keys .entry)) (now (tags .entry)) 0 (c .names)) c kind count (now (known .exit)) (now («use_keys» .exit)) (now («use_scopes» .exit)) (now («use_purposes» .exit)) ⌝ }
+    requires { ⌜ Learnable (arrays (now known) (now symbols) (now purposes)) (now keys) (now tags) (c .names) count ⌝ }
+    ensures { λ _. ⌜ Learnt (arrays (now (known .entry)) (now (symbols .entry)) (now (purposes .entry)))
+        (metFrom (now (keys .entry)) (now (tags .entry)) 0 (c .names)) c kind count
+        (arrays (now (known .exit)) (now (symbols .exit)) (now (purposes .exit))) ⌝ }
 {
     let met = c.names;
     let scope = known[SCOPE];
     let used = known[USE_COUNT] as usize;
-    list_names(known, name_keys, name_purposes, count);
+    list_names(known, &symbols[..NAMES], &purposes[..NAMES], count);
     list_labels(known, keys, tags, met);
     let uses = note_uses(
-        use_keys,
-        use_scopes,
-        use_purposes,
+        &mut symbols[NAMES..],
+        &mut purposes[NAMES..],
         used,
         scope,
         keys,
@@ -90,20 +88,25 @@ fn learn(
 // 6 to 10 of a statement with the names met so far, or 0: then the arrays hold what is known behind it
 pub fn judge_statement(
     known: &mut [u64; KNOWN],
-    name_keys: &mut [u64; NAMES],
-    name_purposes: &mut [u8; NAMES],
-    use_keys: &mut [u64; NAMES],
-    use_scopes: &mut [u64; NAMES],
-    use_purposes: &mut [u8; NAMES],
+    symbols: &mut [u64],
+    purposes: &mut [u8],
     keys: &[u64; NAMES],
     tags: &[u8; NAMES],
     c: Cursor,
     kind: Kind,
 ) -> u32
-    requires { ⌜ Judgeable (arrays (now known) (now «name_keys») (now «name_purposes») (now «use_keys») (now «use_scopes») (now «use_purposes»)) (now keys) (now tags) c ⌝ }
-    ensures { λ r. ⌜ StatementJudged (arrays (now (known .entry)) (now («name_keys» .entry)) (now («name_purposes» .entry)) (now («use_keys» .entry)) (now («use_scopes» .entry)) (now («use_purposes» .entry))) (now (keys .entry)) (now (tags .entry)) c kind (arrays (now (known .exit)) (now («name_keys» .exit)) (now («name_purposes» .exit)) (now («use_keys» .exit)) (now («use_scopes» .exit)) (now («use_purposes» .exit))) r ⌝ }
+    requires { ⌜ Judgeable (arrays (now known) (now symbols) (now purposes)) (now keys) (now tags) c ⌝ }
+    ensures { λ r. ⌜ StatementJudged (arrays (now (known .entry)) (now (symbols .entry)) (now (purposes .entry))) (now (keys .entry)) (now (tags .entry)) c kind
+        (arrays (now (known .exit)) (now (symbols .exit)) (now (purposes .exit))) r ⌝ }
 {
-    let names = judge_names(known, name_keys, name_purposes, keys, tags, c.names);
+    let names = judge_names(
+        known,
+        &mut symbols[..NAMES],
+        &mut purposes[..NAMES],
+        keys,
+        tags,
+        c.names,
+    );
     if names.number != 0 {
         return names.number;
     }
@@ -111,19 +114,7 @@ pub fn judge_statement(
     if stands_wrong(number, known[SCOPE]) {
         return 9;
     }
-    learn(
-        known,
-        name_keys,
-        name_purposes,
-        use_keys,
-        use_scopes,
-        use_purposes,
-        keys,
-        tags,
-        c,
-        number,
-        names.count,
-    );
+    learn(known, symbols, purposes, keys, tags, c, number, names.count);
     if is_over(known, c.longest) {
         return 10;
     }

@@ -1,7 +1,6 @@
 // The strings and numbers among the names known, one more of each than 10 allows.
 // Assumes nothing.
 use met::KNOWN;
-use met::NAMES;
 use met::places::NAME_COUNT;
 use met::places::NUMBER_COUNT;
 use met::places::NUMBER_KEYS;
@@ -47,12 +46,7 @@ fn list_name(known: &mut [u64; KNOWN], key: u64, p: u8)
 }
 
 // notes the strings and numbers among the names behind those known before
-pub fn list_names(
-    known: &mut [u64; KNOWN],
-    name_keys: &[u64; NAMES],
-    name_purposes: &[u8; NAMES],
-    count: usize,
-)
+pub fn list_names(known: &mut [u64; KNOWN], name_keys: &[u64], name_purposes: &[u8], count: usize)
     requires { ⌜ Listing (now known) (now «name_keys») (now «name_purposes») (getD (now known) nameCountAt 0) count ⌝ }
     ensures { λ _. ⌜ Listed (now (known .entry)) (now (known .exit)) (now («name_keys» .entry)) (now («name_purposes» .entry)) count ⌝ }
 {

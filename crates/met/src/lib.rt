@@ -35,6 +35,12 @@ ghost use Rattle.met.specs.Known.{Counted, keyPlace, keysHave, stringKey
 // how many names fit: one for each letter of a deck, with which a name begins, and one for the label of each of its lines
 pub const NAMES: usize = 32800;
 
+// how many symbols there are: the keys of the names known, of the labels and routines used, and of the routines that these are used in
+pub const SYMBOLS: usize = 3 * NAMES;
+
+// how many purposes: those of the names known, and of the labels and routines used
+pub const PURPOSES: usize = 2 * NAMES;
+
 // how many numbers the array of what is known has
 pub const KNOWN: usize = 326;
 

@@ -1,21 +1,50 @@
--- Names that are kept in their arrays, and keys among others. Assumes nothing.
+-- The regions of the arrays, names that are kept in them, and keys among others. Assumes nothing.
 use mathlib.Core.Bool.{Bool, _||_, or-comm, or-false}
-use mathlib.Core.List.{List, [], _∷_}
+use mathlib.Core.List.{List, [], _∷_, _++_}
 use mathlib.Core.Path.{_≡_, refl, _∙_, ap, ap₂}
-use Prim.Native.Nat.{ℕ, zero, suc, _+_, _<_}
+use Prim.Native.Nat.{ℕ, zero, suc, _+_, _-_, _*_, _<_}
 use native.Mathlib.Omega.{arith}
 use lib.Dec.{eqb}
-use lib.ListN.{getD}
+use lib.ListN.{length, take, drop, getD, length-drop}
+use lib.Seq.{take-at, drop-at, take-all}
 use Rattle.base.specs.Lists.{same, any}
 use Rattle.judgement.specs.Known.{Label}
 use Rattle.judgement.specs.Names.{any-append}
 use Rattle.language.specs.Reading.{Naming}
+use Rattle.met.specs.Contracts.{namesRoom}
 use Rattle.met.specs.Entries.{nameOf}
 use Rattle.met.specs.From.{valuesFrom, from-last, from-kept}
 use Rattle.met.specs.Holding.{namingIn, namesFrom}
 use Rattle.met.specs.Known.{keysHave, labelIn, labelsFrom, labelKeysAt}
 use Rattle.met.specs.KnownLaws.{name-same}
+use Rattle.naming.specs.Arrays.{arrays, namesPut}
 use Rattle.naming.specs.Names.{keyNaming}
+
+-- the sizes of arrays with two regions and with three
+pub two-regions : (l : List ℕ) → length (drop namesRoom l) ≡ namesRoom → length l ≡ 2 * namesRoom
+two-regions l e = omega (arith, length-drop namesRoom l)
+
+pub three-regions : (l : List ℕ) → length (drop namesRoom (drop namesRoom l)) ≡ namesRoom → length l ≡ 3 * namesRoom
+three-regions l e = omega (arith, two-regions (drop namesRoom l) e, length-drop namesRoom l)
+
+-- what stands from a place on, as it is lent
+pub rest-whole : (n : ℕ) (l : List ℕ) → take (length l - n) (drop n l) ≡ drop n l
+rest-whole n l = take-all (length l - n) (drop n l) (omega (arith, length-drop n l))
+
+-- other names in front
+pub names-put : (known symbols purposes keys purposes′ : List ℕ) → length keys ≡ namesRoom → length purposes′ ≡ namesRoom
+    → arrays known (keys ++ drop namesRoom symbols) (purposes′ ++ drop namesRoom purposes) ≡ namesPut (arrays known symbols purposes) keys purposes′
+names-put known symbols purposes keys purposes′ e f =
+    let behind = drop-at keys (drop namesRoom symbols) namesRoom e in
+    λ t.
+    record {
+      known = known;
+      nameKeys = take-at keys (drop namesRoom symbols) namesRoom e t;
+      namePurposes = take-at purposes′ (drop namesRoom purposes) namesRoom f t;
+      useKeys = take namesRoom (behind t);
+      useScopes = drop namesRoom (behind t);
+      usePurposes = drop-at purposes′ (drop namesRoom purposes) namesRoom f t;
+    }
 
 -- names whose keys and purposes are kept are kept
 pub names-kept : (keys purposes keys′ purposes′ : List ℕ) (i n : ℕ) → ((j : ℕ) → j < i + n → getD keys′ j 0 ≡ getD keys j 0)

@@ -2,23 +2,36 @@
 use mathlib.Core.List.{List}
 use Prim.Native.Nat.{ℕ, _-_}
 use lib.Dec.{eqb}
-use lib.ListN.{getD}
+use lib.ListN.{take, drop, getD}
 use Rattle.judgement.specs.Known.{Known}
+use Rattle.met.specs.Contracts.{namesRoom}
 use Rattle.met.specs.Entries.{Entry, entry, nameOf}
 use Rattle.met.specs.From.{valuesFrom}
 use Rattle.met.specs.Holding.{Arrays, namesIn, usesIn}
 use Rattle.met.specs.Known.{labelsIn, routinesIn, statementCountAt, stepCountAt, endedAt, scopeAt, elementCountAt, itemCountAt, literalCountAt}
 
--- the arrays by name
-abbrev pub arrays : (known nameKeys namePurposes useKeys useScopes usePurposes : List ℕ) → Arrays
-arrays known nameKeys namePurposes useKeys useScopes usePurposes =
+-- The arrays by the regions of two: symbols has the keys of names, of uses and of the uses' scopes; purposes those of names and of uses.
+abbrev pub arrays : (known symbols purposes : List ℕ) → Arrays
+arrays known symbols purposes =
     record {
       known = known;
-      nameKeys = nameKeys;
-      namePurposes = namePurposes;
-      useKeys = useKeys;
-      useScopes = useScopes;
-      usePurposes = usePurposes;
+      nameKeys = take namesRoom symbols;
+      namePurposes = take namesRoom purposes;
+      useKeys = take namesRoom (drop namesRoom symbols);
+      useScopes = drop namesRoom (drop namesRoom symbols);
+      usePurposes = drop namesRoom purposes;
+    }
+
+-- the arrays with other names
+abbrev pub namesPut : Arrays → (keys purposes : List ℕ) → Arrays
+namesPut a keys purposes =
+    record {
+      known = a .known;
+      nameKeys = keys;
+      namePurposes = purposes;
+      useKeys = a .useKeys;
+      useScopes = a .useScopes;
+      usePurposes = a .usePurposes;
     }
 
 -- all that the arrays show

@@ -1,9 +1,10 @@
 -- What arrays hold is what they show; arrays of zeros hold nothing; entries noted stand in the arrays. Assumes nothing.
 use mathlib.Core.List.{List, [], _∷_, _++_, map}
 use mathlib.Core.Path.{_≡_, refl, sym, ap, _∙_}
-use Prim.Native.Nat.{ℕ, zero, suc, _+_, _≤_}
+use Prim.Native.Nat.{ℕ, zero, suc, _+_, _*_, _≤_}
 use native.Mathlib.Omega.{arith}
-use lib.ListN.{length, getD, replicate}
+use lib.ListN.{length, drop, getD, replicate, length-drop}
+use lib.Seq.{length-take-le}
 use Rattle.base.specs.Lists.{any, keep}
 use Rattle.calls.specs.Splices.{splice}
 use Rattle.judgement.specs.Known as Known
@@ -76,18 +77,20 @@ shown-held a taken more k le h =
     }
 
 -- zeros hold nothing
-pub nothing-held : (nameKeys namePurposes useKeys useScopes usePurposes : List ℕ) → length nameKeys ≡ namesRoom
-    → length namePurposes ≡ namesRoom → length useKeys ≡ namesRoom → length useScopes ≡ namesRoom → length usePurposes ≡ namesRoom
-    → Holds (arrays (replicate knownSize 0) nameKeys namePurposes useKeys useScopes usePurposes) 0 nothingKnown
+pub nothing-held : (symbols purposes : List ℕ) → length symbols ≡ 3 * namesRoom → length purposes ≡ 2 * namesRoom
+    → Holds (arrays (replicate knownSize 0) symbols purposes) 0 nothingKnown
 unfolding nothingKnown namesIn usesIn valuesFrom usesFrom stringKeys numberKeys labelsIn routinesIn routinesDown nameOf nameFrom Known.strings Known.numbers namesFor keep any
-nothing-held nk np uk us up s1 s2 s3 s4 s5 =
+nothing-held symbols purposes e f =
+    let behind = length-drop namesRoom symbols in
+    let scopes = length-drop namesRoom (drop namesRoom symbols) in
+    let used = length-drop namesRoom purposes in
     record {
       counted = record { size = refl; strings = omega arith; numbers = omega arith; labels = omega arith; routines = omega arith };
-      nameKeysSize = s1;
-      namePurposesSize = s2;
-      useKeysSize = s3;
-      useScopesSize = s4;
-      usePurposesSize = s5;
+      nameKeysSize = length-take-le namesRoom symbols (omega arith);
+      namePurposesSize = length-take-le namesRoom purposes (omega arith);
+      useKeysSize = length-take-le namesRoom (drop namesRoom symbols) (omega arith);
+      useScopesSize = omega arith;
+      usePurposesSize = omega arith;
       fewNames = omega arith;
       fewUses = omega arith;
       fewStatements = omega arith;

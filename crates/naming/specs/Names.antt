@@ -9,8 +9,9 @@ use Rattle.base.specs.Lists.{same, any}
 use Rattle.judgement.specs.Refusals.{hasOther}
 use Rattle.language.specs.Reading.{samePurpose, Naming}
 use Rattle.met.specs.Contracts.{namesRoom}
-use Rattle.met.specs.Entries.{Entry, nameOf, purposeOf, namingOf}
+use Rattle.met.specs.Entries.{Entry, nameOf, purposeOf, namingOf, gather}
 use Rattle.met.specs.Holding.{namesFrom}
+use Rattle.naming.specs.Arrays.{metFrom}
 use Rattle.naming.specs.declared.names.Names.{Names}
 
 -- a name by key and purpose's number
@@ -42,6 +43,10 @@ conflicts ns (x ∷ xs) = eqb (standing ns x) 2 || conflicts (meet ns x) xs
 -- the names declared (1) or used (0) by entries
 unfoldable pub chosenBy : ℕ → Entry → List Naming
 chosenBy wanted x = cond (eqb (x .tag / 8 % 2) wanted) (namingOf x ∷ []) []
+
+-- the same of the names met
+abbrev pub chosenIn : (wanted : ℕ) → (keys tags : List ℕ) → (met : ℕ) → List Naming
+chosenIn wanted keys tags met = gather (chosenBy wanted) (metFrom keys tags 0 met)
 
 -- two arrays of names have their sizes, and room for n
 pub record Sized (keys others : List ℕ) (n : ℕ) : Type 0 where

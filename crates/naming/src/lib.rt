@@ -27,14 +27,15 @@ pub struct Verdict {
 // 6, 7 or 8 of the names met, or 0; the new ones stand behind those known
 pub fn judge_names(
     known: &[u64; KNOWN],
-    name_keys: &mut [u64; NAMES],
-    name_purposes: &mut [u8; NAMES],
+    name_keys: &mut [u64],
+    name_purposes: &mut [u8],
     keys: &[u64; NAMES],
     tags: &[u8; NAMES],
     met: usize,
 ) -> Verdict
     requires { ⌜ Named (now known) (now «name_keys») (now «name_purposes») (now keys) (now tags) met ⌝ }
-    ensures { λ r. ⌜ NamesJudged (now (known .entry)) (now («name_keys» .entry)) (now («name_purposes» .entry)) (now (keys .entry)) (now (tags .entry)) met (now («name_keys» .exit)) (now («name_purposes» .exit)) r ⌝ }
+    ensures { λ r. ⌜ NamesJudged (now (known .entry)) (now («name_keys» .entry)) (now («name_purposes» .entry)) (now (keys .entry)) (now (tags .entry)) met
+        (now («name_keys» .exit)) (now («name_purposes» .exit)) r ⌝ }
 {
     let before = Names {
         count: known[NAME_COUNT] as usize,

@@ -7,10 +7,9 @@ ghost use mathlib.Core.List.{[], _∷_};
 ghost use Prim.Native.Nat.{_+_};
 ghost use lib.ListN.{length};
 ghost use Rattle.language.specs.Reading.{purposeNumber};
-ghost use Rattle.met.specs.Entries.{purposeOf, gather};
+ghost use Rattle.met.specs.Entries.{purposeOf};
 ghost use Rattle.met.specs.Holding.{namesFrom};
-ghost use Rattle.naming.specs.Names.{keyNaming, standing, chosenBy, Sized, Meets};
-ghost use Rattle.naming.specs.Arrays.{metFrom};
+ghost use Rattle.naming.specs.Names.{keyNaming, standing, chosenIn, Sized, Meets};
 
 // how many names are known, and whether one met has another purpose
 pub struct Names {
@@ -26,7 +25,7 @@ pub fn purpose(p: u8) -> u8
 }
 
 // how a name stands among the first n: 0 not at all, 1 with this purpose, 2 with another
-fn standing(name_keys: &[u64; NAMES], name_purposes: &[u8; NAMES], n: usize, key: u64, p: u8) -> u8
+fn standing(name_keys: &[u64], name_purposes: &[u8], n: usize, key: u64, p: u8) -> u8
     requires { ⌜ Sized (now «name_keys») (now «name_purposes») n ⌝ }
     ensures { λ r. ⌜ r ≡ standing (namesFrom (now («name_keys» .entry)) (now («name_purposes» .entry)) 0 n) (keyNaming key p) ⌝ }
 {
@@ -45,8 +44,8 @@ fn standing(name_keys: &[u64; NAMES], name_purposes: &[u8; NAMES], n: usize, key
 
 // puts a name behind those known if it is new
 fn meet_name(
-    name_keys: &mut [u64; NAMES],
-    name_purposes: &mut [u8; NAMES],
+    name_keys: &mut [u64],
+    name_purposes: &mut [u8],
     known: Names,
     key: u64,
     p: u8,
@@ -75,16 +74,17 @@ fn meet_name(
 
 // puts the names declared (1) or used (0) behind those known
 pub fn meet_names(
-    name_keys: &mut [u64; NAMES],
-    name_purposes: &mut [u8; NAMES],
+    name_keys: &mut [u64],
+    name_purposes: &mut [u8],
     keys: &[u64; NAMES],
     tags: &[u8; NAMES],
     met: usize,
     wanted: u8,
     before: Names,
 ) -> Names
-    requires { ⌜ Sized (now «name_keys») (now «name_purposes») (before .count + length (gather (chosenBy wanted) (metFrom (now keys) (now tags) 0 met))) × Sized (now keys) (now tags) met ⌝ }
-    ensures { λ r. ⌜ Meets (now («name_keys» .entry)) (now («name_purposes» .entry)) before (gather (chosenBy wanted) (metFrom (now (keys .entry)) (now (tags .entry)) 0 met)) (now («name_keys» .exit)) (now («name_purposes» .exit)) r ⌝ }
+    requires { ⌜ Sized (now «name_keys») (now «name_purposes») (before .count + length (chosenIn wanted (now keys) (now tags) met)) × Sized (now keys) (now tags) met ⌝ }
+    ensures { λ r. ⌜ Meets (now («name_keys» .entry)) (now («name_purposes» .entry)) before (chosenIn wanted (now (keys .entry)) (now (tags .entry)) met)
+        (now («name_keys» .exit)) (now («name_purposes» .exit)) r ⌝ }
 {
     let mut r = before;
     let mut i: usize = 0;

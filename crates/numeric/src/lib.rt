@@ -100,7 +100,8 @@ fn write_operand(
     requires { ⌜ Ready (now text) (now keys) (now tags) c ⌝ }
     requires { ⌜ Counted (now known) ⌝ }
     requires { ⌜ tableSize ≤ length (now table) ⌝ }
-    ensures { λ r. ⌜ OperandWritten (now (text .entry)) (now (known .entry)) (now (table .entry)) (now (keys .entry)) (now (tags .entry)) c r (now (table .exit)) (now (keys .exit)) (now (tags .exit)) ⌝ }
+    ensures { λ r. ⌜ OperandWritten (now (text .entry)) (now (known .entry)) (now (table .entry)) (now (keys .entry)) (now (tags .entry)) c r
+        (now (table .exit)) (now (keys .exit)) (now (tags .exit)) ⌝ }
 {
     match plain(text, known, keys, tags, c) {
         Operand::Broken => Outcome::Broken,
@@ -137,7 +138,8 @@ pub fn expression(
     requires { ⌜ Ready (now text) (now keys) (now tags) c ⌝ }
     requires { ⌜ Counted (now known) ⌝ }
     requires { ⌜ tableSize ≤ length (now table) ⌝ }
-    ensures { λ r. ⌜ ExpressionRead (now (text .entry)) (now (known .entry)) (now (table .entry)) (now (keys .entry)) (now (tags .entry)) c depth r (now (table .exit)) (now (keys .exit)) (now (tags .exit)) ⌝ }
+    ensures { λ r. ⌜ ExpressionRead (now (text .entry)) (now (known .entry)) (now (table .entry)) (now (keys .entry)) (now (tags .entry)) c depth r
+        (now (table .exit)) (now (keys .exit)) (now (tags .exit)) ⌝ }
 {
     // what waits for the next term
     let mut kind = mark_kind(
@@ -175,7 +177,8 @@ fn term(
     requires { ⌜ Ready (now text) (now keys) (now tags) c ⌝ }
     requires { ⌜ Counted (now known) ⌝ }
     requires { ⌜ tableSize ≤ length (now table) ⌝ }
-    ensures { λ r. ⌜ TermRead (now (text .entry)) (now (known .entry)) (now (table .entry)) (now (keys .entry)) (now (tags .entry)) c depth r (now (table .exit)) (now (keys .exit)) (now (tags .exit)) ⌝ }
+    ensures { λ r. ⌜ TermRead (now (text .entry)) (now (known .entry)) (now (table .entry)) (now (keys .entry)) (now (tags .entry)) c depth r
+        (now (table .exit)) (now (keys .exit)) (now (tags .exit)) ⌝ }
 {
     // what waits for the next factor: nothing at first
     let mut kind = 0;
@@ -206,7 +209,8 @@ fn factor(
     requires { ⌜ Ready (now text) (now keys) (now tags) c ⌝ }
     requires { ⌜ Counted (now known) ⌝ }
     requires { ⌜ tableSize ≤ length (now table) ⌝ }
-    ensures { λ r. ⌜ FactorRead (now (text .entry)) (now (known .entry)) (now (table .entry)) (now (keys .entry)) (now (tags .entry)) c depth r (now (table .exit)) (now (keys .exit)) (now (tags .exit)) ⌝ }
+    ensures { λ r. ⌜ FactorRead (now (text .entry)) (now (known .entry)) (now (table .entry)) (now (keys .entry)) (now (tags .entry)) c depth r
+        (now (table .exit)) (now (keys .exit)) (now (tags .exit)) ⌝ }
 {
     if !stands_at(text, c.at, b'(') {
         return write_operand(text, known, table, keys, tags, c);

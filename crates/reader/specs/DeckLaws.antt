@@ -2,10 +2,11 @@
 use mathlib.Core.Bool.{Bool, cond}
 use mathlib.Core.List.{List}
 use mathlib.Core.Path.{_≡_, refl, sym, ap, ap₂, subst, _∙_}
-use Prim.Native.Nat.{ℕ, _+_, _≤_, _<_}
+use Prim.Native.Nat.{ℕ, _+_, _-_, _*_, _≤_, _<_}
 use native.Mathlib.Omega.{arith}
 use lib.Dec.{eqb}
-use lib.ListN.{length, drop, getD}
+use lib.ListN.{length, take, drop, getD}
+use lib.Seq.{drop-drop}
 use Rattle.base.specs.Choice.{test-cases}
 use Rattle.base.specs.Current.{current}
 use Rattle.base.specs.Limits.{longestDeck}
@@ -18,11 +19,14 @@ use Rattle.judgement.specs.Deck.{Judgement, accepted, judge, judgeEntries, conc
 use Rattle.judgement.specs.Known.{Known, nothingKnown}
 use Rattle.judgement.specs.Rules as Rules
 use Rattle.judgement.specs.Rules.{judging}
+use Rattle.met.specs.Contracts.{namesRoom}
 use Rattle.met.specs.Holding.{Arrays, Holds}
 use Rattle.met.specs.Known.{endedAt}
+use Rattle.naming.specs.ArrayLaws.{rest-whole}
+use Rattle.naming.specs.Arrays.{arrays}
 use Rattle.packer.specs.LineLaws.{entries-behind}
-use Rattle.reader.specs.Judging.{Held, EntryJudged, Passed, endedIn, closedBy, StatementsJudged, DeckJudged}
-use Rattle.reader.specs.declared.judge.EntryVerdict.{EntryVerdict}
+use Rattle.packer.specs.declared.Gathered.{Gathered}
+use Rattle.reader.specs.Judging.{Held, EntryJudged, Passed, endedIn, closedBy, ClosableIn, closedIn, StatementsJudged, DeckJudged}
 use Rattle.reader.specs.declared.judge.Verdict.{Verdict}
 
 -- the deck is judged as its entries from here on are, from what the arrays hold; so many lines are behind
@@ -44,23 +48,23 @@ judging-none h = record { known = nothingKnown; holds = h; same = refl; inside =
 
 module _ {deck : List ℕ} {a : Arrays} {from card : ℕ} (j : Judging deck a from card) where
   -- behind an entry that passes
-  pub judging-more : {r : EntryVerdict} {a′ : Arrays} → EntryJudged deck from a r a′ → r .number ≡ 0 → Judging deck a′ (r .next) (card + r .lines)
-  judging-more {r} e z =
-      let g = e .goes z card (j .known) (j .holds) in
+  pub judging-more : {e : Gathered} {r : ℕ} {a′ : Arrays} → EntryJudged deck from e a r a′ → r ≡ 0 → Judging deck a′ (e .next) (card + e .lines)
+  judging-more p z =
+      let g = p .goes z card (j .known) (j .holds) in
       record {
         known = g .known;
         holds = g .holds;
         same = j .same ∙ g .rest;
-        inside = e .inside;
-        few = omega (arith, e .paced, j .few);
+        inside = p .inside;
+        few = omega (arith, p .paced, j .few);
       }
 
   -- at an entry that is refused
-  pub judging-refused : {r : EntryVerdict} {a′ b : Arrays} → EntryJudged deck from a r a′ → (r .number ≡ 0 → ⊥) → from < length deck
-      → StatementsJudged deck (record { number = r .number; card = card }) b
-  judging-refused {r} e z h =
+  pub judging-refused : {e : Gathered} {r : ℕ} {a′ b : Arrays} → EntryJudged deck from e a r a′ → (r ≡ 0 → ⊥) → from < length deck
+      → StatementsJudged deck (record { number = r; card = card }) b
+  judging-refused p z h =
       record {
-        refuses = λ _. j .same ∙ e .refuses z card (j .known) (j .holds);
+        refuses = λ _. j .same ∙ p .refuses z card (j .known) (j .holds);
         passes = λ y. absurd (z y);
         few = omega (arith, j .few);
       }
@@ -172,11 +176,33 @@ module _ {deck : List ℕ} {a : Arrays} (p : Passed deck a) where
       none = record { number = 0; card = 0 }
 
   -- what the code asks is what is known
-  pub passed-closable : Closable (a .known) (a .useKeys) (a .useScopes) (a .usePurposes)
+  pub passed-closable : ClosableIn a
   passed-closable = closable a (p .taken) k (p .holds) (p .few)
 
-  pub passed-closed : {v : Verdict} → v ≡ closedBy (heldIn (a .known) (a .useKeys) (a .useScopes) (a .usePurposes)) → v ≡ closedBy k
+  pub passed-closed : {v : Verdict} → v ≡ closedIn a → v ≡ closedBy k
   passed-closed {v} e =
       e
       ∙ ap₂ {C = Verdict} (λ s t. cond s (record { number = 11; card = 0 }) (cond t (record { number = 12; card = 0 }) (record { number = 0; card = 0 })))
       (held-11 a (p .taken) k (p .holds)) (held-12 a (p .taken) k (p .holds))
+
+-- the uses as they are lent
+module _ (known symbols purposes : List ℕ) where
+  abbrev pub keysLent : List ℕ
+  keysLent = take namesRoom (drop namesRoom symbols)
+
+  abbrev pub scopesLent : List ℕ
+  scopesLent = take (length symbols - 2 * namesRoom) (drop (2 * namesRoom) symbols)
+
+  abbrev pub purposesLent : List ℕ
+  purposesLent = take (length purposes - namesRoom) (drop namesRoom purposes)
+
+  scopes-same : scopesLent ≡ drop namesRoom (drop namesRoom symbols)
+  scopes-same = rest-whole (2 * namesRoom) symbols ∙ sym (drop-drop namesRoom namesRoom symbols)
+
+  pub lent-closable : ClosableIn (arrays known symbols purposes) → Closable known keysLent scopesLent purposesLent
+  lent-closable p =
+      subst (λ s. Closable known keysLent s purposesLent) (sym scopes-same)
+      (subst (Closable known keysLent (drop namesRoom (drop namesRoom symbols))) (sym (rest-whole namesRoom purposes)) p)
+
+  pub lent-held : closedBy (heldIn known keysLent scopesLent purposesLent) ≡ closedIn (arrays known symbols purposes)
+  lent-held = ap₂ {C = Verdict} (λ s p. closedBy (heldIn known keysLent s p)) scopes-same (rest-whole namesRoom purposes)

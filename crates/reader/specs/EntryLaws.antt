@@ -20,10 +20,9 @@ use Rattle.judgement.specs.Refusals.{readStatement, statementNumber}
 use Rattle.language.specs.Keywords.{leading}
 use Rattle.met.specs.Holding.{Arrays, Holds}
 use Rattle.packer.specs.Gathering.{Gathers, entryOf}
-use Rattle.packer.specs.Keys.{LabelKey}
 use Rattle.packer.specs.declared.Gathered.{Gathered}
 use Rattle.naming.specs.HoldLaws.{held-shown, shown-held}
-use Rattle.reader.specs.Judging.{Held, Readied, Entered, Numbered, EntryNumbered, Going, EntryJudged}
+use Rattle.reader.specs.Judging.{Held, Readied, Entered, Numbered, PackedNumbered, EntryNumbered, Going, EntryJudged}
 
 -- an entry that is sound can be judged by its text
 pub readied : {text : List ℕ} {e : Gathered} {a : Arrays} → Entered text e a → e .sound ≡ true → Readied (take (e .length) text) e a
@@ -65,8 +64,7 @@ module _ {text : List ℕ} {e : Gathered} {a : Arrays} where
 
   -- a sound statement
   pub packed-numbered : {r : ℕ} {a′ : Arrays} → e .sound ≡ true → e .skipped ≡ false
-      → ((label : List ℕ) → LabelKey label (e .label) → Numbered label (e .whole) (take (e .length) text) true a r a′)
-      → EntryNumbered text e a r a′
+      → PackedNumbered (take (e .length) text) e a r a′ → EntryNumbered text e a r a′
   packed-numbered {r} {a′} s f n =
       record {
         skips = λ t. absurd (true≢false (sym t ∙ f));
@@ -161,12 +159,11 @@ module _ {deck : List ℕ} {from : ℕ} {text : List ℕ} {e : Gathered} (g : Ga
         }) refl
 
   pub entry-judged : (a a′ : Arrays) (number : ℕ) → EntryNumbered text e a number a′
-      → EntryJudged deck from a (record { number = number; lines = e .lines; next = e .next }) a′
+      → EntryJudged deck from e a number a′
   entry-judged a a′ number n =
       record {
         refuses = λ z card k h. refuses-entry a a′ number n card k h z;
         goes = λ z card k h. goes-entry a a′ number n card k h z;
-        onward = g .onward;
         paced = g .paced;
         inside = g .inside;
       }

@@ -8,6 +8,7 @@ use lib.ListN.{length, take, drop, getD}
 use Rattle.base.specs.Current.{current, tableSize}
 use Rattle.cards.specs.Cards as Cards
 use Rattle.cards.specs.Entries.{entriesFrom, entries}
+use Rattle.closing.specs.Held.{Closable, heldIn}
 use Rattle.judgement.specs.Deck as Deck
 use Rattle.judgement.specs.Deck.{Judgement, accepted, judge, is11, is12, judgeFrom, metBy, unplaced, programOf, passed}
 use Rattle.judgement.specs.Known.{Known, nothingKnown, numbers, isOneOf, learn}
@@ -22,7 +23,6 @@ use Rattle.packer.specs.Keys.{LabelKey}
 use Rattle.packer.specs.Letters.{letters}
 use Rattle.packer.specs.Packs.{longestText}
 use Rattle.packer.specs.declared.Gathered.{Gathered}
-use Rattle.reader.specs.declared.judge.EntryVerdict.{EntryVerdict}
 use Rattle.reader.specs.declared.judge.Verdict.{Verdict}
 
 -- the arrays hold what is known of a deck of which so many bytes are taken
@@ -81,6 +81,10 @@ pub record Numbered (label : List ℕ) (whole : Bool) (text : List ℕ) (sound :
   pub learnt : r ≡ 0 → (taken : ℕ) (k : Known) → Holds a taken k → (taken′ : ℕ) → taken + letters text < taken′
       → Holds a′ taken′ (learn k (leading text .kind) (metBy (readStatement current (isOneOf (numbers k)) unplaced label whole text)))
 
+-- the same of the text that is gathered, whatever label has its key
+abbrev pub PackedNumbered : (text : List ℕ) (e : Gathered) (a : Arrays) (r : ℕ) (a′ : Arrays) → Type 0
+PackedNumbered text e a r a′ = (label : List ℕ) → LabelKey label (e .label) → Numbered label (e .whole) text true a r a′
+
 -- the number of an entry; a comment or blank line changes nothing
 pub record EntryNumbered (text : List ℕ) (e : Gathered) (a : Arrays) (r : ℕ) (a′ : Arrays) : Type 0 where
   pub skips : e .skipped ≡ true → (r ≡ cond (e .sound) 0 3) × (a′ ≡ a)
@@ -94,13 +98,12 @@ pub record Going (deck : List ℕ) (from card : ℕ) (k : Known) (lines next : �
   pub rest : judgeFrom current k (entriesFrom current card (Cards.lines (drop from deck)))
       ≡ judgeFrom current known (entriesFrom current (card + lines) (Cards.lines (drop next deck)))
 
-pub record EntryJudged (deck : List ℕ) (from : ℕ) (a : Arrays) (r : EntryVerdict) (a′ : Arrays) : Type 0 where
-  pub refuses : (r .number ≡ 0 → ⊥) → (card : ℕ) (k : Known) → Holds a from k
-      → judgeFrom current k (entriesFrom current card (Cards.lines (drop from deck))) ≡ Deck.Judged.refused (r .number) card
-  pub goes : r .number ≡ 0 → (card : ℕ) (k : Known) → Holds a from k → Going deck from card k (r .lines) (r .next) a′
-  pub onward : from < r .next
-  pub paced : from + r .lines ≤ r .next
-  pub inside : r .next ≤ length deck + 1
+pub record EntryJudged (deck : List ℕ) (from : ℕ) (e : Gathered) (a : Arrays) (r : ℕ) (a′ : Arrays) : Type 0 where
+  pub refuses : (r ≡ 0 → ⊥) → (card : ℕ) (k : Known) → Holds a from k
+      → judgeFrom current k (entriesFrom current card (Cards.lines (drop from deck))) ≡ Deck.Judged.refused r card
+  pub goes : r ≡ 0 → (card : ℕ) (k : Known) → Holds a from k → Going deck from card k (e .lines) (e .next) a′
+  pub paced : from + e .lines ≤ e .next
+  pub inside : e .next ≤ length deck + 1
 
 -- 4 behind the last line where END is missing
 abbrev pub endedIn : List ℕ → Verdict
@@ -123,6 +126,13 @@ pub record StatementsJudged (deck : List ℕ) (r : Verdict) (a : Arrays) : Type 
 abbrev pub closedBy : Known → Verdict
 closedBy k =
     cond (is11 k) (record { number = 11; card = 0 }) (cond (is12 k) (record { number = 12; card = 0 }) (record { number = 0; card = 0 }))
+
+-- the same by the arrays, which can be asked
+abbrev pub ClosableIn : Arrays → Type 0
+ClosableIn a = Closable (a .known) (a .useKeys) (a .useScopes) (a .usePurposes)
+
+abbrev pub closedIn : Arrays → Verdict
+closedIn a = closedBy (heldIn (a .known) (a .useKeys) (a .useScopes) (a .usePurposes))
 
 -- the deck is judged
 pub record Accepted (deck : List ℕ) (a : Arrays) : Type 0 where

@@ -10,6 +10,8 @@ use judging::judge_statement;
 use met::Cursor;
 use met::KNOWN;
 use met::NAMES;
+use met::PURPOSES;
+use met::SYMBOLS;
 use met::places::ELEMENTS;
 use met::places::ENDED;
 use met::places::ITEMS;
@@ -17,27 +19,19 @@ use met::places::LITERALS;
 use packer::Gathered;
 use packer::gather;
 use words::keywords::leading;
-ghost use mathlib.Core.Bool.{true};
-ghost use mathlib.Core.List.{List};
 ghost use mathlib.Core.Path.{_≡_};
-ghost use Prim.Native.Nat.{ℕ, _≤_, _<_, _+_};
+ghost use Prim.Native.Nat.{_≤_};
 ghost use lib.ListN.{length};
 ghost use Rattle.base.specs.Limits.{longestDeck};
-ghost use Rattle.closing.specs.Held.{Closable, heldIn};
 ghost use Rattle.judgement.specs.Known.{nothingKnown};
 ghost use Rattle.met.specs.Holding.{Holds};
 ghost use Rattle.met.specs.Known.{Counted, knownSize};
 ghost use Rattle.naming.specs.Arrays.{arrays};
-ghost use Rattle.packer.specs.Keys.{LabelKey};
 ghost use Rattle.packer.specs.Packs.{longestText};
-ghost use Rattle.reader.specs.Judging.{Held, Lent, Stays, startAt, Readied, Entered, Numbered, EntryNumbered, EntryJudged, endedIn, closedBy, StatementsJudged, DeckJudged};
+ghost use Rattle.reader.specs.Judging.{Lent, Stays, startAt, Readied, Entered, PackedNumbered, EntryNumbered, endedIn, ClosableIn, closedIn, StatementsJudged, DeckJudged};
 
-// what judging an entry of the deck comes to: its number, 0 if it passes, how many lines it has and where the next entry starts
-pub struct EntryVerdict {
-    pub number: u32,
-    pub lines: usize,
-    pub next: usize,
-}
+// where the uses' scopes stand among the symbols, behind the names and the uses
+const SCOPES: usize = 2 * NAMES;
 
 // a number with its card, 0 if the deck passes
 pub struct Verdict {
@@ -65,18 +59,16 @@ fn judge_packed(
     text: &[u8],
     e: Gathered,
     known: &mut [u64; KNOWN],
-    name_keys: &mut [u64; NAMES],
-    name_purposes: &mut [u8; NAMES],
-    use_keys: &mut [u64; NAMES],
-    use_scopes: &mut [u64; NAMES],
-    use_purposes: &mut [u8; NAMES],
+    symbols: &mut [u64; SYMBOLS],
+    purposes: &mut [u8; PURPOSES],
     keys: &mut [u64; NAMES],
     tags: &mut [u8; NAMES],
     table: &mut [u8],
 ) -> u32
-    requires { ⌜ Readied (now text) e (arrays (now known) (now «name_keys») (now «name_purposes») (now «use_keys») (now «use_scopes») (now «use_purposes»)) ⌝ }
+    requires { ⌜ Readied (now text) e (arrays (now known) (now symbols) (now purposes)) ⌝ }
     requires { ⌜ Lent (now keys) (now tags) (now table) ⌝ }
-    ensures { λ r. ⌜ ((label : List ℕ) → LabelKey label (e .label) → Numbered label (e .whole) (now (text .entry)) true (arrays (now (known .entry)) (now («name_keys» .entry)) (now («name_purposes» .entry)) (now («use_keys» .entry)) (now («use_scopes» .entry)) (now («use_purposes» .entry))) r (arrays (now (known .exit)) (now («name_keys» .exit)) (now («name_purposes» .exit)) (now («use_keys» .exit)) (now («use_scopes» .exit)) (now («use_purposes» .exit)))) ⌝ }
+    ensures { λ r. ⌜ PackedNumbered (now (text .entry)) e (arrays (now (known .entry)) (now (symbols .entry)) (now (purposes .entry))) r
+        (arrays (now (known .exit)) (now (symbols .exit)) (now (purposes .exit))) ⌝ }
     ensures { λ r. ⌜ Stays r (now (keys .exit)) (now (tags .exit)) ⌝ }
 {
     let kind = leading(text).kind;
@@ -89,18 +81,7 @@ fn judge_packed(
         Form::NoStep(d) => d,
         Form::Step(_, d) => d,
     };
-    judge_statement(
-        known,
-        name_keys,
-        name_purposes,
-        use_keys,
-        use_scopes,
-        use_purposes,
-        keys,
-        tags,
-        d,
-        kind,
-    )
+    judge_statement(known, symbols, purposes, keys, tags, d, kind)
 }
 
 // the number of an entry, 0 if it passes; its packed text stands at the beginning of text
@@ -108,18 +89,16 @@ fn judge_gathered(
     text: &[u8],
     e: Gathered,
     known: &mut [u64; KNOWN],
-    name_keys: &mut [u64; NAMES],
-    name_purposes: &mut [u8; NAMES],
-    use_keys: &mut [u64; NAMES],
-    use_scopes: &mut [u64; NAMES],
-    use_purposes: &mut [u8; NAMES],
+    symbols: &mut [u64; SYMBOLS],
+    purposes: &mut [u8; PURPOSES],
     keys: &mut [u64; NAMES],
     tags: &mut [u8; NAMES],
     table: &mut [u8],
 ) -> u32
-    requires { ⌜ Entered (now text) e (arrays (now known) (now «name_keys») (now «name_purposes») (now «use_keys») (now «use_scopes») (now «use_purposes»)) ⌝ }
+    requires { ⌜ Entered (now text) e (arrays (now known) (now symbols) (now purposes)) ⌝ }
     requires { ⌜ Lent (now keys) (now tags) (now table) ⌝ }
-    ensures { λ r. ⌜ EntryNumbered (now (text .entry)) e (arrays (now (known .entry)) (now («name_keys» .entry)) (now («name_purposes» .entry)) (now («use_keys» .entry)) (now («use_scopes» .entry)) (now («use_purposes» .entry))) r (arrays (now (known .exit)) (now («name_keys» .exit)) (now («name_purposes» .exit)) (now («use_keys» .exit)) (now («use_scopes» .exit)) (now («use_purposes» .exit))) ⌝ }
+    ensures { λ r. ⌜ EntryNumbered (now (text .entry)) e (arrays (now (known .entry)) (now (symbols .entry)) (now (purposes .entry))) r
+        (arrays (now (known .exit)) (now (symbols .exit)) (now (purposes .exit))) ⌝ }
     ensures { λ r. ⌜ Stays r (now (keys .exit)) (now (tags .exit)) ⌝ }
 {
     if !e.sound {
@@ -132,57 +111,12 @@ fn judge_gathered(
         &text[..e.length],
         e,
         known,
-        name_keys,
-        name_purposes,
-        use_keys,
-        use_scopes,
-        use_purposes,
+        symbols,
+        purposes,
         keys,
         tags,
         table,
     )
-}
-
-// judges the entry that starts with the line at from
-fn judge_entry(
-    deck: &[u8],
-    from: usize,
-    known: &mut [u64; KNOWN],
-    name_keys: &mut [u64; NAMES],
-    name_purposes: &mut [u8; NAMES],
-    use_keys: &mut [u64; NAMES],
-    use_scopes: &mut [u64; NAMES],
-    use_purposes: &mut [u8; NAMES],
-    text: &mut [u8; DECK],
-    keys: &mut [u64; NAMES],
-    tags: &mut [u8; NAMES],
-    table: &mut [u8],
-) -> EntryVerdict
-    requires { ⌜ Held (arrays (now known) (now «name_keys») (now «name_purposes») (now «use_keys») (now «use_scopes») (now «use_purposes»)) from ⌝ }
-    requires { ⌜ (from < length (now deck)) × (length (now deck) ≤ longestDeck) × (length (now text) ≡ longestText) ⌝ }
-    requires { ⌜ Lent (now keys) (now tags) (now table) ⌝ }
-    ensures { λ r. ⌜ EntryJudged (now (deck .entry)) from (arrays (now (known .entry)) (now («name_keys» .entry)) (now («name_purposes» .entry)) (now («use_keys» .entry)) (now («use_scopes» .entry)) (now («use_purposes» .entry))) r (arrays (now (known .exit)) (now («name_keys» .exit)) (now («name_purposes» .exit)) (now («use_keys» .exit)) (now («use_scopes» .exit)) (now («use_purposes» .exit))) ⌝ }
-    ensures { λ r. ⌜ Stays (r .number) (now (keys .exit)) (now (tags .exit)) × (length (now (text .exit)) ≡ longestText) ⌝ }
-{
-    let e = gather(deck, from, text);
-    let number = judge_gathered(
-        text,
-        e,
-        known,
-        name_keys,
-        name_purposes,
-        use_keys,
-        use_scopes,
-        use_purposes,
-        keys,
-        tags,
-        table,
-    );
-    EntryVerdict {
-        number,
-        lines: e.lines,
-        next: e.next,
-    }
 }
 
 // 4 where END is missing, behind the last line
@@ -200,61 +134,41 @@ fn ended(known: &[u64; KNOWN]) -> Verdict
 fn judge_statements(
     deck: &[u8],
     known: &mut [u64; KNOWN],
-    name_keys: &mut [u64; NAMES],
-    name_purposes: &mut [u8; NAMES],
-    use_keys: &mut [u64; NAMES],
-    use_scopes: &mut [u64; NAMES],
-    use_purposes: &mut [u8; NAMES],
+    symbols: &mut [u64; SYMBOLS],
+    purposes: &mut [u8; PURPOSES],
     text: &mut [u8; DECK],
     keys: &mut [u64; NAMES],
     tags: &mut [u8; NAMES],
     table: &mut [u8],
 ) -> Verdict
-    requires { ⌜ Holds (arrays (now known) (now «name_keys») (now «name_purposes») (now «use_keys») (now «use_scopes») (now «use_purposes»)) 0 nothingKnown ⌝ }
+    requires { ⌜ Holds (arrays (now known) (now symbols) (now purposes)) 0 nothingKnown ⌝ }
     requires { ⌜ (length (now deck) ≤ longestDeck) × (length (now text) ≡ longestText) ⌝ }
     requires { ⌜ Lent (now keys) (now tags) (now table) ⌝ }
-    ensures { λ r. ⌜ StatementsJudged (now (deck .entry)) r (arrays (now (known .exit)) (now («name_keys» .exit)) (now («name_purposes» .exit)) (now («use_keys» .exit)) (now («use_scopes» .exit)) (now («use_purposes» .exit))) ⌝ }
+    ensures { λ r. ⌜ StatementsJudged (now (deck .entry)) r (arrays (now (known .exit)) (now (symbols .exit)) (now (purposes .exit))) ⌝ }
     ensures { λ r. ⌜ (r .number ≡ 0 → Lent (now (keys .exit)) (now (tags .exit)) (now (table .exit)) × (length (now (text .exit)) ≡ longestText)) ⌝ }
 {
     let mut from: usize = 0;
     let mut card: usize = 1;
     while from < deck.len() {
-        let j = judge_entry(
-            deck,
-            from,
-            known,
-            name_keys,
-            name_purposes,
-            use_keys,
-            use_scopes,
-            use_purposes,
-            text,
-            keys,
-            tags,
-            table,
-        );
-        if j.number != 0 {
-            return Verdict {
-                number: j.number,
-                card,
-            };
+        let e = gather(deck, from, text);
+        let number = judge_gathered(text, e, known, symbols, purposes, keys, tags, table);
+        if number != 0 {
+            return Verdict { number, card };
         }
-        card += j.lines;
-        from = j.next;
+        card += e.lines;
+        from = e.next;
     }
     ended(known)
 }
 
 // 11 and 12 of a deck whose statements passed
-fn closed(
-    known: &[u64; KNOWN],
-    use_keys: &[u64; NAMES],
-    use_scopes: &[u64; NAMES],
-    use_purposes: &[u8; NAMES],
-) -> Verdict
-    requires { ⌜ Closable (now known) (now «use_keys») (now «use_scopes») (now «use_purposes») ⌝ }
-    ensures { λ r. ⌜ r ≡ closedBy (heldIn (now (known .entry)) (now («use_keys» .entry)) (now («use_scopes» .entry)) (now («use_purposes» .entry))) ⌝ }
+fn closed(known: &[u64; KNOWN], symbols: &[u64], purposes: &[u8]) -> Verdict
+    requires { ⌜ ClosableIn (arrays (now known) (now symbols) (now purposes)) ⌝ }
+    ensures { λ r. ⌜ r ≡ closedIn (arrays (now (known .entry)) (now (symbols .entry)) (now (purposes .entry))) ⌝ }
 {
+    let use_keys = &symbols[NAMES..SCOPES];
+    let use_scopes = &symbols[SCOPES..];
+    let use_purposes = &purposes[NAMES..];
     if undefined_or_crossing(known, use_keys, use_scopes, use_purposes) {
         return Verdict {
             number: 11,
@@ -274,37 +188,22 @@ fn closed(
 pub fn judge_deck(
     deck: &[u8],
     known: &mut [u64; KNOWN],
-    name_keys: &mut [u64; NAMES],
-    name_purposes: &mut [u8; NAMES],
-    use_keys: &mut [u64; NAMES],
-    use_scopes: &mut [u64; NAMES],
-    use_purposes: &mut [u8; NAMES],
+    symbols: &mut [u64; SYMBOLS],
+    purposes: &mut [u8; PURPOSES],
     text: &mut [u8; DECK],
     keys: &mut [u64; NAMES],
     tags: &mut [u8; NAMES],
     table: &mut [u8],
 ) -> Verdict
-    requires { ⌜ Holds (arrays (now known) (now «name_keys») (now «name_purposes») (now «use_keys») (now «use_scopes») (now «use_purposes»)) 0 nothingKnown ⌝ }
+    requires { ⌜ Holds (arrays (now known) (now symbols) (now purposes)) 0 nothingKnown ⌝ }
     requires { ⌜ (length (now deck) ≤ longestDeck) × (length (now text) ≡ longestText) ⌝ }
     requires { ⌜ Lent (now keys) (now tags) (now table) ⌝ }
-    ensures { λ r. ⌜ DeckJudged (now (deck .entry)) r (arrays (now (known .exit)) (now («name_keys» .exit)) (now («name_purposes» .exit)) (now («use_keys» .exit)) (now («use_scopes» .exit)) (now («use_purposes» .exit))) ⌝ }
+    ensures { λ r. ⌜ DeckJudged (now (deck .entry)) r (arrays (now (known .exit)) (now (symbols .exit)) (now (purposes .exit))) ⌝ }
     ensures { λ r. ⌜ (r .number ≡ 0 → Lent (now (keys .exit)) (now (tags .exit)) (now (table .exit)) × (length (now (text .exit)) ≡ longestText)) ⌝ }
 {
-    let v = judge_statements(
-        deck,
-        known,
-        name_keys,
-        name_purposes,
-        use_keys,
-        use_scopes,
-        use_purposes,
-        text,
-        keys,
-        tags,
-        table,
-    );
+    let v = judge_statements(deck, known, symbols, purposes, text, keys, tags, table);
     if v.number != 0 {
         return v;
     }
-    closed(known, use_keys, use_scopes, use_purposes)
+    closed(known, symbols, purposes)
 }

@@ -11,6 +11,8 @@ use judge::Verdict;
 use judge::judge_deck;
 use met::KNOWN;
 use met::NAMES;
+use met::PURPOSES;
+use met::SYMBOLS;
 use met::places::NUMBER_COUNT;
 use met::places::STRING_COUNT;
 use steps::write_steps;
@@ -58,11 +60,8 @@ fn read_deck(deck: &[u8], table: &mut [u8]) -> Verdict
     ensures { λ r. ⌜ DeckRead (now (deck .entry)) (now (table .entry)) r (now (table .exit)) ⌝ }
 {
     let mut known = [0u64; KNOWN];
-    let mut name_keys = [0u64; NAMES];
-    let mut name_purposes = [0u8; NAMES];
-    let mut use_keys = [0u64; NAMES];
-    let mut use_scopes = [0u64; NAMES];
-    let mut use_purposes = [0u8; NAMES];
+    let mut symbols = [0u64; SYMBOLS];
+    let mut purposes = [0u8; PURPOSES];
     let mut text = [0u8; DECK];
     let mut keys = [0u64; NAMES];
     let mut tags = [0u8; NAMES];
@@ -70,11 +69,8 @@ fn read_deck(deck: &[u8], table: &mut [u8]) -> Verdict
     let v = judge_deck(
         deck,
         &mut known,
-        &mut name_keys,
-        &mut name_purposes,
-        &mut use_keys,
-        &mut use_scopes,
-        &mut use_purposes,
+        &mut symbols,
+        &mut purposes,
         &mut text,
         &mut keys,
         &mut tags,

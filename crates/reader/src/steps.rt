@@ -102,7 +102,8 @@ fn write_gathered(
     requires { ⌜ letters (take (e .length) (now text)) < namesRoom ⌝ }
     requires { ⌜ Counted (now known) ⌝ }
     requires { ⌜ Lent (now keys) (now tags) (now table) ⌝ }
-    ensures { λ r. ⌜ GatheredWritten (now (text .entry)) (now (known .entry)) (now (keys .entry)) (now (tags .entry)) e p (now (table .entry)) r (now (known .exit)) (now (keys .exit)) (now (tags .exit)) (now (table .exit)) ⌝ }
+    ensures { λ r. ⌜ GatheredWritten (now (text .entry)) (now (known .entry)) (now (keys .entry)) (now (tags .entry)) e p (now (table .entry)) r
+        (now (known .exit)) (now (keys .exit)) (now (tags .exit)) (now (table .exit)) ⌝ }
 {
     if e.skipped {
         return passed(p, e);

@@ -72,7 +72,8 @@ fn element(
     requires { ⌜ Ready (now text) (now keys) (now tags) c ⌝ }
     requires { ⌜ Counted (now known) ⌝ }
     requires { ⌜ (tableSize ≤ length (now table)) × StringTag tag ⌝ }
-    ensures { λ r. ⌜ ElementRead (now (text .entry)) (now (known .entry)) (now (table .entry)) (now (keys .entry)) (now (tags .entry)) c tag r (now (table .exit)) (now (keys .exit)) (now (tags .exit)) ⌝ }
+    ensures { λ r. ⌜ ElementRead (now (text .entry)) (now (known .entry)) (now (table .entry)) (now (keys .entry)) (now (tags .entry)) c tag r
+        (now (table .exit)) (now (keys .exit)) (now (tags .exit)) ⌝ }
 {
     let at = c.at;
     if stands_at(text, at, b'"') {
@@ -99,7 +100,8 @@ fn pattern_element(
     requires { ⌜ Ready (now text) (now keys) (now tags) c ⌝ }
     requires { ⌜ Counted (now known) ⌝ }
     requires { ⌜ tableSize ≤ length (now table) ⌝ }
-    ensures { λ r. ⌜ PatternElementRead (now (text .entry)) (now (known .entry)) (now (table .entry)) (now (keys .entry)) (now (tags .entry)) c r (now (table .exit)) (now (keys .exit)) (now (tags .exit)) ⌝ }
+    ensures { λ r. ⌜ PatternElementRead (now (text .entry)) (now (known .entry)) (now (table .entry)) (now (keys .entry)) (now (tags .entry)) c r
+        (now (table .exit)) (now (keys .exit)) (now (tags .exit)) ⌝ }
 {
     if stands_at(text, c.at, b'(') {
         return write_cell(table, filler(text, known, keys, tags, skip(c, 1)));
@@ -120,7 +122,8 @@ fn one(
     requires { ⌜ Ready (now text) (now keys) (now tags) c ⌝ }
     requires { ⌜ Counted (now known) ⌝ }
     requires { ⌜ tableSize ≤ length (now table) ⌝ }
-    ensures { λ r. ⌜ OneRead (now (text .entry)) (now (known .entry)) (now (table .entry)) (now (keys .entry)) (now (tags .entry)) c patterned r (now (table .exit)) (now (keys .exit)) (now (tags .exit)) ⌝ }
+    ensures { λ r. ⌜ OneRead (now (text .entry)) (now (known .entry)) (now (table .entry)) (now (keys .entry)) (now (tags .entry)) c patterned r
+        (now (table .exit)) (now (keys .exit)) (now (tags .exit)) ⌝ }
 {
     if patterned {
         return pattern_element(text, known, table, keys, tags, c);
@@ -141,7 +144,8 @@ fn more(
     requires { ⌜ Ready (now text) (now keys) (now tags) c ⌝ }
     requires { ⌜ Counted (now known) ⌝ }
     requires { ⌜ tableSize ≤ length (now table) ⌝ }
-    ensures { λ r. ⌜ MoreRead (now (text .entry)) (now (known .entry)) (now (table .entry)) (now (keys .entry)) (now (tags .entry)) c patterned r (now (table .exit)) (now (keys .exit)) (now (tags .exit)) ⌝ }
+    ensures { λ r. ⌜ MoreRead (now (text .entry)) (now (known .entry)) (now (table .entry)) (now (keys .entry)) (now (tags .entry)) c patterned r
+        (now (table .exit)) (now (keys .exit)) (now (tags .exit)) ⌝ }
 {
     let mut d = c;
     while stands_at(text, d.at, b',') {
@@ -200,7 +204,8 @@ pub fn row(
     requires { ⌜ Ready (now text) (now keys) (now tags) c ⌝ }
     requires { ⌜ Counted (now known) ⌝ }
     requires { ⌜ tableSize ≤ length (now table) ⌝ }
-    ensures { λ r. ⌜ RowsRead (now (text .entry)) (now (known .entry)) (now (table .entry)) (now (keys .entry)) (now (tags .entry)) c patterned r (now (table .exit)) (now (keys .exit)) (now (tags .exit)) ⌝ }
+    ensures { λ r. ⌜ RowsRead (now (text .entry)) (now (known .entry)) (now (table .entry)) (now (keys .entry)) (now (tags .entry)) c patterned r
+        (now (table .exit)) (now (keys .exit)) (now (tags .exit)) ⌝ }
 {
     if nothing_here(text, c.at) {
         return Outcome::Got(c);

@@ -18,7 +18,7 @@ element-copy-out-count : tie.Need-element-copy-out-count Inv-loop μ-loop
 element-copy-out-count c = omega arith
 
 executed-pairs-requires : tie.Need-executed-pairs-requires Inv-loop μ-loop
-executed-pairs-requires c κs = (c .before .pre, c .before .pre .counted .routines)
+executed-pairs-requires c κs = (c .before .before .before .before .pre, c .before .before .before .before .pre .counted .routines)
 
 loop-holds : tie.Need-loop-holds Inv-loop μ-loop
 loop-holds c = (below-none _, omega arith)
@@ -27,7 +27,7 @@ comes-back-requires : tie.Need-comes-back-requires Inv-loop μ-loop
 comes-back-requires c κs = (
   record {
     size = c .before .before .before .executed-pairs .ensures .size;
-    few = c .before .before .before .before .before .pre .counted .routines;
+    few = c .before .before .before .before .before .before .before .before .pre .counted .routines;
   },
   c .before .loop-test .taken,
 )
@@ -45,7 +45,7 @@ loop-again c =
 
 returns : tie.Need-returns Inv-loop μ-loop
 returns c =
-    let a = c .before .before .before .before .args in
+    let a = c .before .before .before .before .before .before .before .args in
     let l = c .before .loop in
     let executed = c .before .before .executed-pairs in
     λ none.

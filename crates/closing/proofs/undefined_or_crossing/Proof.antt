@@ -23,20 +23,20 @@ loop-holds c = (below-none _, omega arith)
 mul-is-lost : tie.Need-mul-is-lost Inv-loop μ-loop
 mul-is-lost c = omega arith
 
-element-copy-out-is-lost : tie.Need-element-copy-out-is-lost Inv-loop μ-loop
-element-copy-out-is-lost c = omega arith
+shared-slice-read-is-lost : tie.Need-shared-slice-read-is-lost Inv-loop μ-loop
+shared-slice-read-is-lost c = omega arith
 
 mul-is-lost-2 : tie.Need-mul-is-lost-2 Inv-loop μ-loop
 mul-is-lost-2 c = omega arith
 
-element-copy-out-is-lost-2 : tie.Need-element-copy-out-is-lost-2 Inv-loop μ-loop
-element-copy-out-is-lost-2 c = omega arith
+shared-slice-read-is-lost-2 : tie.Need-shared-slice-read-is-lost-2 Inv-loop μ-loop
+shared-slice-read-is-lost-2 c = omega arith
 
-element-copy-out-is-lost-3 : tie.Need-element-copy-out-is-lost-3 Inv-loop μ-loop
-element-copy-out-is-lost-3 c = omega arith
+shared-slice-read-is-lost-3 : tie.Need-shared-slice-read-is-lost-3 Inv-loop μ-loop
+shared-slice-read-is-lost-3 c = omega arith
 
 is-lost-requires : tie.Need-is-lost-requires Inv-loop μ-loop
-is-lost-requires c κs = c .before .before .before .before .before .before .pre .counted
+is-lost-requires c κs = c .before .before .before .before .before .before .before .before .before .pre .counted
 
 add-i : tie.Need-add-i Inv-loop μ-loop
 add-i c = omega arith
@@ -46,7 +46,7 @@ loop-less c = omega arith
 
 loop-again : tie.Need-loop-again Inv-loop μ-loop
 loop-again c =
-    let a = c .before .before .before .before .before .before .before .args in
+    let a = c .before .before .before .before .before .before .before .before .before .before .args in
     let l = c .before .before .before .before .before .loop in (
       below-more (lostAt (a .known .now) (a .use-keys .now) (a .use-scopes .now) (a .use-purposes .now)) (l .i) _ _ (l .inv .0)
           (c .is-lost .ensures),
@@ -55,7 +55,7 @@ loop-again c =
 
 returns : tie.Need-returns Inv-loop μ-loop
 returns c =
-    let a = c .before .before .before .args in
+    let a = c .before .before .before .before .before .before .args in
     let l = c .before .loop in
     below-all (lostAt (a .known .now) (a .use-keys .now) (a .use-scopes .now) (a .use-purposes .now)) (l .i) _ _ (l .inv .0) (l .inv .1)
     (c .loop-test .left)
@@ -70,10 +70,10 @@ undefined-or-crossing-spec =
     element-copy-out-count
     loop-holds
     mul-is-lost
-    element-copy-out-is-lost
+    shared-slice-read-is-lost
     mul-is-lost-2
-    element-copy-out-is-lost-2
-    element-copy-out-is-lost-3
+    shared-slice-read-is-lost-2
+    shared-slice-read-is-lost-3
     is-lost-requires
     add-i
     loop-less

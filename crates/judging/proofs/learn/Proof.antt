@@ -1,7 +1,11 @@
 -- `learn` puts the parts of learning together.
 -- Assumes nothing.
-use mathlib.Core.Path.{_∙_}
+use mathlib.Core.Path.{sym, subst, _∙_}
+use Rattle.naming.specs.ArrayLaws.{two-regions, three-regions}
+use Rattle.naming.specs.Arrays.{arrays, metFrom}
+use Rattle.judging.specs.Learning.{Learnt}
 use Rattle.judging.specs.LearningLaws.{learnt-all, kept-few}
+use Rattle.judging.specs.UseLaws.{spacious-lent, used-lent, uses-put}
 use native.Mathlib.Omega.{arith}
 use borrow.Author.Needs.{needs}
 use Rattle.judging.proofs.learn.Statement.{statement}
@@ -13,26 +17,59 @@ element-copy-out-scope c = search needs
 element-copy-out-used : tie.Need-element-copy-out-used
 element-copy-out-used c = search needs
 
+slice-reshare-prefix-list-names : tie.Need-slice-reshare-prefix-list-names
+slice-reshare-prefix-list-names c = let s = c .before .before .before .before .before in omega (arith, three-regions (s .args .symbols .now) (s .pre .spacious .scopesSize))
+
+slice-aggregate-list-names : tie.Need-slice-aggregate-list-names
+slice-aggregate-list-names c = sym (c .before .before .before .before .before .before .pre .listing .keysSize)
+
+slice-reshare-prefix-list-names-2 : tie.Need-slice-reshare-prefix-list-names-2
+slice-reshare-prefix-list-names-2 c = let s = c .before .before .before .before .before .before in omega (arith, two-regions (s .args .purposes .now) (s .pre .spacious .purposesSize))
+
+slice-aggregate-list-names-2 : tie.Need-slice-aggregate-list-names-2
+slice-aggregate-list-names-2 c = sym (c .before .before .before .before .before .before .before .pre .listing .purposesSize)
+
 list-names-requires : tie.Need-list-names-requires
-list-names-requires c κs = search needs
+list-names-requires c κs = c .before .before .before .before .before .before .before .pre .listing
 
 list-labels-requires : tie.Need-list-labels-requires
 list-labels-requires c κs =
-    let s = c .before .before .before .before .before in
+    let s = c .before .before .before .before .before .before .before .before .before in
     let m = c .before .list-names .ensures in
     (m .shows .size, (kept-few (m .kept 68 (omega arith)) (s .pre .labels), s .pre .entries))
 
+sub-note-uses : tie.Need-sub-note-uses
+sub-note-uses c = let s = c .before .before .before .before .before .before .before .before .before .before in omega (arith, three-regions (s .args .symbols .now) (s .pre .spacious .scopesSize))
+
+part-note-uses-start : tie.Need-part-note-uses-start
+part-note-uses-start c = let s = c .before .before .before .before .before .before .before .before .before .before in omega (arith, three-regions (s .args .symbols .now) (s .pre .spacious .scopesSize))
+
+part-note-uses-end : tie.Need-part-note-uses-end
+part-note-uses-end c = search needs
+
+sub-note-uses-2 : tie.Need-sub-note-uses-2
+sub-note-uses-2 c = let s = c .before .before .before .before .before .before .before .before .before .before .before in omega (arith, two-regions (s .args .purposes .now) (s .pre .spacious .purposesSize))
+
+part-note-uses-start-2 : tie.Need-part-note-uses-start-2
+part-note-uses-start-2 c = let s = c .before .before .before .before .before .before .before .before .before .before .before in omega (arith, two-regions (s .args .purposes .now) (s .pre .spacious .purposesSize))
+
+part-note-uses-end-2 : tie.Need-part-note-uses-end-2
+part-note-uses-end-2 c = search needs
+
 note-uses-requires : tie.Need-note-uses-requires
-note-uses-requires c κs = search needs
+note-uses-requires c κs =
+    let s = c .before .before .before .before .before .before .before .before .before .before .before .before in
+    let a = s .args in
+    (spacious-lent (a .known .now) (a .symbols .now) (a .purposes .now) (s .pre .spacious), s .pre .entries)
 
 first-routine-requires : tie.Need-first-routine-requires
-first-routine-requires c κs = search needs
+first-routine-requires c κs = c .before .before .before .before .before .before .before .before .before .before .before .before .before .before .before .before .before .pre .entries
 
 learn-routine-requires : tie.Need-learn-routine-requires
 learn-routine-requires c κs =
-    let s = c .before .before .before .before .before .before .before .before .before .before .before .before in
-    let m = c .before .before .before .before .before .before .before .before .list-names .ensures in
-    let n = c .before .before .before .before .before .before .list-labels .ensures in (
+    let s = c .before .before .before .before .before .before .before .before .before .before .before .before .before .before .before .before .before .before .before in
+    let m = c .before .before .before .before .before .before .before .before .before .before .before .list-names .ensures in
+    let n = c .before .before .before .before .before .before .before .before .before .list-labels .ensures in (
       n .size,
       (
         kept-few (n .middle 69 (omega arith) (omega arith) ∙ m .kept 69 (omega arith)) (s .pre .routines),
@@ -45,9 +82,9 @@ scope-behind-requires c κs = search needs
 
 put-counts-requires : tie.Need-put-counts-requires
 put-counts-requires c κs =
-    let s = c .before .before .before .before .before .before .before .before .before .before .before .before .before .before .before in
-    let m = c .before .before .before .before .before .before .before .before .before .before .before .list-names .ensures in
-    let n = c .before .before .before .before .before .before .before .before .before .list-labels .ensures in
+    let s = c .before .before .before .before .before .before .before .before .before .before .before .before .before .before .before .before .before .before .before .before .before .before in
+    let m = c .before .before .before .before .before .before .before .before .before .before .before .before .before .before .list-names .ensures in
+    let n = c .before .before .before .before .before .before .before .before .before .before .before .before .list-labels .ensures in
     let o = c .before .before .learn-routine .ensures in (
       o .size,
       (
@@ -56,12 +93,25 @@ put-counts-requires c κs =
       ),
     )
 
+same-length : tie.Need-same-length
+same-length c = c .before .before .before .before .before .before .before .before .before .symbols .given .1
+
+same-length-2 : tie.Need-same-length-2
+same-length-2 c = c .before .before .before .before .before .before .before .purposes .given .1
+
 returns : tie.Need-returns
 returns c =
-    let s = c .before .before .before .before .before .before .before .before .before .before .before .before .before .before .before .before in
-    learnt-all _ _ _ _ _ _ _ _ _ _ _ _ _ _ _ _ _ _ _ _ (s .pre .labels) (c .before .before .before .before .before .before .before .before .before .before .before .before .list-names .ensures) (c .before .before .before .before .before .before .before .before .before .before .list-labels .ensures)
-    (c .before .before .before .before .before .before .note-uses .ensures) (c .before .before .before .before .before .first-routine .ensures) (c .before .before .before .learn-routine .ensures) (c .before .before .scope-behind .ensures)
-    (c .put-counts .ensures)
+    let s = c .before .before .before .before .before .before .before .before .before .before .before .before .before .before .before .before .before .before .before .before .before .before .before in
+    let a = s .args in
+    let held = arrays (a .known .now) (a .symbols .now) (a .purposes .now) in
+    let noted = c .before .before .before .before .before .before .before .before .before .before .note-uses in
+    let long = three-regions (a .symbols .now) (s .pre .spacious .scopesSize) in
+    let wide = two-regions (a .purposes .now) (s .pre .spacious .purposesSize) in
+    subst (Learnt held (metFrom (a .keys .now) (a .tags .now) 0 (a .c .names)) (a .c) (a .kind) (a .count))
+    (sym (uses-put (a .known .now) (a .symbols .now) (a .purposes .now) (omega arith) (omega arith) (c .put-counts .last .0) (noted .last .0) (noted .last .1 .0)))
+    (learnt-all held _ _ _ _ _ _ _ _ _ _ _ _ (s .pre .labels) (c .before .before .before .before .before .before .before .before .before .before .before .before .before .before .before .list-names .ensures) (c .before .before .before .before .before .before .before .before .before .before .before .before .before .list-labels .ensures)
+    (used-lent (a .known .now) (a .symbols .now) (a .purposes .now) (noted .ensures)) (c .before .before .before .before .before .first-routine .ensures) (c .before .before .before .learn-routine .ensures)
+    (c .before .before .scope-behind .ensures) (c .put-counts .ensures))
 
 pub learn-spec : {M : Type 1} → statement M
 learn-spec =
@@ -69,11 +119,23 @@ learn-spec =
     (tie.spec
     element-copy-out-scope
     element-copy-out-used
+    slice-reshare-prefix-list-names
+    slice-aggregate-list-names
+    slice-reshare-prefix-list-names-2
+    slice-aggregate-list-names-2
     list-names-requires
     list-labels-requires
+    sub-note-uses
+    part-note-uses-start
+    part-note-uses-end
+    sub-note-uses-2
+    part-note-uses-start-2
+    part-note-uses-end-2
     note-uses-requires
     first-routine-requires
     learn-routine-requires
     scope-behind-requires
     put-counts-requires
+    same-length
+    same-length-2
     returns)

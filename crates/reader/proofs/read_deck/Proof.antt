@@ -1,32 +1,30 @@
 -- `reader::read_deck`: the deck judged, the table zeroed, and written if the deck is accepted.
 -- Assumes nothing.
 use mathlib.Core.Path.{refl}
+use Prim.Native.Nat.{ℕ, _*_}
 use native.Mathlib.Omega.{arith}
+use lib.ListN.{replicate, length-replicate}
+use Rattle.met.specs.Contracts.{namesRoom}
 use Rattle.naming.specs.HoldLaws.{nothing-held}
 use Rattle.reader.specs.Reading.{accepted-whole, refused-read, accepted-read}
 use borrow.Author.Needs.{needs}
 use Rattle.reader.proofs.read_deck.Statement.{statement}
 use Rattle.reader.proofs.read_deck.Tie as tie
-use Rattle.reader.proofs.read_deck.Reads as reads
-use Rattle.reader.proofs.read_deck.Lts as lts
-use Rattle.cells.proofs.spans.blank.Reads as blank-reads
-use Rattle.reader.proofs.judge.judge_deck.Reads as judge-deck-reads
-use Rattle.reader.proofs.write_table.Reads as write-table-reads
 
 slice-aggregate-judge-deck : tie.Need-slice-aggregate-judge-deck
 slice-aggregate-judge-deck c = search needs
 
 judge-deck-requires : tie.Need-judge-deck-requires
 judge-deck-requires c κs =
-    let p = c .before .before .before .before .before .before .before .before .before .before .before .before in
-    (nothing-held _ _ _ _ _ refl refl refl refl refl, ((p .pre .0, refl), record { keysSize = refl; tagsSize = refl; tableSize = omega arith }))
+    let p = c .before .before .before .before .before .before .before .before .before in
+    (nothing-held (replicate (3 * namesRoom) 0) (replicate (2 * namesRoom) 0) (length-replicate {A = ℕ} (3 * namesRoom) 0) (length-replicate {A = ℕ} (2 * namesRoom) 0), ((p .pre .0, refl), record { keysSize = refl; tagsSize = refl; tableSize = omega arith }))
 
 blank-requires : tie.Need-blank-requires
 blank-requires c κs = search needs
 
 write-table-requires : tie.Need-write-table-requires
 write-table-requires c κs =
-    let p = c .before .before .before .before .before .before .before .before .before .before .before .before .before .before .before .before .before .before .before .before .before .before .before .before .before in
+    let p = c .before .before .before .before .before .before .before .before .before .before .before .before .before .before .before .before .before .before .before .before .before .before in
     let j = c .before .before .before .before .before .before .before .before .before .before .before .before .judge-deck .ensures in
     let z = c .before .before .before .before .before .if1 .taken in
     let l = j .1 z in (
@@ -42,14 +40,14 @@ same-length c = search needs
 
 returns : tie.Need-returns
 returns c =
-    accepted-read (c .before .before .before .before .before .before .before .before .before .before .before .before .before .before .before .before .before .before .before .before .before .before .before .before .before .before .before .before .pre .0) (c .before .before .before .before .before .before .before .before .before .before .before .before .before .before .before .judge-deck .ensures .0) (c .before .before .before .before .before .before .before .before .before .before .before .before .blank .ensures) (c .before .before .before .before .before .before .before .before .if1 .taken) (c .before .before .write-table .ensures)
+    accepted-read (c .before .before .before .before .before .before .before .before .before .before .before .before .before .before .before .before .before .before .before .before .before .before .before .before .before .pre .0) (c .before .before .before .before .before .before .before .before .before .before .before .before .before .before .before .judge-deck .ensures .0) (c .before .before .before .before .before .before .before .before .before .before .before .before .blank .ensures) (c .before .before .before .before .before .before .before .before .if1 .taken) (c .before .before .write-table .ensures)
 
 same-length-2 : tie.Need-same-length-2
 same-length-2 c = search needs
 
 returns-2 : tie.Need-returns-2
 returns-2 c =
-    refused-read (c .before .before .before .before .before .before .before .before .before .before .before .before .before .before .before .before .before .before .before .before .pre .0) (c .before .before .before .before .before .before .before .judge-deck .ensures .0) (c .before .before .before .before .blank .ensures) (c .if1 .left)
+    refused-read (c .before .before .before .before .before .before .before .before .before .before .before .before .before .before .before .before .before .pre .0) (c .before .before .before .before .before .before .before .judge-deck .ensures .0) (c .before .before .before .before .blank .ensures) (c .if1 .left)
 
 pub read-deck-spec : {M : Type 1} → statement M
 read-deck-spec =

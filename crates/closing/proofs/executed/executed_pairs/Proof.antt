@@ -23,31 +23,30 @@ element-copy-out-uses c = omega arith
 
 loop-holds : tie.Need-loop-holds Inv-loop μ-loop
 loop-holds c =
-    let s = c .before in
+    let s = c .before .before .before .before in
     let a = s .args in
     let f = usePairs (a .known .now) (a .use-keys .now) (a .use-scopes .now) (a .use-purposes .now) in
     (to-start (a .count) (s .pre .1) f noPairs (length-replicate 289 false), omega arith)
 
-element-copy-out-if1 : tie.Need-element-copy-out-if1 Inv-loop μ-loop
-element-copy-out-if1 c = omega arith
+shared-slice-read-if1 : tie.Need-shared-slice-read-if1 Inv-loop μ-loop
+shared-slice-read-if1 c = omega arith
 
 mul-note-use : tie.Need-mul-note-use Inv-loop μ-loop
 mul-note-use c = omega arith
 
-element-copy-out-note-use : tie.Need-element-copy-out-note-use Inv-loop μ-loop
-element-copy-out-note-use c = omega arith
+shared-slice-read-note-use : tie.Need-shared-slice-read-note-use Inv-loop μ-loop
+shared-slice-read-note-use c = omega arith
 
 mul-note-use-2 : tie.Need-mul-note-use-2 Inv-loop μ-loop
 mul-note-use-2 c = omega arith
 
-element-copy-out-note-use-2 : tie.Need-element-copy-out-note-use-2 Inv-loop μ-loop
-element-copy-out-note-use-2 c = omega arith
+shared-slice-read-note-use-2 : tie.Need-shared-slice-read-note-use-2 Inv-loop μ-loop
+shared-slice-read-note-use-2 c = omega arith
 
 note-use-requires : tie.Need-note-use-requires Inv-loop μ-loop
 note-use-requires c κs =
-    let l = c .before .before .before .before .before .before in
-    let s = l .before .before in
-    record { counted = s .pre .0 .counted; size = l .loop .inv .0 .size; few = s .pre .1 }
+    let s = c .before .before .before .before .before .before .before .before .before .before .before in
+    record { counted = s .pre .0 .counted; size = c .before .before .before .before .before .before .loop .inv .0 .size; few = s .pre .1 }
 
 add-u : tie.Need-add-u Inv-loop μ-loop
 add-u c = omega arith
@@ -57,7 +56,7 @@ loop-less c = omega arith
 
 loop-again : tie.Need-loop-again Inv-loop μ-loop
 loop-again c =
-    let s = c .before .before .before .before .before in
+    let s = c .before .before .before .before .before .before .before .before in
     let a = s .args in
     let l = c .before .before .before .loop in
     let Next : List Bool → Type 0 =
@@ -77,7 +76,7 @@ loop-again c =
 
 returns : tie.Need-returns Inv-loop μ-loop
 returns c =
-    let s = c .before .before .before in
+    let s = c .before .before .before .before .before .before in
     let a = s .args in
     let l = c .before .loop in
     uses-whole (a .count) (s .pre .1) (a .known .now) (a .use-keys .now) (a .use-scopes .now) (a .use-purposes .now) (l .pairs) (l .u)
@@ -91,11 +90,11 @@ executed-pairs-spec =
     μ-loop
     element-copy-out-uses
     loop-holds
-    element-copy-out-if1
+    shared-slice-read-if1
     mul-note-use
-    element-copy-out-note-use
+    shared-slice-read-note-use
     mul-note-use-2
-    element-copy-out-note-use-2
+    shared-slice-read-note-use-2
     note-use-requires
     add-u
     loop-less

@@ -20,17 +20,17 @@ element-copy-out-i c = search needs
 
 loop-holds : tie.Need-loop-holds Inv-loop μ-loop
 loop-holds c =
-    let s = c .before in
+    let s = c .before .before .before in
     (s .pre .inside, record { shows = s .pre .shows; kept = λ j h. refl })
 
 mul-list-name : tie.Need-mul-list-name Inv-loop μ-loop
 mul-list-name c = omega arith
 
-element-copy-out-list-name : tie.Need-element-copy-out-list-name Inv-loop μ-loop
-element-copy-out-list-name c = omega arith
+shared-slice-read-list-name : tie.Need-shared-slice-read-list-name Inv-loop μ-loop
+shared-slice-read-list-name c = omega arith
 
-element-copy-out-list-name-2 : tie.Need-element-copy-out-list-name-2 Inv-loop μ-loop
-element-copy-out-list-name-2 c = omega arith
+shared-slice-read-list-name-2 : tie.Need-shared-slice-read-list-name-2 Inv-loop μ-loop
+shared-slice-read-list-name-2 c = omega arith
 
 list-name-requires : tie.Need-list-name-requires Inv-loop μ-loop
 list-name-requires c κs = c .before .before .before .before .loop .inv .1 .shows .size
@@ -43,13 +43,13 @@ loop-less c = omega arith
 
 loop-again : tie.Need-loop-again Inv-loop μ-loop
 loop-again c =
-    let a = c .before .before .before .before .before .before .before .args in
+    let a = c .before .before .before .before .before .before .before .before .before .args in
     let l = c .before .before .before .before .before .loop in
     (omega arith, listing-more (a .known .now) (l .known) _ (a .name-keys .now) (a .name-purposes .now) (l .i) (l .inv .1) (c .list-name .ensures))
 
 returns : tie.Need-returns Inv-loop μ-loop
 returns c =
-    let a = c .before .before .before .args in
+    let a = c .before .before .before .before .before .args in
     let l = c .before .loop in
     subst (Listed (a .known .now) (l .known) (a .name-keys .now) (a .name-purposes .now)) (omega (arith, l .inv .0)) (l .inv .1)
 
@@ -62,8 +62,8 @@ list-names-spec =
     element-copy-out-i
     loop-holds
     mul-list-name
-    element-copy-out-list-name
-    element-copy-out-list-name-2
+    shared-slice-read-list-name
+    shared-slice-read-list-name-2
     list-name-requires
     add-i
     loop-less

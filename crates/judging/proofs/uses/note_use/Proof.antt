@@ -1,6 +1,9 @@
 -- `uses::note_use` notes a label or routine used.
 -- Assumes nothing.
+use Rattle.naming.specs.ArrayLaws.{two-regions}
 use Rattle.judging.specs.UseLaws.{used-one, used-none}
+use Rattle.judging.specs.Uses.{inParts}
+use lib.ListN.{length-set}
 use native.Mathlib.Omega.{arith}
 use borrow.Author.Needs.{needs}
 use Rattle.judging.proofs.uses.note_use.Statement.{statement}
@@ -10,37 +13,49 @@ returns : tie.Need-returns
 returns c =
     let s = c .before in
     let a = s .args in
-    used-none (a .use-keys .now) (a .use-scopes .now) (a .use-purposes .now) (a .n) (a .key) (a .scope) (a .tag) (s .pre) (λ e. omega arith) (λ e. omega arith)
+    used-none (inParts (a .uses .now) (a .purposes .now)) (a .n) (a .key) (a .scope) (a .tag) (s .pre) (λ e. omega arith) (λ e. omega arith)
 
 returns-2 : tie.Need-returns-2
 returns-2 c =
     let s = c .before .before in
     let a = s .args in
-    used-none (a .use-keys .now) (a .use-scopes .now) (a .use-purposes .now) (a .n) (a .key) (a .scope) (a .tag) (s .pre) (λ e. omega arith) (λ e. omega arith)
+    used-none (inParts (a .uses .now) (a .purposes .now)) (a .n) (a .key) (a .scope) (a .tag) (s .pre) (λ e. omega arith) (λ e. omega arith)
 
-mul-use-keys : tie.Need-mul-use-keys
-mul-use-keys c = search needs
+mul-uses : tie.Need-mul-uses
+mul-uses c = let s = c .before .before .pre in omega (arith, two-regions (c .before .before .args .uses .now) (s .scopesSize), s .room)
 
-element-write-use-keys : tie.Need-element-write-use-keys
-element-write-use-keys c = search needs
+slice-write-uses : tie.Need-slice-write-uses
+slice-write-uses c = let s = c .before .before .pre in omega (arith, two-regions (c .before .before .args .uses .now) (s .scopesSize), s .room)
 
-mul-use-scopes : tie.Need-mul-use-scopes
-mul-use-scopes c = search needs
+add-uses : tie.Need-add-uses
+add-uses c = let s = c .before .before .pre in omega (arith, two-regions (c .before .before .args .uses .now) (s .scopesSize), s .room)
 
-element-write-use-scopes : tie.Need-element-write-use-scopes
-element-write-use-scopes c = search needs
+mul-uses-2 : tie.Need-mul-uses-2
+mul-uses-2 c = let s = c .before .before .pre in omega (arith, two-regions (c .before .before .args .uses .now) (s .scopesSize), s .room)
 
-element-write-use-purposes : tie.Need-element-write-use-purposes
-element-write-use-purposes c = search needs
+slice-write-uses-2 : tie.Need-slice-write-uses-2
+slice-write-uses-2 c =
+    let s = c .before .before .pre in
+    let a = c .before .before .args in
+    omega (arith, length-set (a .uses .now) (a .n) (a .key), two-regions (a .uses .now) (s .scopesSize), s .room)
+
+slice-write-purposes : tie.Need-slice-write-purposes
+slice-write-purposes c = search needs
 
 add-result : tie.Need-add-result
 add-result c = search needs
+
+same-length : tie.Need-same-length
+same-length c = search needs
+
+same-length-2 : tie.Need-same-length-2
+same-length-2 c = search needs
 
 returns-3 : tie.Need-returns-3
 returns-3 c =
     let s = c .before .before in
     let a = s .args in
-    used-one (a .use-keys .now) (a .use-scopes .now) (a .use-purposes .now) (a .n) (a .key) (a .scope) (a .tag) (s .pre)
+    used-one (a .uses .now) (a .purposes .now) (a .n) (a .key) (a .scope) (a .tag) (s .pre)
 
 pub note-use-spec : {M : Type 1} → statement M
 note-use-spec =
@@ -48,10 +63,13 @@ note-use-spec =
     (tie.spec
     returns
     returns-2
-    mul-use-keys
-    element-write-use-keys
-    mul-use-scopes
-    element-write-use-scopes
-    element-write-use-purposes
+    mul-uses
+    slice-write-uses
+    add-uses
+    mul-uses-2
+    slice-write-uses-2
+    slice-write-purposes
     add-result
+    same-length
+    same-length-2
     returns-3)

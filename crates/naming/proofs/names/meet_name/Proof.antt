@@ -9,15 +9,27 @@ use Rattle.naming.proofs.names.meet_name.Tie as tie
 standing-requires : tie.Need-standing-requires
 standing-requires c κs = search needs
 
+same-length : tie.Need-same-length
+same-length c = search needs
+
+same-length-2 : tie.Need-same-length-2
+same-length-2 c = search needs
+
 returns : tie.Need-returns
 returns c =
-    let s = c .before .before .before .before in
+    let s = c .before .before .before .before .before .before in
     let a = s .args in
     meets-known (a .name-keys .now) (a .name-purposes .now) (a .known) (a .key) (a .p) (s .pre) (sym (c .before .standing .ensures) ∙ c .if1 .taken)
 
+same-length-3 : tie.Need-same-length-3
+same-length-3 c = search needs
+
+same-length-4 : tie.Need-same-length-4
+same-length-4 c = search needs
+
 returns-2 : tie.Need-returns-2
 returns-2 c =
-    let s = c .before .before .before .before .before in
+    let s = c .before .before .before .before .before .before .before in
     let a = s .args in
     meets-other (a .name-keys .now) (a .name-purposes .now) (a .known) (a .key) (a .p) (s .pre)
     (sym (c .before .before .standing .ensures) ∙ c .if2 .taken)
@@ -25,18 +37,24 @@ returns-2 c =
 mul-name-keys : tie.Need-mul-name-keys
 mul-name-keys c = search needs
 
-element-write-name-keys : tie.Need-element-write-name-keys
-element-write-name-keys c = search needs
+slice-write-name-keys : tie.Need-slice-write-name-keys
+slice-write-name-keys c = search needs
 
-element-write-name-purposes : tie.Need-element-write-name-purposes
-element-write-name-purposes c = search needs
+slice-write-name-purposes : tie.Need-slice-write-name-purposes
+slice-write-name-purposes c = search needs
 
-add-t11 : tie.Need-add-t11
-add-t11 c = search needs
+add-t13 : tie.Need-add-t13
+add-t13 c = search needs
+
+same-length-5 : tie.Need-same-length-5
+same-length-5 c = search needs
+
+same-length-6 : tie.Need-same-length-6
+same-length-6 c = search needs
 
 returns-3 : tie.Need-returns-3
 returns-3 c =
-    let s = c .before .before .before .before .before in
+    let s = c .before .before .before .before .before .before .before in
     let a = s .args in
     let is = c .before .before .standing .ensures in
     meets-new (a .name-keys .now) (a .name-purposes .now) (a .known) (a .key) (a .p) (s .pre) (λ e. c .before .if1 .left (is ∙ e))
@@ -47,10 +65,16 @@ meet-name-spec =
     tie.close
     (tie.spec
     standing-requires
+    same-length
+    same-length-2
     returns
+    same-length-3
+    same-length-4
     returns-2
     mul-name-keys
-    element-write-name-keys
-    element-write-name-purposes
-    add-t11
+    slice-write-name-keys
+    slice-write-name-purposes
+    add-t13
+    same-length-5
+    same-length-6
     returns-3)

@@ -1,6 +1,7 @@
 -- `names::meet_names` puts names behind those known. The invariant: those of the entries passed are.
 -- Assumes nothing.
 use mathlib.Core.Logic.{⊎-elim}
+use mathlib.Core.Path.{sym, _∙_}
 use Prim.Native.Nat.{_-_}
 use Rattle.naming.specs.MeetLaws.{Meeting, meeting-none, meeting-room, meeting-one, meeting-other, meeting-all, meeting-same}
 use native.Mathlib.Omega.{arith}
@@ -15,8 +16,9 @@ abbrev μ-loop : tie.MeasureT-loop
 
 loop-holds : tie.Need-loop-holds Inv-loop μ-loop
 loop-holds c =
-    let a = c .args in
-    meeting-none (a .name-keys .now) (a .name-purposes .now) (a .keys .now) (a .tags .now) (a .met) (a .wanted) (a .before) (c .pre .0)
+    let s = c .before .before in
+    let a = s .args in
+    meeting-none (a .name-keys .now) (a .name-purposes .now) (a .keys .now) (a .tags .now) (a .met) (a .wanted) (a .before) (s .pre .0)
 
 element-copy-out-tag : tie.Need-element-copy-out-tag Inv-loop μ-loop
 element-copy-out-tag c = omega arith
@@ -29,7 +31,7 @@ element-copy-out-meet-name c = omega arith
 
 meet-name-requires : tie.Need-meet-name-requires Inv-loop μ-loop
 meet-name-requires c κs =
-    let a = c .before .before .before .before .before .before .before .args in
+    let a = c .before .before .before .before .before .before .before .before .before .args in
     let l = c .before .before .before .before .before .before .loop in
     meeting-room (a .name-keys .now) (a .name-purposes .now) (a .keys .now) (a .tags .now) (a .met) (a .wanted) (a .before) (l .name-keys) (l .name-purposes) (l .r) (l .i) (l .inv) (omega arith) (c .before .before .before .if1 .taken)
 
@@ -41,20 +43,26 @@ loop-less c = omega arith
 
 loop-again : tie.Need-loop-again Inv-loop μ-loop
 loop-again c =
-    let a = c .before .before .before .before .args in
+    let a = c .before .before .before .before .before .before .args in
     let l = c .before .before .before .loop in
     ⊎-elim
     (λ w.
-    meeting-same (a .name-keys .now) (a .name-purposes .now) (a .keys .now) (a .tags .now) (a .met) (a .wanted) (a .before) (w .5) (w .6) (w .7)
+    meeting-same (a .name-keys .now) (a .name-purposes .now) (a .keys .now) (a .tags .now) (a .met) (a .wanted) (a .before) (w .9) (w .10) (w .11)
     (meeting-one (a .name-keys .now) (a .name-purposes .now) (a .keys .now) (a .tags .now) (a .met) (a .wanted) (a .before) (l .name-keys) (l .name-purposes) (l .r) (l .i) (l .inv) (omega arith) (w .0 .taken) _ _ _ (w .4 .ensures)))
     (λ w.
     meeting-same (a .name-keys .now) (a .name-purposes .now) (a .keys .now) (a .tags .now) (a .met) (a .wanted) (a .before) (w .1) (w .2) (w .3)
     (meeting-other (a .name-keys .now) (a .name-purposes .now) (a .keys .now) (a .tags .now) (a .met) (a .wanted) (a .before) (l .name-keys) (l .name-purposes) (l .r) (l .i) (l .inv) (omega arith) (w .0 .left)))
     (c .if1 .came)
 
+same-length : tie.Need-same-length Inv-loop μ-loop
+same-length c = c .before .loop .inv .so .keysSize ∙ sym (c .before .before .before .before .pre .0 .keysSize)
+
+same-length-2 : tie.Need-same-length-2 Inv-loop μ-loop
+same-length-2 c = c .before .loop .inv .so .purposesSize ∙ sym (c .before .before .before .before .pre .0 .othersSize)
+
 returns : tie.Need-returns Inv-loop μ-loop
 returns c =
-    let a = c .before .before .args in
+    let a = c .before .before .before .before .args in
     let l = c .before .loop in
     meeting-all (a .name-keys .now) (a .name-purposes .now) (a .keys .now) (a .tags .now) (a .met) (a .wanted) (a .before) (l .name-keys) (l .name-purposes) (l .r) (l .i) (l .inv) (omega arith)
 
@@ -72,4 +80,6 @@ meet-names-spec =
     add-i
     loop-less
     loop-again
+    same-length
+    same-length-2
     returns)

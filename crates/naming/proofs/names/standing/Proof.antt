@@ -17,17 +17,17 @@ abbrev μ-loop : tie.MeasureT-loop
 
 loop-holds : tie.Need-loop-holds Inv-loop μ-loop
 loop-holds c =
-    let a = c .args in
+    let a = c .before .before .args in
     passing-start (standsFrom (a .name-keys .now) (a .name-purposes .now) (a .n) (a .key) (a .p)) 0 (a .n) (omega arith)
 
 mul-if1 : tie.Need-mul-if1 Inv-loop μ-loop
 mul-if1 c = omega arith
 
-element-copy-out-if1 : tie.Need-element-copy-out-if1 Inv-loop μ-loop
-element-copy-out-if1 c = omega arith
+shared-slice-read-if1 : tie.Need-shared-slice-read-if1 Inv-loop μ-loop
+shared-slice-read-if1 c = omega arith
 
-element-copy-out-purpose : tie.Need-element-copy-out-purpose Inv-loop μ-loop
-element-copy-out-purpose c = omega arith
+shared-slice-read-purpose : tie.Need-shared-slice-read-purpose Inv-loop μ-loop
+shared-slice-read-purpose c = omega arith
 
 purpose-requires : tie.Need-purpose-requires Inv-loop μ-loop
 purpose-requires c κs = search needs
@@ -37,7 +37,7 @@ purpose-requires-2 c κs = search needs
 
 returns : tie.Need-returns Inv-loop μ-loop
 returns c =
-    let a = c .before .before .before .before .before .before .before .before .args in
+    let a = c .before .before .before .before .before .before .before .before .before .before .args in
     let l = c .before .before .before .before .before .before .before .loop in
     let ks = a .name-keys .now in
     let ps = a .name-purposes .now in
@@ -47,7 +47,7 @@ returns c =
 
 returns-2 : tie.Need-returns-2 Inv-loop μ-loop
 returns-2 c =
-    let a = c .before .before .before .before .before .before .before .before .args in
+    let a = c .before .before .before .before .before .before .before .before .before .before .args in
     let l = c .before .before .before .before .before .before .before .loop in
     let ks = a .name-keys .now in
     let ps = a .name-purposes .now in
@@ -63,7 +63,7 @@ loop-less c = omega arith
 
 loop-again : tie.Need-loop-again Inv-loop μ-loop
 loop-again c =
-    let a = c .before .before .before .before .args in
+    let a = c .before .before .before .before .before .before .args in
     let l = c .before .before .before .loop in
     let ks = a .name-keys .now in
     let ps = a .name-purposes .now in
@@ -72,7 +72,7 @@ loop-again c =
 
 returns-3 : tie.Need-returns-3 Inv-loop μ-loop
 returns-3 c =
-    let a = c .before .before .args in
+    let a = c .before .before .before .before .args in
     let l = c .before .loop in
     let ks = a .name-keys .now in
     let ps = a .name-purposes .now in
@@ -86,8 +86,8 @@ standing-spec =
     μ-loop
     loop-holds
     mul-if1
-    element-copy-out-if1
-    element-copy-out-purpose
+    shared-slice-read-if1
+    shared-slice-read-purpose
     purpose-requires
     purpose-requires-2
     returns

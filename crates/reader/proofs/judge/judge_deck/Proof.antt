@@ -4,10 +4,6 @@ use Rattle.reader.specs.DeckLaws.{deck-refused, deck-closed, passed-clos
 use borrow.Author.Needs.{needs}
 use Rattle.reader.proofs.judge.judge_deck.Statement.{statement}
 use Rattle.reader.proofs.judge.judge_deck.Tie as tie
-use Rattle.reader.proofs.judge.judge_deck.Reads as reads
-use Rattle.reader.proofs.judge.judge_deck.Lts as lts
-use Rattle.reader.proofs.judge.closed.Reads as closed-reads
-use Rattle.reader.proofs.judge.judge_statements.Reads as judge-statements-reads
 
 judge-statements-requires : tie.Need-judge-statements-requires
 judge-statements-requires c κs = search needs
@@ -21,15 +17,15 @@ returns c =
 
 closed-requires : tie.Need-closed-requires
 closed-requires c κs =
-    passed-closable (c .before .before .before .before .before .before .before .before .judge-statements .ensures .0 .passes (c .before .before .before .before .if1 .left))
+    passed-closable (c .before .before .before .before .before .before .before .before .before .judge-statements .ensures .0 .passes (c .before .before .before .before .before .if1 .left))
 
 same-length-2 : tie.Need-same-length-2
 same-length-2 c = search needs
 
 returns-2 : tie.Need-returns-2
 returns-2 c =
-    let z = c .before .before .before .before .before .if1 .left in
-    let e = c .before .before .before .before .before .before .before .before .before .judge-statements .ensures in
+    let z = c .before .before .before .before .before .before .if1 .left in
+    let e = c .before .before .before .before .before .before .before .before .before .before .judge-statements .ensures in
     let p = e .0 .passes z in
     (deck-closed p (passed-closed p (c .closed .ensures)), λ _. e .1 z)
 

@@ -9,9 +9,6 @@ use Rattle.reader.specs.JudgeLaws.{stays-not}
 use borrow.Author.Needs.{needs}
 use Rattle.reader.proofs.judge.judge_gathered.Statement.{statement}
 use Rattle.reader.proofs.judge.judge_gathered.Tie as tie
-use Rattle.reader.proofs.judge.judge_gathered.Reads as reads
-use Rattle.reader.proofs.judge.judge_gathered.Lts as lts
-use Rattle.reader.proofs.judge.judge_packed.Reads as judge-packed-reads
 
 returns : tie.Need-returns
 returns c =
@@ -19,7 +16,7 @@ returns c =
 
 returns-2 : tie.Need-returns-2
 returns-2 c =
-    let l = (c .before .before .before .before .before) .pre .1 in
+    let l = c .before .before .before .before .before .pre .1 in
     (skipped-numbered (not-false _ (c .before .if1 .left)) (c .if2 .taken), record { keysSize = λ _. l .keysSize; tagsSize = λ _. l .tagsSize })
 
 slice-aggregate-judge-packed : tie.Need-slice-aggregate-judge-packed
@@ -28,14 +25,14 @@ slice-aggregate-judge-packed c =
 
 judge-packed-requires : tie.Need-judge-packed-requires
 judge-packed-requires c κs =
-    let p = c .before .before .before .before .before .before .before .before .before .before .before .before .before .before .before in (readied (p .pre .0) (not-false _ (c .before .before .before .before .before .before .before .before .before .before .before .if1 .left)), p .pre .1)
+    let p = c .before .before .before .before .before .before .before .before .before .before .before .before in (readied (p .pre .0) (not-false _ (c .before .before .before .before .before .before .before .before .if1 .left)), p .pre .1)
 
 same-length : tie.Need-same-length
 same-length c = search needs
 
 returns-3 : tie.Need-returns-3
 returns-3 c =
-    (packed-numbered (not-false _ (c .before .before .before .before .before .before .before .before .before .before .before .before .before .before .if1 .left)) (c .before .before .before .before .before .before .before .before .before .before .before .before .before .if2 .left) (c .before .before .judge-packed .ensures .0), c .before .before .judge-packed .ensures .1)
+    (packed-numbered (not-false _ (c .before .before .before .before .before .before .before .before .before .before .before .if1 .left)) (c .before .before .before .before .before .before .before .before .before .before .if2 .left) (c .before .before .judge-packed .ensures .0), c .before .before .judge-packed .ensures .1)
 
 pub judge-gathered-spec : {M : Type 1} → statement M
 judge-gathered-spec =

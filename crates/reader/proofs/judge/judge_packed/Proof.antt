@@ -9,13 +9,6 @@ use Rattle.naming.specs.Arrays.{arrays}
 use borrow.Author.Needs.{needs}
 use Rattle.reader.proofs.judge.judge_packed.Statement.{statement}
 use Rattle.reader.proofs.judge.judge_packed.Tie as tie
-use Rattle.reader.proofs.judge.judge_packed.Reads as reads
-use Rattle.reader.proofs.judge.judge_packed.Lts as lts
-use Rattle.reader.proofs.judge.start.Reads as start-reads
-use Rattle.judging.proofs.is_misplaced.Reads as is-misplaced-reads
-use Rattle.judging.proofs.judge_statement.Reads as judge-statement-reads
-use Rattle.forms.proofs.read_statement.Reads as read-statement-reads
-use Rattle.words.proofs.keywords.leading.Reads as leading-reads
 
 leading-requires : tie.Need-leading-requires
 leading-requires c κs = search needs
@@ -26,7 +19,7 @@ is-misplaced-requires c κs = search needs
 returns : tie.Need-returns
 returns c =
     let p = c .before .before .before .before .before .before in
-    let arrs = arrays (p .args .known .now) (p .args .name-keys .now) (p .args .name-purposes .now) (p .args .use-keys .now) (p .args .use-scopes .now) (p .args .use-purposes .now) in (
+    let arrs = arrays (p .args .known .now) (p .args .symbols .now) (p .args .purposes .now) in (
       (λ label w.
           misplaced-numbered arrs (c .before .before .before .leading .result .kind) label (p .args .e .whole) (p .args .text .now)
           (ap (λ l. l .kind) (c .before .before .before .leading .ensures))
@@ -54,7 +47,7 @@ same-length c = search needs
 returns-2 : tie.Need-returns-2
 returns-2 c =
     let p = c .before .before .before .before .before .before .before .before .before .before .before .before .before .before .before .before .before in
-    let arrs = arrays (p .args .known .now) (p .args .name-keys .now) (p .args .name-purposes .now) (p .args .use-keys .now) (p .args .use-scopes .now) (p .args .use-purposes .now) in (
+    let arrs = arrays (p .args .known .now) (p .args .symbols .now) (p .args .purposes .now) in (
       (λ label w.
           broken-numbered arrs (c .before .before .before .before .before .before .before .before .before .before .before .before .before .before .leading .result .kind) label (p .args .e .whole) (p .args .text .now)
           (ap (λ l. l .kind) (c .before .before .before .before .before .before .before .before .before .before .before .before .before .before .leading .ensures))
@@ -71,32 +64,32 @@ enum-known-d-2 c = search needs
 
 judge-statement-requires : tie.Need-judge-statement-requires
 judge-statement-requires c κs =
-    let q = c .before .before .before .before .before .before .before .before .before .before .before .before .before .before .before .before .before .before .before .before .before .before .before .before .pre .0 in
-    let read = c .before .before .before .before .before .before .before .before .before .before .before .read-statement in
+    let q = c .before .before .before .before .before .before .before .before .before .before .before .before .before .before .before .before .before .before .before .before .before .pre .0 in
+    let read = c .before .before .before .before .before .before .before .before .read-statement in
     let f =
     ⊎-elim (λ w. no-step-to (read .ensures (q .label) (q .keyed)) (w .1 .given .1) (w .3))
-    (λ w. step-to (read .ensures (q .label) (q .keyed)) (w .1 .given .1) (w .3)) (c .before .before .before .before .before .before .before .before .match .came) in
-    formed-judgeable q (ap (λ d. d .names) (c .before .before .before .before .before .before .before .before .before .before .before .before .before .before .before .before .start .ensures)) (f .formed)
+    (λ w. step-to (read .ensures (q .label) (q .keyed)) (w .1 .given .1) (w .3)) (c .before .before .before .before .before .match .came) in
+    formed-judgeable q (ap (λ d. d .names) (c .before .before .before .before .before .before .before .before .before .before .before .before .before .start .ensures)) (f .formed)
 
 same-length-2 : tie.Need-same-length-2
 same-length-2 c = search needs
 
 returns-3 : tie.Need-returns-3
 returns-3 c =
-    let p = c .before .before .before .before .before .before .before .before .before .before .before .before .before .before .before .before .before .before .before .before .before .before .before .before .before in
-    let arrs = arrays (p .args .known .now) (p .args .name-keys .now) (p .args .name-purposes .now) (p .args .use-keys .now) (p .args .use-scopes .now) (p .args .use-purposes .now) in
+    let p = c .before .before .before .before .before .before .before .before .before .before .before .before .before .before .before .before .before .before .before .before .before .before in
+    let arrs = arrays (p .args .known .now) (p .args .symbols .now) (p .args .purposes .now) in
     let q = p .pre .0 in
-    let read = c .before .before .before .before .before .before .before .before .before .before .before .before .read-statement in
+    let read = c .before .before .before .before .before .before .before .before .before .read-statement in
     let f =
     ⊎-elim (λ w. no-step-to (read .ensures (q .label) (q .keyed)) (w .1 .given .1) (w .3))
-    (λ w. step-to (read .ensures (q .label) (q .keyed)) (w .1 .given .1) (w .3)) (c .before .before .before .before .before .before .before .before .before .match .came) in (
+    (λ w. step-to (read .ensures (q .label) (q .keyed)) (w .1 .given .1) (w .3)) (c .before .before .before .before .before .before .match .came) in (
       (λ label t.
-          formed-numbered arrs (c .before .before .before .before .before .before .before .before .before .before .before .before .before .before .before .before .before .before .before .before .before .before .leading .result .kind) label (p .args .e .whole) (p .args .text .now)
-          (ap (λ l. l .kind) (c .before .before .before .before .before .before .before .before .before .before .before .before .before .before .before .before .before .before .before .before .before .before .leading .ensures))
-          (λ taken k h. sym (c .before .before .before .before .before .before .before .before .before .before .before .before .before .before .before .before .before .before .before .before .is-misplaced .ensures .misplaced arrs refl taken k h) ∙ c .before .before .before .before .before .before .before .before .before .before .before .before .before .before .before .before .before .before .before .if1 .left)
-          (c .before .before .before .before .before .before .before .before .before .before .before .before .before .before .before .before .before .start .ensures)
+          formed-numbered arrs (c .before .before .before .before .before .before .before .before .before .before .before .before .before .before .before .before .before .before .before .leading .result .kind) label (p .args .e .whole) (p .args .text .now)
+          (ap (λ l. l .kind) (c .before .before .before .before .before .before .before .before .before .before .before .before .before .before .before .before .before .before .before .leading .ensures))
+          (λ taken k h. sym (c .before .before .before .before .before .before .before .before .before .before .before .before .before .before .before .before .before .is-misplaced .ensures .misplaced arrs refl taken k h) ∙ c .before .before .before .before .before .before .before .before .before .before .before .before .before .before .before .before .if1 .left)
+          (c .before .before .before .before .before .before .before .before .before .before .before .before .before .before .start .ensures)
           (⊎-elim (λ w. no-step-to (read .ensures label t) (w .1 .given .1) (w .3)) (λ w. step-to (read .ensures label t) (w .1 .given .1) (w .3))
-          (c .before .before .before .before .before .before .before .before .before .match .came) .formed)
+          (c .before .before .before .before .before .before .match .came) .formed)
           (c .judge-statement .ensures)),
       record { keysSize = λ _. f .formed .keysSize; tagsSize = λ _. f .formed .tagsSize },
     )
