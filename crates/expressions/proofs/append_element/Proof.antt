@@ -1,4 +1,4 @@
--- `expressions::append_element` meets its contract. A literal lies in the table, a part of a string in the store, and STRING's text in scratch.
+-- `expressions::append_element` meets its contract. A literal lies in the table, a part of a string in the store; STRING's text is made.
 -- Assumes nothing.
 use borrow.Author.Needs.{needs}
 use mathlib.Core.List.{List}
@@ -55,12 +55,11 @@ number-at-requires c κs =
 
 append-text-requires : tie.Need-append-text-requires
 append-text-requires c κs =
-    let s = c .before .before .before .before .before .before .before .before .before in
+    let s = c .before .before .before .before .before .before .before .before in
     let store = s .args .store .now in (
       record {
-        left = c .before .before .before .length-value .ensures store .range;
-        right = c .before .before .number-at .ensures store .range;
-        room = s .pre .spare;
+        left = c .before .before .length-value .ensures store .range;
+        right = c .before .number-at .ensures store .range;
       },
       s .pre .room,
     )
@@ -68,33 +67,28 @@ append-text-requires c κs =
 returns : tie.Need-returns
 unfolding elementIn quietly
 returns c =
-    rw (c .before .before .before .x .given .1)
-    (c .append-between .ensures, c .before .before .before .before .before .before .before .pre .spare)
+    rw (c .before .before .before .x .given .1) (c .append-between .ensures)
 
 returns-2 : tie.Need-returns-2
 unfolding elementIn
 returns-2 c =
     let s = c .before .before .before .before .before .before .before .before in
     let after = c .append-between2 .last .1 .1 .0 in
-    rw (c .before .before .before .before .x2 .given .1) (
-      subst (λ (w : Work (List ℕ)). Adding (c .append-between2 .result) (s .args .out .now) after (s .args .at) w)
-          (sym (c .before .before .part-ends .ensures .work)) (c .append-between2 .ensures),
-      s .pre .spare,
-    )
+    rw (c .before .before .before .before .x2 .given .1)
+    (subst (λ (w : Work (List ℕ)). Adding (c .append-between2 .result) (s .args .out .now) after (s .args .at) w)
+    (sym (c .before .before .part-ends .ensures .work)) (c .append-between2 .ensures))
 
 returns-3 : tie.Need-returns-3
 unfolding elementIn
 returns-3 c =
-    let s = c .before .before .before .before .before .before .before .before .before .before in
+    let s = c .before .before .before .before .before .before .before .before .before in
     let store = s .args .store .now in
-    let after = c .append-text .last .1 .1 .1 .0 in
-    let n = c .before .before .before .before .length-value .ensures store .value in
-    let m = c .before .before .before .number-at .ensures store .value in
-    rw (c .before .before .before .before .before .before .x3 .given .1) (
-      subst (λ (w : Work (List ℕ)). Adding (c .append-text .result) (s .args .out .now) after (s .args .at) w) (ap₂ textOf n m)
-          (c .append-text .ensures .0),
-      c .append-text .ensures .1,
-    )
+    let after = c .append-text .last .1 .1 .0 in
+    let n = c .before .before .before .length-value .ensures store .value in
+    let m = c .before .before .number-at .ensures store .value in
+    rw (c .before .before .before .before .before .x3 .given .1)
+    (subst (λ (w : Work (List ℕ)). Adding (c .append-text .result) (s .args .out .now) after (s .args .at) w) (ap₂ textOf n m)
+    (c .append-text .ensures))
 
 pub append-element-spec : {M : Type 1} → statement M
 append-element-spec =
