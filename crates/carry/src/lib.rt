@@ -14,7 +14,6 @@ ghost use Rattle.rows.specs.Holds.{PartHolds, IfHolds};
 ghost use Rattle.rows.specs.Meaning.{partMeaning, ifMeaning, branchMeaning, itemsMeaning, elementsMeaning};
 ghost use Rattle.statements.specs.Valued.{Writable};
 ghost use Rattle.carry.specs.Carrying.{Does, MovesOn, TakesBranch};
-use base::LONGEST;
 use calls::STATE_SIZE;
 use expressions::Truth;
 use rows::Branch;
@@ -70,16 +69,13 @@ pub fn set_string(
     next: usize,
     p: Part,
     s: Stretch,
-    scratch: &mut [u8; LONGEST],
-    out: &mut [u8; LONGEST],
 ) -> Did
-    requires { ⌜ Spellable (now table) (now store) (now state) s (now scratch) (now out) ⌝ }
+    requires { ⌜ Spellable (now table) (now store) (now state) s ⌝ }
     requires { ⌜ PartHolds p × (next ≡ getD (now state) 1 0 + 1) ⌝ }
     ensures { λ r. ⌜ ((input output : List ℕ) → Does (Program.setString (partMeaning p) (elementsMeaning (now (table .entry)) s)) r
         (buffers (now (store .entry)) (now (state .entry)) output) (buffers (now (store .exit)) (now (state .exit)) output) input) ⌝ }
-    ensures { λ _. ⌜ (length (now (scratch .exit)) ≡ 1024) × (length (now (out .exit)) ≡ 1024) ⌝ }
 {
-    let did = statements::valued::set_string(table, store, state, p, s, scratch, out);
+    let did = statements::valued::set_string(table, store, state, p, s);
     move_on(state, next, did)
 }
 
@@ -179,16 +175,14 @@ pub fn write(
     output: &mut [u8],
     next: usize,
     s: Stretch,
-    scratch: &mut [u8; LONGEST],
-    out: &mut [u8; LONGEST],
 ) -> Did
-    requires { ⌜ Spellable (now table) (now store) (now state) s (now scratch) (now out) ⌝ }
+    requires { ⌜ Spellable (now table) (now store) (now state) s ⌝ }
     requires { ⌜ Writable (now state) (now output) × (next ≡ getD (now state) 1 0 + 1) ⌝ }
     ensures { λ r. ⌜ ((input : List ℕ) → Does (Program.write (elementsMeaning (now (table .entry)) s)) r
-        (buffers (now (store .entry)) (now (state .entry)) (now (output .entry))) (buffers (now (store .entry)) (now (state .exit)) (now (output .exit))) input) ⌝ }
-    ensures { λ _. ⌜ (length (now (scratch .exit)) ≡ 1024) × (length (now (out .exit)) ≡ 1024) ⌝ }
+        (buffers (now (store .entry)) (now (state .entry)) (now (output .entry)))
+        (buffers (now (store .entry)) (now (state .exit)) (now (output .exit))) input) ⌝ }
 {
-    let did = statements::valued::write_record(table, store, state, s, output, scratch, out);
+    let did = statements::valued::write_record(table, store, state, s, output);
     move_on(state, next, did)
 }
 

@@ -36,21 +36,21 @@ fn set_turned(
     from: usize,
     to: usize,
     s: Stretch,
-    scratch: &mut [u8; LONGEST],
-    out: &mut [u8; LONGEST],
 ) -> Did
-    requires { ⌜ Spellable (now table) (now store) (now state) s (now scratch) (now out) ⌝ }
+    requires { ⌜ Spellable (now table) (now store) (now state) s ⌝ }
     requires { ⌜ Between (now store) place from to ⌝ }
-    ensures { λ r. ⌜ Stored r (now (store .entry)) (now (store .exit)) (now (state .entry)) (now (scratch .exit)) (now (out .exit))
+    ensures { λ r. ⌜ Stored r (now (store .entry)) (now (store .exit)) (now (state .entry))
         (storedTurned (now (table .entry)) (now (store .entry)) (now (state .entry)) backward place from to s) ⌝ }
 {
-    match expressions::string_value(table, store, state, s, scratch, out) {
+    let mut out = [0u8; LONGEST];
+    match expressions::string_value(table, store, state, s, &mut out) {
         Text::Is { length, notes } => {
             if LONGEST < length {
                 return Did::Stops(20);
             }
-            turn_first(out, length, scratch);
-            set_between(store, place, from, to, scratch, length, notes)
+            let mut turned = [0u8; LONGEST];
+            turn_first(&out, length, &mut turned);
+            set_between(store, place, from, to, &turned, length, notes)
         }
         Text::Stops(k) => Did::Stops(k),
     }
@@ -66,16 +66,14 @@ pub fn replace_found(
     from: usize,
     to: usize,
     s: Stretch,
-    scratch: &mut [u8; LONGEST],
-    out: &mut [u8; LONGEST],
 ) -> Did
-    requires { ⌜ Spellable (now table) (now store) (now state) s (now scratch) (now out) ⌝ }
+    requires { ⌜ Spellable (now table) (now store) (now state) s ⌝ }
     requires { ⌜ Between (now store) place from to ⌝ }
-    ensures { λ r. ⌜ Stored r (now (store .entry)) (now (store .exit)) (now (state .entry)) (now (scratch .exit)) (now (out .exit))
+    ensures { λ r. ⌜ Stored r (now (store .entry)) (now (store .exit)) (now (state .entry))
         (storedTurned (now (table .entry)) (now (store .entry)) (now (state .entry)) (directionMeaning d) place from to s) ⌝ }
 {
     match d {
-        Direction::Forward => set_value(table, store, state, place, from, to, s, scratch, out),
-        Direction::Backward => set_turned(table, store, state, place, from, to, s, scratch, out),
+        Direction::Forward => set_value(table, store, state, place, from, to, s),
+        Direction::Backward => set_turned(table, store, state, place, from, to, s),
     }
 }

@@ -55,16 +55,15 @@ pub fn set_value(
     from: usize,
     to: usize,
     s: Stretch,
-    scratch: &mut [u8; LONGEST],
-    out: &mut [u8; LONGEST],
 ) -> Did
-    requires { ⌜ Spellable (now table) (now store) (now state) s (now scratch) (now out) ⌝ }
+    requires { ⌜ Spellable (now table) (now store) (now state) s ⌝ }
     requires { ⌜ Between (now store) place from to ⌝ }
-    ensures { λ r. ⌜ Stored r (now (store .entry)) (now (store .exit)) (now (state .entry)) (now (scratch .exit)) (now (out .exit))
+    ensures { λ r. ⌜ Stored r (now (store .entry)) (now (store .exit)) (now (state .entry))
         (storedBetween (now (table .entry)) (now (store .entry)) (now (state .entry)) place from to s) ⌝ }
 {
-    match expressions::string_value(table, store, state, s, scratch, out) {
-        Text::Is { length, notes } => set_between(store, place, from, to, out, length, notes),
+    let mut out = [0u8; LONGEST];
+    match expressions::string_value(table, store, state, s, &mut out) {
+        Text::Is { length, notes } => set_between(store, place, from, to, &out, length, notes),
         Text::Stops(k) => Did::Stops(k),
     }
 }
@@ -76,18 +75,16 @@ pub fn set_string(
     state: &[u64; STATE_SIZE],
     p: Part,
     s: Stretch,
-    scratch: &mut [u8; LONGEST],
-    out: &mut [u8; LONGEST],
 ) -> Did
-    requires { ⌜ Spellable (now table) (now store) (now state) s (now scratch) (now out) ⌝ }
+    requires { ⌜ Spellable (now table) (now store) (now state) s ⌝ }
     requires { ⌜ PartHolds p ⌝ }
-    ensures { λ r. ⌜ Stored r (now (store .entry)) (now (store .exit)) (now (state .entry)) (now (scratch .exit)) (now (out .exit))
+    ensures { λ r. ⌜ Stored r (now (store .entry)) (now (store .exit)) (now (state .entry))
         (setStringIn current (memoryIn (now (store .entry)) (now (state .entry))) (partMeaning p) (elementsMeaning (now (table .entry)) s)) ⌝ }
 {
     match p {
         Part::Whole(place) => {
             let to = cells::string_length(store, place);
-            set_value(table, store, state, place, 0, to, s, scratch, out)
+            set_value(table, store, state, place, 0, to, s)
         }
         Part::First(place, n) => {
             let z = expressions::length_value(state, n);
@@ -98,7 +95,7 @@ pub fn set_string(
                 convert::size(z) as usize,
                 cells::string_length(store, place),
             );
-            set_value(table, store, state, place, 0, to, s, scratch, out)
+            set_value(table, store, state, place, 0, to, s)
         }
     }
 }
@@ -139,16 +136,14 @@ pub fn write_record(
     state: &mut [u64; STATE_SIZE],
     s: Stretch,
     output: &mut [u8],
-    scratch: &mut [u8; LONGEST],
-    out: &mut [u8; LONGEST],
 ) -> Did
-    requires { ⌜ Spellable (now table) (now store) (now state) s (now scratch) (now out) ⌝ }
+    requires { ⌜ Spellable (now table) (now store) (now state) s ⌝ }
     requires { ⌜ Writable (now state) (now output) ⌝ }
     ensures { λ r. ⌜ Writes r (now (table .entry)) (now (store .entry)) s (now (state .entry)) (now (state .exit)) (now (output .entry)) (now (output .exit)) ⌝ }
-    ensures { λ _. ⌜ (length (now (scratch .exit)) ≡ 1024) × (length (now (out .exit)) ≡ 1024) ⌝ }
 {
-    match expressions::string_value(table, store, state, s, scratch, out) {
-        Text::Is { length, notes } => write_value(state, output, out, length, notes),
+    let mut out = [0u8; LONGEST];
+    match expressions::string_value(table, store, state, s, &mut out) {
+        Text::Is { length, notes } => write_value(state, output, &out, length, notes),
         Text::Stops(k) => Did::Stops(k),
     }
 }

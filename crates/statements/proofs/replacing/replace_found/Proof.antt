@@ -26,11 +26,11 @@ same-length c = search needs
 returns : tie.Need-returns
 unfolding turned
 returns c =
-    let a = c .before .before .before .before .before .before .before .before .before .before .args in
-    stored-as _ (a .store .now) _ (a .state .now) _ _ _ _
+    let a = c .before .before .before .before .before .before .before .before .args in
+    stored-as _ (a .store .now) _ (a .state .now) _ _
     (ap
     (λ d. storedTurned (a .table .now) (a .store .now) (a .state .now) (directionMeaning d) (a .place) (a .from) (a .to) (a .s))
-    (c .before .before .before .before .before .before .enum-told .given .1))
+    (c .before .before .before .before .enum-told .given .1))
     (c .before .before .set-value .ensures)
 
 same-length-2 : tie.Need-same-length-2
@@ -39,11 +39,11 @@ same-length-2 c = search needs
 returns-2 : tie.Need-returns-2
 unfolding turned
 returns-2 c =
-    let a = c .before .before .before .before .before .before .before .before .before .before .args in
-    stored-as _ (a .store .now) _ (a .state .now) _ _ _ _
+    let a = c .before .before .before .before .before .before .before .before .args in
+    stored-as _ (a .store .now) _ (a .state .now) _ _
     (ap
     (λ d. storedTurned (a .table .now) (a .store .now) (a .state .now) (directionMeaning d) (a .place) (a .from) (a .to) (a .s))
-    (c .before .before .before .before .before .before .enum-told2 .given .1))
+    (c .before .before .before .before .enum-told2 .given .1))
     (c .before .before .set-turned .ensures)
 
 pub replace-found-spec : {M : Type 1} → statement M

@@ -27,7 +27,7 @@ string-length-requires c κs =
 
 set-value-requires : tie.Need-set-value-requires
 set-value-requires c κs =
-    let measured = c .before .before .before in
+    let measured = c .before in
     let s = measured .before .before .before .before .before .before .before in (
       s .pre .0,
       record {
@@ -64,8 +64,6 @@ returns c =
         ap (λ p. setStringIn current m (partMeaning p) (elementsMeaning (a .table .now) (a .s))) (told .1)
             ∙ first-none (a .table .now) (a .store .now) (a .state .now) (told .0 .0) (a .s) n below,
       );
-      spare = s .pre .0 .spare;
-      room = s .pre .0 .room;
     }
 
 size-requires : tie.Need-size-requires
@@ -84,7 +82,7 @@ least-requires c κs = search needs
 
 set-value-requires-2 : tie.Need-set-value-requires-2
 set-value-requires-2 c κs =
-    let chosen = c .before .before .before in
+    let chosen = c .before in
     let s = chosen .before .before .before .before .before .before .before .before .before .before .before .before in (
       s .pre .0,
       record {
@@ -101,12 +99,12 @@ same-length c = search needs
 
 returns-2 : tie.Need-returns-2
 returns-2 c =
-    let measured = c .before .before .before .before .before .before in
+    let measured = c .before .before .before .before in
     let s = measured .before .before .before .before .before .before .before in
     let a = s .args in
     let told = measured .before .before .before .p .given in
     let m = memoryIn (a .store .now) (a .state .now) in
-    stored-as _ (a .store .now) _ (a .state .now) _ _ _ _
+    stored-as _ (a .store .now) _ (a .state .now) _ _
     (ap (λ p. setStringIn current m (partMeaning p) (elementsMeaning (a .table .now) (a .s))) (told .1)
     ∙ whole-between (a .table .now) (a .store .now) (a .state .now) (told .0 .0) (a .s)
     ∙ ap (λ (n : ℕ). storedBetween (a .table .now) (a .store .now) (a .state .now) (told .0 .0) 0 n (a .s))
@@ -118,7 +116,7 @@ same-length-2 c = search needs
 
 returns-3 : tie.Need-returns-3
 returns-3 c =
-    let chosen = c .before .before .before .before .before .before in
+    let chosen = c .before .before .before .before in
     let sized = chosen .before .before .before in
     let valued = sized .before .before .before in
     let s = valued .before .before .before .before .before .before in
@@ -128,7 +126,7 @@ returns-3 c =
     let n = lengthMeaning (told .0 .1 .0) in
     let gives = valued .length-value .ensures (a .store .now) in
     let natural = negative-as gives (sized .before .before .is-negative .ensures) (sized .before .if1 .left) in
-    stored-as _ (a .store .now) _ (a .state .now) _ _ _ _
+    stored-as _ (a .store .now) _ (a .state .now) _ _
     (ap (λ p. setStringIn current m (partMeaning p) (elementsMeaning (a .table .now) (a .s))) (told .1)
     ∙ first-between (a .table .now) (a .store .now) (a .state .now) (told .0 .0) (a .s) n natural
     ∙ ap (λ (j : ℕ). storedBetween (a .table .now) (a .store .now) (a .state .now) (told .0 .0) 0 j (a .s))

@@ -14,6 +14,9 @@ string-value-requires c κs = search needs
 enum-known-length : tie.Need-enum-known-length
 enum-known-length c = search needs
 
+slice-aggregate-set-between : tie.Need-slice-aggregate-set-between
+slice-aggregate-set-between c = search needs
+
 set-between-requires : tie.Need-set-between-requires
 set-between-requires c κs = search needs
 
@@ -25,17 +28,17 @@ same-length c = search needs
 
 returns : tie.Need-returns
 returns c =
-    let told = c .before .before .before .before .before .before .before .length .given in
-    let valued = c .before .before .before .before .before .before .before .before .before in
-    let s = valued .before .before .before .before .before .before in
+    let told = c .before .before .before .before .before .before .length .given in
+    let valued = c .before .before .before .before .before .before .before .before in
+    let s = valued .before .before .before .before .before in
     let a = s .args in
     let written = valued .string-value .ensures in
     let spells = string-is written (told .1) in
+    let put = c .before .before in
     record {
       leaves =
-          kept-leaves (λ v. v) (c .before .before .set-between .result) (a .store .now) (c .before .before .set-between .last .0) (a .place) (a .from) (a .to) _ (numbersIn (a .state .now)) spells (spelt spells) (c .before .before .set-between .ensures);
-      spare = written .spare;
-      room = written .room;
+          kept-leaves (λ v. v) (put .set-between .result) (a .store .now) (put .set-between .last .0) (a .place) (a .from) (a .to) _
+          (numbersIn (a .state .now)) spells (spelt spells) (put .set-between .ensures);
     }
 
 same-length-2 : tie.Need-same-length-2
@@ -44,13 +47,8 @@ same-length-2 c = search needs
 returns-2 : tie.Need-returns-2
 returns-2 c =
     let told = c .before .k .given in
-    let valued = c .before .before .before in
-    let written = valued .string-value .ensures in
-    record {
-      leaves = (refl, stopped _ _ _ (string-stops written (told .1)));
-      spare = written .spare;
-      room = written .room;
-    }
+    let written = c .before .before .before .string-value .ensures in
+    record { leaves = (refl, stopped _ _ _ (string-stops written (told .1))) }
 
 pub set-value-spec : {M : Type 1} → statement M
 set-value-spec =
@@ -58,6 +56,7 @@ set-value-spec =
     (tie.spec
     string-value-requires
     enum-known-length
+    slice-aggregate-set-between
     set-between-requires
     enum-known-k
     same-length

@@ -15,11 +15,14 @@ string-value-requires c κs = search needs
 enum-known-length : tie.Need-enum-known-length
 enum-known-length c = search needs
 
+slice-aggregate-write-value : tie.Need-slice-aggregate-write-value
+slice-aggregate-write-value c = search needs
+
 write-value-requires : tie.Need-write-value-requires
 write-value-requires c κs =
-    let told = c .before .before .before .before .before .length .given in
-    let valued = c .before .before .before .before .before .before .before in
-    let s = valued .before .before .before .before .before .before .before in
+    let told = c .before .before .before .before .length .given in
+    let valued = c .before .before .before .before .before .before in
+    let s = valued .before .before .before .before .before .before in
     let a = s .args in
     let written = valued .string-value .ensures in
     let notes = few-notes (a .table .now) (a .s) (memoryIn (a .store .now) (a .state .now)) (string-is written (told .1)) in
@@ -33,29 +36,20 @@ same-length c = search needs
 
 returns : tie.Need-returns
 returns c =
-    let told = c .before .before .before .before .before .before .before .before .length .given in
-    let valued = c .before .before .before .before .before .before .before .before .before .before in
-    let s = valued .before .before .before .before .before .before .before in
+    let told = c .before .before .before .before .before .before .before .length .given in
+    let valued = c .before .before .before .before .before .before .before .before .before in
+    let s = valued .before .before .before .before .before .before in
     let a = s .args in
-    let written = valued .string-value .ensures in (
-      spelt-puts (c .before .before .write-value .result) (a .state .now) (c .before .before .write-value .last .0) (a .output .now)
-          (c .before .before .write-value .last .1 .0) (string-is written (told .1))
-          (c .before .before .write-value .ensures),
-      (written .spare, written .room),
-    )
+    let written = valued .string-value .ensures in
+    let put = c .before .before in
+    spelt-puts (put .write-value .result) (a .state .now) (put .write-value .last .0) (a .output .now) (put .write-value .last .1 .0)
+    (string-is written (told .1)) (put .write-value .ensures)
 
 returns-2 : tie.Need-returns-2
 returns-2 c =
     let told = c .before .k .given in
-    let valued = c .before .before .before in
-    let written = valued .string-value .ensures in (
-      record {
-        state-same = refl;
-        same = refl;
-        work = λ c _. stopped _ _ _ (string-stops written (told .1));
-      },
-      (written .spare, written .room),
-    )
+    let written = c .before .before .before .string-value .ensures in
+    record { state-same = refl; same = refl; work = λ c _. stopped _ _ _ (string-stops written (told .1)) }
 
 pub write-record-spec : {M : Type 1} → statement M
 write-record-spec =
@@ -63,6 +57,7 @@ write-record-spec =
     (tie.spec
     string-value-requires
     enum-known-length
+    slice-aggregate-write-value
     write-value-requires
     enum-known-k
     same-length
