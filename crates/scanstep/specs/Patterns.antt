@@ -35,12 +35,10 @@ abbrev pub valuesOf : List ℕ → ℕ → List ℕ
 valuesOf values n = take (1024 * n) values
 
 -- the buffers that a pattern's values are put into
-pub record Buffers (values rows names scratch out : List ℕ) : Type 0 where
+pub record Buffers (values rows names : List ℕ) : Type 0 where
   pub strings : length values ≡ 20480
   pub lines : length rows ≡ 240
   pub places : length names ≡ 20
-  pub spare : length scratch ≡ 1024
-  pub room : length out ≡ 1024
 
 -- row i is this element, and the rows before it are as they were
 pub record RowPut (values left rows rowsLeft : List ℕ) (i : ℕ) (e : Element) : Type 0 where
@@ -66,15 +64,13 @@ pub record StringPut (values left rows rowsLeft : List ℕ) (i : ℕ) (v : List 
   pub row : (w : List ℕ) → Spells v n w → RowPut values left rows rowsLeft i (string w)
 
 -- an element of a string expression to be put into row i
-pub record ValuePutting (table store state : List ℕ) (x : Table.Element) (i : ℕ) (values rows scratch out : List ℕ) : Type 0 where
+pub record ValuePutting (table store state : List ℕ) (x : Table.Element) (i : ℕ) (values rows : List ℕ) : Type 0 where
   pub bytes : tableSize ≤ length table
   pub ready : Ready store state
   pub holds : ElementHolds x
   pub few : i < 20
   pub strings : length values ≡ 20480
   pub lines : length rows ≡ 240
-  pub spare : length scratch ≡ 1024
-  pub room : length out ≡ 1024
 
 pub record ValueDone (values left rows rowsLeft : List ℕ) (i notes : ℕ) (w : Work (List ℕ)) : Type 0 where
   pub value : List ℕ
@@ -85,12 +81,10 @@ abbrev pub ValueBy : Did → (values left rows rowsLeft : List ℕ) → ℕ → 
 ValueBy (did.Done notes) values left rows rowsLeft i w = ValueDone values left rows rowsLeft i notes w
 ValueBy (did.Stops k) values left rows rowsLeft i w = w ≡ stop k
 
-pub record ValuePut (r : Did) (values left rows rowsLeft : List ℕ) (i : ℕ) (scratch out : List ℕ) (w : Work (List ℕ)) : Type 0 where
+pub record ValuePut (r : Did) (values left rows rowsLeft : List ℕ) (i : ℕ) (w : Work (List ℕ)) : Type 0 where
   pub put : ValueBy r values left rows rowsLeft i w
   pub strings : length left ≡ 20480
   pub lines : length rowsLeft ≡ 240
-  pub spare : length scratch ≡ 1024
-  pub room : length out ≡ 1024
 
 -- row i and its place are those of an element of the pattern
 pub record Put (values left rows rowsLeft names namesLeft : List ℕ) (i notes : ℕ) (w : Work Valued) : Type 0 where
@@ -116,31 +110,29 @@ pub record FixedPut (z : Int) (s i : ℕ) (rows rowsLeft names namesLeft : List 
   pub places : length namesLeft ≡ 20
 
 -- an element of a pattern to be put into row i
-pub record ElementPutting (table store state : List ℕ) (x : PatternElement) (i : ℕ) (values rows names scratch out : List ℕ)
-    : Type 0 where
+pub record ElementPutting (table store state : List ℕ) (x : PatternElement) (i : ℕ) (values rows names : List ℕ) : Type 0 where
   pub bytes : tableSize ≤ length table
   pub ready : Ready store state
   pub searched : ℕ
   pub holds : PatternHolds searched x
   pub few : i < 20
-  pub buffers : Buffers values rows names scratch out
+  pub buffers : Buffers values rows names
 
 abbrev pub PutBy : Did → (values left rows rowsLeft names namesLeft : List ℕ) → ℕ → Work Valued → Type 0
 PutBy (did.Done notes) values left rows rowsLeft names namesLeft i w = Put values left rows rowsLeft names namesLeft i notes w
 PutBy (did.Stops k) values left rows rowsLeft names namesLeft i w = w ≡ stop k
 
-pub record ElementPut (r : Did) (values left rows rowsLeft names namesLeft : List ℕ) (i : ℕ) (scratch out : List ℕ) (w : Work Valued)
-    : Type 0 where
+pub record ElementPut (r : Did) (values left rows rowsLeft names namesLeft : List ℕ) (i : ℕ) (w : Work Valued) : Type 0 where
   pub put : PutBy r values left rows rowsLeft names namesLeft i w
-  pub buffers : Buffers left rowsLeft namesLeft scratch out
+  pub buffers : Buffers left rowsLeft namesLeft
 
 -- a pattern of a table whose values can be put into the buffers
-pub record PatternPutting (table store state : List ℕ) (s : Stretch) (values rows names scratch out : List ℕ) : Type 0 where
+pub record PatternPutting (table store state : List ℕ) (s : Stretch) (values rows names : List ℕ) : Type 0 where
   pub bytes : tableSize ≤ length table
   pub ready : Ready store state
   pub searched : ℕ
   pub pattern : PatternsHold table searched s
-  pub buffers : Buffers values rows names scratch out
+  pub buffers : Buffers values rows names
 
 -- so many rows and places are those of the elements of a pattern with their values
 pub record Rowed (values rows names : List ℕ) (count : ℕ) (vs : List Valued) : Type 0 where
@@ -165,6 +157,6 @@ abbrev pub AllBy : Did → (table values rows names : List ℕ) → Stretch → 
 AllBy (did.Done notes) table values rows names s w = AllPut table values rows names s notes w
 AllBy (did.Stops k) table values rows names s w = w ≡ stop k
 
-pub record PatternPut (r : Did) (table values rows names scratch out : List ℕ) (s : Stretch) (w : Work (List Valued)) : Type 0 where
+pub record PatternPut (r : Did) (table values rows names : List ℕ) (s : Stretch) (w : Work (List Valued)) : Type 0 where
   pub put : AllBy r table values rows names s w
-  pub buffers : Buffers values rows names scratch out
+  pub buffers : Buffers values rows names

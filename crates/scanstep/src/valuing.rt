@@ -46,16 +46,15 @@ fn put_value(
     i: usize,
     values: &mut [u8],
     rows: &mut [u8],
-    scratch: &mut [u8; LONGEST],
-    out: &mut [u8; LONGEST],
 ) -> Did
-    requires { ⌜ ValuePutting (now table) (now store) (now state) x i (now values) (now rows) (now scratch) (now out) ⌝ }
-    ensures { λ r. ⌜ ValuePut r (now (values .entry)) (now (values .exit)) (now (rows .entry)) (now (rows .exit)) i (now (scratch .exit)) (now (out .exit))
+    requires { ⌜ ValuePutting (now table) (now store) (now state) x i (now values) (now rows) ⌝ }
+    ensures { λ r. ⌜ ValuePut r (now (values .entry)) (now (values .exit)) (now (rows .entry)) (now (rows .exit)) i
         (elementIn current (memoryIn (now (store .entry)) (now (state .entry))) (elementMeaning (now (table .entry)) x)) ⌝ }
 {
-    match expressions::append_element(table, store, state, x, scratch, out, 0) {
+    let mut out = [0u8; LONGEST];
+    match expressions::append_element(table, store, state, x, &mut out, 0) {
         Text::Is { length, notes } => {
-            put_string(values, rows, i, out, length);
+            put_string(values, rows, i, &out, length);
             Did::Done(notes)
         }
         Text::Stops(k) => Did::Stops(k),
@@ -87,18 +86,15 @@ fn put_element(
     values: &mut [u8],
     rows: &mut [u8],
     names: &mut [u8],
-    scratch: &mut [u8; LONGEST],
-    out: &mut [u8; LONGEST],
 ) -> Did
-    requires { ⌜ ElementPutting (now table) (now store) (now state) x i (now values) (now rows) (now names) (now scratch) (now out) ⌝ }
+    requires { ⌜ ElementPutting (now table) (now store) (now state) x i (now values) (now rows) (now names) ⌝ }
     ensures { λ r. ⌜ ElementPut r (now (values .entry)) (now (values .exit)) (now (rows .entry)) (now (rows .exit)) (now (names .entry)) (now (names .exit)) i
-        (now (scratch .exit)) (now (out .exit))
         (valuedIn current (memoryIn (now (store .entry)) (now (state .entry))) (patternMeaning (now (table .entry)) x)) ⌝ }
 {
     match x {
         PatternElement::Value(e) => {
             names[i] = NONE;
-            put_value(table, store, state, e, i, values, rows, scratch, out)
+            put_value(table, store, state, e, i, values, rows)
         }
         PatternElement::Free(s) => {
             names[i] = s as u8;
@@ -121,11 +117,9 @@ pub fn pattern_rows(
     values: &mut [u8],
     rows: &mut [u8],
     names: &mut [u8],
-    scratch: &mut [u8; LONGEST],
-    out: &mut [u8; LONGEST],
 ) -> Did
-    requires { ⌜ PatternPutting (now table) (now store) (now state) pattern (now values) (now rows) (now names) (now scratch) (now out) ⌝ }
-    ensures { λ r. ⌜ PatternPut r (now (table .entry)) (now (values .exit)) (now (rows .exit)) (now (names .exit)) (now (scratch .exit)) (now (out .exit)) pattern
+    requires { ⌜ PatternPutting (now table) (now store) (now state) pattern (now values) (now rows) (now names) ⌝ }
+    ensures { λ r. ⌜ PatternPut r (now (table .entry)) (now (values .exit)) (now (rows .exit)) (now (names .exit)) pattern
         (patternIn current (memoryIn (now (store .entry)) (now (state .entry))) (patternsMeaning (now (table .entry)) pattern)) ⌝ }
 {
     let from = pattern.from;
@@ -134,7 +128,7 @@ pub fn pattern_rows(
     let mut i: usize = 0;
     while i < count {
         let x = rows::pattern_at(table, from + i);
-        match put_element(table, store, state, x, i, values, rows, names, scratch, out) {
+        match put_element(table, store, state, x, i, values, rows, names) {
             Did::Done(more) => notes += more,
             Did::Stops(k) => return Did::Stops(k),
         }

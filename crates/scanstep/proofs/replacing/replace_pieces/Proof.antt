@@ -1,42 +1,96 @@
--- `replacing::replace_pieces` meets its contract: the pieces lie in the string as the direction says. Assumes nothing.
-use mathlib.Core.Path.{sym, ap₂}
-use Prim.Native.Nat.{ℕ}
+-- `replacing::replace_pieces` meets its contract: there is no replacement, or the pieces lie in the string as the direction says.
+-- Assumes nothing.
+use mathlib.Core.Path.{refl, sym, ap, ap₂, subst, _∙_}
+use Prim.Native.Nat.{ℕ, _-_}
 use native.Mathlib.Omega.{arith}
 use borrow.Author.Needs.{needs}
 use Rattle.calls.specs.BufferLaws.{good-short}
+use Rattle.rows.specs.Holds.{ReplacementHolds}
 use Rattle.rows.specs.Meaning.{directionMeaning}
+use Rattle.statements.specs.Laws.{stays-same}
 use Rattle.statements.specs.Replacing.{storedTurned}
+use Rattle.statements.specs.ReplacingLaws.{foundFrom, foundTo}
 use Rattle.statements.specs.ValuedLaws.{stored-as}
+use Rattle.values.specs.Work.{quietly}
+use Rattle.scanstep.specs.Stages.{replacedBy}
 use Rattle.scanstep.proofs.replacing.replace_pieces.Statement.{statement}
 use Rattle.scanstep.proofs.replacing.replace_pieces.Tie as tie
 
+enum-told : tie.Need-enum-told
+enum-told c = search needs
+
+enum-known-replacement : tie.Need-enum-known-replacement
+enum-known-replacement c = search needs
+
+pieces-length-requires : tie.Need-pieces-length-requires
+pieces-length-requires c κs = c .before .before .before .before .before .before .pre .counting
+
+start-of-requires : tie.Need-start-of-requires
+start-of-requires c κs = c .before .before .before .before .before .before .before .pre .counting .size
+
 found-from-requires : tie.Need-found-from-requires
-found-from-requires c κs = search needs
+found-from-requires c κs =
+    let s = c .before .before .before .before .before .before .before .before in
+    (s .pre .between .order, omega (arith, s .pre .inside, c .start-of .ensures, c .before .pieces-length .ensures))
 
 add-replace-found : tie.Need-add-replace-found
 add-replace-found c =
-    let s = c .before .before .before .before in
-    let short = good-short (s .args .store .now) (s .pre .0 .ready .strings) (s .args .at .place) in
-    record { fits = omega (arith, c .before .found-from .ensures .2, s .pre .1 .0 .within, short) }
+    let s = c .before .before .before .before .before .before .before .before .before .before in
+    let short = good-short (s .args .store .now) (s .pre .ready .strings) (s .args .at .place) in
+    record { fits = omega (arith, c .before .found-from .ensures .2, s .pre .between .within, short) }
 
 replace-found-requires : tie.Need-replace-found-requires
 replace-found-requires c κs =
-    let s = c .before .before .before .before .before .before in
-    let end = c .before .before .before .found-from .ensures .2 in
-    (s .pre .0, record { known = s .pre .1 .0 .known; order = omega arith; within = omega (arith, s .pre .1 .0 .within, end) })
+    let s = c .before .before .before .before .before .before .before .before .before .before in
+    let by = c .before .before .before .before .before .replacement .given .1 in
+    let end = c .before .found-from .ensures .2 in (
+      record { bytes = s .pre .bytes; ready = s .pre .ready; elements = subst (ReplacementHolds (s .args .table .now)) by (s .pre .replacement) },
+      record { known = s .pre .between .known; order = omega arith; within = omega (arith, s .pre .between .within, end) },
+    )
+
+returns : tie.Need-returns
+unfolding quietly
+returns c =
+    let s = c .before .before .before .before .before in
+    let a = s .args in
+    stored-as _ (a .store .now) _ (a .state .now) _ _
+    (ap
+    (replacedBy (a .table .now) (a .store .now) (a .state .now) (directionMeaning (a .s .direction)) (a .at) _ _)
+    (c .enum-told .given .1))
+    (record { leaves = (stays-same (a .store .now) (s .pre .ready .strings), refl) })
 
 same-length : tie.Need-same-length
 same-length c = search needs
 
-returns : tie.Need-returns
-returns c =
+returns-2 : tie.Need-returns-2
+returns-2 c =
     let put = c .before .before in
-    let found = put .before .before .before .before in
-    let a = found .before .before .before .args in
-    stored-as _ (a .store .now) _ (a .state .now) _ _ _ _
-    (ap₂ (λ (from to : ℕ). storedTurned (a .table .now) (a .store .now) (a .state .now) (directionMeaning (a .d)) (a .at .place) from to (a .s))
+    let found = put .before .before in
+    let a = c .before .before .before .before .before .before .before .before .before .before .before .before .before .args in
+    let way = directionMeaning (a .s .direction) in
+    let size = a .at .to - a .at .from in
+    let by = c .before .before .before .before .before .before .before .before .replacement .given in
+    let start = found .before .start-of in
+    let sum = found .before .before .pieces-length in
+    stored-as _ (a .store .now) _ (a .state .now) _ _
+    (ap (replacedBy (a .table .now) (a .store .now) (a .state .now) way (a .at) _ _) (by .1)
+    ∙ ap₂ (λ (i j : ℕ). storedTurned (a .table .now) (a .store .now) (a .state .now) way (a .at .place) (foundFrom way (a .at .from) size i j) (foundTo way (a .at .from) size i j) (by .0 .0))
+    (sym (start .ensures)) (sym (sum .ensures))
+    ∙ ap₂ (λ (from to : ℕ). storedTurned (a .table .now) (a .store .now) (a .state .now) way (a .at .place) from to (by .0 .0))
     (sym (found .found-from .ensures .0)) (sym (found .found-from .ensures .1)))
     (put .replace-found .ensures)
 
 pub replace-pieces-spec : {M : Type 1} → statement M
-replace-pieces-spec = tie.close (tie.spec found-from-requires add-replace-found replace-found-requires same-length returns)
+replace-pieces-spec =
+    tie.close
+    (tie.spec
+    enum-told
+    enum-known-replacement
+    pieces-length-requires
+    start-of-requires
+    found-from-requires
+    add-replace-found
+    replace-found-requires
+    returns
+    same-length
+    returns-2)

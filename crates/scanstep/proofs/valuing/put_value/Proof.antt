@@ -1,5 +1,6 @@
 -- `valuing::put_value` meets its contract: the value that was appended to an empty buffer is put into the row. Assumes nothing.
 use mathlib.Core.Path.{subst}
+use lib.ListN.{replicate}
 use borrow.Author.Needs.{needs}
 use Rattle.base.specs.Current.{current}
 use Rattle.convert.specs.declared.Text.{Text}
@@ -17,21 +18,24 @@ append-element-requires c κs = search needs
 enum-known-length : tie.Need-enum-known-length
 enum-known-length c = search needs
 
+slice-aggregate-put-string : tie.Need-slice-aggregate-put-string
+slice-aggregate-put-string c = search needs
+
 put-string-requires : tie.Need-put-string-requires
 put-string-requires c κs =
-    let told = c .before .before .before .before .before in
+    let told = c .before .before .before .before in
     let added = told .before .before in
-    let s = added .before .before .before .before .before .before .before in
+    let s = added .before .before .before .before .before .before in
     let a = s .args in
     let adds =
-    subst (λ (r : Text). Added r (a .out .now) (added .append-element .last .1 .1 .1 .1 .1 .0) 0
+    subst (λ (r : Text). Added r (replicate 1024 0) (added .append-element .last .1 .1 .1 .1 .0) 0
     (elementIn current (memoryIn (a .store .now) (a .state .now)) (elementMeaning (a .table .now) (a .x))))
-    (told .length .given .1) (added .append-element .ensures .0 .added) in
+    (told .length .given .1) (added .append-element .ensures .added) in
     record {
       strings = s .pre .strings;
       lines = s .pre .lines;
       few = s .pre .few;
-      room = added .append-element .ensures .0 .room;
+      room = added .append-element .ensures .room;
       short = adds .short;
     }
 
@@ -47,40 +51,36 @@ same-length-2 c = search needs
 returns : tie.Need-returns
 returns c =
     let put = c .before .before .before .before in
-    let told = put .before .before .before .before .before .before in
+    let told = put .before .before .before .before .before in
     let added = told .before .before in
-    let s = added .before .before .before .before .before .before .before in
+    let s = added .before .before .before .before .before .before in
     let a = s .args in
     let work = elementIn current (memoryIn (a .store .now) (a .state .now)) (elementMeaning (a .table .now) (a .x)) in
-    let after = added .append-element .last .1 .1 .1 .1 .1 .0 in
-    let adds = subst (λ (r : Text). Added r (a .out .now) after 0 work) (told .length .given .1) (added .append-element .ensures .0 .added) in
+    let after = added .append-element .last .1 .1 .1 .1 .0 in
+    let adds = subst (λ (r : Text). Added r (replicate 1024 0) after 0 work) (told .length .given .1) (added .append-element .ensures .added) in
     record {
       put =
           record {
             value = adds .value;
             work = adds .work;
-            row = put .put-string .ensures .row (adds .value) (added-spells (a .out .now) after _ _ work adds);
+            row = put .put-string .ensures .row (adds .value) (added-spells (replicate 1024 0) after _ _ work adds);
           };
       strings = put .put-string .ensures .strings;
       lines = put .put-string .ensures .lines;
-      spare = added .append-element .ensures .1;
-      room = added .append-element .ensures .0 .room;
     }
 
 returns-2 : tie.Need-returns-2
 returns-2 c =
     let told = c .before in
     let added = told .before .before in
-    let s = added .before .before .before .before .before .before .before in
+    let s = added .before .before .before .before .before .before in
     let a = s .args in
     let work = elementIn current (memoryIn (a .store .now) (a .state .now)) (elementMeaning (a .table .now) (a .x)) in
-    let after = added .append-element .last .1 .1 .1 .1 .1 .0 in
+    let after = added .append-element .last .1 .1 .1 .1 .0 in
     record {
-      put = subst (λ (r : Text). Added r (a .out .now) after 0 work) (told .k .given .1) (added .append-element .ensures .0 .added);
+      put = subst (λ (r : Text). Added r (replicate 1024 0) after 0 work) (told .k .given .1) (added .append-element .ensures .added);
       strings = s .pre .strings;
       lines = s .pre .lines;
-      spare = added .append-element .ensures .1;
-      room = added .append-element .ensures .0 .room;
     }
 
 pub put-value-spec : {M : Type 1} → statement M
@@ -89,6 +89,7 @@ put-value-spec =
     (tie.spec
     append-element-requires
     enum-known-length
+    slice-aggregate-put-string
     put-string-requires
     enum-known-k
     same-length
