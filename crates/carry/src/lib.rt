@@ -61,7 +61,7 @@ pub fn set_number(
     move_on(state, next, did)
 }
 
-// a string set, or its first bytes, to an expression's value
+// a string set, or its first bytes, to an expression's value, which out keeps on the way
 pub fn set_string(
     table: &[u8],
     store: &mut [u8],
@@ -69,13 +69,15 @@ pub fn set_string(
     next: usize,
     p: Part,
     s: Stretch,
+    out: &mut [u8],
 ) -> Did
     requires { ⌜ Spellable (now table) (now store) (now state) s ⌝ }
     requires { ⌜ PartHolds p × (next ≡ getD (now state) 1 0 + 1) ⌝ }
+    requires { ⌜ length (now out) ≡ 1024 ⌝ }
     ensures { λ r. ⌜ ((input output : List ℕ) → Does (Program.setString (partMeaning p) (elementsMeaning (now (table .entry)) s)) r
         (buffers (now (store .entry)) (now (state .entry)) output) (buffers (now (store .exit)) (now (state .exit)) output) input) ⌝ }
 {
-    let did = statements::valued::set_string(table, store, state, p, s);
+    let did = statements::valued::set_string(table, store, state, p, s, out);
     move_on(state, next, did)
 }
 
@@ -175,14 +177,16 @@ pub fn write(
     output: &mut [u8],
     next: usize,
     s: Stretch,
+    out: &mut [u8],
 ) -> Did
     requires { ⌜ Spellable (now table) (now store) (now state) s ⌝ }
     requires { ⌜ Writable (now state) (now output) × (next ≡ getD (now state) 1 0 + 1) ⌝ }
+    requires { ⌜ length (now out) ≡ 1024 ⌝ }
     ensures { λ r. ⌜ ((input : List ℕ) → Does (Program.write (elementsMeaning (now (table .entry)) s)) r
         (buffers (now (store .entry)) (now (state .entry)) (now (output .entry)))
         (buffers (now (store .entry)) (now (state .exit)) (now (output .exit))) input) ⌝ }
 {
-    let did = statements::valued::write_record(table, store, state, s, output);
+    let did = statements::valued::write_record(table, store, state, s, output, out);
     move_on(state, next, did)
 }
 

@@ -355,7 +355,7 @@ pub fn numeric_value(table: &[u8], store: &[u8], state: &[u64; STATE_SIZE], s: S
 }
 
 // writes v from a place of a string's buffer on, as far as there is room
-fn append(v: &[u8], out: &mut [u8; LONGEST], at: usize)
+fn append(v: &[u8], out: &mut [u8], at: usize)
     requires { ⌜ length (now out) ≡ 1024 ⌝ }
     ensures { λ _. ⌜ Appended (now (out .entry)) (now (out .exit)) at (now (v .entry)) ⌝ }
 {
@@ -363,11 +363,11 @@ fn append(v: &[u8], out: &mut [u8; LONGEST], at: usize)
         return;
     }
     let end = least(LONGEST - at, v.len());
-    cells::spans::copy(&v[..end], out, at);
+    cells::spans::write(out, at, &v[..end]);
 }
 
 // appends the bytes between two ends
-fn append_between(bytes: &[u8], ends: Ends, out: &mut [u8; LONGEST], at: usize) -> Text
+fn append_between(bytes: &[u8], ends: Ends, out: &mut [u8], at: usize) -> Text
     requires { ⌜ Lies (now bytes) ends ⌝ }
     requires { ⌜ length (now out) ≡ 1024 ⌝ }
     ensures { λ r. ⌜ Adding r (now (out .entry)) (now (out .exit)) at (spanned (now (bytes .entry)) ends) ⌝ }
@@ -382,7 +382,7 @@ fn append_between(bytes: &[u8], ends: Ends, out: &mut [u8; LONGEST], at: usize) 
 }
 
 // appends STRING(n,m)
-fn append_text(n: Int, m: Int, out: &mut [u8; LONGEST], at: usize) -> Text
+fn append_text(n: Int, m: Int, out: &mut [u8], at: usize) -> Text
     requires { ⌜ BothInRange n m ⌝ }
     requires { ⌜ length (now out) ≡ 1024 ⌝ }
     ensures { λ r. ⌜ Adding r (now (out .entry)) (now (out .exit)) at (textOf (n .value) (m .value)) ⌝ }
@@ -409,7 +409,7 @@ pub fn append_element(
     store: &[u8],
     state: &[u64; STATE_SIZE],
     x: Element,
-    out: &mut [u8; LONGEST],
+    out: &mut [u8],
     at: usize,
 ) -> Text
     requires { ⌜ Addable (now table) (now store) (now state) x (now out) ⌝ }
@@ -429,7 +429,7 @@ pub fn string_value(
     store: &[u8],
     state: &[u64; STATE_SIZE],
     s: Stretch,
-    out: &mut [u8; LONGEST],
+    out: &mut [u8],
 ) -> Text
     requires { ⌜ Spellable (now table) (now store) (now state) s ⌝ }
     requires { ⌜ length (now out) ≡ 1024 ⌝ }

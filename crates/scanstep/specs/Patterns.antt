@@ -6,11 +6,11 @@ use Prim.Native.Nat.{ℕ, _+_, _*_, _≤_, _<_}
 use lib.Dec.{ltb}
 use lib.ListN.{length, take, set}
 use Rattle.base.specs.Current.{tableSize}
+use Rattle.calls.specs.Splices.{splice}
 use Rattle.convert.specs.Numbers.{InRange}
 use Rattle.convert.specs.declared.Int.{Int}
 use Rattle.expressions.specs.Memory.{Ready}
 use Rattle.machine.specs.Scanning.{Valued, fixedAt}
-use Rattle.pattern.specs.Putting.{PutRow}
 use Rattle.rows.specs.Holds.{ElementHolds, PatternHolds, PatternsHold}
 use Rattle.rows.specs.Meaning.{patternsMeaning}
 use Rattle.rows.specs.declared.Element as Table
@@ -23,6 +23,7 @@ use Rattle.statements.specs.Leaving.{Spells}
 use Rattle.statements.specs.declared.Did.{Did}
 use Rattle.statements.specs.declared.Did.the-variants as did
 use Rattle.values.specs.Work.{Work, done, stop}
+use Rattle.scanstep.specs.Putting.{PutRow}
 
 -- an element as its row has it: of a string that is longer than any reference only the length counts, so it is a fixed filler
 unfoldable pub rowed : Element → Element
@@ -50,18 +51,23 @@ pub record RowPut (values left rows rowsLeft : List ℕ) (i : ℕ) (e : Element)
   pub element : elementOf (valuesOf left (i + 1)) (rowOf kind from to) ≡ rowed e
   pub before : valuesOf left i ≡ valuesOf values i
 
--- a string to be put into row i: v has the first 1,024 of its n bytes
-pub record StringPutting (values rows : List ℕ) (i : ℕ) (v : List ℕ) (n : ℕ) : Type 0 where
-  pub strings : length values ≡ 20480
+-- a string of n bytes to be put into row i
+pub record StringPutting (rows : List ℕ) (i n : ℕ) : Type 0 where
   pub lines : length rows ≡ 240
   pub few : i < 20
-  pub room : length v ≡ 1024
   pub short : n ≤ tableSize
 
-pub record StringPut (values left rows rowsLeft : List ℕ) (i : ℕ) (v : List ℕ) (n : ℕ) : Type 0 where
-  pub strings : length left ≡ 20480
+-- the first 1,024 of its bytes were written among the values
+pub record Stands (values left : List ℕ) (i n : ℕ) (w : List ℕ) : Type 0 where
+  pub strings : length values ≡ 20480
+  pub bytes : List ℕ
+  pub room : length bytes ≡ 1024
+  pub left-is : left ≡ splice values (1024 * i) bytes
+  pub spells : Spells bytes n w
+
+pub record StringPut (rows rowsLeft : List ℕ) (i n : ℕ) : Type 0 where
   pub lines : length rowsLeft ≡ 240
-  pub row : (w : List ℕ) → Spells v n w → RowPut values left rows rowsLeft i (string w)
+  pub row : (values left w : List ℕ) → Stands values left i n w → RowPut values left rows rowsLeft i (string w)
 
 -- an element of a string expression to be put into row i
 pub record ValuePutting (table store state : List ℕ) (x : Table.Element) (i : ℕ) (values rows : List ℕ) : Type 0 where

@@ -38,13 +38,13 @@ use Rattle.statements.specs.References.{referenceOf, searchedAt, stretchOf}
 use Rattle.statements.specs.ReplacingLaws.{foundFrom, foundTo, replacing-found}
 use Rattle.statements.specs.Valued.{Between}
 use Rattle.statements.specs.declared.Did.the-variants as did
+use Rattle.statements.specs.declared.Span.{Span}
 use Rattle.values.specs.Conversion.{longestString}
 use Rattle.values.specs.Work.{Work, done, noting, quietly, _>>=_}
 use Rattle.scanstep.specs.Scans.{Scans}
 use Rattle.scanstep.specs.Searches.{Finds, Named, Searchable, scanOf}
 use Rattle.scanstep.specs.Stages.{Counting, Findable, Saved, piecesIn, replacedBy, searchedRest, valuedRest}
 use Rattle.scanstep.specs.declared.Scanned.the-variants as scans
-use Rattle.scanstep.specs.declared.Span.{Span}
 
 -- a stretch is as long as its ends say
 pub reference-length : (store : List ℕ) (at : Span) → Between store (at .place) (at .from) (at .to)

@@ -25,11 +25,11 @@ use Rattle.statements.specs.References.{referenceOf, searchedAt}
 use Rattle.statements.specs.Replacing.{storedTurned}
 use Rattle.statements.specs.ReplacingLaws.{foundFrom, foundTo}
 use Rattle.statements.specs.Valued.{Between}
+use Rattle.statements.specs.declared.Span.{Span}
 use Rattle.values.specs.Work.{Work, quietly, _>>=_}
 use Rattle.scanstep.specs.Patterns.{AllPut}
 use Rattle.scanstep.specs.Scans.{Scannable}
 use Rattle.scanstep.specs.Searches.{scanOf}
-use Rattle.scanstep.specs.declared.Span.{Span}
 
 module _ (table store state : List ℕ) (d : Direction) (at : Span) (pattern : Stretch) (r : Option (List Program.Element)) where
   -- what is left of a scan with these values of its pattern

@@ -1,6 +1,7 @@
 // SCAN and BACKSCAN on the buffers, in the machine's order of work: reference, pattern values, fillers made null, scan, naming,
 // replacement. The contract is an equation with scanningIn of the crate machine.
 pub mod finding;
+pub mod putting;
 pub mod replacing;
 pub mod valuing;
 
@@ -17,6 +18,7 @@ use rows::Scan;
 use scanning::ANSWER_SIZE;
 use scanning::ROW_SIZE;
 use statements::Did;
+use statements::Span;
 use statements::fillers::copy_fillers;
 use statements::reference::Reference;
 use statements::reference::copy_reference;
@@ -35,13 +37,6 @@ pub enum Scanned {
     Splits(u32),
     Fails(u32),
     Stops(u32),
-}
-
-// the bytes from..to of the string with this place
-pub struct Span {
-    pub place: usize,
-    pub from: usize,
-    pub to: usize,
 }
 
 // A scan of the bytes of a span. The fillers are kept for a replacement that stops, which puts them back.
@@ -68,7 +63,7 @@ fn scan_span(
     let d = s.direction;
     let pattern = s.pattern;
     let n = at.to - at.from;
-    copy_reference(store, at.place, at.from, at.to, d, &mut reference);
+    copy_reference(store, at, d, &mut reference);
     match pattern_rows(table, store, state, pattern, values, &mut rows, &mut names) {
         Did::Done(notes) => {
             keep_fillers(table, store, kept, s);
@@ -84,7 +79,7 @@ fn scan_span(
             ) {
                 return Scanned::Fails(notes);
             }
-            match replace_pieces(table, store, state, s, at, answer) {
+            match replace_pieces(table, store, state, s, at, answer, &mut values[..LONGEST]) {
                 Did::Done(more) => Scanned::Splits(notes + more),
                 Did::Stops(k) => {
                     copy_fillers(table, kept, store, pattern);

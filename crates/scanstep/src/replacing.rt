@@ -9,7 +9,6 @@ ghost use Rattle.statements.specs.Fillers.{Copying, lengthsIn};
 ghost use Rattle.statements.specs.ReplacingLaws.{foundFrom, foundTo};
 ghost use Rattle.statements.specs.Valued.{Stored};
 ghost use Rattle.scanstep.specs.Stages.{Counting, Replaceable, Saved, replacedPieces};
-use crate::Span;
 use base::number;
 use calls::STATE_SIZE;
 use rows::Direction;
@@ -18,6 +17,7 @@ use rows::Scan;
 use scanning::LENGTHS_AT;
 use scanning::START_AT;
 use statements::Did;
+use statements::Span;
 use statements::fillers::copy_fillers;
 use statements::replacing::replace_found;
 
@@ -64,8 +64,10 @@ pub fn replace_pieces(
     s: Scan,
     at: Span,
     answer: &[u32],
+    out: &mut [u8],
 ) -> Did
     requires { ⌜ Replaceable (now table) (now store) (now state) s at (now answer) ⌝ }
+    requires { ⌜ length (now out) ≡ 1024 ⌝ }
     ensures { λ r. ⌜ Stored r (now (store .entry)) (now (store .exit)) (now (state .entry))
         (replacedPieces (now (table .entry)) (now (store .entry)) (now (state .entry)) s at (now (answer .entry))) ⌝ }
 {
@@ -76,7 +78,12 @@ pub fn replace_pieces(
             let d = s.direction;
             let n = pieces_length(answer, s.pattern.count);
             let from = found_from(d, at, start_of(answer), n);
-            replace_found(table, store, state, d, at.place, from, from + n, by)
+            let found = Span {
+                place: at.place,
+                from,
+                to: from + n,
+            };
+            replace_found(table, store, state, d, found, by, out)
         }
     }
 }

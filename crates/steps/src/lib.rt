@@ -17,6 +17,7 @@ ghost use Rattle.machine.specs.Step.{lacksReturn};
 ghost use Rattle.scanning.specs.Call.{noAnswer};
 ghost use Rattle.scanstep.specs.Scans.{Lent};
 ghost use Rattle.steps.specs.Contracts.{Given, Allowed, nextStatement, WorksOn, Concludes, Answers, unfitNumber};
+use base::LONGEST;
 use base::RETURNS;
 use calls::STATE_SIZE;
 use calls::TABLE_SIZE;
@@ -61,7 +62,15 @@ fn carry_out(
     let x = rows::statement_at(table, k);
     match x {
         Statement::SetNumber(place, s) => carry::set_number(table, store, state, next, place, s),
-        Statement::SetString(p, s) => carry::set_string(table, store, state, next, p, s),
+        Statement::SetString(p, s) => carry::set_string(
+            table,
+            store,
+            state,
+            next,
+            p,
+            s,
+            &mut values[..LONGEST],
+        ),
         Statement::Goto(to) => carry::go_to(state, to),
         Statement::Finish => carry::finish(state),
         Statement::IfNull(place, b) => carry::if_null(store, state, place, b),
@@ -69,7 +78,15 @@ fn carry_out(
         Statement::If(operands, b) => carry::if_compares(store, state, operands, b),
         Statement::Scan(s) => scans::scan(table, store, state, s, values, kept, answer),
         Statement::Read(p, b) => carry::read(store, state, input, p, b),
-        Statement::Write(s) => carry::write(table, store, state, output, next, s),
+        Statement::Write(s) => carry::write(
+            table,
+            store,
+            state,
+            output,
+            next,
+            s,
+            &mut values[..LONGEST],
+        ),
         Statement::Execute(to) => carry::execute(state, next, to),
         Statement::Return => carry::return_to(state),
     }

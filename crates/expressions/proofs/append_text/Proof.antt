@@ -24,7 +24,7 @@ slice-aggregate-append-between c = sym (c .before .before .before .before .text-
 
 append-between-requires : tie.Need-append-between-requires
 append-between-requires c κs =
-    let s = c .before .before .before .before .before .before .before in
+    let s = c .before .before .before .before .before .before .before .before in
     let text = c .before .before .before .before .before .text-of .ensures in
     let is = c .before .before .before .length .given .1 in
     let few = few-done (few-text (s .args .n .value) (s .args .m .value)) (text-is text is) in (
@@ -40,20 +40,23 @@ append-between-requires c κs =
 enum-known-k : tie.Need-enum-known-k
 enum-known-k c = search needs
 
+same-length : tie.Need-same-length
+same-length c = search needs
+
 returns : tie.Need-returns
 returns c =
-    let s = c .before .before .before .before .before .before .before .before in
-    let call = c .before .before .before .before .before .before .text-of in
-    let value = c .before .before .before .before .length .given in
+    let s = c .before .before .before .before .before .before .before .before .before .before .before in
+    let call = c .before .before .before .before .before .before .before .before .text-of in
+    let value = c .before .before .before .before .before .before .length .given in
     let size = value .0 .0 in
     let none : size ≡ size - 0 = omega arith in
     let text = text-is (call .ensures) (value .1) ∙ ap (λ (k : ℕ). done (take k (call .last .1 .1 .0)) (value .0 .1 .0)) none in
-    subst (λ (w : Work (List ℕ)). Adding (c .append-between .result) (s .args .out .now) (c .append-between .last .1 .1 .0) (s .args .at) w)
-    (sym text) (c .append-between .ensures)
+    subst (λ (w : Work (List ℕ)). Adding (c .before .before .append-between .result) (s .args .out .now) (c .before .before .append-between .last .1 .1 .0) (s .args .at) w)
+    (sym text) (c .before .before .append-between .ensures)
 
 returns-2 : tie.Need-returns-2
 returns-2 c =
-    record { added = text-stops (c .before .before .before .text-of .ensures) (c .before .k .given .1); room = c .before .before .before .before .before .pre .1 }
+    record { added = text-stops (c .before .before .before .text-of .ensures) (c .before .k .given .1); room = c .before .before .before .before .before .before .pre .1 }
 
 pub append-text-spec : {M : Type 1} → statement M
 append-text-spec =
@@ -64,5 +67,6 @@ append-text-spec =
     slice-aggregate-append-between
     append-between-requires
     enum-known-k
+    same-length
     returns
     returns-2)

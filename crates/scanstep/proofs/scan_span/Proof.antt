@@ -2,7 +2,7 @@
 -- stops and the fillers are put back. Assumes nothing.
 use mathlib.Core.Bool.{Bool}
 use mathlib.Core.List.{List}
-use mathlib.Core.Path.{_≡_, refl, sym, subst}
+use mathlib.Core.Path.{_≡_, refl, sym, subst, _∙_}
 use Prim.Native.Nat.{ℕ, _-_}
 use native.Mathlib.Omega.{arith}
 use lib.ListN.{length, take, replicate, length-replicate}
@@ -38,7 +38,7 @@ abbrev valued : tie.After-find-split → tie.After-pattern-rows
 valued c = c .before .before .before .before .before .before .before .before .before .before .before .before .before .before .before .before .before .before .before
 
 abbrev sought : tie.After-replace-pieces → tie.After-find-split
-sought c = c .before .before .before .before .before .before .before
+sought c = c .before .before .before .before .before .before .before .before
 
 sub-n : tie.Need-sub-n
 sub-n c = c .before .before .before .before .before .before .pre .0 .between .order
@@ -75,7 +75,7 @@ enum-known-notes c = search needs
 
 -- the reference stands at the front of its buffer
 abbrev copy : tie.After-pattern-rows → List ℕ
-copy c = c .before .before .before .before .before .copy-reference .last .1 .1 .1 .1 .1 .0
+copy c = c .before .before .before .before .before .copy-reference .last .1 .1 .1 .0
 
 copy-size : (c : tie.After-pattern-rows) → length (copy c) ≡ 1024
 copy-size c =
@@ -154,6 +154,15 @@ slice-aggregate-find-split-3 c = sym (c .before .before .before .before .before 
 find-split-requires : tie.Need-find-split-requires
 find-split-requires c κs = findable-searchable (findable (c .before .before .before .before .before .before .before .before .before .before .before .before .before .before .before .before .before .before) (c .before .before .before .before .before .before .before .before .before .before .before .before .notes .given .1))
 
+same-length : tie.Need-same-length
+same-length c = search needs
+
+same-length-2 : tie.Need-same-length-2
+same-length-2 c = search needs
+
+same-length-3 : tie.Need-same-length-3
+same-length-3 c = search needs
+
 -- what was sought: the pattern's values, the notes that came with them, and whether they fit
 abbrev noted : tie.After-find-split → ℕ
 noted c = c .before .before .before .before .before .before .before .before .before .before .before .before .before .notes .given .0 .0
@@ -171,15 +180,6 @@ finds : (c : tie.After-find-split) {b : Bool} → c .find-split .result ≡ b
     (c .find-split .last .1 .1 .1 .1 .1 .1 .1 .0) (values-found c .put .valued))
 finds c e = finds-as (c .find-split .ensures) e (values-found c .put .rows-are)
 
-same-length : tie.Need-same-length
-same-length c = search needs
-
-same-length-2 : tie.Need-same-length-2
-same-length-2 c = search needs
-
-same-length-3 : tie.Need-same-length-3
-same-length-3 c = search needs
-
 returns : tie.Need-returns
 returns c =
     let looked = c .before .before .before in
@@ -192,21 +192,32 @@ returns c =
       record { twenty-strings = valued looked .pattern-rows .ensures .buffers .strings; good = c .before .before .before .before .before .before .before .before .before .before .before .before .keep-fillers .ensures .good },
     )
 
+slice-relend-prefix-replace-pieces : tie.Need-slice-relend-prefix-replace-pieces
+slice-relend-prefix-replace-pieces c =
+    omega (arith, c .before .before .before .before .before .before .before .before .before .before .before .before .before .before .before .before .before .before .before .before .before .before .before .before .before .pattern-rows .ensures .buffers .strings)
+
+slice-aggregate-replace-pieces : tie.Need-slice-aggregate-replace-pieces
+slice-aggregate-replace-pieces c =
+    let put = c .before .before .before .before .before .before .before .before .before .before .before .before .before .before .before .before .before .before .before .before .before .before .before .before .before .before in
+    sym (length-take-le 1024 (put .pattern-rows .last .1 .1 .1 .1 .0) (omega (arith, put .pattern-rows .ensures .buffers .strings)))
+
 replace-pieces-requires : tie.Need-replace-pieces-requires
 replace-pieces-requires c κs =
-    let looked = c .before .before .before .before .before .before in
+    let looked = c .before .before .before .before .before .before .before in
     let s = begun (valued looked) in
     let q = values-found looked in
     let stays = looked .find-split .ensures .stays in
-    let found = finds looked (not-false _ (c .before .before .before .if1 .left)) in
-    record {
-      bytes = q .bytes;
-      ready = record { strings = stays .good; numbers = q .ready .numbers };
-      replacement = s .pre .0 .scannable .replacement;
-      between = between-still q stays found;
-      counting = found-counting q found;
-      inside = pieces-inside q stays found;
-    }
+    let found = finds looked (not-false _ (c .before .before .before .before .if1 .left)) in (
+      record {
+        bytes = q .bytes;
+        ready = record { strings = stays .good; numbers = q .ready .numbers };
+        replacement = s .pre .0 .scannable .replacement;
+        between = between-still q stays found;
+        counting = found-counting q found;
+        inside = pieces-inside q stays found;
+      },
+      length-take-le 1024 (valued looked .pattern-rows .last .1 .1 .1 .1 .0) (omega (arith, valued looked .pattern-rows .ensures .buffers .strings)),
+    )
 
 enum-known-more : tie.Need-enum-known-more
 enum-known-more c = search needs
@@ -224,14 +235,14 @@ leaves c e =
     (replacedPieces (a .table .now) (named .0) (a .state .now) (a .s) (a .at) (named .1 .1 .1 .1 .1 .1 .0)))
     e (c .replace-pieces .ensures .leaves)
 
-add-t57 : tie.Need-add-t57
-add-t57 c =
-    let put = c .before .before .before .before .before in
-    let looked = put .before .before .before .before .before .before .before in
+add-t59 : tie.Need-add-t59
+add-t59 c =
+    let put = c .before .before .before .before .before .before .before in
+    let looked = put .before .before .before .before .before .before .before .before in
     let s = begun (valued looked) in
     let q = values-found looked in
     let more =
-    few-stored q (looked .find-split .ensures .stays) (finds looked (not-false _ (put .before .before .before .before .if1 .left))) (s .args .s .replacement)
+    few-stored q (looked .find-split .ensures .stays) (finds looked (not-false _ (put .before .before .before .before .before .if1 .left))) (s .args .s .replacement)
     (s .pre .0 .scannable .replacement) (leaves put (c .before .more .given .1)) in
     record { fits = omega (arith, more, q .put .few, q .fillers .few) }
 
@@ -240,8 +251,8 @@ enum-known-k c = search needs
 
 copy-fillers-requires : tie.Need-copy-fillers-requires
 copy-fillers-requires c κs =
-    let put = c .before .before .before .before .before .before .before in
-    let looked = put .before .before .before .before .before .before .before in
+    let put = c .before .before .before .before .before .before .before .before .before in
+    let looked = put .before .before .before .before .before .before .before .before in
     let q = values-found looked in
     record {
       bytes = q .bytes;
@@ -257,46 +268,46 @@ same-length-4 : tie.Need-same-length-4
 same-length-4 c = search needs
 
 same-length-5 : tie.Need-same-length-5
-same-length-5 c = omega (arith, c .before .before .before .before .before .before .before .before .before .before .before .before .before .before .before .before .before .before .before .before .before .before .before .before .before .before .before .before .before .before .before .pattern-rows .kept .1 .1 .1 .1 .0)
+same-length-5 c = omega (arith, c .before .before .before .before .before .before .before .before .before .before .before .before .before .before .before .before .before .before .before .before .before .before .before .before .before .before .before .before .before .before .before .before .before .before .pattern-rows .kept .1 .1 .1 .1 .0)
 
 same-length-6 : tie.Need-same-length-6
 same-length-6 c = search needs
 
 returns-2 : tie.Need-returns-2
 returns-2 c =
-    let put = c .before .before .before .before .before in
-    let looked = put .before .before .before .before .before .before .before in
+    let put = c .before .before .before .before .before .before .before in
+    let looked = put .before .before .before .before .before .before .before .before in
     let a = begun (valued looked) .args in (
       record {
         scans =
-            replaced-scans (values-found looked) (looked .find-split .ensures .stays) (finds looked (not-false _ (put .before .before .before .before .if1 .left)))
+            replaced-scans (values-found looked) (looked .find-split .ensures .stays) (finds looked (not-false _ (put .before .before .before .before .before .if1 .left)))
             (a .s .replacement) (leaves put (c .before .more .given .1));
       },
-      record { twenty-strings = valued looked .pattern-rows .ensures .buffers .strings; good = looked .before .before .before .before .before .before .before .before .before .keep-fillers .ensures .good },
+      record { twenty-strings = same-length-5 c ∙ begun (valued looked) .pre .1 .twenty-strings; good = looked .before .before .before .before .before .before .before .before .before .keep-fillers .ensures .good },
     )
 
 same-length-7 : tie.Need-same-length-7
 same-length-7 c = search needs
 
 same-length-8 : tie.Need-same-length-8
-same-length-8 c = omega (arith, c .before .before .before .before .before .before .before .before .before .before .before .before .before .before .before .before .before .before .before .before .before .before .before .before .before .before .before .before .before .before .before .before .before .before .before .before .pattern-rows .kept .1 .1 .1 .1 .0)
+same-length-8 c = omega (arith, c .before .before .before .before .before .before .before .before .before .before .before .before .before .before .before .before .before .before .before .before .before .before .before .before .before .before .before .before .before .before .before .before .before .before .before .before .before .before .before .pattern-rows .kept .1 .1 .1 .1 .0)
 
 same-length-9 : tie.Need-same-length-9
-same-length-9 c = search needs
+same-length-9 c = omega (arith, c .before .before .before .before .before .before .before .before .before .before .before .before .before .before .before .before .before .before .before .before .before .before .before .before .before .before .before .before .before .keep-fillers .kept .1 .1 .0)
 
 returns-3 : tie.Need-returns-3
 returns-3 c =
     let back = c .before .before in
-    let put = back .before .before .before .before .before .before .before .before in
-    let looked = put .before .before .before .before .before .before .before in
+    let put = back .before .before .before .before .before .before .before .before .before .before in
+    let looked = put .before .before .before .before .before .before .before .before in
     let kept = looked .before .before .before .before .before .before .before .before .before in
     let a = begun (valued looked) .args in (
       record {
         scans =
-            stopped-scans (values-found looked) (looked .find-split .ensures .stays) (finds looked (not-false _ (put .before .before .before .before .if1 .left)))
+            stopped-scans (values-found looked) (looked .find-split .ensures .stays) (finds looked (not-false _ (put .before .before .before .before .before .if1 .left)))
             (a .s .replacement) (leaves put (back .before .before .before .before .k .given .1)) (kept .keep-fillers .ensures) (back .copy-fillers .ensures);
       },
-      record { twenty-strings = valued looked .pattern-rows .ensures .buffers .strings; good = kept .keep-fillers .ensures .good },
+      record { twenty-strings = same-length-8 c ∙ begun (valued looked) .pre .1 .twenty-strings; good = kept .keep-fillers .ensures .good },
     )
 
 same-length-10 : tie.Need-same-length-10
@@ -342,9 +353,11 @@ scan-span-spec =
     same-length-2
     same-length-3
     returns
+    slice-relend-prefix-replace-pieces
+    slice-aggregate-replace-pieces
     replace-pieces-requires
     enum-known-more
-    add-t57
+    add-t59
     enum-known-k
     copy-fillers-requires
     enum-known-k-2

@@ -6,9 +6,9 @@ use Rattle.machine.specs.Scanning.{searchedIn}
 use Rattle.rows.specs.Meaning.{directionMeaning, partMeaning}
 use Rattle.statements.specs.References.{Refers}
 use Rattle.statements.specs.declared.reference.Reference.{Reference}
+use Rattle.statements.specs.declared.Span.{Span}
 use Rattle.scanstep.specs.ReferenceLaws.{scanning-rest, scanning-stops}
 use Rattle.scanstep.specs.Scans.{Scans}
-use Rattle.scanstep.specs.declared.Span.{Span}
 use Rattle.scanstep.proofs.scan_step.Statement.{statement}
 use Rattle.scanstep.proofs.scan_step.Tie as tie
 

@@ -1,6 +1,9 @@
 -- `carry_out` meets its contract: each kind of statement is carried out by its own function. Assumes nothing.
+use mathlib.Core.Path.{_≡_, sym, _∙_}
 use Prim.Native.Nat.{_+_}
 use native.Mathlib.Omega.{arith}
+use lib.ListN.{length, take}
+use lib.Seq.{length-take-le}
 use borrow.Author.Needs.{needs}
 use Rattle.calls.specs.Calls.{buffers}
 use Rattle.scanstep.specs.Scans.{holds-scannable}
@@ -33,6 +36,10 @@ going : (c : tie.After-statement-at)
     Going (a .table .now) (a .input .now) (buffers (a .store .now) (a .state .now) (a .output .now)) (c .before .next-step .result + 1) (c .statement-at .result))
 going c = allowed-going (begun c .pre .0) (c .before .next-step .ensures) (c .statement-at .ensures)
 
+-- the front of the values has room for a string
+room : (c : tie.After-statement-at) → length (take 1024 (begun c .args .values .now)) ≡ 1024
+room c = length-take-le 1024 (begun c .args .values .now) (omega (arith, begun c .pre .1 .1 .twenty-strings))
+
 enum-known-x : tie.Need-enum-known-x
 enum-known-x c = search needs
 
@@ -48,9 +55,15 @@ set-number-requires c κs =
 enum-known-x-2 : tie.Need-enum-known-x-2
 enum-known-x-2 c = search needs
 
+slice-relend-prefix-set-string : tie.Need-slice-relend-prefix-set-string
+slice-relend-prefix-set-string c = omega (arith, c .before .before .before .before .before .before .before .before .before .before .before .before .before .before .pre .1 .1 .twenty-strings)
+
+slice-aggregate-set-string : tie.Need-slice-aggregate-set-string
+slice-aggregate-set-string c = sym (room (c .before .before .before .before .before .before))
+
 set-string-requires : tie.Need-set-string-requires
 set-string-requires c κs =
-    let arm = c .before .before .before in
+    let arm = c .before .before .before .before in
     let g = going (arm .before .before) in
     let holds = going-holds g (arm .x2 .given .1) in (
       record {
@@ -58,7 +71,7 @@ set-string-requires c κs =
         ready = going-ready g;
         elements = holds .1;
       },
-      (holds .0, g .next-is),
+      ((holds .0, g .next-is), room (arm .before .before)),
     )
 
 enum-known-x-3 : tie.Need-enum-known-x-3
@@ -130,9 +143,15 @@ read-requires c κs =
 enum-known-x-9 : tie.Need-enum-known-x-9
 enum-known-x-9 c = search needs
 
+slice-relend-prefix-write : tie.Need-slice-relend-prefix-write
+slice-relend-prefix-write c = omega (arith, c .before .before .before .before .before .before .before .before .before .before .before .before .before .before .before .pre .1 .1 .twenty-strings)
+
+slice-aggregate-write : tie.Need-slice-aggregate-write
+slice-aggregate-write c = sym (room (c .before .before .before .before .before .before .before))
+
 write-requires : tie.Need-write-requires
 write-requires c κs =
-    let arm = c .before .before .before .before in
+    let arm = c .before .before .before .before .before in
     let g = going (arm .before .before) in
     let holds = going-holds g (arm .x9 .given .1) in (
       record {
@@ -140,7 +159,7 @@ write-requires c κs =
         ready = going-ready g;
         elements = holds;
       },
-      (record { size = g .given .size; written = written-inside (g .given) }, g .next-is),
+      ((record { size = g .given .size; written = written-inside (g .given) }, g .next-is), room (arm .before .before)),
     )
 
 enum-known-x-10 : tie.Need-enum-known-x-10
@@ -180,15 +199,18 @@ returns c =
 same-length-2 : tie.Need-same-length-2
 same-length-2 c = search needs
 
+same-length-3 : tie.Need-same-length-3
+same-length-3 c = search needs
+
 returns-2 : tie.Need-returns-2
 returns-2 c =
-    let arm = c .before .before .before .before .before .before in
+    let arm = c .before .before .before .before .before .before .before .before .before in
     let read = arm .before .before in
     let pre = begun read .pre in
     let g = going read in (
       carries-works g (arm .x2 .given .1) (pre .1 .0)
-          (c .before .before .set-string .ensures _ _ _ (going-standing g)),
-      pre .1 .1,
+          (c .before .before .before .before .set-string .ensures _ _ _ (going-standing g)),
+      record { twenty-strings = same-length-3 c ∙ pre .1 .1 .twenty-strings; good = pre .1 .1 .good },
     )
 
 returns-3 : tie.Need-returns-3
@@ -213,8 +235,8 @@ returns-4 c =
       pre .1 .1,
     )
 
-same-length-3 : tie.Need-same-length-3
-same-length-3 c = search needs
+same-length-4 : tie.Need-same-length-4
+same-length-4 c = search needs
 
 returns-5 : tie.Need-returns-5
 returns-5 c =
@@ -227,8 +249,8 @@ returns-5 c =
       pre .1 .1,
     )
 
-same-length-4 : tie.Need-same-length-4
-same-length-4 c = search needs
+same-length-5 : tie.Need-same-length-5
+same-length-5 c = search needs
 
 returns-6 : tie.Need-returns-6
 returns-6 c =
@@ -241,8 +263,8 @@ returns-6 c =
       pre .1 .1,
     )
 
-same-length-5 : tie.Need-same-length-5
-same-length-5 c = search needs
+same-length-6 : tie.Need-same-length-6
+same-length-6 c = search needs
 
 returns-7 : tie.Need-returns-7
 returns-7 c =
@@ -255,14 +277,14 @@ returns-7 c =
       pre .1 .1,
     )
 
-same-length-6 : tie.Need-same-length-6
-same-length-6 c = search needs
-
 same-length-7 : tie.Need-same-length-7
 same-length-7 c = search needs
 
 same-length-8 : tie.Need-same-length-8
 same-length-8 c = search needs
+
+same-length-9 : tie.Need-same-length-9
+same-length-9 c = search needs
 
 returns-8 : tie.Need-returns-8
 returns-8 c =
@@ -275,8 +297,8 @@ returns-8 c =
       scanned .scan .ensures .1,
     )
 
-same-length-9 : tie.Need-same-length-9
-same-length-9 c = search needs
+same-length-10 : tie.Need-same-length-10
+same-length-10 c = search needs
 
 returns-9 : tie.Need-returns-9
 returns-9 c =
@@ -289,21 +311,24 @@ returns-9 c =
       pre .1 .1,
     )
 
-same-length-10 : tie.Need-same-length-10
-same-length-10 c = search needs
-
 same-length-11 : tie.Need-same-length-11
 same-length-11 c = search needs
 
+same-length-12 : tie.Need-same-length-12
+same-length-12 c = search needs
+
+same-length-13 : tie.Need-same-length-13
+same-length-13 c = search needs
+
 returns-10 : tie.Need-returns-10
 returns-10 c =
-    let arm = c .before .before .before .before .before .before .before in
+    let arm = c .before .before .before .before .before .before .before .before .before .before in
     let read = arm .before .before in
     let pre = begun read .pre in
     let g = going read in (
       carries-works g (arm .x9 .given .1) (pre .1 .0)
-          (c .before .before .write .ensures _ _ (going-standing g)),
-      pre .1 .1,
+          (c .before .before .before .before .write .ensures _ _ (going-standing g)),
+      record { twenty-strings = same-length-13 c ∙ pre .1 .1 .twenty-strings; good = pre .1 .1 .good },
     )
 
 returns-11 : tie.Need-returns-11
@@ -338,6 +363,8 @@ carry-out-spec =
     enum-known-x
     set-number-requires
     enum-known-x-2
+    slice-relend-prefix-set-string
+    slice-aggregate-set-string
     set-string-requires
     enum-known-x-3
     go-to-requires
@@ -354,6 +381,8 @@ carry-out-spec =
     enum-known-x-8
     read-requires
     enum-known-x-9
+    slice-relend-prefix-write
+    slice-aggregate-write
     write-requires
     enum-known-x-10
     execute-requires
@@ -362,23 +391,25 @@ carry-out-spec =
     same-length
     returns
     same-length-2
+    same-length-3
     returns-2
     returns-3
     returns-4
-    same-length-3
-    returns-5
     same-length-4
-    returns-6
+    returns-5
     same-length-5
-    returns-7
+    returns-6
     same-length-6
+    returns-7
     same-length-7
     same-length-8
-    returns-8
     same-length-9
-    returns-9
+    returns-8
     same-length-10
+    returns-9
     same-length-11
+    same-length-12
+    same-length-13
     returns-10
     returns-11
     returns-12)

@@ -23,53 +23,59 @@ enum-known-replacement : tie.Need-enum-known-replacement
 enum-known-replacement c = search needs
 
 pieces-length-requires : tie.Need-pieces-length-requires
-pieces-length-requires c κs = c .before .before .before .before .before .before .pre .counting
+pieces-length-requires c κs = c .before .before .before .before .before .before .before .pre .0 .counting
 
 start-of-requires : tie.Need-start-of-requires
-start-of-requires c κs = c .before .before .before .before .before .before .before .pre .counting .size
+start-of-requires c κs = c .before .before .before .before .before .before .before .before .pre .0 .counting .size
 
 found-from-requires : tie.Need-found-from-requires
 found-from-requires c κs =
-    let s = c .before .before .before .before .before .before .before .before in
-    (s .pre .between .order, omega (arith, s .pre .inside, c .start-of .ensures, c .before .pieces-length .ensures))
+    let s = c .before .before .before .before .before .before .before .before .before in
+    (s .pre .0 .between .order, omega (arith, s .pre .0 .inside, c .start-of .ensures, c .before .pieces-length .ensures))
 
-add-replace-found : tie.Need-add-replace-found
-add-replace-found c =
+add-t15 : tie.Need-add-t15
+add-t15 c =
     let s = c .before .before .before .before .before .before .before .before .before .before in
-    let short = good-short (s .args .store .now) (s .pre .ready .strings) (s .args .at .place) in
-    record { fits = omega (arith, c .before .found-from .ensures .2, s .pre .between .within, short) }
+    let short = good-short (s .args .store .now) (s .pre .0 .ready .strings) (s .args .at .place) in
+    record { fits = omega (arith, c .found-from .ensures .2, s .pre .0 .between .within, short) }
 
 replace-found-requires : tie.Need-replace-found-requires
 replace-found-requires c κs =
-    let s = c .before .before .before .before .before .before .before .before .before .before in
-    let by = c .before .before .before .before .before .replacement .given .1 in
-    let end = c .before .found-from .ensures .2 in (
-      record { bytes = s .pre .bytes; ready = s .pre .ready; elements = subst (ReplacementHolds (s .args .table .now)) by (s .pre .replacement) },
-      record { known = s .pre .between .known; order = omega arith; within = omega (arith, s .pre .between .within, end) },
+    let s = c .before .before .before .before .before .before .before .before .before .before .before .before in
+    let by = c .before .before .before .before .before .before .replacement .given .1 in
+    let end = c .before .before .found-from .ensures .2 in (
+      record { bytes = s .pre .0 .bytes; ready = s .pre .0 .ready; elements = subst (ReplacementHolds (s .args .table .now)) by (s .pre .0 .replacement) },
+      (
+        record { known = s .pre .0 .between .known; order = omega arith; within = omega (arith, s .pre .0 .between .within, end) },
+        s .pre .1,
+      ),
     )
 
 returns : tie.Need-returns
 unfolding quietly
 returns c =
-    let s = c .before .before .before .before .before in
+    let s = c .before .before .before .before .before .before in
     let a = s .args in
     stored-as _ (a .store .now) _ (a .state .now) _ _
     (ap
     (replacedBy (a .table .now) (a .store .now) (a .state .now) (directionMeaning (a .s .direction)) (a .at) _ _)
     (c .enum-told .given .1))
-    (record { leaves = (stays-same (a .store .now) (s .pre .ready .strings), refl) })
+    (record { leaves = (stays-same (a .store .now) (s .pre .0 .ready .strings), refl) })
 
 same-length : tie.Need-same-length
 same-length c = search needs
 
+same-length-2 : tie.Need-same-length-2
+same-length-2 c = search needs
+
 returns-2 : tie.Need-returns-2
 returns-2 c =
-    let put = c .before .before in
-    let found = put .before .before in
-    let a = c .before .before .before .before .before .before .before .before .before .before .before .before .before .args in
+    let put = c .before .before .before .before in
+    let found = put .before .before .before in
+    let a = c .before .before .before .before .before .before .before .before .before .before .before .before .before .before .before .before .before .args in
     let way = directionMeaning (a .s .direction) in
     let size = a .at .to - a .at .from in
-    let by = c .before .before .before .before .before .before .before .before .replacement .given in
+    let by = c .before .before .before .before .before .before .before .before .before .before .before .replacement .given in
     let start = found .before .start-of in
     let sum = found .before .before .pieces-length in
     stored-as _ (a .store .now) _ (a .state .now) _ _
@@ -89,8 +95,9 @@ replace-pieces-spec =
     pieces-length-requires
     start-of-requires
     found-from-requires
-    add-replace-found
+    add-t15
     replace-found-requires
     returns
     same-length
+    same-length-2
     returns-2)
