@@ -6,11 +6,11 @@ use native.Mathlib.Nat.{not-suc-le-zero}
 use native.Mathlib.Omega.{arith}
 use lib.Dec.{eqb}
 use lib.ListN.{length, take, drop, getD, set, length-append, length-drop, take-append-drop, List·getD-append}
-use lib.Seq.{drop-append-le, getD-append-seam, getD-set-other, getD-set-same, length-take-le, take-add, take-all, take-append-le, take-at, take-take}
+use lib.Seq.{drop-append-le, getD-append-seam, getD-set-other, getD-set-same, length-take-le, take-add, take-all, take-append-le, take-take}
 use borrow.Author.Tests.{eqb-false, eqb-true, le-ltb, lt-ltb}
 use Rattle.base.specs.Choice.{test-cases}
 use Rattle.base.specs.ListLaws.{stretch-cut}
-use Rattle.calls.specs.Splices.{splice, length-splice, take-splice, drop-splice}
+use Rattle.calls.specs.Splices.{length-splice, take-splice, drop-splice}
 use Rattle.cells.specs.CellLaws.{drop-take}
 use Rattle.machine.specs.Scanning.{Valued}
 use Rattle.scan.specs.Rows.{rowOf, rowElement, elementOf, elementsAt, patternOf, Good, GoodRows}

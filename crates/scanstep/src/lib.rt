@@ -39,7 +39,8 @@ pub enum Scanned {
     Stops(u32),
 }
 
-// A scan of the bytes of a span. The fillers are kept for a replacement that stops, which puts them back.
+// A scan of the bytes of a span. The fillers are kept for a replacement that stops, which puts them back; its value may be written over
+// those of the pattern, which aren't needed any more.
 fn scan_span(
     table: &[u8],
     store: &mut [u8],

@@ -38,7 +38,8 @@ fn lacks_return(kind: u8, held: usize) -> bool
     }
 }
 
-// carries out the statement of the next step; the answer, which must say that nothing was scanned, gets what a scan found
+// carries out the statement of the next step; a string's value is kept in front of values on the way, and the answer, which must say that
+// nothing was scanned, gets what a scan found
 fn carry_out(
     table: &[u8],
     store: &mut [u8],
