@@ -254,12 +254,11 @@ copy-fillers-requires c κs =
     let put = c .before .before .before .before .before .before .before .before .before in
     let looked = put .before .before .before .before .before .before .before .before in
     let q = values-found looked in
-    record {
-      bytes = q .bytes;
-      inside = q .fillers .inside;
-      source = looked .before .before .before .before .before .before .before .before .before .keep-fillers .ensures .good;
-      good = subst Good (sym (leaves put (c .before .before .before .k .given .1) .0)) (looked .find-split .ensures .stays .good);
-    }
+    let kept = looked .before .before .before .before .before .before .before .before .before in
+    let saved : Good (kept .keep-fillers .last .1 .1 .0) = kept .keep-fillers .ensures .good in
+    let left : Good (put .replace-pieces .last .1 .0) =
+    subst Good (sym (leaves put (c .before .before .before .k .given .1) .0)) (looked .find-split .ensures .stays .good) in
+    record { bytes = q .bytes; inside = q .fillers .inside; source = search needs; good = search needs }
 
 enum-known-k-2 : tie.Need-enum-known-k-2
 enum-known-k-2 c = search needs
