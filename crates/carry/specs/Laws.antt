@@ -125,12 +125,12 @@ module _ (p : Program) (input : List ℕ) (b : Buffers) (s : Standing p input b)
       record { work = stopped _ _ k (a .1); same = ap (λ (l : List ℕ). buffers (b .store) l (b .output)) (a .0) }
 
   -- a string set
-  pub sets-string : (r : Did) (store scratch out : List ℕ) (next : ℕ) (q : Part) (xs : List Program.Element) → next ≡ getD (b .state) 1 0 + 1
-      → Stored r (b .store) store (b .state) scratch out (setStringIn current (memoryIn (b .store) (b .state)) q xs)
+  pub sets-string : (r : Did) (store : List ℕ) (next : ℕ) (q : Part) (xs : List Program.Element) → next ≡ getD (b .state) 1 0 + 1
+      → Stored r (b .store) store (b .state) (setStringIn current (memoryIn (b .store) (b .state)) q xs)
       → Carries r input b (buffers store (movedOn r (b .state) next) (b .output))
       (carrying current (length (b .output)) (Program.setString q xs) (machineIn input b))
   unfolding carrying moving quietly goingTo stateIn
-  sets-string (did.Done notes) store scratch out next q xs e a =
+  sets-string (did.Done notes) store next q xs e a =
       let left = memoryOf store (numbersIn (b .state)) in
       let m = goingTo (suc (c .next)) left c in
       let step : next ≡ suc (c .next) = e ∙ add-one (getD (b .state) 1 0) in
@@ -140,7 +140,7 @@ module _ (p : Program) (input : List ℕ) (b : Buffers) (s : Standing p input b)
         work = bound _ _ left notes (record { state = m; scanned = noScan }) (a .leaves .1) refl;
         left-is = left-parts m store _ (b .output) (a .leaves .0) refl moved (output-same m refl);
       }
-  sets-string (did.Stops k) store scratch out next q xs e a =
+  sets-string (did.Stops k) store next q xs e a =
       record { work = stopped _ _ k (a .leaves .1); same = ap (λ (l : List ℕ). buffers l (b .state) (b .output)) (a .leaves .0) }
 
   -- IF

@@ -14,7 +14,6 @@ ghost use Rattle.rows.specs.Holds.{PartHolds, IfHolds};
 ghost use Rattle.rows.specs.Meaning.{partMeaning, ifMeaning, branchMeaning, itemsMeaning, elementsMeaning};
 ghost use Rattle.statements.specs.Valued.{Writable};
 ghost use Rattle.carry.specs.Carrying.{Does, MovesOn, TakesBranch};
-use base::LONGEST;
 use calls::STATE_SIZE;
 use expressions::Truth;
 use rows::Branch;
@@ -62,7 +61,7 @@ pub fn set_number(
     move_on(state, next, did)
 }
 
-// a string set, or its first bytes, to an expression's value
+// a string set, or its first bytes, to an expression's value, which out keeps on the way
 pub fn set_string(
     table: &[u8],
     store: &mut [u8],
@@ -70,16 +69,15 @@ pub fn set_string(
     next: usize,
     p: Part,
     s: Stretch,
-    scratch: &mut [u8; LONGEST],
-    out: &mut [u8; LONGEST],
+    out: &mut [u8],
 ) -> Did
-    requires { ⌜ Spellable (now table) (now store) (now state) s (now scratch) (now out) ⌝ }
+    requires { ⌜ Spellable (now table) (now store) (now state) s ⌝ }
     requires { ⌜ PartHolds p × (next ≡ getD (now state) 1 0 + 1) ⌝ }
+    requires { ⌜ length (now out) ≡ 1024 ⌝ }
     ensures { λ r. ⌜ ((input output : List ℕ) → Does (Program.setString (partMeaning p) (elementsMeaning (now (table .entry)) s)) r
         (buffers (now (store .entry)) (now (state .entry)) output) (buffers (now (store .exit)) (now (state .exit)) output) input) ⌝ }
-    ensures { λ _. ⌜ (length (now (scratch .exit)) ≡ 1024) × (length (now (out .exit)) ≡ 1024) ⌝ }
 {
-    let did = statements::valued::set_string(table, store, state, p, s, scratch, out);
+    let did = statements::valued::set_string(table, store, state, p, s, out);
     move_on(state, next, did)
 }
 
@@ -179,16 +177,16 @@ pub fn write(
     output: &mut [u8],
     next: usize,
     s: Stretch,
-    scratch: &mut [u8; LONGEST],
-    out: &mut [u8; LONGEST],
+    out: &mut [u8],
 ) -> Did
-    requires { ⌜ Spellable (now table) (now store) (now state) s (now scratch) (now out) ⌝ }
+    requires { ⌜ Spellable (now table) (now store) (now state) s ⌝ }
     requires { ⌜ Writable (now state) (now output) × (next ≡ getD (now state) 1 0 + 1) ⌝ }
+    requires { ⌜ length (now out) ≡ 1024 ⌝ }
     ensures { λ r. ⌜ ((input : List ℕ) → Does (Program.write (elementsMeaning (now (table .entry)) s)) r
-        (buffers (now (store .entry)) (now (state .entry)) (now (output .entry))) (buffers (now (store .entry)) (now (state .exit)) (now (output .exit))) input) ⌝ }
-    ensures { λ _. ⌜ (length (now (scratch .exit)) ≡ 1024) × (length (now (out .exit)) ≡ 1024) ⌝ }
+        (buffers (now (store .entry)) (now (state .entry)) (now (output .entry)))
+        (buffers (now (store .entry)) (now (state .exit)) (now (output .exit))) input) ⌝ }
 {
-    let did = statements::valued::write_record(table, store, state, s, output, scratch, out);
+    let did = statements::valued::write_record(table, store, state, s, output, out);
     move_on(state, next, did)
 }
 

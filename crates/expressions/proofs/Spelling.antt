@@ -22,27 +22,25 @@ use Rattle.expressions.specs.Appending.{Added, Adding}
 use Rattle.expressions.specs.Values.{Keeps, Spells}
 use Rattle.expressions.proofs.Working.{stringFrom, string-begins, string-more, string-stops, string-ends}
 
-pub record Spelling (m : Memory) (t : List ℕ) (from count : ℕ) (out scratch : List ℕ) (size notes at left : ℕ) : Type 0 where
+pub record Spelling (m : Memory) (t : List ℕ) (from count : ℕ) (out : List ℕ) (size notes at left : ℕ) : Type 0 where
   pub value : List ℕ
   pub long : size ≡ length value
   pub kept : Keeps out value
   pub room : length out ≡ 1024
-  pub spare : length scratch ≡ 1024
   pub low : from ≤ at
   pub place : at + left ≡ from + count
   pub short : size + tableSize * left ≤ tableSize * count
   pub few : notes + left ≤ count
   pub same : stringIn current m (elementsFrom t from count) ≡ stringFrom m notes value (elementsFrom t at left)
 
-pub spelling-begins : (m : Memory) (t : List ℕ) (from count : ℕ) (out scratch : List ℕ) → length out ≡ 1024 → length scratch ≡ 1024
-    → Spelling m t from count out scratch 0 0 from count
-spelling-begins m t from count out scratch room spare =
+pub spelling-begins : (m : Memory) (t : List ℕ) (from count : ℕ) (out : List ℕ) → length out ≡ 1024
+    → Spelling m t from count out 0 0 from count
+spelling-begins m t from count out room =
     record {
       value = [];
       long = refl;
       kept = refl;
       room = room;
-      spare = spare;
       low = omega arith;
       place = omega arith;
       short = omega arith;
@@ -50,8 +48,8 @@ spelling-begins m t from count out scratch room spare =
       same = string-begins m (elementsFrom t from count);
     }
 
-module _ {m : Memory} {t : List ℕ} {from count : ℕ} {out scratch : List ℕ} {size notes at left : ℕ}
-    (v : Spelling m t from count out scratch size notes at left) where
+module _ {m : Memory} {t : List ℕ} {from count : ℕ} {out : List ℕ} {size notes at left : ℕ}
+    (v : Spelling m t from count out size notes at left) where
   pub spelling-ends : left ≤ 0 → Spells size notes out (stringIn current m (elementsFrom t from count))
   spelling-ends h =
       record {
@@ -86,9 +84,9 @@ module _ {m : Memory} {t : List ℕ} {from count : ℕ} {out scratch : List ℕ}
       spelling-stops {k} e =
           here ∙ string-stops m notes k (v .value) (elementMeaning t x) rest (subst AddedAs e (adding .added))
 
-      pub spelling-more : {n more : ℕ} (spare : List ℕ) → length spare ≡ 1024 → r ≡ Is n more
-          → Spelling m t from count after spare (size + n) (notes + more) (at + 1) (left - 1)
-      spelling-more {n} {more} spare spared e =
+      pub spelling-more : {n more : ℕ} → r ≡ Is n more
+          → Spelling m t from count after (size + n) (notes + more) (at + 1) (left - 1)
+      spelling-more {n} {more} e =
           let a = subst AddedAs e (adding .added) in
           let bounds = spelling-noted e in
           record {
@@ -96,7 +94,6 @@ module _ {m : Memory} {t : List ℕ} {from count : ℕ} {out scratch : List ℕ}
             long = omega (arith, length-append (v .value) (a .value), v .long, a .size);
             kept = a .follows (v .value) (sym (v .long)) (v .kept);
             room = adding .room;
-            spare = spared;
             low = omega (arith, v .low);
             place = omega (arith, v .place);
             short = omega (arith, v .short, bounds .0);

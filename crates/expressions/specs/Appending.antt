@@ -21,11 +21,10 @@ pub record Appended (before after : List ℕ) (at : ℕ) (v : List ℕ) : Type 0
   pub follows : Follows before after at v
 
 -- an element that can be appended
-pub record Addable (table store state : List ℕ) (x : Element) (scratch out : List ℕ) : Type 0 where
+pub record Addable (table store state : List ℕ) (x : Element) (out : List ℕ) : Type 0 where
   pub bytes : tableSize ≤ length table
   pub ready : Ready store state
   pub holds : ElementHolds x
-  pub spare : length scratch ≡ 1024
   pub room : length out ≡ 1024
 
 -- the string that work gives, not longer than a table, was appended at a place

@@ -11,7 +11,7 @@ use Rattle.expressions.specs.declared.Truth.{Truth}
 use Rattle.expressions.specs.declared.Truth.the-variants as truths
 
 -- a string expression that was valued, and one that stops
-module _ {r : Text} {out scratch : List ℕ} {w : Work (List ℕ)} (a : Written r out scratch w) where
+module _ {r : Text} {out : List ℕ} {w : Work (List ℕ)} (a : Written r out w) where
   pub string-is : {n notes : ℕ} → r ≡ texts.Is n notes → Spells n notes out w
   string-is e = subst (λ (x : Text). Spelt x out w) e (a .spelt)
 

@@ -47,13 +47,11 @@ pub record Valuable (table store state : List ℕ) (s : Stretch) : Type 0 where
   pub ready : Ready store state
   pub items : ItemsHold table s
 
--- a string expression of a table that can be valued, with two buffers
-pub record Spellable (table store state : List ℕ) (s : Stretch) (scratch out : List ℕ) : Type 0 where
+-- a string expression of a table that can be valued
+pub record Spellable (table store state : List ℕ) (s : Stretch) : Type 0 where
   pub bytes : tableSize ≤ length table
   pub ready : Ready store state
   pub elements : ElementsHold table s
-  pub spare : length scratch ≡ 1024
-  pub room : length out ≡ 1024
 
 -- 1,024 bytes keep a string: all of it, or its first 1,024 bytes if it is longer
 abbrev pub Keeps : (out v : List ℕ) → Type 0
@@ -70,11 +68,10 @@ abbrev pub Spelt : Text → (out : List ℕ) → Work (List ℕ) → Type 0
 Spelt (texts.Is n notes) out w = Spells n notes out w
 Spelt (texts.Stops k) out w = w ≡ stop k
 
--- with buffers as long as before
-pub record Written (r : Text) (out scratch : List ℕ) (w : Work (List ℕ)) : Type 0 where
+-- with a buffer as long as before
+pub record Written (r : Text) (out : List ℕ) (w : Work (List ℕ)) : Type 0 where
   pub spelt : Spelt r out w
   pub room : length out ≡ 1024
-  pub spare : length scratch ≡ 1024
 
 -- the work that a test's answer stands for
 abbrev pub truthWorked : Truth → Work Bool

@@ -9,7 +9,6 @@ ghost use Rattle.base.specs.Current.{current};
 ghost use Rattle.calls.specs.BufferLaws.{Good};
 ghost use Rattle.cells.specs.Contracts.{stringOf};
 ghost use Rattle.convert.specs.Numbers.{InRange, BothInRange, Gives, Answers, worked};
-ghost use Rattle.convert.specs.Text.{Writable};
 ghost use Rattle.language.specs.Program.{isNull, isNumeric};
 ghost use Rattle.machine.specs.Expressions as Expressions;
 ghost use Rattle.machine.specs.Expressions.{lengthIn, partIn, operandIn, itemIn, numericIn, elementIn, stringIn, testIn};
@@ -356,7 +355,7 @@ pub fn numeric_value(table: &[u8], store: &[u8], state: &[u64; STATE_SIZE], s: S
 }
 
 // writes v from a place of a string's buffer on, as far as there is room
-fn append(v: &[u8], out: &mut [u8; LONGEST], at: usize)
+fn append(v: &[u8], out: &mut [u8], at: usize)
     requires { ⌜ length (now out) ≡ 1024 ⌝ }
     ensures { λ _. ⌜ Appended (now (out .entry)) (now (out .exit)) at (now (v .entry)) ⌝ }
 {
@@ -364,11 +363,11 @@ fn append(v: &[u8], out: &mut [u8; LONGEST], at: usize)
         return;
     }
     let end = least(LONGEST - at, v.len());
-    cells::spans::copy(&v[..end], out, at);
+    cells::spans::write(out, at, &v[..end]);
 }
 
 // appends the bytes between two ends
-fn append_between(bytes: &[u8], ends: Ends, out: &mut [u8; LONGEST], at: usize) -> Text
+fn append_between(bytes: &[u8], ends: Ends, out: &mut [u8], at: usize) -> Text
     requires { ⌜ Lies (now bytes) ends ⌝ }
     requires { ⌜ length (now out) ≡ 1024 ⌝ }
     ensures { λ r. ⌜ Adding r (now (out .entry)) (now (out .exit)) at (spanned (now (bytes .entry)) ends) ⌝ }
@@ -382,22 +381,16 @@ fn append_between(bytes: &[u8], ends: Ends, out: &mut [u8; LONGEST], at: usize) 
     }
 }
 
-// appends STRING(n,m), written to scratch first
-fn append_text(
-    n: Int,
-    m: Int,
-    scratch: &mut [u8; LONGEST],
-    out: &mut [u8; LONGEST],
-    at: usize,
-) -> Text
-    requires { ⌜ Writable n m (now scratch) ⌝ }
+// appends STRING(n,m)
+fn append_text(n: Int, m: Int, out: &mut [u8], at: usize) -> Text
+    requires { ⌜ BothInRange n m ⌝ }
     requires { ⌜ length (now out) ≡ 1024 ⌝ }
     ensures { λ r. ⌜ Adding r (now (out .entry)) (now (out .exit)) at (textOf (n .value) (m .value)) ⌝ }
-    ensures { λ _. ⌜ length (now (scratch .exit)) ≡ 1024 ⌝ }
 {
-    match convert::text_of(n, m, scratch) {
+    let mut text = [0u8; LONGEST];
+    match convert::text_of(n, m, &mut text) {
         Text::Is { length, notes } => append_between(
-            scratch,
+            &text,
             Ends {
                 from: 0,
                 to: length,
@@ -416,42 +409,31 @@ pub fn append_element(
     store: &[u8],
     state: &[u64; STATE_SIZE],
     x: Element,
-    scratch: &mut [u8; LONGEST],
-    out: &mut [u8; LONGEST],
+    out: &mut [u8],
     at: usize,
 ) -> Text
-    requires { ⌜ Addable (now table) (now store) (now state) x (now scratch) (now out) ⌝ }
+    requires { ⌜ Addable (now table) (now store) (now state) x (now out) ⌝ }
     ensures { λ r. ⌜ Adding r (now (out .entry)) (now (out .exit)) at
         (elementIn current (memoryIn (now (store .entry)) (now (state .entry))) (elementMeaning (now (table .entry)) x)) ⌝ }
-    ensures { λ _. ⌜ length (now (scratch .exit)) ≡ 1024 ⌝ }
 {
     match x {
         Element::Literal(from, to) => append_between(table, Ends { from, to, notes: 0 }, out, at),
         Element::Part(p) => append_between(store, part_ends(store, state, p), out, at),
-        Element::Text(n, m) => {
-            append_text(
-                length_value(state, n),
-                number_at(state, m),
-                scratch,
-                out,
-                at,
-            )
-        }
+        Element::Text(n, m) => append_text(length_value(state, n), number_at(state, m), out, at),
     }
 }
 
-// the value of a string expression, element by element: its length, and in out its bytes, of which only the first 1,024 have room;
-// scratch is for STRING
+// the value of a string expression, element by element: its length, and in out its bytes, of which only the first 1,024 have room
 pub fn string_value(
     table: &[u8],
     store: &[u8],
     state: &[u64; STATE_SIZE],
     s: Stretch,
-    scratch: &mut [u8; LONGEST],
-    out: &mut [u8; LONGEST],
+    out: &mut [u8],
 ) -> Text
-    requires { ⌜ Spellable (now table) (now store) (now state) s (now scratch) (now out) ⌝ }
-    ensures { λ r. ⌜ Written r (now (out .exit)) (now (scratch .exit))
+    requires { ⌜ Spellable (now table) (now store) (now state) s ⌝ }
+    requires { ⌜ length (now out) ≡ 1024 ⌝ }
+    ensures { λ r. ⌜ Written r (now (out .exit))
         (stringIn current (memoryIn (now (store .entry)) (now (state .entry))) (elementsMeaning (now (table .entry)) s)) ⌝ }
 {
     let mut length = 0;
@@ -460,7 +442,7 @@ pub fn string_value(
     let mut left = s.count;
     while 0 < left {
         let x = rows::element_at(table, at);
-        match append_element(table, store, state, x, scratch, out, length) {
+        match append_element(table, store, state, x, out, length) {
             Text::Is {
                 length: more,
                 notes: n,

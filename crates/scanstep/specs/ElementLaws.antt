@@ -1,20 +1,22 @@
 -- Laws of the row of each kind of element, with the place that its piece is to name. Assumes nothing.
 use mathlib.Core.Bool.{true, false}
-use mathlib.Core.List.{List, []}
+use mathlib.Core.List.{List, [], _++_}
 use mathlib.Core.Option.{none, some}
 use mathlib.Core.Path.{_≡_, refl, sym, ap, _∙_}
-use Prim.Native.Nat.{ℕ, _<_, _^_}
+use Prim.Native.Nat.{ℕ, _+_, _*_, _<_, _^_}
 use native.Mathlib.Nat.{add-zero}
 use lib.IntN.{ℤ, natAbs}
-use lib.ListN.{take, set}
+use native.Mathlib.Omega.{arith}
+use lib.ListN.{length, take, drop, set}
+use lib.Seq.{drop-drop}
 use borrow.Author.Tests.{lt-ltb}
 use Rattle.base.specs.Current.{current}
+use Rattle.calls.specs.Splices.{splice, length-splice}
 use Rattle.expressions.specs.Appending.{Adds}
 use Rattle.language.specs.Program as Program
 use Rattle.machine.specs.Expressions.{elementIn}
 use Rattle.machine.specs.Scanning.{Valued, fixedAt, valuedIn}
 use Rattle.machine.specs.State.{Memory}
-use Rattle.pattern.specs.Putting.{PutRow}
 use Rattle.scanning.specs.Splits.{string, fixed, free}
 use Rattle.statements.specs.Fillers.{nameOf}
 use Rattle.statements.specs.Leaving.{Spells}
@@ -24,12 +26,33 @@ use Rattle.values.specs.Numbers.{isNegative}
 use Rattle.values.specs.Work.{Work, done, noting, quietly, _>>=_}
 use Rattle.values.specs.WorkLaws.{stopped}
 use Rattle.scanstep.specs.PatternLaws.{row-fixed, row-free, row-null}
-use Rattle.scanstep.specs.Patterns.{Put, PutBy, ValueBy}
+use Rattle.scanstep.specs.Patterns.{Put, PutBy, Stands, ValueBy}
+use Rattle.scanstep.specs.Putting.{PutRow}
 
 -- a string appended to an empty buffer is what the buffer spells
-pub added-spells : (before after : List ℕ) (n notes : ℕ) (w : Work (List ℕ)) (a : Adds before after 0 n notes w) → Spells after n (a .value)
+added-spells : (before after : List ℕ) (n notes : ℕ) (w : Work (List ℕ)) (a : Adds before after 0 n notes w) → Spells after n (a .value)
 added-spells before after n notes w a =
     record { size = sym (a .size); bytes = ap (λ (j : ℕ). take j after) (a .size) ∙ a .follows [] refl refl }
+
+-- bytes that row i's place among the values was lent for
+module _ (values bytes : List ℕ) (i k : ℕ) (strings : length values ≡ 20480) (room : length bytes ≡ 1024) (size : k ≡ 1024) where
+  abbrev back : List ℕ
+  back = take (1024 * i) values ++ (bytes ++ drop k (drop (1024 * i) values))
+
+  back-splice : back ≡ splice values (1024 * i) bytes
+  unfolding splice
+  back-splice =
+      let end : 1024 * i + k ≡ 1024 * i + length bytes = omega arith in
+      ap (λ (l : List ℕ). take (1024 * i) values ++ (bytes ++ l))
+      (drop-drop k (1024 * i) values ∙ ap (λ (j : ℕ). drop j values) end)
+
+  pub back-length : i < 20 → length back ≡ 20480
+  back-length few = ap length back-splice ∙ length-splice values (1024 * i) bytes (omega arith) ∙ strings
+
+  -- a value appended there to nothing stands there
+  pub added-stands : {before : List ℕ} {n notes : ℕ} {w : Work (List ℕ)} (a : Adds before bytes 0 n notes w) → Stands values back i n (a .value)
+  added-stands {before} {n} {notes} {w} a =
+      record { strings = strings; bytes = bytes; room = room; left-is = back-splice; spells = added-spells before bytes n notes w a }
 
 module _ (values rows rowsLeft names : List ℕ) (i : ℕ) where
   -- a fixed filler whose length is negative

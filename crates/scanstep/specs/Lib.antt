@@ -1,9 +1,11 @@
 -- What a SCAN or BACKSCAN asks for and leaves in the buffers (Scans), as the crate machine has it: the pattern's values as rows
--- (Patterns), the fillers and the scan (Searches), what is left of the work at each stage (Stages).
+-- (Patterns), each written by Putting, the fillers and the scan (Searches), what is left of the work at each stage (Stages).
 pub mod ElementLaws
 pub mod LongLaws
 pub mod PatternLaws
 pub mod Patterns
+pub mod Putting
+pub mod PuttingLaws
 pub mod StageLaws
 pub mod Stages
 pub mod ReferenceLaws

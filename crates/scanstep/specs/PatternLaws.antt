@@ -6,22 +6,21 @@ use native.Mathlib.Nat.{not-suc-le-zero}
 use native.Mathlib.Omega.{arith}
 use lib.Dec.{eqb}
 use lib.ListN.{length, take, drop, getD, set, length-append, length-drop, take-append-drop, List·getD-append}
-use lib.Seq.{drop-append-le, getD-append-seam, getD-set-other, getD-set-same, length-take-le, take-add, take-all, take-append-le, take-at, take-take}
+use lib.Seq.{drop-append-le, getD-append-seam, getD-set-other, getD-set-same, length-take-le, take-add, take-all, take-append-le, take-take}
 use borrow.Author.Tests.{eqb-false, eqb-true, le-ltb, lt-ltb}
 use Rattle.base.specs.Choice.{test-cases}
 use Rattle.base.specs.ListLaws.{stretch-cut}
-use Rattle.calls.specs.Splices.{splice, length-splice, take-splice, drop-splice}
+use Rattle.calls.specs.Splices.{length-splice, take-splice, drop-splice}
 use Rattle.cells.specs.CellLaws.{drop-take}
 use Rattle.machine.specs.Scanning.{Valued}
-use Rattle.pattern.specs.Putting.{PutRow}
-use Rattle.pattern.proofs.Patterns.{good-put, pattern-put}
 use Rattle.scan.specs.Rows.{rowOf, rowElement, elementOf, elementsAt, patternOf, Good, GoodRows}
 use Rattle.scan.specs.declared.Element as Lines
 use Rattle.scan.specs.declared.Element.the-variants as lines
 use Rattle.scanning.specs.Splits.{Element, string, fixed, free}
 use Rattle.statements.specs.Fillers.{nameOf, nobody, Names}
-use Rattle.statements.specs.Leaving.{Spells}
-use Rattle.scanstep.specs.Patterns.{rowed, valuesOf, RowPut, StringPutting, Rowed}
+use Rattle.scanstep.specs.Patterns.{rowed, valuesOf, RowPut, Stands, StringPutting, Rowed}
+use Rattle.scanstep.specs.Putting.{PutRow}
+use Rattle.scanstep.specs.PuttingLaws.{good-put, pattern-put}
 
 module _ (values rows rowsLeft : List ℕ) (i : ℕ) where
   -- a free filler
@@ -30,14 +29,15 @@ module _ (values rows rowsLeft : List ℕ) (i : ℕ) where
   row-free p = record { kind = 3; from = 0; to = 0; row = p; good = tt; element = refl; before = refl }
 
   -- a row that says how long its piece is
-  row-sized : (n : ℕ) (e : Element) → n < 2 ^ 32 → fixed n ≡ rowed e → PutRow rows rowsLeft i 2 n 0 → RowPut values values rows rowsLeft i e
+  row-sized : (left : List ℕ) → valuesOf left i ≡ valuesOf values i → (n : ℕ) (e : Element) → n < 2 ^ 32 → fixed n ≡ rowed e
+      → PutRow rows rowsLeft i 2 n 0 → RowPut values left rows rowsLeft i e
   unfolding rowOf elementOf Good
-  row-sized n e h is p = record { kind = 2; from = n; to = 0; row = p; good = h; element = is; before = refl }
+  row-sized left same n e h is p = record { kind = 2; from = n; to = 0; row = p; good = h; element = is; before = same }
 
   -- a fixed filler
   pub row-fixed : (n : ℕ) → n < 2 ^ 32 → PutRow rows rowsLeft i 2 n 0 → RowPut values values rows rowsLeft i (fixed n)
   unfolding rowed
-  row-fixed n h p = row-sized n (fixed n) h refl p
+  row-fixed n h p = row-sized values refl n (fixed n) h refl p
 
   -- a null string
   pub row-null : PutRow rows rowsLeft i 1 0 0 → RowPut values values rows rowsLeft i (string [])
@@ -53,36 +53,43 @@ module _ (values rows rowsLeft : List ℕ) (i : ℕ) where
         before = refl;
       }
 
-  module _ (v : List ℕ) (n : ℕ) (s : StringPutting values rows i v n) (w : List ℕ) (spelt : Spells v n w) where
+  module _ (n : ℕ) (s : StringPutting rows i n) (left w : List ℕ) (stands : Stands values left i n w) where
+    abbrev u : List ℕ
+    u = stands .bytes
+
+    -- the values before it
+    values-before : valuesOf left i ≡ valuesOf values i
+    values-before =
+        ap (take (1024 * i)) (stands .left-is) ∙ take-splice values (1024 * i) u (omega (arith, stands .strings, s .few))
+
     -- a string that is longer than any reference
-    pub row-long : 1024 < n → PutRow rows rowsLeft i 2 n 0 → RowPut values values rows rowsLeft i (string w)
+    pub row-long : 1024 < n → PutRow rows rowsLeft i 2 n 0 → RowPut values left rows rowsLeft i (string w)
     unfolding rowed
     row-long h p =
+        let spelt = stands .spells in
         let long : 1024 < length w = omega (arith, spelt .size) in
-        row-sized n (string w) (omega (arith, s .short)) (rw (lt-ltb 1024 (length w) long, spelt .size) refl) p
+        row-sized left values-before n (string w) (omega (arith, s .short)) (rw (lt-ltb 1024 (length w) long, spelt .size) refl) p
 
     -- one that may fit
-    pub row-string : n ≤ 1024 → (left : List ℕ) → left ≡ splice values (1024 * i) (take n v)
-        → PutRow rows rowsLeft i 1 (1024 * i) (1024 * i + n) → RowPut values left rows rowsLeft i (string w)
+    pub row-string : n ≤ 1024 → PutRow rows rowsLeft i 1 (1024 * i) (1024 * i + n) → RowPut values left rows rowsLeft i (string w)
     unfolding rowOf elementOf rowed Good
-    row-string h left e p =
+    row-string h p =
         let at = 1024 * i in
-        let u = take n v in
-        let size : length u ≡ n = length-take-le n v (omega (arith, s .room)) in
-        let room : at + length u ≤ length values = omega (arith, s .strings, s .few) in
-        let long : length left ≡ 20480 = ap length e ∙ length-splice values at u room ∙ s .strings in
+        let spelt = stands .spells in
+        let room : at + length u ≤ length values = omega (arith, stands .room, stands .strings, s .few) in
+        let long : length left ≡ 20480 = ap length (stands .left-is) ∙ length-splice values at u room ∙ stands .strings in
         let fits : length w ≤ 1024 = omega (arith, spelt .size) in
         let all : length (valuesOf left (i + 1)) ≡ 1024 * (i + 1) = length-take-le (1024 * (i + 1)) left (omega (arith, s .few)) in
         let more : 1024 * (i + 1) - at ≡ 1024 = omega arith in
         let cut : drop at (valuesOf left (i + 1)) ≡ take 1024 (drop at left) =
         drop-take left at (1024 * (i + 1)) (omega arith) (omega (arith, s .few)) ∙ ap (λ (k : ℕ). take k (drop at left)) more in
-        let behind : drop at left ≡ u ++ drop (at + length u) values = ap (drop at) e ∙ drop-splice values at u (omega arith) in
+        let behind : drop at left ≡ u ++ drop (at + length u) values = ap (drop at) (stands .left-is) ∙ drop-splice values at u (omega arith) in
         let bytes : take (at + n - at) (drop at (valuesOf left (i + 1))) ≡ w =
         stretch-cut (valuesOf left (i + 1)) at n
         ∙ ap (take n) cut
         ∙ take-take n 1024 (drop at left) h
         ∙ ap (take n) behind
-        ∙ take-at u (drop (at + length u) values) n size
+        ∙ take-append-le n u (drop (at + length u) values) (omega (arith, stands .room))
         ∙ spelt .bytes
         ∙ take-all 1024 w fits in
         record {
@@ -92,7 +99,7 @@ module _ (values rows rowsLeft : List ℕ) (i : ℕ) where
           row = p;
           good = record { order = omega arith; inside = omega arith; small = omega (arith, s .few) };
           element = ap string bytes ∙ rw (le-ltb 1024 (length w) fits) refl;
-          before = ap (take at) e ∙ take-splice values at u (omega arith);
+          before = values-before;
         }
 
 -- rows whose values lie in the first of two stretches

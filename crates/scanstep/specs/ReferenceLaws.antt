@@ -16,13 +16,13 @@ use Rattle.rows.specs.declared.Direction.{Direction}
 use Rattle.rows.specs.declared.Scan.{Scan}
 use Rattle.statements.specs.References.{referenceOf, searchedAt}
 use Rattle.statements.specs.Valued.{Between}
+use Rattle.statements.specs.declared.Span.{Span}
 use Rattle.values.specs.Work.{done, stop, _>>=_}
 use Rattle.values.specs.WorkLaws.{stopped, noting-none}
 use Rattle.scanstep.specs.Scans.{scanningOf}
 use Rattle.scanstep.specs.Searches.{scanOf}
 use Rattle.scanstep.specs.StageLaws.{reference-length}
 use Rattle.scanstep.specs.Stages.{searchedRest}
-use Rattle.scanstep.specs.declared.Span.{Span}
 
 module _ (store : List ℕ) (at : Span) (g : Good store) (b : Between store (at .place) (at .from) (at .to)) where
   -- a reference has room in a string's buffer

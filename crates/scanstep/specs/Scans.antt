@@ -39,15 +39,10 @@ holds-scannable bytes ready h =
       replacement = h .replacement;
     }
 
--- The buffers lent to a scan. Their bytes don't count, but the store that is to keep the fillers is a good one.
-pub record Lent (kept values rows names reference scratch out : List ℕ) : Type 0 where
-  pub good : Good kept
+-- The large buffers lent to a scan. Their bytes don't count, but the store that is to keep the fillers is a good one.
+pub record Lent (values kept : List ℕ) : Type 0 where
   pub twenty-strings : length values ≡ 20480
-  pub twenty-rows : length rows ≡ 240
-  pub twenty-places : length names ≡ 20
-  pub searched : length reference ≡ 1024
-  pub spare : length scratch ≡ 1024
-  pub room : length out ≡ 1024
+  pub good : Good kept
 
 -- the work of the statement in the memory of these buffers
 abbrev pub scanningOf : (table store state : List ℕ) → Scan → Work Left
@@ -55,12 +50,12 @@ scanningOf table store state s =
     scanningIn current (memoryIn store state) (directionMeaning (s .direction)) (partMeaning (s .part)) (patternsMeaning table (s .pattern))
     (replacementMeaning table (s .replacement))
 
--- the work is done: the store holds the memory left, and the answer's numbers are all those of the scan
+-- the work is done: the store holds the memory left, and the answer's numbers are all those of the scan but the notes
 pub record Ended (store left state answer : List ℕ) (notes : ℕ) (w : Work Left) : Type 0 where
   pub stays : Stays store left
   pub scanned : Trials.Scanned
   pub work : w ≡ done (record { memory = memoryIn left state; scanned = scanned }) notes
-  pub answer-is : answer ≡ answerNumbers notes scanned
+  pub answer-is : answer ≡ answerNumbers 0 scanned
 
 pub record WithSplit (store left state answer : List ℕ) (notes : ℕ) (w : Work Left) : Type 0 where
   pub ended : Ended store left state answer notes w

@@ -103,19 +103,16 @@ split-within p r s f =
     omega (arith, f .0, pieces-within p (drop (s .start) r) (s .lengths) (f .1), length-drop (s .start) r)
 
 -- what a search that had a split, or had none, found
-pub finds-as : {is b : Bool} {table store left : List ℕ} {s : Stretch} {reference values rows names answer : List ℕ} {notes : ℕ}
-    → Searched is table store left s reference values rows names answer notes → is ≡ b → {vs : List Valued} → Rowed values rows names (s .count) vs
-    → Finds b table store left s reference answer notes vs
-finds-as {table = table} {store} {left} {s} {reference} {answer = answer} {notes} f e {vs} r =
-    subst (λ (t : Bool). Finds t table store left s reference answer notes vs) e (f .finds vs r)
+pub finds-as : {is b : Bool} {table store left : List ℕ} {s : Stretch} {reference values rows names answer : List ℕ}
+    → Searched is table store left s reference values rows names answer → is ≡ b → {vs : List Valued} → Rowed values rows names (s .count) vs
+    → Finds b table store left s reference answer vs
+finds-as {table = table} {store} {left} {s} {reference} {answer = answer} f e {vs} r =
+    subst (λ (t : Bool). Finds t table store left s reference answer vs) e (f .finds vs r)
 
 module _ {table store : List ℕ} {s : Stretch} {reference values rows names : List ℕ} (q : Searchable table store s reference values rows names)
-    (notes : ℕ) {answer : List ℕ} (is : answer ≡ set (answerNumbers 0 (scan (patternOf values rows (s .count)) reference)) 3 notes) where
+    {answer : List ℕ} (answer-is : answer ≡ answerNumbers 0 (scan (patternOf values rows (s .count)) reference)) where
   abbrev pattern : List Element
   pattern = patternOf values rows (s .count)
-
-  answer-is : answer ≡ answerNumbers notes (scan pattern reference)
-  answer-is = is ∙ answer-noted (scan pattern reference) 0 notes
 
   -- the scan of the pattern with its values
   scan-is : (vs : List Valued) → Rowed values rows names (s .count) vs → scan pattern reference ≡ scanOf vs reference
@@ -127,24 +124,24 @@ module _ {table store : List ℕ} {s : Stretch} {reference values rows names : L
   unfolding answerNumbers
   failed e =
       let a = scan pattern reference in
-      split-none (a .split) (a .trials) notes (ap (λ (l : List ℕ). getD l 0 0) (sym answer-is) ∙ e)
+      split-none (a .split) (a .trials) 0 (ap (λ (l : List ℕ). getD l 0 0) (sym answer-is) ∙ e)
 
   has : (getD answer 0 0 ≡ 0 → ⊥) → Has (scan pattern reference .split) answer
   unfolding answerNumbers
   has h =
       let a = scan pattern reference in
       subst (Has (a .split)) (sym answer-is)
-      (split-some (a .split) (a .trials) notes (λ e. h (ap (λ (l : List ℕ). getD l 0 0) answer-is ∙ e)))
+      (split-some (a .split) (a .trials) 0 (λ e. h (ap (λ (l : List ℕ). getD l 0 0) answer-is ∙ e)))
 
   pub missed : getD answer 0 0 ≡ 0 → {nulled : List ℕ} → Nulled table s store nulled
-      → Searched false table store nulled s reference values rows names answer notes
+      → Searched false table store nulled s reference values rows names answer
   missed e n =
       record {
         stays = n .stays;
         finds =
             λ vs r.
             record {
-              numbers = answer-is ∙ ap (answerNumbers notes) (scan-is vs r);
+              numbers = answer-is ∙ ap (answerNumbers 0) (scan-is vs r);
               by = record { failed = ap (λ a. a .split) (sym (scan-is vs r)) ∙ failed e; work = n .work };
             };
       }
@@ -177,14 +174,14 @@ module _ {table store : List ℕ} {s : Stretch} {reference values rows names : L
         }
 
     pub named : {nulled left : List ℕ} → Nulled table s store nulled → Naming nulled left reference names answer (s .count)
-        → Searched true table store left s reference values rows names answer notes
+        → Searched true table store left s reference values rows names answer
     named {nulled} {left} n m =
         record {
           stays = stays-on (n .stays) (m .stays);
           finds =
               λ vs r.
               record {
-                numbers = answer-is ∙ ap (answerNumbers notes) (scan-is vs r);
+                numbers = answer-is ∙ ap (answerNumbers 0) (scan-is vs r);
                 by =
                     record {
                       split = found .split;

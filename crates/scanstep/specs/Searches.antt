@@ -59,10 +59,10 @@ FoundBy true table store left s reference answer vs = Named table store left s r
 FoundBy false table store left s reference answer vs = Missed table store left s reference vs
 
 -- what the search comes to, for a pattern with these values
-pub record Finds (is : Bool) (table store left : List ℕ) (s : Stretch) (reference answer : List ℕ) (notes : ℕ) (vs : List Valued) : Type 0 where
-  pub numbers : answer ≡ answerNumbers notes (scanOf vs reference)
+pub record Finds (is : Bool) (table store left : List ℕ) (s : Stretch) (reference answer : List ℕ) (vs : List Valued) : Type 0 where
+  pub numbers : answer ≡ answerNumbers 0 (scanOf vs reference)
   pub by : FoundBy is table store left s reference answer vs
 
-pub record Searched (is : Bool) (table store left : List ℕ) (s : Stretch) (reference values rows names answer : List ℕ) (notes : ℕ) : Type 0 where
+pub record Searched (is : Bool) (table store left : List ℕ) (s : Stretch) (reference values rows names answer : List ℕ) : Type 0 where
   pub stays : Stays store left
-  pub finds : (vs : List Valued) → Rowed values rows names (s .count) vs → Finds is table store left s reference answer notes vs
+  pub finds : (vs : List Valued) → Rowed values rows names (s .count) vs → Finds is table store left s reference answer vs

@@ -1,13 +1,13 @@
--- Laws of a scan whose pattern's values are known: no split, a split without a replacement, and with one. Assumes nothing.
+-- Laws of a scan whose pattern's values are known: no split, or one and what its replacement comes to. Assumes nothing.
 use mathlib.Core.Bool.{true, false}
 use mathlib.Core.List.{List, _++_}
-use mathlib.Core.Option.{Option, none, some}
-use mathlib.Core.Path.{_≡_, sym, ap, ap₂, subst, _∙_}
+use mathlib.Core.Option.{Option, some}
+use mathlib.Core.Path.{_≡_, refl, sym, ap, ap₂, subst, _∙_}
 use Prim.Native.Nat.{ℕ, _+_, _-_, _≤_}
 use native.Mathlib.Nat.{add-zero}
 use native.Mathlib.Omega.{arith}
 use lib.Dec.{leb}
-use lib.ListN.{length, take, drop, getD, set, length-drop, take-append-drop}
+use lib.ListN.{length, take, drop, getD, length-drop, take-append-drop}
 use lib.Seq.{length-take-le}
 use Rattle.base.specs.Choice.{cond-cases}
 use Rattle.base.specs.Current.{current}
@@ -23,8 +23,11 @@ use Rattle.machine.specs.Expressions.{stringIn}
 use Rattle.machine.specs.Bounds.{turned-length}
 use Rattle.machine.specs.Scanning.{Left, Searched, Valued, leaving, naming, replacing, storing, turned, withoutFillers}
 use Rattle.machine.specs.State.{Memory}
-use Rattle.rows.specs.Meaning.{directionMeaning, elementsMeaning, patternsMeaning}
+use Rattle.rows.specs.Holds.{ReplacementHolds}
+use Rattle.rows.specs.Meaning.{directionMeaning, elementsMeaning, patternsMeaning, replacementMeaning}
 use Rattle.rows.specs.declared.Direction.{Direction}
+use Rattle.rows.specs.declared.Replacement.{Replacement}
+use Rattle.rows.specs.declared.Replacement.the-variants as replacements
 use Rattle.rows.specs.declared.Stretch.{Stretch}
 use Rattle.scanning.specs.Trials as Trials
 use Rattle.statements.specs.FillerLaws.{put-back, stays-on}
@@ -32,18 +35,16 @@ use Rattle.statements.specs.Fillers.{Copied, isFiller, lengthsIn}
 use Rattle.statements.specs.Leaving.{Leaves, Stays}
 use Rattle.statements.specs.OtherLaws.{pattern-names}
 use Rattle.statements.specs.References.{referenceOf, searchedAt, stretchOf}
-use Rattle.statements.specs.Replacing.{storedTurned}
 use Rattle.statements.specs.ReplacingLaws.{foundFrom, foundTo, replacing-found}
 use Rattle.statements.specs.Valued.{Between}
 use Rattle.statements.specs.declared.Did.the-variants as did
+use Rattle.statements.specs.declared.Span.{Span}
 use Rattle.values.specs.Conversion.{longestString}
 use Rattle.values.specs.Work.{Work, done, noting, quietly, _>>=_}
 use Rattle.scanstep.specs.Scans.{Scans}
-use Rattle.scanstep.specs.SearchLaws.{answer-noted}
 use Rattle.scanstep.specs.Searches.{Finds, Named, Searchable, scanOf}
-use Rattle.scanstep.specs.Stages.{Counting, Findable, searchedRest, valuedRest}
+use Rattle.scanstep.specs.Stages.{Counting, Findable, Saved, piecesIn, replacedBy, searchedRest, valuedRest}
 use Rattle.scanstep.specs.declared.Scanned.the-variants as scans
-use Rattle.scanstep.specs.declared.Span.{Span}
 
 -- a stretch is as long as its ends say
 pub reference-length : (store : List ℕ) (at : Span) → Between store (at .place) (at .from) (at .to)
@@ -63,7 +64,7 @@ stretches v from to h =
     ap (λ (l : List ℕ). take from v ++ l) (stretch-behind v from (to - from) to (omega arith)) ∙ take-append-drop from v
 
 module _ {table store state : List ℕ} {d : Direction} {at : Span} {pattern : Stretch} {reference values rows names : List ℕ} {notes : ℕ}
-    {kept scratch out : List ℕ} (q : Findable table store state d at pattern reference values rows names notes kept scratch out) where
+    (q : Findable table store state d at pattern reference values rows names notes) where
   abbrev vs : List Valued
   vs = q .put .valued
 
@@ -100,7 +101,7 @@ module _ {table store state : List ℕ} {d : Direction} {at : Span} {pattern : S
       }
 
   -- and the lengths of the pieces found be added up
-  pub found-counting : {left answer : List ℕ} → Finds true table store left pattern reference answer notes vs → Counting answer (pattern .count)
+  pub found-counting : {left answer : List ℕ} → Finds true table store left pattern reference answer vs → Counting answer (pattern .count)
   found-counting {answer = answer} f =
       let n = f .by in
       let sum : total (λ l. l) (lengthsIn answer (pattern .count)) ≡ total (λ l. l) (n .split .lengths) = ap (total (λ l. l)) (n .lengths) in
@@ -115,7 +116,7 @@ module _ {table store state : List ℕ} {d : Direction} {at : Span} {pattern : S
         ∙ ap (λ (l : List ℕ). noting notes (leaving current way searched vs r nulled (scanOf vs l) (scanOf vs l .split))) (sym (q .turned-is))
 
     -- no split
-    pub missed-scans : {left answer : List ℕ} → Stays store left → Finds false table store left pattern reference answer notes vs
+    pub missed-scans : {left answer : List ℕ} → Stays store left → Finds false table store left pattern reference answer vs
         → Scans (scans.Fails notes) store left state answer (searchedRest table store state d at pattern r)
     unfolding leaving quietly noting
     missed-scans {left} stays f =
@@ -147,30 +148,11 @@ module _ {table store state : List ℕ} {d : Direction} {at : Span} {pattern : S
           ∙ ap (λ m. noting notes (replacing current way searched (n .split) r m >>= λ u. quietly (record { memory = u; scanned = answered })))
           (ap (λ (l : List ℕ). naming vs (drop (n .split .start) l) (n .split .lengths) nulled) (sym (q .turned-is)) ∙ n .work (numbersIn state))
 
-  -- a split, without a replacement
-  pub plain-scans : {left answer : List ℕ} → Stays store left → Finds true table store left pattern reference answer notes vs
-      → Scans (scans.Splits notes) store left state answer (searchedRest table store state d at pattern none)
-  unfolding replacing quietly noting _>>=_
-  plain-scans {left} stays f =
-      record {
-        ended =
-            record {
-              stays = stays;
-              scanned = answered;
-              work =
-                  split-rest none (f .by)
-                  ∙ ap (done (record { memory = memoryIn left state; scanned = answered })) (add-zero notes);
-              answer-is = f .numbers;
-            };
-        split = f .by .split;
-        found = f .by .found;
-      }
-
   -- the string searched is no filler, so it is as it was
   no-filler : isFiller (at .place) (patternsMeaning table pattern) ≡ false
   no-filler = q .put .clear (at .place) (q .between .known) (q .fillers)
 
-  module _ (by : Stretch) {named answer : List ℕ} (stays : Stays store named) (f : Finds true table store named pattern reference answer notes vs) where
+  module _ {named answer : List ℕ} (stays : Stays store named) (f : Finds true table store named pattern reference answer vs) where
     abbrev n : Named table store named pattern reference answer vs
     n = f .by
 
@@ -188,83 +170,97 @@ module _ {table store state : List ℕ} {d : Direction} {at : Span} {pattern : S
         }
 
     -- the pieces that the answer tells of
-    module _ {start sum : ℕ} (starts : start ≡ getD answer 1 0) (sums : sum ≡ total (λ l. l) (lengthsIn answer (pattern .count))) where
-      start-is : n .split .start ≡ start
-      start-is = sym (starts ∙ n .start)
+    abbrev start : ℕ
+    start = getD answer 1 0
 
-      sum-is : total (λ l. l) (n .split .lengths) ≡ sum
-      sum-is = sym (sums ∙ ap (total (λ l. l)) (n .lengths))
+    abbrev sum : ℕ
+    sum = piecesIn answer (pattern .count)
 
-      pub pieces-inside : start + sum ≤ at .to - at .from
-      pieces-inside = omega (arith, n .pieces, start-is, sum-is, searched-length)
+    sum-is : total (λ l. l) (n .split .lengths) ≡ sum
+    sum-is = ap (total (λ l. l)) (sym (n .lengths))
 
-      abbrev stored : Work Memory
-      stored =
-          storedTurned table named state way (at .place) (foundFrom way (at .from) (at .to - at .from) start sum)
-          (foundTo way (at .from) (at .to - at .from) start sum) by
+    pub pieces-inside : start + sum ≤ at .to - at .from
+    pieces-inside = omega (arith, n .pieces, n .start, sum-is, searched-length)
 
-      -- the replacement is the value stored in their place
-      replacing-stored : replacing current way searched (n .split) (some (elementsMeaning table by)) (memoryIn named state) ≡ stored
-      replacing-stored =
-          let m = memoryIn named state in
-          let v = stringOf store (at .place) in
-          let put : (whole : List ℕ) (b r x y : ℕ) → Work Memory =
-          λ whole b r x y.
-          stringIn current m (elementsMeaning table by)
-          >>= λ u. storing (at .place) (replaced whole (foundFrom way b r x y) (foundTo way b r x y) (turned way u)) m in
-          let b = length (take (at .from) v) in
-          let r = length (stretchOf v (at .from) (at .to)) in
-          let x = n .split .start in
-          let y = total (λ l. l) (n .split .lengths) in
-          let front : b ≡ at .from = length-take-le (at .from) v (omega (arith, q .between .order, q .between .within)) in
-          let inside : x + y ≤ r = omega (arith, pieces-inside, start-is, sum-is, reference-length store at (q .between)) in
-          replacing-found current way searched (n .split) (elementsMeaning table by) m inside
-          ∙ ap (λ (l : List ℕ). put l b r x y) (stretches v (at .from) (at .to) (q .between .order) ∙ sym string-same)
-          ∙ ap₂ (λ (j k : ℕ). put (stringOf named (at .place)) j k x y) front (reference-length store at (q .between))
-          ∙ ap₂ (λ (j k : ℕ). put (stringOf named (at .place)) (at .from) (at .to - at .from) j k) start-is sum-is
+    abbrev stored : Replacement → Work Memory
+    stored x = replacedBy table named state way at start sum x
 
-      -- with few notes
-      pub few-stored : {more : ℕ} {left : List ℕ} → Leaves (did.Done more) named left (numbersIn state) stored → more ≤ by .count
-      few-stored l =
-          let m = memoryIn named state in
-          let few =
-          few-bind (by .count) 0 (stringIn current m (elementsMeaning table by)) _ (few-elements-spelt current m table (by .from) (by .count))
-          (λ v. few-storing (at .place) _ m) in
-          omega (arith, few-done few (l .1))
+    -- the replacement is the value stored in their place
+    replacing-stored : (x : Replacement)
+        → replacing current way searched (n .split) (replacementMeaning table x) (memoryIn named state) ≡ stored x
+    unfolding replacing
+    replacing-stored replacements.Nothing = refl
+    replacing-stored (replacements.By by) =
+        let m = memoryIn named state in
+        let v = stringOf store (at .place) in
+        let put : (whole : List ℕ) (b r x y : ℕ) → Work Memory =
+        λ whole b r x y.
+        stringIn current m (elementsMeaning table by)
+        >>= λ u. storing (at .place) (replaced whole (foundFrom way b r x y) (foundTo way b r x y) (turned way u)) m in
+        let b = length (take (at .from) v) in
+        let r = length (stretchOf v (at .from) (at .to)) in
+        let x = n .split .start in
+        let y = total (λ l. l) (n .split .lengths) in
+        let front : b ≡ at .from = length-take-le (at .from) v (omega (arith, q .between .order, q .between .within)) in
+        let inside : x + y ≤ r = omega (arith, pieces-inside, n .start, sum-is, reference-length store at (q .between)) in
+        replacing-found current way searched (n .split) (elementsMeaning table by) m inside
+        ∙ ap (λ (l : List ℕ). put l b r x y) (stretches v (at .from) (at .to) (q .between .order) ∙ sym string-same)
+        ∙ ap₂ (λ (j k : ℕ). put (stringOf named (at .place)) j k x y) front (reference-length store at (q .between))
+        ∙ ap₂ (λ (j k : ℕ). put (stringOf named (at .place)) (at .from) (at .to - at .from) j k) (sym (n .start)) sum-is
 
-      pub replaced-scans : {more : ℕ} {left : List ℕ} → Leaves (did.Done more) named left (numbersIn state) stored
-          → Scans (scans.Splits (notes + more)) store left state (set answer 3 (notes + more))
-          (searchedRest table store state d at pattern (some (elementsMeaning table by)))
-      unfolding _>>=_ noting quietly
-      replaced-scans {more} {left} l =
-          let rest : (w : Work Memory) → Work Left = λ w. noting notes (w >>= λ m. quietly (record { memory = m; scanned = answered })) in
-          let all : notes + (more + 0) ≡ notes + more = omega arith in
-          record {
-            ended =
-                record {
-                  stays = stays-on stays (l .0);
-                  scanned = answered;
-                  work =
-                      split-rest (some (elementsMeaning table by)) n
-                      ∙ ap rest (replacing-stored ∙ l .1)
-                      ∙ ap (done (record { memory = memoryIn left state; scanned = answered })) all;
-                  answer-is = ap (λ (b : List ℕ). set b 3 (notes + more)) (f .numbers) ∙ answer-noted answered notes (notes + more);
-                };
-            split = n .split;
-            found = n .found;
-          }
+    -- with few notes
+    pub few-stored : (x : Replacement) → ReplacementHolds table x → {more : ℕ} {left : List ℕ}
+        → Leaves (did.Done more) named left (numbersIn state) (stored x) → more ≤ 20
+    unfolding quietly
+    few-stored replacements.Nothing holds l =
+        let none : Few 0 (quietly (memoryIn named state)) = omega arith in
+        omega (arith, few-done none (l .1))
+    few-stored (replacements.By by) holds l =
+        let m = memoryIn named state in
+        let few =
+        few-bind (by .count) 0 (stringIn current m (elementsMeaning table by)) _ (few-elements-spelt current m table (by .from) (by .count))
+        (λ v. few-storing (at .place) _ m) in
+        omega (arith, few-done few (l .1), holds .few)
 
-      -- what stops it puts the fillers back
-      pub stopped-scans : {k : ℕ} {left back saved keeping : List ℕ} → Leaves (did.Stops k) named left (numbersIn state) stored
-          → Copied table pattern store saved keeping → Copied table pattern keeping left back
-          → Scans (scans.Stops k) store back state answer (searchedRest table store state d at pattern (some (elementsMeaning table by)))
-      unfolding _>>=_ noting
-      stopped-scans {back = back} {saved} {keeping} l save restore =
-          let rest : (w : Work Memory) → Work Left = λ w. noting notes (w >>= λ m. quietly (record { memory = m; scanned = answered })) in (
-            put-back table pattern store saved keeping named back (q .ready .strings) save stays
-                (λ i h e.
-                n .others i e
-                (pattern-names current (memoryIn store state) i (patternsMeaning table pattern) vs notes (q .put .work) e))
-                (subst (λ (s : List ℕ). Copied table pattern keeping s back) (l .0) restore),
-            split-rest (some (elementsMeaning table by)) n ∙ ap rest (replacing-stored ∙ l .1),
-          )
+    -- the work behind the pattern's values, by what the replacement comes to
+    abbrev rest : Work Memory → Work Left
+    rest w = noting notes (w >>= λ m. quietly (record { memory = m; scanned = answered }))
+
+    pub replaced-scans : (x : Replacement) {more : ℕ} {left : List ℕ} → Leaves (did.Done more) named left (numbersIn state) (stored x)
+        → Scans (scans.Splits (notes + more)) store left state answer (searchedRest table store state d at pattern (replacementMeaning table x))
+    unfolding _>>=_ noting quietly
+    replaced-scans x {more} {left} l =
+        let all : notes + (more + 0) ≡ notes + more = omega arith in
+        record {
+          ended =
+              record {
+                stays = stays-on stays (l .0);
+                scanned = answered;
+                work =
+                    split-rest (replacementMeaning table x) n
+                    ∙ ap rest (replacing-stored x ∙ l .1)
+                    ∙ ap (done (record { memory = memoryIn left state; scanned = answered })) all;
+                answer-is = f .numbers;
+              };
+          split = n .split;
+          found = n .found;
+        }
+
+    -- what stops it puts the fillers back
+    pub stopped-scans : (x : Replacement) {k : ℕ} {left back saved keeping : List ℕ}
+        → Leaves (did.Stops k) named left (numbersIn state) (stored x) → Saved x table pattern store saved keeping
+        → Copied table pattern keeping left back
+        → Scans (scans.Stops k) store back state answer (searchedRest table store state d at pattern (replacementMeaning table x))
+    unfolding _>>=_ noting quietly
+    stopped-scans replacements.Nothing l save restore =
+        let never = l .1 in
+        let z : _≡_ {A = ℕ} 0 1 = cc in
+        absurd (omega arith)
+    stopped-scans (replacements.By by) {back = back} {saved} {keeping} l save restore = (
+      put-back table pattern store saved keeping named back (q .ready .strings) (save .copied by refl) stays
+          (λ i h e.
+          n .others i e
+          (pattern-names current (memoryIn store state) i (patternsMeaning table pattern) vs notes (q .put .work) e))
+          (subst (λ (s : List ℕ). Copied table pattern keeping s back) (l .0) restore),
+      split-rest (some (elementsMeaning table by)) n ∙ ap rest (replacing-stored (replacements.By by) ∙ l .1),
+    )

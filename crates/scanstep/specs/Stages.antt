@@ -3,8 +3,8 @@
 use mathlib.Core.List.{List}
 use mathlib.Core.Option.{Option}
 use mathlib.Core.Path.{_≡_}
-use Prim.Native.Nat.{ℕ, _-_, _≤_}
-use lib.ListN.{length, take}
+use Prim.Native.Nat.{ℕ, _+_, _-_, _≤_}
+use lib.ListN.{length, getD}
 use Rattle.base.specs.Current.{current, tableSize}
 use Rattle.base.specs.Lists.{total}
 use Rattle.calls.specs.BufferLaws.{Good}
@@ -12,20 +12,24 @@ use Rattle.cells.specs.Contracts.{stringOf}
 use Rattle.expressions.specs.Memory.{Ready, memoryIn}
 use Rattle.language.specs.Program as Program
 use Rattle.machine.specs.Scanning.{Left, Valued, leaving, patternIn, turned, withoutFillers}
-use Rattle.rows.specs.Holds.{PatternsHold, placeIn}
+use Rattle.machine.specs.State.{Memory}
+use Rattle.rows.specs.Holds.{PatternsHold, ReplacementHolds, placeIn}
 use Rattle.rows.specs.Meaning.{directionMeaning, patternsMeaning}
 use Rattle.rows.specs.declared.Direction.{Direction}
+use Rattle.rows.specs.declared.Replacement.{Replacement}
+use Rattle.rows.specs.declared.Replacement.the-variants as replacements
 use Rattle.rows.specs.declared.Scan.{Scan}
 use Rattle.rows.specs.declared.Stretch.{Stretch}
-use Rattle.statements.specs.Fillers.{lengthsIn}
+use Rattle.statements.specs.Fillers.{Copied, lengthsIn}
 use Rattle.statements.specs.References.{referenceOf, searchedAt}
+use Rattle.statements.specs.Replacing.{storedTurned}
+use Rattle.statements.specs.ReplacingLaws.{foundFrom, foundTo}
 use Rattle.statements.specs.Valued.{Between}
-use Rattle.values.specs.Work.{Work, _>>=_}
+use Rattle.statements.specs.declared.Span.{Span}
+use Rattle.values.specs.Work.{Work, quietly, _>>=_}
 use Rattle.scanstep.specs.Patterns.{AllPut}
-use Rattle.scanstep.specs.Scans.{Scannable, Scans}
+use Rattle.scanstep.specs.Scans.{Scannable}
 use Rattle.scanstep.specs.Searches.{scanOf}
-use Rattle.scanstep.specs.declared.Scanned.{Scanned}
-use Rattle.scanstep.specs.declared.Span.{Span}
 
 module _ (table store state : List ℕ) (d : Direction) (at : Span) (pattern : Stretch) (r : Option (List Program.Element)) where
   -- what is left of a scan with these values of its pattern
@@ -48,7 +52,7 @@ pub record Counting (answer : List ℕ) (count : ℕ) : Type 0 where
 
 -- a scan whose pattern's values stand in rows
 pub record Findable (table store state : List ℕ) (d : Direction) (at : Span) (pattern : Stretch) (reference values rows names : List ℕ)
-    (notes : ℕ) (kept scratch out : List ℕ) : Type 0 where
+    (notes : ℕ) : Type 0 where
   pub bytes : tableSize ≤ length table
   pub ready : Ready store state
   pub between : Between store (at .place) (at .from) (at .to)
@@ -56,19 +60,38 @@ pub record Findable (table store state : List ℕ) (d : Direction) (at : Span) (
   pub turned-is : reference ≡ turned (directionMeaning d) (referenceOf store (at .place) (at .from) (at .to))
   pub put : AllPut table values rows names pattern notes (patternIn current (memoryIn store state) (patternsMeaning table pattern))
   pub places : length names ≡ 20
-  pub good : Good kept
-  pub spare : length scratch ≡ 1024
-  pub room : length out ≡ 1024
 
-pub record Found (r : Scanned) (store left state answer kept scratch out : List ℕ) (w : Work Left) : Type 0 where
-  pub scans : Scans r store left state answer w
-  pub good : Good kept
-  pub spare : length scratch ≡ 1024
-  pub room : length out ≡ 1024
+-- the fillers of a scan with a replacement are kept
+pub record Saved (x : Replacement) (table : List ℕ) (pattern : Stretch) (store kept left : List ℕ) : Type 0 where
+  pub good : Good left
+  pub copied : (by : Stretch) → x ≡ replacements.By by → Copied table pattern store kept left
 
--- a scan whose reference is the first bytes of a buffer
-pub record Referred (table store state : List ℕ) (s : Scan) (at : Span) (reference : List ℕ) : Type 0 where
+-- so many bytes of the reference from a start on give way to the value of a replacement, if there is one
+abbrev pub replacedBy : (table store state : List ℕ) → Program.Direction → Span → (start sum : ℕ) → Replacement → Work Memory
+replacedBy table store state way at start sum replacements.Nothing = quietly (memoryIn store state)
+replacedBy table store state way at start sum (replacements.By by) =
+    storedTurned table store state way (at .place) (foundFrom way (at .from) (at .to - at .from) start sum)
+    (foundTo way (at .from) (at .to - at .from) start sum) by
+
+-- how long the pieces of an answer's split are together
+abbrev pub piecesIn : List ℕ → (count : ℕ) → ℕ
+piecesIn answer count = total (λ l. l) (lengthsIn answer count)
+
+-- the pieces of an answer's split give way to it
+abbrev pub replacedPieces : (table store state : List ℕ) → Scan → Span → List ℕ → Work Memory
+replacedPieces table store state s at answer =
+    replacedBy table store state (directionMeaning (s .direction)) at (getD answer 1 0) (piecesIn answer (s .pattern .count)) (s .replacement)
+
+pub record Replaceable (table store state : List ℕ) (s : Scan) (at : Span) (answer : List ℕ) : Type 0 where
+  pub bytes : tableSize ≤ length table
+  pub ready : Ready store state
+  pub replacement : ReplacementHolds table (s .replacement)
+  pub between : Between store (at .place) (at .from) (at .to)
+  pub counting : Counting answer (s .pattern .count)
+  pub inside : getD answer 1 0 + piecesIn answer (s .pattern .count) ≤ at .to - at .from
+
+-- a scan whose reference is the bytes of a span
+pub record Referred (table store state : List ℕ) (s : Scan) (at : Span) : Type 0 where
   pub scannable : Scannable table store state s
   pub names : at .place ≡ placeIn (s .part)
   pub between : Between store (at .place) (at .from) (at .to)
-  pub turned-is : take (at .to - at .from) reference ≡ turned (directionMeaning (s .direction)) (referenceOf store (at .place) (at .from) (at .to))

@@ -89,19 +89,19 @@ holds-clear t searched known (Free s) h = ne-eqb searched s (λ e. h .other (sym
 holds-clear t searched known (Fixed s n) h = ne-eqb searched s (λ e. h .0 .other (sym e))
 
 -- the values of the first i elements are known
-pub record Valuing (m : Memory) (t : List ℕ) (from count : ℕ) (values rows names scratch out : List ℕ) (notes i : ℕ) : Type 0 where
+pub record Valuing (m : Memory) (t : List ℕ) (from count : ℕ) (values rows names : List ℕ) (notes i : ℕ) : Type 0 where
   pub valued : List Valued
   pub rows-are : Rowed (valuesOf values i) rows names i valued
-  pub buffers : Buffers values rows names scratch out
+  pub buffers : Buffers values rows names
   pub most : i ≤ count
   pub few : notes ≤ i
   pub same : patternIn current m (patternFrom t from count) ≡ valuesFrom m notes valued (patternFrom t (from + i) (count - i))
   pub clear : (searched : ℕ) → searched < 32 → AllHold t from count searched
       → isFiller searched (patternFrom t from count) ≡ isFiller searched (patternFrom t (from + i) (count - i))
 
-pub valuing-begins : (m : Memory) (t : List ℕ) (from count : ℕ) (values rows names scratch out : List ℕ) → Buffers values rows names scratch out
-    → Valuing m t from count values rows names scratch out 0 0
-valuing-begins m t from count values rows names scratch out b =
+pub valuing-begins : (m : Memory) (t : List ℕ) (from count : ℕ) (values rows names : List ℕ) → Buffers values rows names
+    → Valuing m t from count values rows names 0 0
+valuing-begins m t from count values rows names b =
     let whole : count ≡ count - 0 = omega arith in
     record {
       valued = [];
@@ -115,8 +115,8 @@ valuing-begins m t from count values rows names scratch out b =
       clear = λ searched _ _. ap₂ (λ (j k : ℕ). isFiller searched (patternFrom t j k)) (sym (add-zero from)) whole;
     }
 
-module _ {m : Memory} {t : List ℕ} {from count : ℕ} {values rows names scratch out : List ℕ} {notes i : ℕ}
-    (v : Valuing m t from count values rows names scratch out notes i) where
+module _ {m : Memory} {t : List ℕ} {from count : ℕ} {values rows names : List ℕ} {notes i : ℕ}
+    (v : Valuing m t from count values rows names notes i) where
   pub valuing-ends : count ≤ i → AllPut t values rows names (record { from = from; count = count }) notes (patternIn current m (patternFrom t from count))
   unfolding isFiller
   valuing-ends h =
@@ -156,8 +156,8 @@ module _ {m : Memory} {t : List ℕ} {from count : ℕ} {values rows names scrat
         ∙ ap (isFiller searched) first
         ∙ ap (λ b. b || isFiller searched rest) (holds-clear t searched known x (h (from + i) x (omega arith) (omega arith) read))
 
-    module _ {r : Did} {left rowsLeft namesLeft scratchLeft outLeft : List ℕ}
-        (p : ElementPut r values left rows rowsLeft names namesLeft i scratchLeft outLeft (valuedIn current m (patternMeaning t x))) where
+    module _ {r : Did} {left rowsLeft namesLeft : List ℕ}
+        (p : ElementPut r values left rows rowsLeft names namesLeft i (valuedIn current m (patternMeaning t x))) where
       abbrev PutAs : Did → Type 0
       PutAs d = PutBy d values left rows rowsLeft names namesLeft i (valuedIn current m (patternMeaning t x))
 
@@ -168,7 +168,7 @@ module _ {m : Memory} {t : List ℕ} {from count : ℕ} {values rows names scrat
       valuing-stops {k} e = here ∙ values-stop m notes k (v .valued) (patternMeaning t x) rest (subst PutAs e (p .put))
 
       pub valuing-more : {more : ℕ} → r ≡ did.Done more
-          → Valuing m t from count left rowsLeft namesLeft scratchLeft outLeft (notes + more) (i + 1)
+          → Valuing m t from count left rowsLeft namesLeft (notes + more) (i + 1)
       valuing-more {more} e =
           let q = subst PutAs e (p .put) in
           record {

@@ -4,7 +4,6 @@ ghost use Rattle.scanstep.specs.Searches.{Searchable, Searched};
 use rows::Stretch;
 use scanning::ANSWER_SIZE;
 use scanning::FOUND_AT;
-use scanning::NOTES_AT;
 use statements::fillers::name_fillers;
 use statements::fillers::null_fillers;
 
@@ -17,17 +16,15 @@ pub fn find_split(
     values: &[u8],
     rows: &[u8],
     names: &[u8],
-    notes: u32,
     answer: &mut [u32; ANSWER_SIZE],
 ) -> bool
     requires { ⌜ Searchable (now table) (now store) pattern (now reference) (now values) (now rows) (now names) ⌝ }
     ensures { λ r. ⌜ Searched r (now (table .entry)) (now (store .entry)) (now (store .exit)) pattern (now (reference .entry)) (now (values .entry))
-        (now (rows .entry)) (now (names .entry)) (now (answer .exit)) notes ⌝ }
+        (now (rows .entry)) (now (names .entry)) (now (answer .exit)) ⌝ }
 {
     let count = pattern.count;
     null_fillers(table, store, pattern);
     scan::scan_into(reference, values, rows, count, answer);
-    answer[NOTES_AT] = notes;
     if answer[FOUND_AT] == 0 {
         return false;
     }

@@ -1,25 +1,36 @@
 // SCAN and BACKSCAN on the buffers, in the machine's order of work: reference, pattern values, fillers made null, scan, naming,
 // replacement. The contract is an equation with scanningIn of the crate machine.
 pub mod finding;
+pub mod putting;
 pub mod replacing;
 pub mod valuing;
 
-ghost use Rattle.rows.specs.Holds.{ReplacementHolds};
 ghost use Rattle.rows.specs.Meaning.{replacementMeaning};
 ghost use Rattle.scanstep.specs.Scans.{Scannable, Lent, scanningOf, Carried};
-ghost use Rattle.scanstep.specs.Stages.{Findable, Found, Referred, searchedRest};
+ghost use Rattle.scanstep.specs.Stages.{Referred, searchedRest};
 use base::LONGEST;
+use base::ROW;
 use calls::STATE_SIZE;
 use finding::find_split;
-use replacing::scan_replacing;
-use rows::Replacement;
+use replacing::keep_fillers;
+use replacing::replace_pieces;
 use rows::Scan;
 use scanning::ANSWER_SIZE;
+use scanning::ROW_SIZE;
 use statements::Did;
+use statements::Span;
+use statements::fillers::copy_fillers;
 use statements::reference::Reference;
 use statements::reference::copy_reference;
 use statements::reference::reference_ends;
 use valuing::pattern_rows;
+
+// the bytes of a pattern's values, rows and names
+pub const VALUES_SIZE: usize = LONGEST * ROW;
+
+const ROWS_SIZE: usize = ROW_SIZE * ROW;
+
+const NAMES_SIZE: usize = ROW;
 
 // how a scan went: with a split or without one, each with so many notes, or what stops it
 pub enum Scanned {
@@ -28,183 +39,81 @@ pub enum Scanned {
     Stops(u32),
 }
 
-// the bytes from..to of the string with this place
-pub struct Span {
-    pub place: usize,
-    pub from: usize,
-    pub to: usize,
-}
-
-// A scan of a reference, whose pattern's values stand in rows with so many notes.
-fn scan_valued(
+// A scan of the bytes of a span. The fillers are kept for a replacement that stops, which puts them back; its value may be written over
+// those of the pattern, which aren't needed any more.
+fn scan_span(
     table: &[u8],
     store: &mut [u8],
     state: &[u64; STATE_SIZE],
     s: Scan,
     at: Span,
-    reference: &[u8],
-    values: &[u8],
-    rows: &[u8],
-    names: &[u8],
-    notes: u32,
-    kept: &mut [u8],
-    scratch: &mut [u8; LONGEST],
-    out: &mut [u8; LONGEST],
-    answer: &mut [u32; ANSWER_SIZE],
-) -> Scanned
-    requires { ⌜ Findable (now table) (now store) (now state) (s .direction) at (s .pattern) (now reference) (now values) (now rows) (now names)
-        notes (now kept) (now scratch) (now out) ⌝ }
-    requires { ⌜ ReplacementHolds (now table) (s .replacement) ⌝ }
-    ensures { λ r. ⌜ Found r (now (store .entry)) (now (store .exit)) (now (state .entry)) (now (answer .exit)) (now (kept .exit))
-        (now (scratch .exit)) (now (out .exit))
-        (searchedRest (now (table .entry)) (now (store .entry)) (now (state .entry)) (s .direction) at (s .pattern)
-        (replacementMeaning (now (table .entry)) (s .replacement))) ⌝ }
-{
-    let pattern = s.pattern;
-    let replacement = s.replacement;
-    match replacement {
-        Replacement::Nothing => {
-            if find_split(
-                table,
-                store,
-                pattern,
-                reference,
-                values,
-                rows,
-                names,
-                notes,
-                answer,
-            ) {
-                return Scanned::Splits(notes);
-            }
-            Scanned::Fails(notes)
-        }
-        Replacement::By(by) => {
-            let d = s.direction;
-            scan_replacing(
-                table,
-                store,
-                state,
-                d,
-                at,
-                pattern,
-                by,
-                reference,
-                values,
-                rows,
-                names,
-                notes,
-                kept,
-                scratch,
-                out,
-                answer,
-            )
-        }
-    }
-}
-
-// A scan of a reference, which is the first bytes of a string's buffer.
-fn scan_copied(
-    table: &[u8],
-    store: &mut [u8],
-    state: &[u64; STATE_SIZE],
-    s: Scan,
-    at: Span,
-    reference: &[u8],
-    kept: &mut [u8],
     values: &mut [u8],
-    rows: &mut [u8],
-    names: &mut [u8],
-    scratch: &mut [u8; LONGEST],
-    out: &mut [u8; LONGEST],
+    kept: &mut [u8],
     answer: &mut [u32; ANSWER_SIZE],
 ) -> Scanned
-    requires { ⌜ Referred (now table) (now store) (now state) s at (now reference) ⌝ }
-    requires { ⌜ Lent (now kept) (now values) (now rows) (now names) (now reference) (now scratch) (now out) ⌝ }
+    requires { ⌜ Referred (now table) (now store) (now state) s at ⌝ }
+    requires { ⌜ Lent (now values) (now kept) ⌝ }
     ensures { λ r. ⌜ Carried r (now (store .entry)) (now (store .exit)) (now (state .entry)) (now (answer .exit))
         (searchedRest (now (table .entry)) (now (store .entry)) (now (state .entry)) (s .direction) at (s .pattern)
         (replacementMeaning (now (table .entry)) (s .replacement))) ⌝ }
-    ensures { λ _. ⌜ Lent (now (kept .exit)) (now (values .exit)) (now (rows .exit)) (now (names .exit)) (now (reference .entry))
-        (now (scratch .exit)) (now (out .exit)) ⌝ }
+    ensures { λ _. ⌜ Lent (now (values .exit)) (now (kept .exit)) ⌝ }
 {
+    let mut reference = [0u8; LONGEST];
+    let mut rows = [0u8; ROWS_SIZE];
+    let mut names = [0u8; NAMES_SIZE];
+    let d = s.direction;
     let pattern = s.pattern;
     let n = at.to - at.from;
-    match pattern_rows(
-        table,
-        store,
-        state,
-        pattern,
-        values,
-        rows,
-        names,
-        scratch,
-        out,
-    ) {
+    copy_reference(store, at, d, &mut reference);
+    match pattern_rows(table, store, state, pattern, values, &mut rows, &mut names) {
         Did::Done(notes) => {
-            scan_valued(
+            keep_fillers(table, store, kept, s);
+            if !find_split(
                 table,
                 store,
-                state,
-                s,
-                at,
+                pattern,
                 &reference[..n],
                 values,
-                rows,
-                names,
-                notes,
-                kept,
-                scratch,
-                out,
+                &rows,
+                &names,
                 answer,
-            )
+            ) {
+                return Scanned::Fails(notes);
+            }
+            match replace_pieces(table, store, state, s, at, answer, &mut values[..LONGEST]) {
+                Did::Done(more) => Scanned::Splits(notes + more),
+                Did::Stops(k) => {
+                    copy_fillers(table, kept, store, pattern);
+                    Scanned::Stops(k)
+                }
+            }
         }
         Did::Stops(k) => Scanned::Stops(k),
     }
 }
 
-// SCAN or BACKSCAN. What stops it leaves the store as it was; the answer has all numbers of the scan, if it isn't stopped.
+// SCAN or BACKSCAN. What stops it leaves the store as it was; the answer has all numbers of the scan but the notes, if it isn't stopped.
 pub fn scan_step(
     table: &[u8],
     store: &mut [u8],
     state: &[u64; STATE_SIZE],
     s: Scan,
-    kept: &mut [u8],
     values: &mut [u8],
-    rows: &mut [u8],
-    names: &mut [u8],
-    reference: &mut [u8; LONGEST],
-    scratch: &mut [u8; LONGEST],
-    out: &mut [u8; LONGEST],
+    kept: &mut [u8],
     answer: &mut [u32; ANSWER_SIZE],
 ) -> Scanned
     requires { ⌜ Scannable (now table) (now store) (now state) s ⌝ }
-    requires { ⌜ Lent (now kept) (now values) (now rows) (now names) (now reference) (now scratch) (now out) ⌝ }
+    requires { ⌜ Lent (now values) (now kept) ⌝ }
     ensures { λ r. ⌜ Carried r (now (store .entry)) (now (store .exit)) (now (state .entry)) (now (answer .exit))
         (scanningOf (now (table .entry)) (now (store .entry)) (now (state .entry)) s) ⌝ }
-    ensures { λ _. ⌜ Lent (now (kept .exit)) (now (values .exit)) (now (rows .exit)) (now (names .exit)) (now (reference .exit))
-        (now (scratch .exit)) (now (out .exit)) ⌝ }
+    ensures { λ _. ⌜ Lent (now (values .exit)) (now (kept .exit)) ⌝ }
 {
     let d = s.direction;
     let part = s.part;
     match reference_ends(store, state, d, part) {
         Reference::At { place, from, to } => {
-            copy_reference(store, place, from, to, d, reference);
             let at = Span { place, from, to };
-            scan_copied(
-                table,
-                store,
-                state,
-                s,
-                at,
-                reference,
-                kept,
-                values,
-                rows,
-                names,
-                scratch,
-                out,
-                answer,
-            )
+            scan_span(table, store, state, s, at, values, kept, answer)
         }
         Reference::Stops(k) => Scanned::Stops(k),
     }

@@ -7,6 +7,7 @@ ghost use Rattle.machine.specs.Scanning.{patternIn, valuedIn};
 ghost use Rattle.rows.specs.Meaning.{elementMeaning, patternMeaning, patternsMeaning};
 ghost use Rattle.scanstep.specs.Patterns.{StringPutting, StringPut, ValuePutting, ValuePut, FixedPutting, FixedPut};
 ghost use Rattle.scanstep.specs.Patterns.{ElementPutting, ElementPut, PatternPutting, PatternPut};
+use crate::putting::put_row;
 use base::LONGEST;
 use calls::STATE_SIZE;
 use convert::Int;
@@ -22,19 +23,18 @@ use statements::Did;
 // as the place that a piece is to name: none
 const NONE: u8 = base::STRINGS as u8;
 
-// Row i is a string of n bytes, of which v has the first 1,024. Each row has as many of the values. One that is longer fits no reference, just as a fixed filler of its
-// length fits none.
-fn put_string(values: &mut [u8], rows: &mut [u8], i: usize, v: &[u8], n: usize)
-    requires { ⌜ StringPutting (now values) (now rows) i (now v) n ⌝ }
-    ensures { λ _. ⌜ StringPut (now (values .entry)) (now (values .exit)) (now (rows .entry)) (now (rows .exit)) i (now (v .entry)) n ⌝ }
+// Row i is a string of n bytes, of which the first 1,024 stand among the values, where each row has as many. One that is longer fits no
+// reference, just as a fixed filler of its length fits none.
+fn put_string(rows: &mut [u8], i: usize, n: usize)
+    requires { ⌜ StringPutting (now rows) i n ⌝ }
+    ensures { λ _. ⌜ StringPut (now (rows .entry)) (now (rows .exit)) i n ⌝ }
 {
     if LONGEST < n {
-        pattern::put_row(rows, i, FIXED, n, 0);
+        put_row(rows, i, FIXED, n, 0);
         return;
     }
     let at = LONGEST * i;
-    cells::spans::write(values, at, &v[..n]);
-    pattern::put_row(rows, i, STRING, at, at + n);
+    put_row(rows, i, STRING, at, at + n);
 }
 
 // Row i is the value of an element of a string expression.
@@ -46,16 +46,15 @@ fn put_value(
     i: usize,
     values: &mut [u8],
     rows: &mut [u8],
-    scratch: &mut [u8; LONGEST],
-    out: &mut [u8; LONGEST],
 ) -> Did
-    requires { ⌜ ValuePutting (now table) (now store) (now state) x i (now values) (now rows) (now scratch) (now out) ⌝ }
-    ensures { λ r. ⌜ ValuePut r (now (values .entry)) (now (values .exit)) (now (rows .entry)) (now (rows .exit)) i (now (scratch .exit)) (now (out .exit))
+    requires { ⌜ ValuePutting (now table) (now store) (now state) x i (now values) (now rows) ⌝ }
+    ensures { λ r. ⌜ ValuePut r (now (values .entry)) (now (values .exit)) (now (rows .entry)) (now (rows .exit)) i
         (elementIn current (memoryIn (now (store .entry)) (now (state .entry))) (elementMeaning (now (table .entry)) x)) ⌝ }
 {
-    match expressions::append_element(table, store, state, x, scratch, out, 0) {
+    let at = LONGEST * i;
+    match expressions::append_element(table, store, state, x, &mut values[at..at + LONGEST], 0) {
         Text::Is { length, notes } => {
-            put_string(values, rows, i, out, length);
+            put_string(rows, i, length);
             Did::Done(notes)
         }
         Text::Stops(k) => Did::Stops(k),
@@ -69,11 +68,11 @@ fn put_fixed(z: Int, s: usize, i: usize, rows: &mut [u8], names: &mut [u8]) -> u
 {
     if convert::is_negative(z) {
         names[i] = NONE;
-        pattern::put_row(rows, i, STRING, 0, 0);
+        put_row(rows, i, STRING, 0, 0);
         return 1;
     }
     names[i] = s as u8;
-    pattern::put_row(rows, i, FIXED, convert::size(z) as usize, 0);
+    put_row(rows, i, FIXED, convert::size(z) as usize, 0);
     0
 }
 
@@ -87,22 +86,19 @@ fn put_element(
     values: &mut [u8],
     rows: &mut [u8],
     names: &mut [u8],
-    scratch: &mut [u8; LONGEST],
-    out: &mut [u8; LONGEST],
 ) -> Did
-    requires { ⌜ ElementPutting (now table) (now store) (now state) x i (now values) (now rows) (now names) (now scratch) (now out) ⌝ }
+    requires { ⌜ ElementPutting (now table) (now store) (now state) x i (now values) (now rows) (now names) ⌝ }
     ensures { λ r. ⌜ ElementPut r (now (values .entry)) (now (values .exit)) (now (rows .entry)) (now (rows .exit)) (now (names .entry)) (now (names .exit)) i
-        (now (scratch .exit)) (now (out .exit))
         (valuedIn current (memoryIn (now (store .entry)) (now (state .entry))) (patternMeaning (now (table .entry)) x)) ⌝ }
 {
     match x {
         PatternElement::Value(e) => {
             names[i] = NONE;
-            put_value(table, store, state, e, i, values, rows, scratch, out)
+            put_value(table, store, state, e, i, values, rows)
         }
         PatternElement::Free(s) => {
             names[i] = s as u8;
-            pattern::put_row(rows, i, FREE, 0, 0);
+            put_row(rows, i, FREE, 0, 0);
             Did::Done(0)
         }
         PatternElement::Fixed(s, n) => {
@@ -121,11 +117,9 @@ pub fn pattern_rows(
     values: &mut [u8],
     rows: &mut [u8],
     names: &mut [u8],
-    scratch: &mut [u8; LONGEST],
-    out: &mut [u8; LONGEST],
 ) -> Did
-    requires { ⌜ PatternPutting (now table) (now store) (now state) pattern (now values) (now rows) (now names) (now scratch) (now out) ⌝ }
-    ensures { λ r. ⌜ PatternPut r (now (table .entry)) (now (values .exit)) (now (rows .exit)) (now (names .exit)) (now (scratch .exit)) (now (out .exit)) pattern
+    requires { ⌜ PatternPutting (now table) (now store) (now state) pattern (now values) (now rows) (now names) ⌝ }
+    ensures { λ r. ⌜ PatternPut r (now (table .entry)) (now (values .exit)) (now (rows .exit)) (now (names .exit)) pattern
         (patternIn current (memoryIn (now (store .entry)) (now (state .entry))) (patternsMeaning (now (table .entry)) pattern)) ⌝ }
 {
     let from = pattern.from;
@@ -134,7 +128,7 @@ pub fn pattern_rows(
     let mut i: usize = 0;
     while i < count {
         let x = rows::pattern_at(table, from + i);
-        match put_element(table, store, state, x, i, values, rows, names, scratch, out) {
+        match put_element(table, store, state, x, i, values, rows, names) {
             Did::Done(more) => notes += more,
             Did::Stops(k) => return Did::Stops(k),
         }

@@ -44,11 +44,9 @@ storedBetween table store state place from to s =
     stringIn current (memoryIn store state) (elementsMeaning table s)
     >>= λ v. storing place (replaced (stringOf store place) from to v) (memoryIn store state)
 
--- what the work leaves in the store, with the buffers as long as before
-pub record Stored (r : Did) (store left state scratch out : List ℕ) (w : Work Memory) : Type 0 where
+-- what the work leaves in the store
+pub record Stored (r : Did) (store left state : List ℕ) (w : Work Memory) : Type 0 where
   pub leaves : Leaves r store left (numbersIn state) w
-  pub spare : length scratch ≡ 1024
-  pub room : length out ≡ 1024
 
 -- the note that a record's tail is dropped
 unfoldable pub tailNotes : ℕ → ℕ

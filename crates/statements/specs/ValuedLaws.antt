@@ -160,6 +160,5 @@ spelt-puts r state stateLeft output left s h =
     (sym (s .work)) (h (s .value) (spelt s))
 
 -- a stored string, by another name of the work
-pub stored-as : (r : Did) (store left state scratch out : List ℕ) (w u : Work Memory) → u ≡ w → Stored r store left state scratch out w
-    → Stored r store left state scratch out u
-stored-as r store left state scratch out w u e s = subst (Stored r store left state scratch out) (sym e) s
+pub stored-as : (r : Did) (store left state : List ℕ) (w u : Work Memory) → u ≡ w → Stored r store left state w → Stored r store left state u
+stored-as r store left state w u e s = subst (Stored r store left state) (sym e) s

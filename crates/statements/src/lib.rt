@@ -31,6 +31,13 @@ pub enum Went {
     Stops(u32),
 }
 
+// the bytes from..to of the string with this place
+pub struct Span {
+    pub place: usize,
+    pub from: usize,
+    pub to: usize,
+}
+
 // Takes the record at a place of the input into a string, its first 1,024 bytes or fewer if so few are asked for. Gives the place
 // behind it, or the same place if there is no record or none is asked for: then nothing changes.
 pub fn take_record(store: &mut [u8], place: usize, input: &[u8], from: usize, most: usize) -> usize
@@ -67,24 +74,15 @@ pub fn put_record(output: &mut [u8], at: usize, v: &[u8]) -> Output
     Output::Reaches(at + n + 1)
 }
 
-// Sets a string to its bytes before from, a value, and its bytes from to on, with the notes that came with the value. The value has n
-// bytes; v has the first 1,024 of them.
-pub fn set_between(
-    store: &mut [u8],
-    place: usize,
-    from: usize,
-    to: usize,
-    v: &[u8],
-    n: usize,
-    notes: u32,
-) -> Did
-    requires { ⌜ Setting (now store) place from to (now v) ⌝ }
-    ensures { λ r. ⌜ Sets r (now (store .entry)) (now (store .exit)) place from to (now (v .entry)) n notes ⌝ }
+// A value takes the place of the bytes of a span, with the notes that came with it. It has n bytes; v has the first 1,024 of them.
+pub fn set_between(store: &mut [u8], at: Span, v: &[u8], n: usize, notes: u32) -> Did
+    requires { ⌜ Setting (now store) (at .place) (at .from) (at .to) (now v) ⌝ }
+    ensures { λ r. ⌜ Sets r (now (store .entry)) (now (store .exit)) (at .place) (at .from) (at .to) (now (v .entry)) n notes ⌝ }
 {
-    let kept = cells::string_length(store, place) - (to - from);
+    let kept = cells::string_length(store, at.place) - (at.to - at.from);
     if LONGEST - kept < n {
         return Did::Stops(20);
     }
-    cells::replace(store, place, from, to, &v[..n]);
+    cells::replace(store, at.place, at.from, at.to, &v[..n]);
     Did::Done(notes)
 }

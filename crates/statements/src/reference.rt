@@ -10,6 +10,7 @@ ghost use Rattle.rows.specs.Holds.{PartHolds};
 ghost use Rattle.rows.specs.Meaning.{directionMeaning, partMeaning};
 ghost use Rattle.statements.specs.References.{Refers, restrictedBy, referenceOf};
 ghost use Rattle.statements.specs.Valued.{Between};
+use crate::Span;
 use base::LONGEST;
 use base::least;
 use calls::STATE_SIZE;
@@ -69,22 +70,15 @@ pub fn reference_ends(store: &[u8], state: &[u64; STATE_SIZE], d: Direction, p: 
 }
 
 // copies the reference to the front of a string's buffer
-pub fn copy_reference(
-    store: &[u8],
-    place: usize,
-    from: usize,
-    to: usize,
-    d: Direction,
-    out: &mut [u8; LONGEST],
-)
+pub fn copy_reference(store: &[u8], at: Span, d: Direction, out: &mut [u8; LONGEST])
     requires { ⌜ Good (now store) ⌝ }
-    requires { ⌜ Between (now store) place from to ⌝ }
+    requires { ⌜ Between (now store) (at .place) (at .from) (at .to) ⌝ }
     ensures { λ _. ⌜ now (out .exit)
-        ≡ splice (now (out .entry)) 0 (turned (directionMeaning d) (referenceOf (now (store .entry)) place from to)) ⌝ }
+        ≡ splice (now (out .entry)) 0 (turned (directionMeaning d) (referenceOf (now (store .entry)) (at .place) (at .from) (at .to))) ⌝ }
 {
-    let start = cells::string_start(place);
-    let a = start + from;
-    let b = start + to;
+    let start = cells::string_start(at.place);
+    let a = start + at.from;
+    let b = start + at.to;
     match d {
         Direction::Forward => cells::spans::copy(&store[a..b], out, 0),
         Direction::Backward => cells::spans::copy_turned(&store[a..b], out),

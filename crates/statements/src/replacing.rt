@@ -11,6 +11,7 @@ ghost use Rattle.rows.specs.Meaning.{directionMeaning};
 ghost use Rattle.statements.specs.Replacing.{storedTurned};
 ghost use Rattle.statements.specs.Valued.{Between, Stored};
 use crate::Did;
+use crate::Span;
 use crate::set_between;
 use crate::valued::set_value;
 use base::LONGEST;
@@ -27,55 +28,52 @@ fn turn_first(v: &[u8], n: usize, out: &mut [u8; LONGEST])
     cells::spans::copy_turned(&v[..n], out);
 }
 
-// a string expression's value, turned round, takes the place of the bytes from..to of a string
+// a string expression's value, turned round, takes the place of the bytes of a span
 fn set_turned(
     table: &[u8],
     store: &mut [u8],
     state: &[u64; STATE_SIZE],
-    place: usize,
-    from: usize,
-    to: usize,
+    at: Span,
     s: Stretch,
-    scratch: &mut [u8; LONGEST],
-    out: &mut [u8; LONGEST],
+    out: &mut [u8],
 ) -> Did
-    requires { ⌜ Spellable (now table) (now store) (now state) s (now scratch) (now out) ⌝ }
-    requires { ⌜ Between (now store) place from to ⌝ }
-    ensures { λ r. ⌜ Stored r (now (store .entry)) (now (store .exit)) (now (state .entry)) (now (scratch .exit)) (now (out .exit))
-        (storedTurned (now (table .entry)) (now (store .entry)) (now (state .entry)) backward place from to s) ⌝ }
+    requires { ⌜ Spellable (now table) (now store) (now state) s ⌝ }
+    requires { ⌜ Between (now store) (at .place) (at .from) (at .to) ⌝ }
+    requires { ⌜ length (now out) ≡ 1024 ⌝ }
+    ensures { λ r. ⌜ Stored r (now (store .entry)) (now (store .exit)) (now (state .entry))
+        (storedTurned (now (table .entry)) (now (store .entry)) (now (state .entry)) backward (at .place) (at .from) (at .to) s) ⌝ }
 {
-    match expressions::string_value(table, store, state, s, scratch, out) {
+    match expressions::string_value(table, store, state, s, out) {
         Text::Is { length, notes } => {
             if LONGEST < length {
                 return Did::Stops(20);
             }
-            turn_first(out, length, scratch);
-            set_between(store, place, from, to, scratch, length, notes)
+            let mut turned = [0u8; LONGEST];
+            turn_first(out, length, &mut turned);
+            set_between(store, at, &turned, length, notes)
         }
         Text::Stops(k) => Did::Stops(k),
     }
 }
 
-// the value of a scan's replacement takes the place of the bytes from..to of the string searched
+// the value of a scan's replacement takes the place of the bytes of a span
 pub fn replace_found(
     table: &[u8],
     store: &mut [u8],
     state: &[u64; STATE_SIZE],
     d: Direction,
-    place: usize,
-    from: usize,
-    to: usize,
+    at: Span,
     s: Stretch,
-    scratch: &mut [u8; LONGEST],
-    out: &mut [u8; LONGEST],
+    out: &mut [u8],
 ) -> Did
-    requires { ⌜ Spellable (now table) (now store) (now state) s (now scratch) (now out) ⌝ }
-    requires { ⌜ Between (now store) place from to ⌝ }
-    ensures { λ r. ⌜ Stored r (now (store .entry)) (now (store .exit)) (now (state .entry)) (now (scratch .exit)) (now (out .exit))
-        (storedTurned (now (table .entry)) (now (store .entry)) (now (state .entry)) (directionMeaning d) place from to s) ⌝ }
+    requires { ⌜ Spellable (now table) (now store) (now state) s ⌝ }
+    requires { ⌜ Between (now store) (at .place) (at .from) (at .to) ⌝ }
+    requires { ⌜ length (now out) ≡ 1024 ⌝ }
+    ensures { λ r. ⌜ Stored r (now (store .entry)) (now (store .exit)) (now (state .entry))
+        (storedTurned (now (table .entry)) (now (store .entry)) (now (state .entry)) (directionMeaning d) (at .place) (at .from) (at .to) s) ⌝ }
 {
     match d {
-        Direction::Forward => set_value(table, store, state, place, from, to, s, scratch, out),
-        Direction::Backward => set_turned(table, store, state, place, from, to, s, scratch, out),
+        Direction::Forward => set_value(table, store, state, at, s, out),
+        Direction::Backward => set_turned(table, store, state, at, s, out),
     }
 }

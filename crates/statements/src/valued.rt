@@ -13,6 +13,7 @@ ghost use Rattle.rows.specs.Meaning.{itemsMeaning, elementsMeaning, partMeaning
 ghost use Rattle.statements.specs.Valued.{Assigns, Between, storedBetween, Stored, Writing, tailNotes, Recorded, Writable, Writes};
 use crate::Did;
 use crate::Output;
+use crate::Span;
 use crate::put_record;
 use crate::set_between;
 use base::LONGEST;
@@ -46,25 +47,23 @@ pub fn assign(
     }
 }
 
-// a string expression's value takes the place of the bytes from..to of a string
+// a string expression's value, kept in out, takes the place of the bytes of a span
 pub fn set_value(
     table: &[u8],
     store: &mut [u8],
     state: &[u64; STATE_SIZE],
-    place: usize,
-    from: usize,
-    to: usize,
+    at: Span,
     s: Stretch,
-    scratch: &mut [u8; LONGEST],
-    out: &mut [u8; LONGEST],
+    out: &mut [u8],
 ) -> Did
-    requires { ⌜ Spellable (now table) (now store) (now state) s (now scratch) (now out) ⌝ }
-    requires { ⌜ Between (now store) place from to ⌝ }
-    ensures { λ r. ⌜ Stored r (now (store .entry)) (now (store .exit)) (now (state .entry)) (now (scratch .exit)) (now (out .exit))
-        (storedBetween (now (table .entry)) (now (store .entry)) (now (state .entry)) place from to s) ⌝ }
+    requires { ⌜ Spellable (now table) (now store) (now state) s ⌝ }
+    requires { ⌜ Between (now store) (at .place) (at .from) (at .to) ⌝ }
+    requires { ⌜ length (now out) ≡ 1024 ⌝ }
+    ensures { λ r. ⌜ Stored r (now (store .entry)) (now (store .exit)) (now (state .entry))
+        (storedBetween (now (table .entry)) (now (store .entry)) (now (state .entry)) (at .place) (at .from) (at .to) s) ⌝ }
 {
-    match expressions::string_value(table, store, state, s, scratch, out) {
-        Text::Is { length, notes } => set_between(store, place, from, to, out, length, notes),
+    match expressions::string_value(table, store, state, s, out) {
+        Text::Is { length, notes } => set_between(store, at, out, length, notes),
         Text::Stops(k) => Did::Stops(k),
     }
 }
@@ -76,18 +75,19 @@ pub fn set_string(
     state: &[u64; STATE_SIZE],
     p: Part,
     s: Stretch,
-    scratch: &mut [u8; LONGEST],
-    out: &mut [u8; LONGEST],
+    out: &mut [u8],
 ) -> Did
-    requires { ⌜ Spellable (now table) (now store) (now state) s (now scratch) (now out) ⌝ }
+    requires { ⌜ Spellable (now table) (now store) (now state) s ⌝ }
     requires { ⌜ PartHolds p ⌝ }
-    ensures { λ r. ⌜ Stored r (now (store .entry)) (now (store .exit)) (now (state .entry)) (now (scratch .exit)) (now (out .exit))
+    requires { ⌜ length (now out) ≡ 1024 ⌝ }
+    ensures { λ r. ⌜ Stored r (now (store .entry)) (now (store .exit)) (now (state .entry))
         (setStringIn current (memoryIn (now (store .entry)) (now (state .entry))) (partMeaning p) (elementsMeaning (now (table .entry)) s)) ⌝ }
 {
     match p {
         Part::Whole(place) => {
             let to = cells::string_length(store, place);
-            set_value(table, store, state, place, 0, to, s, scratch, out)
+            let at = Span { place, from: 0, to };
+            set_value(table, store, state, at, s, out)
         }
         Part::First(place, n) => {
             let z = expressions::length_value(state, n);
@@ -98,7 +98,8 @@ pub fn set_string(
                 convert::size(z) as usize,
                 cells::string_length(store, place),
             );
-            set_value(table, store, state, place, 0, to, s, scratch, out)
+            let at = Span { place, from: 0, to };
+            set_value(table, store, state, at, s, out)
         }
     }
 }
@@ -139,15 +140,14 @@ pub fn write_record(
     state: &mut [u64; STATE_SIZE],
     s: Stretch,
     output: &mut [u8],
-    scratch: &mut [u8; LONGEST],
-    out: &mut [u8; LONGEST],
+    out: &mut [u8],
 ) -> Did
-    requires { ⌜ Spellable (now table) (now store) (now state) s (now scratch) (now out) ⌝ }
+    requires { ⌜ Spellable (now table) (now store) (now state) s ⌝ }
     requires { ⌜ Writable (now state) (now output) ⌝ }
+    requires { ⌜ length (now out) ≡ 1024 ⌝ }
     ensures { λ r. ⌜ Writes r (now (table .entry)) (now (store .entry)) s (now (state .entry)) (now (state .exit)) (now (output .entry)) (now (output .exit)) ⌝ }
-    ensures { λ _. ⌜ (length (now (scratch .exit)) ≡ 1024) × (length (now (out .exit)) ≡ 1024) ⌝ }
 {
-    match expressions::string_value(table, store, state, s, scratch, out) {
+    match expressions::string_value(table, store, state, s, out) {
         Text::Is { length, notes } => write_value(state, output, out, length, notes),
         Text::Stops(k) => Did::Stops(k),
     }

@@ -1,20 +1,20 @@
 -- What the functions of a step ask for and leave. Assumes nothing.
-use mathlib.Core.Bool.{true, cond, not}
-use mathlib.Core.List.{List, [], _∷_}
+use mathlib.Core.Bool.{true, false, cond, not}
+use mathlib.Core.List.{List, [], _∷_, reverse}
 use mathlib.Core.Path.{_≡_}
 use Prim.Native.Nat.{ℕ, _+_, _≤_, _<_}
 use lib.Dec.{ltb}
 use lib.ListN.{length, getD, set, replicate}
 use Rattle.base.specs.Current.{current, tableSize}
-use Rattle.calls.specs.Buffers.{storeKeeps, stateKeeps}
-use Rattle.calls.specs.Calls.{Buffers, leftOf, StepCalled, carried, RunCalled, outcomeNumber}
+use Rattle.calls.specs.Buffers.{returnsIn, storeKeeps, stateKeeps}
+use Rattle.calls.specs.Calls.{Buffers, leftOf, StepCalled, RunCalled, outcomeNumber}
 use Rattle.calls.specs.Numerals.{numberAt}
 use Rattle.calls.specs.Rules.{keepsRules}
 use Rattle.calls.specs.TableReading.{programIn}
 use Rattle.carry.specs.Carrying.{Standing, Unmoved, machineIn}
 use Rattle.language.specs.Program as Program
 use Rattle.machine.specs.State.{State}
-use Rattle.machine.specs.Step.{Done, carrying, concluded}
+use Rattle.machine.specs.Step.{Done, carrying, lacksReturn, statementAt}
 use Rattle.rows.specs.Holds.{StatementHolds}
 use Rattle.rows.specs.Meaning.{statementMeaning}
 use Rattle.rows.specs.declared.Scan.{Scan}
@@ -49,11 +49,22 @@ ReturnsEnough (statements.Write s) held = Unit {0}
 ReturnsEnough (statements.Execute k) held = held < 16
 ReturnsEnough statements.Return held = 0 < held
 
--- a statement of the table that the machine doesn't turn down, with the step behind it
+-- the statement of the next step
+abbrev pub nextStatement : (table state : List ℕ) → Program.Statement
+nextStatement table state = statementAt (programIn table) (getD state 1 0)
+
+-- a step that the machine doesn't turn down
+pub record Allowed (table input : List ℕ) (b : Buffers) : Type 0 where
+  pub given : Given table input b
+  pub running : getD (b .state) 0 0 ≡ 0
+  pub enough : lacksReturn (nextStatement table (b .state)) (reverse (returnsIn (b .state))) ≡ false
+
+-- the statement of one as it was read, with the step behind it
 pub record Going (table input : List ℕ) (b : Buffers) (next : ℕ) (x : Statement) : Type 0 where
   pub given : Given table input b
   pub running : getD (b .state) 0 0 ≡ 0
   pub next-is : next ≡ getD (b .state) 1 0 + 1
+  pub means : statementMeaning table x ≡ nextStatement table (b .state)
   pub holds : StatementHolds table (numberAt 2 table 2) x
   pub returns : ReturnsEnough x (getD (b .state) 2 0)
 
@@ -71,20 +82,16 @@ Works (did.Done notes) input b left answer w = Worked input b left answer notes 
 Works (did.Stops k) input b left answer w = Unmoved b left k w
 
 -- the work of a statement on the machine that the buffers hold
-abbrev pub workOf : (table input : List ℕ) → Buffers → Statement → Work Done
-workOf table input b x = carrying current (length (b .output)) (statementMeaning table x) (machineIn input b)
+abbrev pub workOf : (input : List ℕ) → Buffers → Program.Statement → Work Done
+workOf input b x = carrying current (length (b .output)) x (machineIn input b)
 
-pub record WorksOn (r : Did) (table input : List ℕ) (b left : Buffers) (x : Statement) (answer : List ℕ) : Type 0 where
-  pub works : Works r input b left answer (workOf table input b x)
-
--- the step that concludes it
-abbrev pub carriedOut : (table input : List ℕ) → Buffers → Statement → StepCalled
-carriedOut table input b x = carried current table input b (concluded (machineIn input b) (workOf table input b x))
+pub record WorksOn (r : Did) (input : List ℕ) (b left : Buffers) (x : Program.Statement) (answer : List ℕ) : Type 0 where
+  pub works : Works r input b left answer (workOf input b x)
 
 -- a scan carried out on buffers that a step may be given
 abbrev pub DoesScan : Scan → (table : List ℕ) → Did → (b left : Buffers) → (input answer : List ℕ) → Type 0
 DoesScan s table r b left input answer =
-    (p : Program.Program) → Standing p input b → WorksOn r table input b left (statements.Scan s) answer
+    (p : Program.Program) → Standing p input b → WorksOn r input b left (statementMeaning table (statements.Scan s)) answer
 
 -- the number of a statement's work, the state and the answer behind it
 abbrev pub concludedNumber : Did → ℕ

@@ -30,7 +30,7 @@ use Rattle.machine.specs.Bounds.{replicate-everywhere}
 use Rattle.machine.specs.State.{State, isRunning}
 use Rattle.machine.specs.Step.{Done, carrying, concluded, lacksReturn, mostReturns, noScan, scannedTo, statementAt, step, turnedDownBy}
 use Rattle.rows.specs.Holds.{StatementHolds}
-use Rattle.rows.specs.Kept.{kept-steps, statement-is, step-count}
+use Rattle.rows.specs.Kept.{kept-statement, kept-steps, statement-is, step-count}
 use Rattle.rows.specs.Meaning.{branchMeaning, statementMeaning}
 use Rattle.rows.specs.Reading.{StatementRead}
 use Rattle.rows.specs.declared.Scan.{Scan}
@@ -43,7 +43,7 @@ use Rattle.statements.specs.declared.Did.{Did}
 use Rattle.statements.specs.declared.Did.the-variants as did
 use Rattle.values.specs.Work.{Work, stop, quietly}
 use Rattle.values.specs.WorkLaws.{bound, stopped}
-use Rattle.steps.specs.Contracts.{Given, Going, ReturnsEnough, Worked, Works, WorksOn, carriedOut, workOf, Concludes, Answers, unfitNumber}
+use Rattle.steps.specs.Contracts.{Given, Allowed, Going, ReturnsEnough, nextStatement, Worked, Works, WorksOn, workOf, Concludes, Answers, unfitNumber}
 
 -- an answer that says nothing is zeros
 pub silent-zeros : replicate 24 0 ≡ noAnswer
@@ -124,7 +124,7 @@ module _ {table input : List ℕ} {b : Buffers} (g : Given table input b) where
   pub kind-next : {k kind : ℕ} → k ≡ getD (b .state) 1 0 → kind ≡ rowAt table (stepsAt + 24 * k) .kind → nextRow .kind ≡ kind
   kind-next e read = sym (read ∙ ap (λ (n : ℕ). rowAt table (stepsAt + 24 * n) .kind) e)
 
-  pub statement-next : {k : ℕ} {x : Statement} → k ≡ getD (b .state) 1 0 → StatementRead table (rowAt table (stepsAt + 24 * k)) x
+  statement-next : {k : ℕ} {x : Statement} → k ≡ getD (b .state) 1 0 → StatementRead table (rowAt table (stepsAt + 24 * k)) x
       → StatementRead table nextRow x
   statement-next {x = x} e = subst (λ (n : ℕ). StatementRead table (rowAt table (stepsAt + 24 * n)) x) e
 
@@ -161,15 +161,19 @@ module _ {table input : List ℕ} {b : Buffers} (g : Given table input b) where
       → {number : ℕ} {answer : List ℕ} → number ≡ 16 → answer ≡ replicate 24 0 → Answers (stepCall current table input b) number answer b
   ended-answers h k = turned-answers 16 (turned-by false false h k) refl
 
-  -- neither: the step is the work of the statement read there, concluded
-  pub carried-called : {x : Statement} → StatementRead table nextRow x → lacksNext ≡ false → isRunning (statusOf (getD (b .state) 0 0)) ≡ true
-      → stepCall current table input b ≡ carriedOut table input b x
+  -- neither: the step is allowed, and is the work of its statement, concluded
+  pub step-allowed : lacksNext ≡ false → getD (b .state) 0 0 ≡ 0 → Allowed table input b
+  step-allowed h runs =
+      record { given = g; running = runs; enough = ap (λ y. lacksReturn y (reverse (returnsIn (b .state)))) next-statement ∙ h }
+
+  pub carried-called : lacksNext ≡ false → isRunning (statusOf (getD (b .state) 0 0)) ≡ true
+      → stepCall current table input b
+      ≡ carried current table input b (concluded (machineIn input b) (workOf input b (nextStatement table (b .state))))
   unfolding step stateIn
-  carried-called read h k =
+  carried-called h k =
       let goes : eqb (turnedDownBy p c) 0 ≡ true = ap (λ (n : ℕ). eqb n 0) (turned-by false true h k) in
-      let here = next-statement ∙ sym (read .means) in
       call-held current p table input tabled (length (b .output)) c b holding true goes
-      ∙ ap (carried current table input b) (rw (goes, here))
+      ∙ ap (carried current table input b) (rw goes)
 
   -- what is concluded of a statement's work
   pub concluded-answers : getD (b .state) 0 0 ≡ 0 → (r : Did) (left : Buffers) (answer : List ℕ) (w : Work Done) → Works r input b left answer w
@@ -208,15 +212,17 @@ module _ {table input : List ℕ} {b : Buffers} {next : ℕ} {x : Statement} (g 
   pub going-returns : {y : Statement} → x ≡ y → ReturnsEnough y (getD (b .state) 2 0)
   going-returns e = subst (λ (z : Statement). ReturnsEnough z (getD (b .state) 2 0)) e (g .returns)
 
+  -- its work is that of the next step
+  pub works-next : {y : Statement} → x ≡ y → {r : Did} {left : Buffers} {answer : List ℕ}
+      → WorksOn r input b left (statementMeaning table y) answer → WorksOn r input b left (nextStatement table (b .state)) answer
+  works-next e {r} {left} {answer} =
+      subst (λ y. WorksOn r input b left y answer) (ap (statementMeaning table) (sym e) ∙ g .means)
+
   -- one that doesn't scan, and one that does
   pub carries-works : {y : Statement} → x ≡ y → {r : Did} {left : Buffers} {answer : List ℕ} → answer ≡ noAnswer
-      → Carries r input b left (workOf table input b y) → WorksOn r table input b left x answer
+      → Carries r input b left (workOf input b (statementMeaning table y)) → WorksOn r input b left (nextStatement table (b .state)) answer
   carries-works {y} e {r} {left} {answer} silent c =
-      rw e (record { works = plain-works r input b left answer (workOf table input b y) c silent })
-
-  pub scans-works : {y : Statement} → x ≡ y → {r : Did} {left : Buffers} {answer : List ℕ}
-      → WorksOn r table input b left y answer → WorksOn r table input b left x answer
-  scans-works e w = rw e w
+      works-next e (record { works = plain-works r input b left answer (workOf input b (statementMeaning table y)) c silent })
 
 -- what the kind of a row tells of the returns that its statement takes
 module _ (t rs : List ℕ) (r : Row) where
@@ -261,7 +267,7 @@ module _ (t rs : List ℕ) (r : Row) where
       cond-cases P (eqb (r .kind) (Kinds.writeKind .number)) (λ _. refl) (λ _. refl)))))))))))))
 
 -- returns are enough where none is lacking
-pub enough-returns : (t : List ℕ) (x : Statement) (rs : List ℕ) (held : ℕ) → length rs ≡ held → lacksReturn (statementMeaning t x) rs ≡ false
+enough-returns : (t : List ℕ) (x : Statement) (rs : List ℕ) (held : ℕ) → length rs ≡ held → lacksReturn (statementMeaning t x) rs ≡ false
     → ReturnsEnough x held
 unfolding lacksReturn mostReturns isNil
 enough-returns t (statements.SetNumber i s) rs held e h = tt
@@ -278,11 +284,29 @@ enough-returns t (statements.Execute k) rs held e h = omega (arith, leb-false 16
 enough-returns t statements.Return [] held e h = absurd (let z : _≡_ {A = ℕ} 0 1 = cc in omega arith)
 enough-returns t statements.Return (k ∷ rs) held e h = omega arith
 
+-- the statement read of a step that is allowed
+pub allowed-going : {table input : List ℕ} {b : Buffers} → Allowed table input b → {k : ℕ} {x : Statement} → k ≡ getD (b .state) 1 0
+    → StatementRead table (rowAt table (stepsAt + 24 * k)) x → Going table input b (k + 1) x
+allowed-going {table} {b = b} a {x = x} e read =
+    let g = a .given in
+    let here = statement-next g e read in
+    let means = here .means ∙ sym (next-statement g) in
+    record {
+      given = g;
+      running = a .running;
+      next-is = ap (λ (n : ℕ). n + 1) e;
+      means = means;
+      holds = kept-statement table (g .keeps) (getD (b .state) 1 0) x (next-inside g .0) here;
+      returns =
+          enough-returns table x (reverse (returnsIn (b .state))) (getD (b .state) 2 0) (returns-counted g)
+          (ap (λ y. lacksReturn y (reverse (returnsIn (b .state)))) means ∙ a .enough);
+    }
+
 -- SCAN and BACKSCAN, by the step that they go to
 pub scan-works : {p : Program} {input : List ℕ} {b : Buffers} → Standing p input b → (table : List ℕ) (s : Scan) {store answer : List ℕ} {notes k : ℕ}
     → (e : Ended (b .store) store (b .state) answer notes (scanningOf table (b .store) (b .state) s))
     → k ≡ scannedTo (e .scanned .split) (branchMeaning (s .branch))
-    → Worked input b (buffers store (set (b .state) 1 k) (b .output)) answer notes (workOf table input b (statements.Scan s))
+    → Worked input b (buffers store (set (b .state) 1 k) (b .output)) answer notes (workOf input b (statementMeaning table (statements.Scan s)))
 unfolding carrying quietly stateIn
 scan-works {p} {input} {b} stands table s {store} {notes = notes} e goes =
     let to = scannedTo (e .scanned .split) (branchMeaning (s .branch)) in
@@ -293,13 +317,13 @@ scan-works {p} {input} {b} stands table s {store} {notes = notes} e goes =
       left-is =
           ap (λ (n : ℕ). buffers store (set (b .state) 1 n) (b .output)) goes
           ∙ scans p input b stands store to (e .stays);
-      answer-is = ap (λ (l : List ℕ). set l 3 notes) (e .answer-is) ∙ answer-noted (e .scanned) notes notes;
+      answer-is = ap (λ (l : List ℕ). set l 3 notes) (e .answer-is) ∙ answer-noted (e .scanned) 0 notes;
     }
 
 -- a scan that is stopped
 pub scan-stops : (input : List ℕ) (b : Buffers) (table : List ℕ) (s : Scan) (store : List ℕ) (k : ℕ) → store ≡ b .store
     → scanningOf table (b .store) (b .state) s ≡ stop k
-    → Unmoved b (buffers store (b .state) (b .output)) k (workOf table input b (statements.Scan s))
+    → Unmoved b (buffers store (b .state) (b .output)) k (workOf input b (statementMeaning table (statements.Scan s)))
 unfolding carrying stateIn
 scan-stops input b table s store k same w =
     record { work = stopped _ _ k w; same = ap (λ (l : List ℕ). buffers l (b .state) (b .output)) same }
@@ -311,32 +335,8 @@ zeros-good =
     (replicate-everywhere (λ (v : List ℕ). length v ≤ 1024) 32 [] (omega arith)))
 
 -- and zeros are buffers that a scan can work in
-pub zeros-lent : Lent (replicate storeSize 0) (replicate 20480 0) (replicate 240 0) (replicate 20 0) (replicate 1024 0) (replicate 1024 0) (replicate 1024 0)
-zeros-lent =
-    record {
-      good = zeros-good;
-      twenty-strings = length-replicate {A = ℕ} 20480 0;
-      twenty-rows = length-replicate {A = ℕ} 240 0;
-      twenty-places = length-replicate {A = ℕ} 20 0;
-      searched = length-replicate {A = ℕ} 1024 0;
-      spare = length-replicate {A = ℕ} 1024 0;
-      room = length-replicate {A = ℕ} 1024 0;
-    }
-
--- as they stay where two of them are written
-pub lent-again : {kept values rows names reference scratch out : List ℕ} → Lent kept values rows names reference scratch out
-    → (scratchLeft outLeft : List ℕ) → (length scratchLeft ≡ 1024) × (length outLeft ≡ 1024)
-    → Lent kept values rows names reference scratchLeft outLeft
-lent-again l scratchLeft outLeft sizes =
-    record {
-      good = l .good;
-      twenty-strings = l .twenty-strings;
-      twenty-rows = l .twenty-rows;
-      twenty-places = l .twenty-places;
-      searched = l .searched;
-      spare = sizes .0;
-      room = sizes .1;
-    }
+pub zeros-lent : Lent (replicate 20480 0) (replicate storeSize 0)
+zeros-lent = record { twenty-strings = length-replicate {A = ℕ} 20480 0; good = zeros-good }
 
 -- what the tests of unfit tell
 refused-as : (small rules store state : Bool) (n m : ℕ) → m ≡ cond small 2 (cond rules 13 (cond store 14 (cond state 15 0))) → 0 < m

@@ -16,7 +16,7 @@ ghost use Rattle.calls.specs.TableReading.{statementOfRow};
 ghost use Rattle.machine.specs.Step.{lacksReturn};
 ghost use Rattle.scanning.specs.Call.{noAnswer};
 ghost use Rattle.scanstep.specs.Scans.{Lent};
-ghost use Rattle.steps.specs.Contracts.{Given, Going, WorksOn, carriedOut, Concludes, Answers, unfitNumber};
+ghost use Rattle.steps.specs.Contracts.{Given, Allowed, nextStatement, WorksOn, Concludes, Answers, unfitNumber};
 use base::LONGEST;
 use base::RETURNS;
 use calls::STATE_SIZE;
@@ -38,32 +38,29 @@ fn lacks_return(kind: u8, held: usize) -> bool
     }
 }
 
-// carries a statement out, with the buffers that its work takes; the answer, which must say that nothing was scanned, gets what a scan found
+// carries out the statement of the next step; a string's value is kept in front of values on the way, and the answer, which must say that
+// nothing was scanned, gets what a scan found
 fn carry_out(
     table: &[u8],
     store: &mut [u8],
     state: &mut [u64; STATE_SIZE],
     input: &[u8],
     output: &mut [u8],
-    next: usize,
-    x: Statement,
-    kept: &mut [u8],
     values: &mut [u8],
-    rows: &mut [u8],
-    names: &mut [u8],
-    reference: &mut [u8; LONGEST],
-    scratch: &mut [u8; LONGEST],
-    out: &mut [u8; LONGEST],
+    kept: &mut [u8],
     answer: &mut [u32; ANSWER_SIZE],
 ) -> Did
-    requires { ⌜ Going (now table) (now input) (buffers (now store) (now state) (now output)) next x ⌝ }
+    requires { ⌜ Allowed (now table) (now input) (buffers (now store) (now state) (now output)) ⌝ }
     requires { ⌜ now answer ≡ noAnswer ⌝ }
-    requires { ⌜ Lent (now kept) (now values) (now rows) (now names) (now reference) (now scratch) (now out) ⌝ }
-    ensures { λ r. ⌜ WorksOn r (now (table .entry)) (now (input .entry)) (buffers (now (store .entry)) (now (state .entry)) (now (output .entry)))
-        (buffers (now (store .exit)) (now (state .exit)) (now (output .exit))) x (now (answer .exit)) ⌝ }
-    ensures { λ _. ⌜ Lent (now (kept .exit)) (now (values .exit)) (now (rows .exit)) (now (names .exit)) (now (reference .exit))
-        (now (scratch .exit)) (now (out .exit)) ⌝ }
+    requires { ⌜ Lent (now values) (now kept) ⌝ }
+    ensures { λ r. ⌜ WorksOn r (now (input .entry)) (buffers (now (store .entry)) (now (state .entry)) (now (output .entry)))
+        (buffers (now (store .exit)) (now (state .exit)) (now (output .exit))) (nextStatement (now (table .entry)) (now (state .entry)))
+        (now (answer .exit)) ⌝ }
+    ensures { λ _. ⌜ Lent (now (values .exit)) (now (kept .exit)) ⌝ }
 {
+    let k = states::next_step(state);
+    let next = k + 1;
+    let x = rows::statement_at(table, k);
     match x {
         Statement::SetNumber(place, s) => carry::set_number(table, store, state, next, place, s),
         Statement::SetString(p, s) => carry::set_string(
@@ -73,31 +70,25 @@ fn carry_out(
             next,
             p,
             s,
-            scratch,
-            out,
+            &mut values[..LONGEST],
         ),
-        Statement::Goto(k) => carry::go_to(state, k),
+        Statement::Goto(to) => carry::go_to(state, to),
         Statement::Finish => carry::finish(state),
         Statement::IfNull(place, b) => carry::if_null(store, state, place, b),
         Statement::IfNumeric(p, b) => carry::if_numeric(store, state, p, b),
         Statement::If(operands, b) => carry::if_compares(store, state, operands, b),
-        Statement::Scan(s) => scans::scan(
+        Statement::Scan(s) => scans::scan(table, store, state, s, values, kept, answer),
+        Statement::Read(p, b) => carry::read(store, state, input, p, b),
+        Statement::Write(s) => carry::write(
             table,
             store,
             state,
+            output,
+            next,
             s,
-            kept,
-            values,
-            rows,
-            names,
-            reference,
-            scratch,
-            out,
-            answer,
+            &mut values[..LONGEST],
         ),
-        Statement::Read(p, b) => carry::read(store, state, input, p, b),
-        Statement::Write(s) => carry::write(table, store, state, output, next, s, scratch, out),
-        Statement::Execute(k) => carry::execute(state, next, k),
+        Statement::Execute(to) => carry::execute(state, next, to),
         Statement::Return => carry::return_to(state),
     }
 }
@@ -119,49 +110,35 @@ fn conclude(did: Did, state: &mut [u64; STATE_SIZE], answer: &mut [u32; ANSWER_S
     }
 }
 
-// carries a statement out and concludes it
-fn go_on(
+// A step on buffers that nothing but the machine itself can turn down.
+pub fn step_on(
     table: &[u8],
     store: &mut [u8],
     state: &mut [u64; STATE_SIZE],
     input: &[u8],
     output: &mut [u8],
-    next: usize,
-    x: Statement,
-    kept: &mut [u8],
     values: &mut [u8],
-    rows: &mut [u8],
-    names: &mut [u8],
-    reference: &mut [u8; LONGEST],
-    scratch: &mut [u8; LONGEST],
-    out: &mut [u8; LONGEST],
+    kept: &mut [u8],
     answer: &mut [u32; ANSWER_SIZE],
 ) -> u32
-    requires { ⌜ Going (now table) (now input) (buffers (now store) (now state) (now output)) next x ⌝ }
-    requires { ⌜ Lent (now kept) (now values) (now rows) (now names) (now reference) (now scratch) (now out) ⌝ }
-    ensures { λ r. ⌜ Answers (carriedOut (now (table .entry)) (now (input .entry)) (buffers (now (store .entry)) (now (state .entry)) (now (output .entry))) x)
+    requires { ⌜ Given (now table) (now input) (buffers (now store) (now state) (now output)) ⌝ }
+    requires { ⌜ Lent (now values) (now kept) ⌝ }
+    ensures { λ r. ⌜ Answers
+        (stepCall current (now (table .entry)) (now (input .entry)) (buffers (now (store .entry)) (now (state .entry)) (now (output .entry))))
         r (now (answer .exit)) (buffers (now (store .exit)) (now (state .exit)) (now (output .exit))) ⌝ }
-    ensures { λ _. ⌜ Lent (now (kept .exit)) (now (values .exit)) (now (rows .exit)) (now (names .exit)) (now (reference .exit))
-        (now (scratch .exit)) (now (out .exit)) ⌝ }
+    ensures { λ _. ⌜ Lent (now (values .exit)) (now (kept .exit)) ⌝ }
 {
     *answer = [0u32; ANSWER_SIZE];
-    let did = carry_out(
-        table,
-        store,
-        state,
-        input,
-        output,
-        next,
-        x,
-        kept,
-        values,
-        rows,
-        names,
-        reference,
-        scratch,
-        out,
-        answer,
-    );
+    if lacks_return(
+        rows::kind_at(table, states::next_step(state)),
+        states::returns_held(state),
+    ) {
+        return 15;
+    }
+    if !states::is_running(state) {
+        return 16;
+    }
+    let did = carry_out(table, store, state, input, output, values, kept, answer);
     conclude(did, state, answer)
 }
 
@@ -171,56 +148,6 @@ fn turn_down(number: u32, answer: &mut [u32; ANSWER_SIZE]) -> u32
 {
     *answer = [0u32; ANSWER_SIZE];
     number
-}
-
-// A step on buffers that nothing but the machine itself can turn down.
-pub fn step_on(
-    table: &[u8],
-    store: &mut [u8],
-    state: &mut [u64; STATE_SIZE],
-    input: &[u8],
-    output: &mut [u8],
-    kept: &mut [u8],
-    values: &mut [u8],
-    rows: &mut [u8],
-    names: &mut [u8],
-    reference: &mut [u8; LONGEST],
-    scratch: &mut [u8; LONGEST],
-    out: &mut [u8; LONGEST],
-    answer: &mut [u32; ANSWER_SIZE],
-) -> u32
-    requires { ⌜ Given (now table) (now input) (buffers (now store) (now state) (now output)) ⌝ }
-    requires { ⌜ Lent (now kept) (now values) (now rows) (now names) (now reference) (now scratch) (now out) ⌝ }
-    ensures { λ r. ⌜ Answers (stepCall current (now (table .entry)) (now (input .entry)) (buffers (now (store .entry)) (now (state .entry)) (now (output .entry))))
-        r (now (answer .exit)) (buffers (now (store .exit)) (now (state .exit)) (now (output .exit))) ⌝ }
-    ensures { λ _. ⌜ Lent (now (kept .exit)) (now (values .exit)) (now (rows .exit)) (now (names .exit)) (now (reference .exit))
-        (now (scratch .exit)) (now (out .exit)) ⌝ }
-{
-    let k = states::next_step(state);
-    if lacks_return(rows::kind_at(table, k), states::returns_held(state)) {
-        return turn_down(15, answer);
-    }
-    if !states::is_running(state) {
-        return turn_down(16, answer);
-    }
-    let x = rows::statement_at(table, k);
-    go_on(
-        table,
-        store,
-        state,
-        input,
-        output,
-        k + 1,
-        x,
-        kept,
-        values,
-        rows,
-        names,
-        reference,
-        scratch,
-        out,
-        answer,
-    )
 }
 
 // says that a state is 64 numbers, to those who are lent one by its type

@@ -7,16 +7,13 @@ ghost use Rattle.calls.specs.Calls.{runCall, stepCall, buffers};
 ghost use Rattle.calls.specs.Promises.{RunPromise, runBack};
 ghost use Rattle.values.specs.Work.{stopsStep};
 ghost use Rattle.steps.specs.Contracts.{Given, Answers, RunAnswers};
-use crate::scans::NAMES_SIZE;
-use crate::scans::ROWS_SIZE;
-use crate::scans::VALUES_SIZE;
 use crate::step_on;
 use crate::unfit;
-use base::LONGEST;
 use calls::STATE_SIZE;
 use calls::STORE_SIZE;
 use scanning::ANSWER_SIZE;
 use scanning::NOTES_AT;
+use scanstep::VALUES_SIZE;
 
 // how a run ends
 pub const RUN_FINISHED: u64 = 0;
@@ -61,18 +58,15 @@ pub fn repeat(
     answer: &mut [u32; ANSWER_SIZE],
 ) -> u32
     requires { ⌜ Given (now table) (now input) (buffers (now store) (now state) (now output)) ⌝ }
-    ensures { λ r. ⌜ RunAnswers (runCall current (now (table .entry)) (now (input .entry)) count (buffers (now (store .entry)) (now (state .entry)) (now (output .entry))))
+    ensures { λ r. ⌜ RunAnswers
+        (runCall current (now (table .entry)) (now (input .entry)) count (buffers (now (store .entry)) (now (state .entry)) (now (output .entry))))
         r (now (result .exit)) (buffers (now (store .exit)) (now (state .exit)) (now (output .exit))) ⌝ }
-    ensures { λ r. ⌜ (count ≡ 1 → Answers (stepCall current (now (table .entry)) (now (input .entry)) (buffers (now (store .entry)) (now (state .entry)) (now (output .entry))))
+    ensures { λ r. ⌜ (count ≡ 1 → Answers
+        (stepCall current (now (table .entry)) (now (input .entry)) (buffers (now (store .entry)) (now (state .entry)) (now (output .entry))))
         r (now (answer .exit)) (buffers (now (store .exit)) (now (state .exit)) (now (output .exit)))) ⌝ }
 {
-    let mut kept = [0u8; STORE_SIZE];
     let mut values = [0u8; VALUES_SIZE];
-    let mut rows = [0u8; ROWS_SIZE];
-    let mut names = [0u8; NAMES_SIZE];
-    let mut reference = [0u8; LONGEST];
-    let mut scratch = [0u8; LONGEST];
-    let mut out = [0u8; LONGEST];
+    let mut kept = [0u8; STORE_SIZE];
     let mut done: u32 = 0;
     let mut notes: u64 = 0;
     while done < count {
@@ -82,13 +76,8 @@ pub fn repeat(
             state,
             input,
             output,
-            &mut kept,
             &mut values,
-            &mut rows,
-            &mut names,
-            &mut reference,
-            &mut scratch,
-            &mut out,
+            &mut kept,
             answer,
         );
         let more = notes + (notes_of(answer) as u64);

@@ -15,17 +15,25 @@ move-on-requires c κs = search needs
 same-length : tie.Need-same-length
 same-length c = search needs
 
+same-length-2 : tie.Need-same-length-2
+same-length-2 c = search needs
+
 returns : tie.Need-returns
 returns c =
-    let stored = c .before .before .before .before .set-string in
-    let a = c .before .before .before .before .before .before .before .before .before .before .before .args in
-    let pre = c .before .before .before .before .before .before .before .before .before .before .before .pre in (
-      λ input output p s.
-          let b = buffers (a .store .now) (a .state .now) output in
-          carries-on input b (stored .last .1 .0) output _ (c .move-on .ensures)
-          (sets-string p input b s (stored .result) (stored .last .1 .0) _ _ (a .next) (partMeaning (a .p)) _ (pre .1 .1) (stored .ensures)),
-      (stored .ensures .spare, stored .ensures .room),
-    )
+    let stored = c .before .before .before .before .before .before .set-string in
+    let s = c .before .before .before .before .before .before .before .before .before .before .before .before .before in
+    let a = s .args in
+    λ input output p standing.
+    let b = buffers (a .store .now) (a .state .now) output in
+    carries-on input b (stored .last .1 .0) output _ (c .move-on .ensures)
+    (sets-string p input b standing (stored .result) (stored .last .1 .0) (a .next) (partMeaning (a .p)) _ (s .pre .1 .0 .1) (stored .ensures))
 
 pub set-string-spec : {M : Type 1} → statement M
-set-string-spec = tie.close (tie.spec set-string-requires move-on-requires same-length returns)
+set-string-spec =
+    tie.close
+    (tie.spec
+    set-string-requires
+    move-on-requires
+    same-length
+    same-length-2
+    returns)

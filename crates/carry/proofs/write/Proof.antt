@@ -14,17 +14,26 @@ move-on-requires c κs = search needs
 same-length : tie.Need-same-length
 same-length c = search needs
 
+same-length-2 : tie.Need-same-length-2
+same-length-2 c = search needs
+
 returns : tie.Need-returns
 returns c =
-    let written = c .before .before .before .before .write-record in
-    let a = c .before .before .before .before .before .before .before .before .before .before .before .before .args in
-    let pre = c .before .before .before .before .before .before .before .before .before .before .before .before .pre in
-    let b = buffers (a .store .now) (a .state .now) (a .output .now) in (
-      λ input p s.
-          carries-on input b (a .store .now) (written .last .1 .1 .1 .1 .0) _ (c .move-on .ensures)
-          (writes p input b s (written .result) (written .last .1 .1 .0) (written .last .1 .1 .1 .1 .0) (a .next) _ (pre .1 .1) (written .ensures .0)),
-      written .ensures .1,
-    )
+    let written = c .before .before .before .before .before .before .write-record in
+    let s = c .before .before .before .before .before .before .before .before .before .before .before .before .before .before in
+    let a = s .args in
+    let b = buffers (a .store .now) (a .state .now) (a .output .now) in
+    λ input p standing.
+    carries-on input b (a .store .now) (written .last .1 .1 .1 .1 .0) _ (c .move-on .ensures)
+    (writes p input b standing (written .result) (written .last .1 .1 .0) (written .last .1 .1 .1 .1 .0) (a .next) _ (s .pre .1 .0 .1)
+    (written .ensures))
 
 pub write-spec : {M : Type 1} → statement M
-write-spec = tie.close (tie.spec write-record-requires move-on-requires same-length returns)
+write-spec =
+    tie.close
+    (tie.spec
+    write-record-requires
+    move-on-requires
+    same-length
+    same-length-2
+    returns)

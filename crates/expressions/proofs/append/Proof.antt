@@ -15,7 +15,7 @@ use Rattle.expressions.proofs.append.Tie as tie
 
 returns : tie.Need-returns
 returns c =
-    let s = c .before .before in
+    let s = c .before .before .before in
     appended-none (s .args .out .now) (s .args .v .now) (s .args .at) (s .pre) (c .if1 .taken)
 
 sub-least : tie.Need-sub-least
@@ -28,30 +28,34 @@ least-requires c κs = search needs
 part-size : (n room : ℕ) (v : List ℕ) → n ≡ min room (length v) → length (take n v) ≡ n
 part-size n room v least = length-take-le n v (omega (arith, least, min-le-right room (length v)))
 
-slice-aggregate-copy : tie.Need-slice-aggregate-copy
-slice-aggregate-copy c =
-    let s = c .before .before .before .before in
-    sym (part-size (c .before .least .result) (1024 - s .args .at) (s .args .v .now) (c .before .least .ensures))
+slice-aggregate-write : tie.Need-slice-aggregate-write
+slice-aggregate-write c =
+    let s = c .before .before .before .before .before .before in
+    sym (part-size (c .before .before .least .result) (1024 - s .args .at) (s .args .v .now) (c .before .before .least .ensures))
 
-copy-requires : tie.Need-copy-requires
-copy-requires c κs =
-    let s = c .before .before .before .before .before in
+write-requires : tie.Need-write-requires
+write-requires c κs =
+    let s = c .before .before .before .before .before .before in
     let least = c .before .before .least in
     omega (
       arith,
       part-size (least .result) (1024 - s .args .at) (s .args .v .now) (least .ensures),
       least .ensures,
+      s .pre,
       min-le-left (1024 - s .args .at) (length (s .args .v .now)),
     )
 
+same-length : tie.Need-same-length
+same-length c = search needs
+
 returns-2 : tie.Need-returns-2
 returns-2 c =
-    let s = c .before .before .before .before .before .before in
-    let least = c .before .before .before .least in
-    subst (λ (l : List ℕ). Appended (s .args .out .now) l (s .args .at) (s .args .v .now)) (sym (c .copy .ensures))
+    let s = c .before .before .before .before .before .before .before .before .before in
+    let least = c .before .before .before .before .before .least in
+    subst (λ (l : List ℕ). Appended (s .args .out .now) l (s .args .at) (s .args .v .now)) (sym (c .before .before .write .ensures))
     (appended-least (s .args .out .now) (s .args .v .now) (s .args .at) (s .pre) (omega arith) (least .result) (least .ensures))
 
 pub append-spec : {M : Type 1} → statement M
 append-spec =
     tie.close
-    (tie.spec returns sub-least least-requires slice-aggregate-copy copy-requires returns-2)
+    (tie.spec returns sub-least least-requires slice-aggregate-write write-requires same-length returns-2)

@@ -10,17 +10,17 @@ use Rattle.expressions.proofs.string_value.Statement.{statement}
 use Rattle.expressions.proofs.string_value.Tie as tie
 
 abbrev Inv-loop : tie.InvT-loop
-Inv-loop table store state scratch₀ out₀ length₀ notes₀ at₀ left₀ scratch out length notes at left =
-    Spelling (memoryIn store state) table at₀ left₀ out scratch length notes at left
+Inv-loop table store state out₀ length₀ notes₀ at₀ left₀ out length notes at left =
+    Spelling (memoryIn store state) table at₀ left₀ out length notes at left
 
 abbrev μ-loop : tie.MeasureT-loop
-μ-loop table store state scratch₀ out₀ length₀ notes₀ at₀ left₀ scratch out length notes at left = left
+μ-loop table store state out₀ length₀ notes₀ at₀ left₀ out length notes at left = left
 
 loop-holds : tie.Need-loop-holds Inv-loop μ-loop
 loop-holds c =
-    let s = c .before .before in
+    let s = c .before .before .before in
     spelling-begins (memoryIn (s .args .store .now) (s .args .state .now)) (s .args .table .now) (s .args .s .from) (s .args .s .count)
-    (s .args .out .now) (s .args .scratch .now) (s .pre .room) (s .pre .spare)
+    (s .args .out .now) (s .pre .1)
 
 element-at-requires : tie.Need-element-at-requires Inv-loop μ-loop
 element-at-requires c κs = search needs
@@ -28,13 +28,12 @@ element-at-requires c κs = search needs
 append-element-requires : tie.Need-append-element-requires Inv-loop μ-loop
 append-element-requires c κs =
     let s = c .before .before .before .before .before .before .before in
-    let l = c .before .before .before .before .loop in
-    let read = c .before .before .element-at in
+    let l = c .before .before .before .loop in
+    let read = c .before .element-at in
     record {
-      bytes = s .pre .bytes;
-      ready = s .pre .ready;
-      holds = s .pre .elements .each (l .at) (read .result) (record { low = l .inv .low; high = omega arith }) (read .ensures);
-      spare = l .inv .spare;
+      bytes = s .pre .0 .bytes;
+      ready = s .pre .0 .ready;
+      holds = s .pre .0 .elements .each (l .at) (read .result) (record { low = l .inv .low; high = omega arith }) (read .ensures);
       room = l .inv .room;
     }
 
@@ -44,30 +43,32 @@ enum-known-more c = search needs
 -- what an element adds: few bytes, and at most one note
 noted : (c : tie.After-known-told Inv-loop μ-loop) → (c .before .more .given .0 .0 ≤ tableSize) × (c .before .more .given .0 .1 .0 ≤ 1)
 noted c =
-    let d = c .before .before .before in
-    let read = d .before .before .before .element-at in
-    spelling-noted (d .before .before .before .before .before .loop .inv) (d .before .before .before .before .loop-test .taken) (read .result) (read .ensures)
-    (d .append-element .ensures .0) (c .before .more .given .1)
+    let d = c .before .before .before .before .before in
+    let read = d .before .before .element-at in
+    spelling-noted (d .before .before .before .before .loop .inv) (d .before .before .before .loop-test .taken) (read .result) (read .ensures)
+    (d .append-element .ensures) (c .before .more .given .1)
 
 add-length : tie.Need-add-length Inv-loop μ-loop
-add-length c = omega (arith, noted c .0, c .before .before .before .before .before .before .before .before .loop .inv .short, c .before .before .before .before .before .before .before .before .before .before .before .pre .elements .few)
+add-length c = omega (arith, noted c .0, c .before .before .before .before .before .before .before .before .before .loop .inv .short, c .before .before .before .before .before .before .before .before .before .before .before .before .before .pre .0 .elements .few)
 
 add-notes : tie.Need-add-notes Inv-loop μ-loop
-add-notes c = omega (arith, noted c .1, c .before .before .before .before .before .before .before .before .loop .inv .few, c .before .before .before .before .before .before .before .before .before .before .before .pre .elements .few)
+add-notes c = omega (arith, noted c .1, c .before .before .before .before .before .before .before .before .before .loop .inv .few, c .before .before .before .before .before .before .before .before .before .before .before .before .before .pre .0 .elements .few)
 
 enum-known-k : tie.Need-enum-known-k Inv-loop μ-loop
 enum-known-k c = search needs
 
+same-length : tie.Need-same-length Inv-loop μ-loop
+same-length c = omega (arith, c .before .before .before .before .before .append-element .ensures .room, c .before .before .before .before .before .before .before .before .before .before .before .before .before .pre .1)
+
 returns : tie.Need-returns Inv-loop μ-loop
 returns c =
-    let d = c .before .before .before in
-    let l = d .before .before .before .before .before .loop in
-    let read = d .before .before .before .element-at in
+    let d = c .before .before .before .before .before in
+    let l = d .before .before .before .before .loop in
+    let read = d .before .before .element-at in
     record {
-      spelt = spelling-stops (l .inv) (d .before .before .before .before .loop-test .taken) (read .result) (read .ensures)
-          (d .append-element .ensures .0) (c .before .k .given .1);
-      room = d .append-element .ensures .0 .room;
-      spare = d .append-element .ensures .1;
+      spelt = spelling-stops (l .inv) (d .before .before .before .loop-test .taken) (read .result) (read .ensures)
+          (d .append-element .ensures) (c .before .k .given .1);
+      room = d .append-element .ensures .room;
     }
 
 add-at : tie.Need-add-at Inv-loop μ-loop
@@ -81,16 +82,19 @@ loop-less c = search needs
 
 loop-again : tie.Need-loop-again Inv-loop μ-loop
 loop-again c =
-    let d = c .before .before .before in
-    let l = d .before .before .before .before .before .loop in
-    let read = d .before .before .before .element-at in
-    spelling-more (l .inv) (d .before .before .before .before .loop-test .taken) (read .result) (read .ensures) (d .append-element .ensures .0)
-    (d .append-element .last .1 .1 .1 .1 .0) (d .append-element .ensures .1) (c .before .more .given .1)
+    let d = c .before .before .before .before .before in
+    let l = d .before .before .before .before .loop in
+    let read = d .before .before .element-at in
+    spelling-more (l .inv) (d .before .before .before .loop-test .taken) (read .result) (read .ensures) (d .append-element .ensures)
+    (c .before .more .given .1)
+
+same-length-2 : tie.Need-same-length-2 Inv-loop μ-loop
+same-length-2 c = omega (arith, c .before .loop .inv .room, c .before .before .before .before .before .pre .1)
 
 returns-2 : tie.Need-returns-2 Inv-loop μ-loop
 returns-2 c =
     let l = c .before .loop in
-    record { spelt = spelling-ends (l .inv) (c .loop-test .left); room = l .inv .room; spare = l .inv .spare }
+    record { spelt = spelling-ends (l .inv) (c .loop-test .left); room = l .inv .room }
 
 pub string-value-spec : {M : Type 1} → statement M
 string-value-spec =
@@ -105,9 +109,11 @@ string-value-spec =
     add-length
     add-notes
     enum-known-k
+    same-length
     returns
     add-at
     sub-left
     loop-less
     loop-again
+    same-length-2
     returns-2)

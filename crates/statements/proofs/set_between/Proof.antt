@@ -25,24 +25,24 @@ same-length c = search needs
 
 returns : tie.Need-returns
 returns c =
-    let measured = c .before in
+    let measured = c .before .before in
     let s = measured .before .before .before .before in
     let a = s .args in
     λ value numbers p. (
       refl,
-      sets-none (a .store .now) (a .place) (a .from) (a .to) (a .v .now) (s .pre) (a .n) (a .notes) value numbers p
+      sets-none (a .store .now) (a .at .place) (a .at .from) (a .at .to) (a .v .now) (s .pre) (a .n) (a .notes) value numbers p
           (omega (arith, c .if1 .taken, measured .string-length .ensures .0)),
     )
 
 slice-aggregate-replace : tie.Need-slice-aggregate-replace
 slice-aggregate-replace c =
     let measured = c .before .before .before in
-    let s = measured .before .before .before .before in
+    let s = measured .before .before .before .before .before in
     sym (length-take-le (s .args .n) (s .args .v .now) (omega (arith, c .before .before .if1 .left, s .pre .room)))
 
 replace-requires : tie.Need-replace-requires
 replace-requires c κs =
-    let measured = c .before .before .before in
+    let measured = c .before .before .before .before in
     let s = measured .before .before .before .before in
     let a = s .args in
     let size : length (take (a .n) (a .v .now)) ≡ a .n =
@@ -62,11 +62,11 @@ same-length-2 c = search needs
 
 returns-2 : tie.Need-returns-2
 returns-2 c =
-    let measured = c .before .before .before .before .before .before in
+    let measured = c .before .before .before .before .before .before .before in
     let s = measured .before .before .before .before in
     let a = s .args in
     λ value numbers p.
-    sets-some (a .store .now) (a .place) (a .from) (a .to) (a .v .now) (s .pre) (a .n) (a .notes) value numbers p
+    sets-some (a .store .now) (a .at .place) (a .at .from) (a .at .to) (a .v .now) (s .pre) (a .n) (a .notes) value numbers p
     (omega (arith, c .before .before .before .before .before .if1 .left, measured .string-length .ensures .0))
     (c .before .before .replace .last .0) (c .before .before .replace .ensures)
 

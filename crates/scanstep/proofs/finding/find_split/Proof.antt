@@ -1,8 +1,4 @@
 -- `finding::find_split` meets its contract: the answer has no split, or the pieces of its split are named. Assumes nothing.
-use mathlib.Core.Path.{ap}
-use Prim.Native.Nat.{ℕ}
-use mathlib.Core.List.{List}
-use lib.ListN.{set}
 use borrow.Author.Needs.{needs}
 use Rattle.scanstep.specs.SearchLaws.{missed, nameable, named}
 use Rattle.scanstep.proofs.finding.find_split.Statement.{statement}
@@ -13,9 +9,6 @@ null-fillers-requires c κs = search needs
 
 scan-into-requires : tie.Need-scan-into-requires
 scan-into-requires c κs = search needs
-
-element-write-answer : tie.Need-element-write-answer
-element-write-answer c = search needs
 
 element-copy-out-if1 : tie.Need-element-copy-out-if1
 element-copy-out-if1 c = search needs
@@ -28,7 +21,7 @@ returns c =
     let scanned = c .before .before in
     let nulled = scanned .before .before .before .before in
     let s = nulled .before .before .before .before .before .before .before .before in
-    missed (s .pre) (s .args .notes) (ap (λ (l : List ℕ). set l 3 (s .args .notes)) (scanned .scan-into .ensures)) (c .if1 .taken) (nulled .null-fillers .ensures)
+    missed (s .pre) (scanned .scan-into .ensures) (c .if1 .taken) (nulled .null-fillers .ensures)
 
 name-fillers-requires : tie.Need-name-fillers-requires
 name-fillers-requires c κs =
@@ -36,7 +29,7 @@ name-fillers-requires c κs =
     let scanned = tested .before .before in
     let nulled = scanned .before .before .before .before in
     let s = nulled .before .before .before .before .before .before .before .before in
-    nameable (s .pre) (s .args .notes) (ap (λ (l : List ℕ). set l 3 (s .args .notes)) (scanned .scan-into .ensures)) (tested .if1 .left) (nulled .null-fillers .ensures)
+    nameable (s .pre) (scanned .scan-into .ensures) (tested .if1 .left) (nulled .null-fillers .ensures)
 
 same-length-2 : tie.Need-same-length-2
 same-length-2 c = search needs
@@ -48,7 +41,7 @@ returns-2 c =
     let scanned = tested .before .before in
     let nulled = scanned .before .before .before .before in
     let s = nulled .before .before .before .before .before .before .before .before in
-    named (s .pre) (s .args .notes) (ap (λ (l : List ℕ). set l 3 (s .args .notes)) (scanned .scan-into .ensures)) (tested .if1 .left) (nulled .null-fillers .ensures) (after .name-fillers .ensures)
+    named (s .pre) (scanned .scan-into .ensures) (tested .if1 .left) (nulled .null-fillers .ensures) (after .name-fillers .ensures)
 
 pub find-split-spec : {M : Type 1} → statement M
 find-split-spec =
@@ -56,7 +49,6 @@ find-split-spec =
     (tie.spec
     null-fillers-requires
     scan-into-requires
-    element-write-answer
     element-copy-out-if1
     same-length
     returns

@@ -9,11 +9,11 @@ use Rattle.scanstep.proofs.valuing.pattern_rows.Statement.{statement}
 use Rattle.scanstep.proofs.valuing.pattern_rows.Tie as tie
 
 abbrev Inv-loop : tie.InvT-loop
-Inv-loop table store state values₀ rows₀ names₀ scratch₀ out₀ from count notes₀ i₀ values rows names scratch out notes i =
-    Valuing (memoryIn store state) table from count values rows names scratch out notes i
+Inv-loop table store state values₀ rows₀ names₀ from count notes₀ i₀ values rows names notes i =
+    Valuing (memoryIn store state) table from count values rows names notes i
 
 abbrev μ-loop : tie.MeasureT-loop
-μ-loop table store state values₀ rows₀ names₀ scratch₀ out₀ from count notes₀ i₀ values rows names scratch out notes i =
+μ-loop table store state values₀ rows₀ names₀ from count notes₀ i₀ values rows names notes i =
     count - i
 
 loop-holds : tie.Need-loop-holds Inv-loop μ-loop
@@ -21,7 +21,7 @@ loop-holds c =
     let s = c .before .before .before .before .before in
     let a = s .args in
     valuing-begins (memoryIn (a .store .now) (a .state .now)) (a .table .now) (a .pattern .from) (a .pattern .count) (a .values .now) (a .rows .now)
-    (a .names .now) (a .scratch .now) (a .out .now) (s .pre .buffers)
+    (a .names .now) (s .pre .buffers)
 
 add-pattern-at : tie.Need-add-pattern-at Inv-loop μ-loop
 add-pattern-at c =
@@ -36,7 +36,7 @@ pattern-at-requires c κs =
 
 put-element-requires : tie.Need-put-element-requires Inv-loop μ-loop
 put-element-requires c κs =
-    let read = c .before .before .before .before .before in
+    let read = c .before .before .before in
     let l = read .before .before .loop in
     let s = read .before .before .before .before .before .before .before .before in
     record {
@@ -56,7 +56,7 @@ enum-known-more c = search needs
 add-notes : tie.Need-add-notes Inv-loop μ-loop
 add-notes c =
     let put = c .before .before .before .before .before .before .before .before .before in
-    let read = put .before .before .before .before .before .before in
+    let read = put .before .before .before .before in
     let l = read .before .before .loop in
     let s = read .before .before .before .before .before .before .before .before in
     let more =
@@ -79,7 +79,7 @@ same-length-3 c = search needs
 returns : tie.Need-returns Inv-loop μ-loop
 returns c =
     let put = c .before .before .before .before .before .before .before .before .before in
-    let read = put .before .before .before .before .before .before in
+    let read = put .before .before .before .before in
     let l = read .before .before .loop in
     let s = read .before .before .before .before .before .before .before .before in
     record {
@@ -98,7 +98,7 @@ loop-less c = search needs
 loop-again : tie.Need-loop-again Inv-loop μ-loop
 loop-again c =
     let put = c .before .before .before .before .before .before .before .before .before in
-    let read = put .before .before .before .before .before .before in
+    let read = put .before .before .before .before in
     let l = read .before .before .loop in
     let s = read .before .before .before .before .before .before .before .before in
     valuing-more (l .inv) (read .before .loop-test .taken) (s .pre .pattern .few) (read .pattern-at .result) (read .pattern-at .ensures)

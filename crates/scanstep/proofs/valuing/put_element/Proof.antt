@@ -24,7 +24,7 @@ slice-write-names c = search needs
 
 put-value-requires : tie.Need-put-value-requires
 put-value-requires c κs =
-    let told = c .before .before .before .before .before in
+    let told = c .before .before .before in
     let s = told .before .before .before .before .before .before .before in
     record {
       bytes = s .pre .bytes;
@@ -33,8 +33,6 @@ put-value-requires c κs =
       few = s .pre .few;
       strings = s .pre .buffers .strings;
       lines = s .pre .buffers .lines;
-      spare = s .pre .buffers .spare;
-      room = s .pre .buffers .room;
     }
 
 enum-known-x-2 : tie.Need-enum-known-x-2
@@ -89,7 +87,7 @@ same-length-3 c = search needs
 returns : tie.Need-returns
 returns c =
     let put = c .before .before .before .before in
-    let told = put .before .before .before .before .before .before in
+    let told = put .before .before .before .before in
     let s = told .before .before .before .before .before .before .before in
     let a = s .args in
     let m = memoryIn (a .store .now) (a .state .now) in
@@ -108,8 +106,6 @@ returns c =
             strings = e .strings;
             lines = e .lines;
             places = length-set (a .names .now) (a .i) 32 ∙ s .pre .buffers .places;
-            spare = e .spare;
-            room = e .room;
           };
     }
 
@@ -140,8 +136,6 @@ returns-2 c =
             strings = s .pre .buffers .strings;
             lines = put .put-row .ensures .size ∙ s .pre .buffers .lines;
             places = length-set (a .names .now) (a .i) place ∙ s .pre .buffers .places;
-            spare = s .pre .buffers .spare;
-            room = s .pre .buffers .room;
           };
     }
 
@@ -177,8 +171,6 @@ returns-3 c =
             strings = s .pre .buffers .strings;
             lines = e .lines;
             places = e .places;
-            spare = s .pre .buffers .spare;
-            room = s .pre .buffers .room;
           };
     }
 

@@ -23,28 +23,34 @@ set-turned-requires c κs = search needs
 same-length : tie.Need-same-length
 same-length c = search needs
 
+same-length-2 : tie.Need-same-length-2
+same-length-2 c = search needs
+
 returns : tie.Need-returns
 unfolding turned
 returns c =
-    let a = c .before .before .before .before .before .before .before .before .before .before .args in
-    stored-as _ (a .store .now) _ (a .state .now) _ _ _ _
+    let a = c .before .before .before .before .before .before .before .before .before .before .before .before .args in
+    stored-as _ (a .store .now) _ (a .state .now) _ _
     (ap
-    (λ d. storedTurned (a .table .now) (a .store .now) (a .state .now) (directionMeaning d) (a .place) (a .from) (a .to) (a .s))
-    (c .before .before .before .before .before .before .enum-told .given .1))
-    (c .before .before .set-value .ensures)
+    (λ d. storedTurned (a .table .now) (a .store .now) (a .state .now) (directionMeaning d) (a .at .place) (a .at .from) (a .at .to) (a .s))
+    (c .before .before .before .before .before .before .before .enum-told .given .1))
+    (c .before .before .before .before .set-value .ensures)
 
-same-length-2 : tie.Need-same-length-2
-same-length-2 c = search needs
+same-length-3 : tie.Need-same-length-3
+same-length-3 c = search needs
+
+same-length-4 : tie.Need-same-length-4
+same-length-4 c = search needs
 
 returns-2 : tie.Need-returns-2
 unfolding turned
 returns-2 c =
-    let a = c .before .before .before .before .before .before .before .before .before .before .args in
-    stored-as _ (a .store .now) _ (a .state .now) _ _ _ _
+    let a = c .before .before .before .before .before .before .before .before .before .before .before .before .args in
+    stored-as _ (a .store .now) _ (a .state .now) _ _
     (ap
-    (λ d. storedTurned (a .table .now) (a .store .now) (a .state .now) (directionMeaning d) (a .place) (a .from) (a .to) (a .s))
-    (c .before .before .before .before .before .before .enum-told2 .given .1))
-    (c .before .before .set-turned .ensures)
+    (λ d. storedTurned (a .table .now) (a .store .now) (a .state .now) (directionMeaning d) (a .at .place) (a .at .from) (a .at .to) (a .s))
+    (c .before .before .before .before .before .before .before .enum-told2 .given .1))
+    (c .before .before .before .before .set-turned .ensures)
 
 pub replace-found-spec : {M : Type 1} → statement M
 replace-found-spec =
@@ -55,6 +61,8 @@ replace-found-spec =
     enum-told-2
     set-turned-requires
     same-length
-    returns
     same-length-2
+    returns
+    same-length-3
+    same-length-4
     returns-2)

@@ -23,34 +23,35 @@ enum-known-k c = search needs
 same-length : tie.Need-same-length
 same-length c = search needs
 
+same-length-2 : tie.Need-same-length-2
+same-length-2 c = search needs
+
 returns : tie.Need-returns
 returns c =
-    let told = c .before .before .before .before .before .before .before .length .given in
-    let valued = c .before .before .before .before .before .before .before .before .before in
+    let told = c .before .before .before .before .before .before .length .given in
+    let valued = c .before .before .before .before .before .before .before .before .before .before in
     let s = valued .before .before .before .before .before .before in
     let a = s .args in
     let written = valued .string-value .ensures in
     let spells = string-is written (told .1) in
+    let put = c .before .before in
     record {
       leaves =
-          kept-leaves (λ v. v) (c .before .before .set-between .result) (a .store .now) (c .before .before .set-between .last .0) (a .place) (a .from) (a .to) _ (numbersIn (a .state .now)) spells (spelt spells) (c .before .before .set-between .ensures);
-      spare = written .spare;
-      room = written .room;
+          kept-leaves (λ v. v) (put .set-between .result) (a .store .now) (put .set-between .last .0) (a .at .place) (a .at .from) (a .at .to) _
+          (numbersIn (a .state .now)) spells (spelt spells) (put .set-between .ensures);
     }
 
-same-length-2 : tie.Need-same-length-2
-same-length-2 c = search needs
+same-length-3 : tie.Need-same-length-3
+same-length-3 c = search needs
+
+same-length-4 : tie.Need-same-length-4
+same-length-4 c = search needs
 
 returns-2 : tie.Need-returns-2
 returns-2 c =
     let told = c .before .k .given in
-    let valued = c .before .before .before in
-    let written = valued .string-value .ensures in
-    record {
-      leaves = (refl, stopped _ _ _ (string-stops written (told .1)));
-      spare = written .spare;
-      room = written .room;
-    }
+    let written = c .before .before .before .before .before .string-value .ensures in
+    record { leaves = (refl, stopped _ _ _ (string-stops written (told .1))) }
 
 pub set-value-spec : {M : Type 1} → statement M
 set-value-spec =
@@ -61,6 +62,8 @@ set-value-spec =
     set-between-requires
     enum-known-k
     same-length
-    returns
     same-length-2
+    returns
+    same-length-3
+    same-length-4
     returns-2)

@@ -17,16 +17,16 @@ use Rattle.steps.proofs.run.repeat.Statement.{statement}
 use Rattle.steps.proofs.run.repeat.Tie as tie
 
 abbrev Inv-loop : tie.InvT-loop
-Inv-loop table store₀ state₀ input output₀ count result₀ answer₀ kept₀ values₀ rows₀ names₀ reference₀ scratch₀ out₀ done₀ notes₀ store state output result answer kept values rows names reference scratch out done notes =
+Inv-loop table store₀ state₀ input output₀ count result₀ answer₀ values₀ kept₀ done₀ notes₀ store state output result answer values kept done notes =
     Repeats table input (buffers store₀ state₀ output₀) count done notes (buffers store state output)
     × (lists.length store ≡ lists.length store₀)
     × (lists.length output ≡ lists.length output₀)
-    × Lent kept values rows names reference scratch out
+    × Lent values kept
     × (lists.length kept ≡ storeSize)
     × Alone table input (buffers store₀ state₀ output₀) done answer (buffers store state output)
 
 abbrev μ-loop : tie.MeasureT-loop
-μ-loop table store₀ state₀ input output₀ count result₀ answer₀ kept₀ values₀ rows₀ names₀ reference₀ scratch₀ out₀ done₀ notes₀ store state output result answer kept values rows names reference scratch out done notes =
+μ-loop table store₀ state₀ input output₀ count result₀ answer₀ values₀ kept₀ done₀ notes₀ store state output result answer values kept done notes =
     count - done
 
 loop-holds : tie.Need-loop-holds Inv-loop μ-loop
@@ -36,19 +36,13 @@ loop-holds c =
     (repeats-none (a .table .now) (a .input .now) (buffers (a .store .now) (a .state .now) (a .output .now)) (a .count) g, refl, refl, zeros-lent, lists.length-replicate {A = ℕ} storeSize 0, alone-none (a .table .now) (a .input .now) (buffers (a .store .now) (a .state .now) (a .output .now)) (a .answer .now))
 
 slice-aggregate-step-on : tie.Need-slice-aggregate-step-on Inv-loop μ-loop
-slice-aggregate-step-on c = sym (c .before .before .before .before .before .loop .inv .4)
+slice-aggregate-step-on c = sym (c .before .before .before .before .before .loop .inv .3 .twenty-strings)
 
 slice-aggregate-step-on-2 : tie.Need-slice-aggregate-step-on-2 Inv-loop μ-loop
-slice-aggregate-step-on-2 c = sym (c .before .before .before .before .before .before .loop .inv .3 .twenty-strings)
-
-slice-aggregate-step-on-3 : tie.Need-slice-aggregate-step-on-3 Inv-loop μ-loop
-slice-aggregate-step-on-3 c = sym (c .before .before .before .before .before .before .before .loop .inv .3 .twenty-rows)
-
-slice-aggregate-step-on-4 : tie.Need-slice-aggregate-step-on-4 Inv-loop μ-loop
-slice-aggregate-step-on-4 c = sym (c .before .before .before .before .before .before .before .before .loop .inv .3 .twenty-places)
+slice-aggregate-step-on-2 c = sym (c .before .before .before .before .before .before .loop .inv .4)
 
 step-on-requires : tie.Need-step-on-requires Inv-loop μ-loop
-step-on-requires c κs = (c .before .before .before .before .before .before .before .before .before .before .before .before .loop .inv .0 .given, c .before .before .before .before .before .before .before .before .before .before .before .before .loop .inv .3)
+step-on-requires c κs = (c .before .before .before .before .before .before .before .loop .inv .0 .given, c .before .before .before .before .before .before .before .loop .inv .3)
 
 notes-of-requires : tie.Need-notes-of-requires Inv-loop μ-loop
 notes-of-requires c κs = search needs
@@ -57,30 +51,30 @@ cast-more : tie.Need-cast-more Inv-loop μ-loop
 cast-more c = omega (arith, c .notes-of .ok)
 
 add-more : tie.Need-add-more Inv-loop μ-loop
-add-more c = omega (arith, c .before .before .before .before .before .before .before .before .before .before .before .before .before .before .before .before .before .before .before .before .before .before .before .loop .inv .0 .few, c .before .before .before .before .before .before .before .before .before .before .before .before .before .before .before .before .before .before .before .before .before .before .before .loop .inv .0 .most, c .before .before .before .before .before .before .before .before .before .before .before .before .before .before .before .before .before .before .before .before .before .before .loop-test .taken, c .notes-of .ok, c .before .before .before .before .before .before .before .before .before .before .before .before .before .before .before .before .before .before .before .before .before .before .before .before .before .before .before .before .fits .count)
+add-more c = omega (arith, c .before .before .before .before .before .before .before .before .before .before .before .before .before .before .before .before .loop .inv .0 .few, c .before .before .before .before .before .before .before .before .before .before .before .before .before .before .before .before .loop .inv .0 .most, c .before .before .before .before .before .before .before .before .before .before .before .before .before .before .before .loop-test .taken, c .notes-of .ok, c .before .before .before .before .before .before .before .before .before .before .before .before .before .before .before .before .before .before .before .before .before .fits .count)
 
 stops-requires : tie.Need-stops-requires Inv-loop μ-loop
 stops-requires c κs = search needs
 
 add-end : tie.Need-add-end Inv-loop μ-loop
-add-end c = omega (arith, c .before .before .before .before .before .before .before .before .before .before .before .before .before .before .before .before .before .before .before .before .before .before .before .before .before .loop-test .taken, c .before .before .before .before .before .before .before .before .before .before .before .before .before .before .before .before .before .before .before .before .before .before .before .before .before .before .before .before .before .before .before .fits .count)
+add-end c = omega (arith, c .before .before .before .before .before .before .before .before .before .before .before .before .before .before .before .before .before .before .loop-test .taken, c .before .before .before .before .before .before .before .before .before .before .before .before .before .before .before .before .before .before .before .before .before .before .before .before .fits .count)
 
 end-requires : tie.Need-end-requires Inv-loop μ-loop
 end-requires c κs = search needs
 
 same-length : tie.Need-same-length Inv-loop μ-loop
-same-length c = c .before .before .before .before .before .before .before .before .before .before .before .before .before .before .step-on .kept .1 .0 ∙ c .before .before .before .before .before .before .before .before .before .before .before .before .before .before .before .before .before .before .before .before .before .before .before .before .before .before .before .loop .inv .1
+same-length c = c .before .before .before .before .before .before .before .before .before .before .before .before .step-on .kept .1 .0 ∙ c .before .before .before .before .before .before .before .before .before .before .before .before .before .before .before .before .before .before .before .before .loop .inv .1
 
 same-length-2 : tie.Need-same-length-2 Inv-loop μ-loop
-same-length-2 c = c .before .before .before .before .before .before .before .before .before .before .before .before .before .before .step-on .kept .1 .1 .1 .1 .0 ∙ c .before .before .before .before .before .before .before .before .before .before .before .before .before .before .before .before .before .before .before .before .before .before .before .before .before .before .before .loop .inv .2
+same-length-2 c = c .before .before .before .before .before .before .before .before .before .before .before .before .step-on .kept .1 .1 .1 .1 .0 ∙ c .before .before .before .before .before .before .before .before .before .before .before .before .before .before .before .before .before .before .before .before .loop .inv .2
 
 returns : tie.Need-returns Inv-loop μ-loop
 returns c =
-    let s = c .before .before .before .before .before .before .before .before .before .before .before .before .before .before .step-on in
-    let at = c .before .before .before .before .before .before .before .before .before .before .before .before .before .before .before .before .before .before .before .before .before .before .before .before .before .before .before .loop in (
+    let s = c .before .before .before .before .before .before .before .before .before .before .before .before .step-on in
+    let at = c .before .before .before .before .before .before .before .before .before .before .before .before .before .before .before .before .before .before .before .before .loop in (
       ended-as (ap (λ (n : ℕ). 1 ∷ (s .result ∷ ((at .done + 1) ∷ ((at .notes + n) ∷ [])))) (c .before .before .before .before .notes-of .ensures)) (c .end .ensures)
-          (repeats-stopped (at .inv .0) (s .ensures .0) (c .before .before .before .before .before .before .before .before .before .before .before .before .before .before .before .before .before .before .before .before .before .before .before .before .before .before .loop-test .taken) (sym (c .before .before .before .stops .ensures) ∙ c .before .before .if1 .taken)),
-      alone-ends (at .inv .5) (s .ensures .0) (c .before .before .before .before .before .before .before .before .before .before .before .before .before .before .before .before .before .before .before .before .before .before .before .before .before .before .loop-test .taken)
+          (repeats-stopped (at .inv .0) (s .ensures .0) (c .before .before .before .before .before .before .before .before .before .before .before .before .before .before .before .before .before .before .before .loop-test .taken) (sym (c .before .before .before .stops .ensures) ∙ c .before .before .if1 .taken)),
+      alone-ends (at .inv .5) (s .ensures .0) (c .before .before .before .before .before .before .before .before .before .before .before .before .before .before .before .before .before .before .before .loop-test .taken)
           (c .end .ensures .0),
     )
 
@@ -88,23 +82,23 @@ end-requires-2 : tie.Need-end-requires-2 Inv-loop μ-loop
 end-requires-2 c κs = search needs
 
 same-length-3 : tie.Need-same-length-3 Inv-loop μ-loop
-same-length-3 c = c .before .before .before .before .before .before .before .before .before .before .before .before .before .before .before .step-on .kept .1 .0 ∙ c .before .before .before .before .before .before .before .before .before .before .before .before .before .before .before .before .before .before .before .before .before .before .before .before .before .before .before .before .loop .inv .1
+same-length-3 c = c .before .before .before .before .before .before .before .before .before .before .before .before .before .step-on .kept .1 .0 ∙ c .before .before .before .before .before .before .before .before .before .before .before .before .before .before .before .before .before .before .before .before .before .loop .inv .1
 
 same-length-4 : tie.Need-same-length-4 Inv-loop μ-loop
-same-length-4 c = c .before .before .before .before .before .before .before .before .before .before .before .before .before .before .before .step-on .kept .1 .1 .1 .1 .0 ∙ c .before .before .before .before .before .before .before .before .before .before .before .before .before .before .before .before .before .before .before .before .before .before .before .before .before .before .before .before .loop .inv .2
+same-length-4 c = c .before .before .before .before .before .before .before .before .before .before .before .before .before .step-on .kept .1 .1 .1 .1 .0 ∙ c .before .before .before .before .before .before .before .before .before .before .before .before .before .before .before .before .before .before .before .before .before .loop .inv .2
 
 returns-2 : tie.Need-returns-2 Inv-loop μ-loop
 returns-2 c =
-    let s = c .before .before .before .before .before .before .before .before .before .before .before .before .before .before .before .step-on in
-    let at = c .before .before .before .before .before .before .before .before .before .before .before .before .before .before .before .before .before .before .before .before .before .before .before .before .before .before .before .before .loop in (
+    let s = c .before .before .before .before .before .before .before .before .before .before .before .before .before .step-on in
+    let at = c .before .before .before .before .before .before .before .before .before .before .before .before .before .before .before .before .before .before .before .before .before .loop in (
       ended-as refl (c .end2 .ensures)
-          (repeats-refused (at .inv .0) (s .ensures .0) (c .before .before .before .before .before .before .before .before .before .before .before .before .before .before .before .before .before .before .before .before .before .before .before .before .before .before .before .loop-test .taken) (sym (c .before .before .before .before .stops .ensures) ∙ c .before .before .before .if1 .left) (c .before .before .if2 .taken)),
-      alone-ends (at .inv .5) (s .ensures .0) (c .before .before .before .before .before .before .before .before .before .before .before .before .before .before .before .before .before .before .before .before .before .before .before .before .before .before .before .loop-test .taken)
+          (repeats-refused (at .inv .0) (s .ensures .0) (c .before .before .before .before .before .before .before .before .before .before .before .before .before .before .before .before .before .before .before .before .loop-test .taken) (sym (c .before .before .before .before .stops .ensures) ∙ c .before .before .before .if1 .left) (c .before .before .if2 .taken)),
+      alone-ends (at .inv .5) (s .ensures .0) (c .before .before .before .before .before .before .before .before .before .before .before .before .before .before .before .before .before .before .before .before .loop-test .taken)
           (c .end2 .ensures .0),
     )
 
 add-done : tie.Need-add-done Inv-loop μ-loop
-add-done c = omega (arith, c .before .before .before .before .before .before .before .before .before .before .before .before .before .before .before .before .before .before .before .before .before .before .before .before .before .loop-test .taken, c .before .before .before .before .before .before .before .before .before .before .before .before .before .before .before .before .before .before .before .before .before .before .before .before .before .before .before .before .before .before .before .fits .count)
+add-done c = omega (arith, c .before .before .before .before .before .before .before .before .before .before .before .before .before .before .before .before .before .before .loop-test .taken, c .before .before .before .before .before .before .before .before .before .before .before .before .before .before .before .before .before .before .before .before .before .before .before .before .fits .count)
 
 is-finished-requires : tie.Need-is-finished-requires Inv-loop μ-loop
 is-finished-requires c κs = search needs
@@ -113,40 +107,40 @@ end-requires-3 : tie.Need-end-requires-3 Inv-loop μ-loop
 end-requires-3 c κs = search needs
 
 same-length-5 : tie.Need-same-length-5 Inv-loop μ-loop
-same-length-5 c = c .before .before .before .before .before .before .before .before .before .before .before .before .before .before .before .before .before .before .step-on .kept .1 .0 ∙ c .before .before .before .before .before .before .before .before .before .before .before .before .before .before .before .before .before .before .before .before .before .before .before .before .before .before .before .before .before .before .before .loop .inv .1
+same-length-5 c = c .before .before .before .before .before .before .before .before .before .before .before .before .before .before .before .before .step-on .kept .1 .0 ∙ c .before .before .before .before .before .before .before .before .before .before .before .before .before .before .before .before .before .before .before .before .before .before .before .before .loop .inv .1
 
 same-length-6 : tie.Need-same-length-6 Inv-loop μ-loop
-same-length-6 c = c .before .before .before .before .before .before .before .before .before .before .before .before .before .before .before .before .before .before .step-on .kept .1 .1 .1 .1 .0 ∙ c .before .before .before .before .before .before .before .before .before .before .before .before .before .before .before .before .before .before .before .before .before .before .before .before .before .before .before .before .before .before .before .loop .inv .2
+same-length-6 c = c .before .before .before .before .before .before .before .before .before .before .before .before .before .before .before .before .step-on .kept .1 .1 .1 .1 .0 ∙ c .before .before .before .before .before .before .before .before .before .before .before .before .before .before .before .before .before .before .before .before .before .before .before .before .loop .inv .2
 
 returns-3 : tie.Need-returns-3 Inv-loop μ-loop
 returns-3 c =
-    let s = c .before .before .before .before .before .before .before .before .before .before .before .before .before .before .before .before .before .before .step-on in
-    let at = c .before .before .before .before .before .before .before .before .before .before .before .before .before .before .before .before .before .before .before .before .before .before .before .before .before .before .before .before .before .before .before .loop in (
+    let s = c .before .before .before .before .before .before .before .before .before .before .before .before .before .before .before .before .step-on in
+    let at = c .before .before .before .before .before .before .before .before .before .before .before .before .before .before .before .before .before .before .before .before .before .before .before .before .loop in (
       ended-as (ap (λ (n : ℕ). 0 ∷ (0 ∷ ((at .done + 1) ∷ ((at .notes + n) ∷ [])))) (c .before .before .before .before .before .before .before .before .notes-of .ensures)) (c .end3 .ensures)
-          (repeats-finished (at .inv .0) (s .ensures .0) (c .before .before .before .before .before .before .before .before .before .before .before .before .before .before .before .before .before .before .before .before .before .before .before .before .before .before .before .before .before .before .loop-test .taken) (c .before .before .before .before .before .if2 .left)
+          (repeats-finished (at .inv .0) (s .ensures .0) (c .before .before .before .before .before .before .before .before .before .before .before .before .before .before .before .before .before .before .before .before .before .before .before .loop-test .taken) (c .before .before .before .before .before .if2 .left)
           (sym (c .before .before .before .is-finished .ensures) ∙ c .before .before .if3 .taken)),
-      alone-ends (at .inv .5) (s .ensures .0) (c .before .before .before .before .before .before .before .before .before .before .before .before .before .before .before .before .before .before .before .before .before .before .before .before .before .before .before .before .before .before .loop-test .taken)
+      alone-ends (at .inv .5) (s .ensures .0) (c .before .before .before .before .before .before .before .before .before .before .before .before .before .before .before .before .before .before .before .before .before .before .before .loop-test .taken)
           (omega (arith, c .end3 .ensures .0, c .before .before .before .before .before .if2 .left)),
     )
 
 loop-less : tie.Need-loop-less Inv-loop μ-loop
-loop-less c = omega (arith, c .before .before .before .before .before .before .before .before .before .before .before .before .before .before .before .before .before .before .before .before .before .before .before .before .before .before .before .before .loop-test .taken)
+loop-less c = omega (arith, c .before .before .before .before .before .before .before .before .before .before .before .before .before .before .before .before .before .before .before .before .before .loop-test .taken)
 
 loop-again : tie.Need-loop-again Inv-loop μ-loop
 loop-again c =
-    let a = c .before .before .before .before .before .before .before .before .before .before .before .before .before .before .before .before .before .before .before .before .before .before .before .before .before .before .before .before .before .before .before .before .before .before .args in
-    let s = c .before .before .before .before .before .before .before .before .before .before .before .before .before .before .before .before .step-on in
-    let at = c .before .before .before .before .before .before .before .before .before .before .before .before .before .before .before .before .before .before .before .before .before .before .before .before .before .before .before .before .before .loop in
+    let a = c .before .before .before .before .before .before .before .before .before .before .before .before .before .before .before .before .before .before .before .before .before .before .before .before .before .before .before .args in
+    let s = c .before .before .before .before .before .before .before .before .before .before .before .before .before .before .step-on in
+    let at = c .before .before .before .before .before .before .before .before .before .before .before .before .before .before .before .before .before .before .before .before .before .before .loop in
     let b = buffers (a .store .now) (a .state .now) (a .output .now) in
     let left = buffers (s .last .1 .0) (s .last .1 .1 .0) (s .last .1 .1 .1 .1 .0) in
     let notes = c .before .before .before .before .before .before .notes-of in (
       subst (λ (n : ℕ). Repeats (a .table .now) (a .input .now) b (a .count) (at .done + 1) (at .notes + n) left) (sym (notes .ensures))
-          (repeats-more (at .inv .0) (s .ensures .0) (c .before .before .before .before .before .before .before .before .before .before .before .before .before .before .before .before .before .before .before .before .before .before .before .before .before .before .before .before .loop-test .taken) (c .before .before .before .if2 .left) (sym (c .before .is-finished .ensures) ∙ c .if3 .left)
+          (repeats-more (at .inv .0) (s .ensures .0) (c .before .before .before .before .before .before .before .before .before .before .before .before .before .before .before .before .before .before .before .before .before .loop-test .taken) (c .before .before .before .if2 .left) (sym (c .before .is-finished .ensures) ∙ c .if3 .left)
           (omega (arith, notes .ok, notes .ensures))),
       s .kept .1 .0 ∙ at .inv .1,
       s .kept .1 .1 .1 .1 .0 ∙ at .inv .2,
       s .ensures .1,
-      s .kept .1 .1 .1 .1 .1 .0 ∙ at .inv .4,
+      s .kept .1 .1 .1 .1 .1 .1 .0 ∙ at .inv .4,
       alone-more (at .inv .5) (s .ensures .0) (c .before .before .before .if2 .left),
     )
 
@@ -177,8 +171,6 @@ repeat-spec =
     loop-holds
     slice-aggregate-step-on
     slice-aggregate-step-on-2
-    slice-aggregate-step-on-3
-    slice-aggregate-step-on-4
     step-on-requires
     notes-of-requires
     cast-more

@@ -11,18 +11,21 @@ use Rattle.steps.proofs.scans.scan.Statement.{statement}
 use Rattle.steps.proofs.scans.scan.Tie as tie
 
 -- what the scan came to
+abbrev begun : tie.After-scan-step → tie.Start
+begun c = c .before .before .before .before .before .before .before .before .before .before .before
+
 scanned : (c : tie.After-scan-step) {r : Scanned} → c .scan-step .result ≡ r
-    → (let a = c .before .before .before .before .before .before .before .before .before .before .before .before .before .before .before .before .before .before .args in
+    → (let a = begun c .args in
     let left = c .scan-step .last .1 in
-    Scans r (a .store .now) (left .0) (a .state .now) (left .1 .1 .1 .1 .1 .1 .1 .1 .1 .1 .0) (scanningOf (a .table .now) (a .store .now) (a .state .now) (a .s)))
-scanned c {r} e =
-    let a = c .before .before .before .before .before .before .before .before .before .before .before .before .before .before .before .before .before .before .args in
+    Scans r (a .store .now) (left .0) (a .state .now) (left .1 .1 .1 .1 .1 .0) (scanningOf (a .table .now) (a .store .now) (a .state .now) (a .s)))
+scanned c e =
+    let a = begun c .args in
     let left = c .scan-step .last .1 in
-    subst (λ (d : Scanned). Scans d (a .store .now) (left .0) (a .state .now) (left .1 .1 .1 .1 .1 .1 .1 .1 .1 .1 .0) (scanningOf (a .table .now) (a .store .now) (a .state .now) (a .s)))
+    subst (λ (d : Scanned). Scans d (a .store .now) (left .0) (a .state .now) (left .1 .1 .1 .1 .1 .0) (scanningOf (a .table .now) (a .store .now) (a .state .now) (a .s)))
     e (c .scan-step .ensures .0 .scans)
 
 scan-step-requires : tie.Need-scan-step-requires
-scan-step-requires c κs = c .before .before .before .before .before .before .before .before .before .before .before .before .before .before .before .before .before .pre
+scan-step-requires c κs = c .before .before .before .before .before .before .before .before .before .before .pre
 
 enum-known-notes : tie.Need-enum-known-notes
 enum-known-notes c = search needs
@@ -48,23 +51,36 @@ same-length-2 c = search needs
 same-length-3 : tie.Need-same-length-3
 same-length-3 c = search needs
 
+returns : tie.Need-returns
+unfolding scannedTo
+returns c =
+    let went = c .before .before .before .before .before .before .before .before .before .before .before in
+    let a = begun went .args in
+    let found = scanned went (c .before .before .before .notes .given .1) in
+    let to = sym (ap (λ x. scannedTo x (branchMeaning (a .s .branch))) (found .found)) in (
+      λ input output p stands. rw (c .go-to .ensures) (record { works = scan-works stands (a .table .now) (a .s) (found .ended) to }),
+      went .scan-step .ensures .1,
+    )
+
 same-length-4 : tie.Need-same-length-4
 same-length-4 c = search needs
 
 same-length-5 : tie.Need-same-length-5
 same-length-5 c = search needs
 
-returns : tie.Need-returns
-unfolding scannedTo
-returns c =
-    let s = c .before .before .before .before .before .before .before .before .before .before .before .before .before .before .before .before .before .before .before .before .before .before .before .before .before .before .before .before .before .before .before .before .before .args .s in
-    let table = c .before .before .before .before .before .before .before .before .before .before .before .before .before .before .before .before .before .before .before .before .before .before .before .before .before .before .before .before .before .before .before .before .before .args .table .now in
-    let found = scanned (c .before .before .before .before .before .before .before .before .before .before .before .before .before .before .before) (c .before .before .before .notes .given .1) in
-    let to = sym (ap (λ x. scannedTo x (branchMeaning (s .branch))) (found .found)) in
-    (λ input output p stands. rw (c .go-to .ensures) (record { works = scan-works stands table s (found .ended) to }), c .before .before .before .before .before .before .before .before .before .before .before .before .before .before .before .scan-step .ensures .1)
-
 same-length-6 : tie.Need-same-length-6
 same-length-6 c = search needs
+
+returns-2 : tie.Need-returns-2
+unfolding scannedTo
+returns-2 c =
+    let went = c .before .before .before .before .before .before .before .before .before .before .before in
+    let a = begun went .args in
+    let missed = scanned went (c .before .before .before .notes2 .given .1) in
+    let to = sym (ap (λ x. scannedTo x (branchMeaning (a .s .branch))) (missed .failed)) in (
+      λ input output p stands. rw (c .go-to2 .ensures) (record { works = scan-works stands (a .table .now) (a .s) (missed .ended) to }),
+      went .scan-step .ensures .1,
+    )
 
 same-length-7 : tie.Need-same-length-7
 same-length-7 c = search needs
@@ -75,45 +91,19 @@ same-length-8 c = search needs
 same-length-9 : tie.Need-same-length-9
 same-length-9 c = search needs
 
-same-length-10 : tie.Need-same-length-10
-same-length-10 c = search needs
-
-returns-2 : tie.Need-returns-2
-unfolding scannedTo
-returns-2 c =
-    let s = c .before .before .before .before .before .before .before .before .before .before .before .before .before .before .before .before .before .before .before .before .before .before .before .before .before .before .before .before .before .before .before .before .before .args .s in
-    let table = c .before .before .before .before .before .before .before .before .before .before .before .before .before .before .before .before .before .before .before .before .before .before .before .before .before .before .before .before .before .before .before .before .before .args .table .now in
-    let missed = scanned (c .before .before .before .before .before .before .before .before .before .before .before .before .before .before .before) (c .before .before .before .notes2 .given .1) in
-    let to = sym (ap (λ x. scannedTo x (branchMeaning (s .branch))) (missed .failed)) in
-    (λ input output p stands. rw (c .go-to2 .ensures) (record { works = scan-works stands table s (missed .ended) to }), c .before .before .before .before .before .before .before .before .before .before .before .before .before .before .before .scan-step .ensures .1)
-
-same-length-11 : tie.Need-same-length-11
-same-length-11 c = search needs
-
-same-length-12 : tie.Need-same-length-12
-same-length-12 c = search needs
-
-same-length-13 : tie.Need-same-length-13
-same-length-13 c = search needs
-
-same-length-14 : tie.Need-same-length-14
-same-length-14 c = search needs
-
-same-length-15 : tie.Need-same-length-15
-same-length-15 c = search needs
-
 returns-3 : tie.Need-returns-3
 returns-3 c =
-    let a = c .before .before .before .before .before .before .before .before .before .before .before .before .before .before .before .before .before .before .before .before .before .before .before .before .before .before .before .before .before .before .before .args in
-    let called = c .before .before .before .before .before .before .before .before .before .before .before .before .before .scan-step in
-    let halted = scanned (c .before .before .before .before .before .before .before .before .before .before .before .before .before) (c .before .k .given .1) in (
+    let went = c .before .before .before .before .before .before .before .before .before in
+    let a = begun went .args in
+    let k = c .before .k .given in
+    let halted = scanned went (k .1) in (
       λ input output p stands.
           record {
             works =
-                scan-stops input (buffers (a .store .now) (a .state .now) output) (a .table .now) (a .s) (called .last .1 .0) (c .before .k .given .0 .0)
+                scan-stops input (buffers (a .store .now) (a .state .now) output) (a .table .now) (a .s) (went .scan-step .last .1 .0) (k .0 .0)
                 (halted .0) (halted .1);
           },
-      called .ensures .1,
+      went .scan-step .ensures .1,
     )
 
 pub scan-spec : {M : Type 1} → statement M
@@ -129,18 +119,12 @@ scan-spec =
     same-length
     same-length-2
     same-length-3
+    returns
     same-length-4
     same-length-5
-    returns
     same-length-6
+    returns-2
     same-length-7
     same-length-8
     same-length-9
-    same-length-10
-    returns-2
-    same-length-11
-    same-length-12
-    same-length-13
-    same-length-14
-    same-length-15
     returns-3)

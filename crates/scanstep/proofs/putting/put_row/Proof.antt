@@ -1,13 +1,13 @@
--- `pattern::put_row` writes a kind and two numbers.
+-- `putting::put_row` writes a kind and two numbers.
 -- Assumes nothing.
 use Prim.Native.Nat.{_*_}
-use Rattle.pattern.specs.Putting.{PutRow}
-use Rattle.pattern.proofs.Bytes.{put-rows}
+use Rattle.scanstep.specs.Putting.{PutRow}
+use Rattle.scanstep.proofs.Bytes.{put-rows}
 use lib.ListN.{length-set}
 use native.Mathlib.Omega.{arith}
 use borrow.Author.Needs.{needs}
-use Rattle.pattern.proofs.put_row.Statement.{statement}
-use Rattle.pattern.proofs.put_row.Tie as tie
+use Rattle.scanstep.proofs.putting.put_row.Statement.{statement}
+use Rattle.scanstep.proofs.putting.put_row.Tie as tie
 
 -- the row as it was left
 done : (c : tie.After-slice-known3) → PutRow (c .before .before .before .before .before .before .before .before .before .args .rows .now) (c .before .before .put42 .last .0) (c .before .before .before .before .before .before .before .before .before .args .i) (c .before .before .before .before .before .before .before .before .before .args .kind) (c .before .before .before .before .before .before .before .before .before .args .a) (c .before .before .before .before .before .before .before .before .before .args .b)

@@ -9,7 +9,7 @@ use Rattle.scanning.specs.Splits as Splits
 use Rattle.scan.specs.Rows.{rowOf, rowElement, elementOf, elementsAt, patternOf, Good, GoodRows}
 use Rattle.scan.specs.declared.Element.{Element}
 use Rattle.scan.proofs.Calls.{elements-more}
-use Rattle.pattern.specs.Putting.{PutRow}
+use Rattle.scanstep.specs.Putting.{PutRow}
 
 -- rows that are the same elements
 elements-same : (values rows rows′ : List ℕ) (n i : ℕ) → ((j : ℕ) → j < i + n → rowElement rows′ j ≡ rowElement rows j)

@@ -1,12 +1,12 @@
--- `pattern::put4` writes a number's four bytes.
+-- `putting::put4` writes a number's four bytes.
 -- Assumes nothing.
-use Rattle.pattern.proofs.Bytes.{digits4, put-bytes}
+use Rattle.scanstep.proofs.Bytes.{digits4, put-bytes}
 use lib.ListN.{length-set}
 use Prim.Native.Nat.{_/_, _%_}
 use native.Mathlib.Omega.{arith}
 use borrow.Author.Needs.{needs}
-use Rattle.pattern.proofs.put4.Statement.{statement}
-use Rattle.pattern.proofs.put4.Tie as tie
+use Rattle.scanstep.proofs.putting.put4.Statement.{statement}
+use Rattle.scanstep.proofs.putting.put4.Tie as tie
 
 cast-rows : tie.Need-cast-rows
 cast-rows c = search needs

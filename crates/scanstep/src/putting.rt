@@ -1,8 +1,7 @@
-// Writing a pattern's rows, for whoever calls the scan with a pattern of its own.
-// Assumes nothing.
+// Writing the rows of a pattern. Each contract says what stands in them and that the rows before are as they were.
 ghost use Prim.Native.Nat.{_+_, _*_, _<_, _^_};
 ghost use lib.ListN.{length};
-ghost use Rattle.pattern.specs.Putting.{Put4, PutRow};
+ghost use Rattle.scanstep.specs.Putting.{Put4, PutRow};
 use scanning::ROW_SIZE;
 
 // a number as four bytes at a place, low byte first

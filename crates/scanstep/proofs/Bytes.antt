@@ -8,7 +8,7 @@ use lib.ListN.{length, getD, set, length-set}
 use lib.Seq.{getD-set-same, getD-set-other}
 use Rattle.scanning.specs.Call.{number4}
 use Rattle.scan.specs.Rows.{rowAt, rowElement}
-use Rattle.pattern.specs.Putting.{Put4, PutRow}
+use Rattle.scanstep.specs.Putting.{Put4, PutRow}
 
 -- the four bytes of a number make it up
 pub digits4 : (n : ℕ) → n % 256 + 256 * (n / 256 % 256 + 256 * (n / 256 / 256 % 256 + 256 * (n / 256 / 256 / 256))) ≡ n
