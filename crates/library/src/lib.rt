@@ -5,7 +5,7 @@ ghost use Rattle.calls.specs.Calls.{buffers};
 ghost use Rattle.calls.specs.Promises.{ReadPromise, StartPromise, StepPromise, RunPromise, readBack, startBack, stepBack, runBack};
 ghost use Rattle.register.specs.Claims.{OpenPromise, OfferPromise, LinePromise, ReportPromise, bufferBack, lineBack, reportBack};
 ghost use Rattle.scanning.specs.Call.{ScanPromise};
-use calls::STATE_SIZE;
+use encoding::STATE_SIZE;
 use register::LINE_SIZE;
 use scanning::ANSWER_SIZE;
 
@@ -14,7 +14,7 @@ use scanning::ANSWER_SIZE;
 pub extern "C" fn strigol_read(deck: &[u8], table: &mut [u8], card: &mut u32) -> u32
     ensures { λ r. ⌜ ReadPromise current (now (deck .entry)) (now (table .entry)) (readBack r (now (card .exit)) (now (table .exit))) ⌝ }
 {
-    reader::strigol_read(deck, table, card)
+    deck_reader::strigol_read(deck, table, card)
 }
 
 // The starting call: the state before the first step, and the store zeroed; 14 if the store is too small, which then stays.
@@ -22,7 +22,7 @@ pub extern "C" fn strigol_read(deck: &[u8], table: &mut [u8], card: &mut u32) ->
 pub extern "C" fn strigol_start(store: &mut [u8], state: &mut [u64; STATE_SIZE]) -> u32
     ensures { λ r. ⌜ StartPromise (now (store .entry)) (startBack r (now (store .exit)) (now (state .exit))) ⌝ }
 {
-    states::strigol_start(store, state)
+    state::strigol_start(store, state)
 }
 
 // The step call: a run of one step.
@@ -38,7 +38,7 @@ pub extern "C" fn strigol_step(
     ensures { λ r. ⌜ StepPromise current (now (table .entry)) (now (input .entry)) (buffers (now (store .entry)) (now (state .entry)) (now (output .entry)))
         (stepBack r (now (answer .exit)) (buffers (now (store .exit)) (now (state .exit)) (now (output .exit)))) ⌝ }
 {
-    steps::strigol_step(table, store, state, input, output, answer)
+    interpreter::strigol_step(table, store, state, input, output, answer)
 }
 
 // The run call: so many steps at most. A run of more is a run again on what the last one left.
@@ -55,7 +55,7 @@ pub extern "C" fn strigol_run(
     ensures { λ r. ⌜ RunPromise current (now (table .entry)) (now (input .entry)) count (buffers (now (store .entry)) (now (state .entry)) (now (output .entry)))
         (runBack r (now (result .exit)) (buffers (now (store .exit)) (now (state .exit)) (now (output .exit)))) ⌝ }
 {
-    steps::run::strigol_run(table, store, state, input, output, count, result)
+    interpreter::run::strigol_run(table, store, state, input, output, count, result)
 }
 
 // The scan call: 0 and the scan's answer, or 22, 23 or 24 and no split.

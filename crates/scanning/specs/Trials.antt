@@ -13,35 +13,35 @@ use Rattle.scanning.specs.Splits.{Element, string, fixed, free, Split}
 
 -- How a row of elements fared at a place, each with the trials made: the lengths of the pieces found; N12 "Too few bytes left fails the
 -- whole scan; other bytes move the group one place right." Further right there are still fewer bytes for the same row, so `few` ends the moves
--- of this group and of those before it: none of them can fit any more (FirstFit: Says).
+-- of this group and of those before it: none of them can fit any more (FirstFit: Correct).
 pub data Tried : Type 0 where
   found : List ℕ → ℕ → Tried
   other : ℕ → Tried
   few : ℕ → Tried
 
--- N11 "each test is one trial": an element passed with a piece of l bytes, then the rest of the row
-unfoldable pub passed : ℕ → Tried → Tried
-passed l (found ls n) = found (l ∷ ls) (suc n)
-passed l (other n) = other (suc n)
-passed l (few n) = few (suc n)
+-- N11 "each test is one trial", document 01's word: an element passed with a piece of l bytes, then the rest of the row
+unfoldable pub elementPassed : ℕ → Tried → Tried
+elementPassed l (found ls n) = found (l ∷ ls) (suc n)
+elementPassed l (other n) = other (suc n)
+elementPassed l (few n) = few (suc n)
 
 -- N11 "the first that fails ends it"; decided for N12: too few bytes are looked at before other bytes
 unfoldable pub tested : (enough equal : Bool) → ℕ → Tried → Tried
 tested false equal l next = few 1
 tested true false l next = other 1
-tested true true l next = passed l next
+tested true true l next = elementPassed l next
 
 -- what the row found one place further right, with the trials made before it
-unfoldable pub moved : ℕ → Tried → Tried
-moved n (found [] m) = found [] (n + m)
-moved n (found (gap ∷ ls) m) = found (suc gap ∷ ls) (n + m)
-moved n (other m) = other (n + m)
-moved n (few m) = few (n + m)
+unfoldable pub placeMoved : ℕ → Tried → Tried
+placeMoved n (found [] m) = found [] (n + m)
+placeMoved n (found (gap ∷ ls) m) = found (suc gap ∷ ls) (n + m)
+placeMoved n (other m) = other (n + m)
+placeMoved n (few m) = few (n + m)
 
 -- the row fared so at a place: it stays there, behind a gap of 0 bytes, or goes on with what the next place gives
 unfoldable pub settled : Tried → Tried → Tried
 settled (found ls n) next = found (0 ∷ ls) n
-settled (other n) next = moved n next
+settled (other n) next = placeMoved n next
 settled (few n) next = few n
 
 -- N10 a group "is tried from" a place on, N12 moving "one place right" on other bytes; the gap passed over is the first length.
