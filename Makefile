@@ -1,4 +1,4 @@
-# The front door: build, test, bench, install. PREFIX says where to; DESTDIR, for packagers, is put before it.
+# The front door: build, run, test, bench, install. PREFIX says where to; DESTDIR, for packagers, is put before it.
 PREFIX = /usr/local
 DESTDIR =
 
@@ -7,11 +7,22 @@ program = target/bin/strigol
 register = target/bin/strigol-register
 to = $(DESTDIR)$(PREFIX)
 
-.PHONY: build library program register test bench install uninstall clean
+.PHONY: all build run library program register test bench install uninstall clean
+
+all: build
+	@echo 'built: $(library), $(program), $(register). Next: make run, which runs the deck LOTS; make test; make install'
 
 # the proved library and the proved program, one after the other: both call rt; then the program for the register, in C over the library
 .NOTPARALLEL:
 build: library program register
+
+# builds what isn't built, runs the deck LOTS on its three lines of trade and shows what it prints
+run: build
+	@mkdir -p target/lots
+	@cp examples/lots.deck target/lots/deck
+	@echo 'examples/lots.deck on examples/lots.in prints:'
+	@cd target/lots && ../bin/strigol <../../examples/lots.in
+	@echo 'Next: write a deck of your own (docs/DECKS.md) into a file named deck, and run $(CURDIR)/$(program) <input beside it'
 
 library program register:
 	@tools/$@

@@ -5,7 +5,7 @@ import glob, os, re, textwrap
 
 ROOT = os.path.dirname(os.path.dirname(os.path.abspath(__file__)))
 SPECS = os.path.join(ROOT, "crates/vectors/specs")
-DEFINITIONS = ["base", "scanning", "cards", "language", "judgement", "values", "machine", "calls"]
+DEFINITIONS = ["base", "scanning", "cards", "syntax", "validation", "values", "machine", "encoding", "calls"]
 PER_FILE = 20
 REGISTER_SPECS = os.path.join(ROOT, "crates/register_vectors/specs")
 REGISTER_DEFINITIONS = ["base", "cards", "values", "register"]

@@ -12,6 +12,7 @@ pub record Edition : Type 0 where
   -- columns 1 to 72 of a line
   pub columns : List ℕ → List ℕ
 
--- document 01: "Numbers run from -8,388,607 to 8,388,607", a table of 28,672 bytes, "A shorter line ends its card where it ends"
+-- document 01: V1 "Numbers run from -8,388,607 to 8,388,607", Q2 a table of 28,672 bytes, C3 "A shorter line ends its card where it ends.": it
+-- is not filled up to column 72
 unfoldable pub edition1 : Edition
 edition1 = record { limit = 8_388_607; tableSize = 28_672; columns = take 72 }

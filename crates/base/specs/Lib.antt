@@ -1,5 +1,5 @@
--- What the definitions share: bytes of a text, tests on lists, what holds whichever way a test goes, and the sizes that an edition of
--- the language fixes.
+-- What the definitions share: bytes of a text (Text), tests on lists (Lists, ListLaws), what holds whichever way a test goes (Choice), the sizes that
+-- an edition of the language fixes (Edition; the current one: Current), and the counts that are the same in all (Limits).
 pub mod Choice
 pub mod Current
 pub mod Edition

@@ -1,4 +1,7 @@
--- Every count and length that document 01 fixes once and for all, named here once. Assumes nothing.
+-- The counts and lengths that document 01 fixes for every edition, named here once. Named elsewhere: what an edition fixes (Edition); the columns
+-- of a card (cards/Cards) and the 8 bytes of a name (syntax/Lexemes: nameLength); the sizes of a cell and of the store (encoding/Buffers); what the
+-- program keeps, lends and runs (calls/Strigol). The team's own are those of its layouts (encoding/Table, encoding/Buffers, scanning/Call) and the
+-- numbers that may wait in an expression (encoding/Rules: mostWaiting). Assumes nothing.
 use Prim.Native.Nat.{ℕ}
 
 -- Q10 "256 statements, 32 strings, 32 numbers, 64 labels or 16 routines declared"
@@ -18,8 +21,8 @@ abbrev pub routines : ℕ
 routines = 16
 
 -- Q10 "20 elements in an expression", Q23 "The pattern has over 20 elements."
-abbrev pub row : ℕ
-row = 20
+abbrev pub rowElements : ℕ
+rowElements = 20
 
 -- Q10 "1,024 elements, 1,024 operands and `+ - * /` in numeric expressions, or 4,096 literal bytes"
 abbrev pub elements : ℕ
@@ -32,8 +35,8 @@ abbrev pub literals : ℕ
 literals = 4096
 
 -- V1 "strings hold 0 to 1,024 bytes", Q22 "the reference exceeds 1,024 bytes"
-abbrev pub bytes : ℕ
-bytes = 1024
+abbrev pub stringBytes : ℕ
+stringBytes = 1024
 
 -- S13 "an expression in parentheses, at most 16 deep"
 abbrev pub parentheses : ℕ
@@ -48,5 +51,5 @@ abbrev pub longestDeck : ℕ
 longestDeck = 32_768
 
 -- Q3 "a line exceeds 80"
-abbrev pub line : ℕ
-line = 80
+abbrev pub lineBytes : ℕ
+lineBytes = 80

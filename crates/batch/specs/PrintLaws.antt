@@ -11,15 +11,15 @@ use borrow.Author.Tests.{le-ltb, ne-eqb}
 use Rattle.base.specs.Current.{current}
 use Rattle.base.specs.Limits.{longestDeck}
 use Rattle.base.specs.Text.{bytes}
-use Rattle.calls.specs.Buffers.{storeSize, stateIn}
+use Rattle.encoding.specs.Buffers.{storeSize, stateIn}
 use Rattle.calls.specs.Calls.{ReadCalled, readBy, readJudged, readCall, StartCalled, startCall, Buffers, buffers, givenIn}
 use Rattle.calls.specs.Calls.{RunReturned, outcomeNumber, resultNumbers}
 use Rattle.calls.specs.Demands.{observedRun, RunClaim, ListClaim, Linked, History, Demand3}
 use Rattle.calls.specs.Promises.{readBack, RunPromise}
 use Rattle.calls.specs.StartLaws.{read-short}
 use Rattle.calls.specs.Strigol.{keptDeck, keptInput, lentOutput, mostSteps, outcomeWord, closingLine, printedBy, printedFor, printed}
-use Rattle.judgement.specs.Deck.{Judgement, accepted, refused, judge}
-use Rattle.language.specs.Program.{Program}
+use Rattle.validation.specs.Deck.{Judgement, accepted, refused, judge}
+use Rattle.syntax.specs.Program.{Program}
 use Rattle.machine.specs.Run.{Outcome, FINISHED, STOPPED, SPENT, REFUSED, Ran, run}
 use Rattle.machine.specs.State.{State, fresh}
 use Rattle.printing.specs.Printing.{Put, PutWithin}

@@ -26,7 +26,7 @@ unfoldable pub lineOf : List ℕ → List ℕ
 lineOf result = closingLine (outcomeOf (getD result 0 0)) (getD result 1 0) (getD result 2 0) (getD result 3 0)
 
 -- L15 a deck and an input of which no more is kept, and room for all that is printed
-pub record Lent (deck input out : List ℕ) : Type 0 where
+pub record BatchLent (deck input out : List ℕ) : Type 0 where
   pub kept-deck : length deck ≤ keptDeck
   pub kept-input : length input ≤ keptInput
   pub room : length out ≡ lentOutput + longestLine

@@ -4,21 +4,21 @@ ghost use Prim.Native.Nat.{_+_, _≤_};
 ghost use lib.ListN.{length};
 ghost use Rattle.calls.specs.Strigol.{outcomeWord, closingLine};
 ghost use Rattle.printing.specs.Printing.{Put, PutWithin};
-ghost use Rattle.batch.specs.Printing.{longestWord, longestLine, outcomeOf, Lent, Prints};
-use calls::STATE_SIZE;
-use calls::STORE_SIZE;
-use calls::TABLE_SIZE;
-use calls::WRITTEN_AT;
+ghost use Rattle.batch.specs.Printing.{longestWord, longestLine, outcomeOf, BatchLent, Prints};
+use deck_reader::strigol_read;
+use encoding::STATE_SIZE;
+use encoding::STORE_SIZE;
+use encoding::TABLE_SIZE;
+use encoding::WRITTEN_AT;
+use interpreter::run::RUN_FINISHED;
+use interpreter::run::RUN_REFUSED;
+use interpreter::run::RUN_SPENT;
+use interpreter::run::RUN_STOPPED;
+use interpreter::run::strigol_run;
 use printing::LONGEST_NUMBERS;
 use printing::put;
 use printing::put_numbers;
-use reader::strigol_read;
-use states::strigol_start;
-use steps::run::RUN_FINISHED;
-use steps::run::RUN_REFUSED;
-use steps::run::RUN_SPENT;
-use steps::run::RUN_STOPPED;
-use steps::run::strigol_run;
+use state::strigol_start;
 
 // the bytes kept of a deck, one more than a deck may have, and of the input
 pub const KEPT_DECK: usize = base::DECK + 1;
@@ -64,7 +64,7 @@ fn put_line(outcome: u64, number: u64, steps: u64, notes: u64, at: usize, out: &
 
 // What `strigol` prints for a deck and an input, at the start of out; how many bytes that is.
 pub fn run_deck(deck: &[u8], input: &[u8], out: &mut [u8]) -> usize
-    requires { ⌜ Lent (now deck) (now input) (now out) ⌝ }
+    requires { ⌜ BatchLent (now deck) (now input) (now out) ⌝ }
     ensures { λ r. ⌜ Prints (now (deck .entry)) (now (input .entry)) (now (out .exit)) r ⌝ }
 {
     let mut table = [0u8; TABLE_SIZE];

@@ -14,25 +14,26 @@ use Rattle.base.specs.Limits.{longestDeck}
 use Rattle.base.specs.Lists.{same, any, all, total}
 use Rattle.base.specs.ListLaws.{same-true, same-refl}
 use Rattle.cards.specs.Entries.{Entry, entries}
-use Rattle.judgement.specs.Deck.{indexOf, placesOf, stepRead, stepsFrom, programOf, accepted, judge}
-use Rattle.judgement.specs.Known.{Known, nothingKnown, strings, numbers, namesFor, isStep, learn}
-use Rattle.judgement.specs.Laws.{not10-few, accepted-counts, accepted-finishes}
-use Rattle.judgement.specs.Laws.Cards.{deck-counts, accepted-cards}
-use Rattle.judgement.specs.Names.{names-for}
-use Rattle.judgement.specs.Placed.{NamesOf, deckSizes}
-use Rattle.judgement.specs.Placed.Again.{IsStep, Again, ends, past, reads, passed-again}
-use Rattle.judgement.specs.Refusals.{is8}
-use Rattle.judgement.specs.Rules.{accepted-program}
-use Rattle.language.specs.Keywords.{leading}
-use Rattle.language.specs.Placed.{Each, PlacedBy}
-use Rattle.language.specs.Program.{Statement, Step, Program}
-use Rattle.language.specs.Reading.{string, Met, Read, got}
+use Rattle.validation.specs.Deck.{indexOf, resolution, stepRead, programSteps, programOf, accepted, judge}
+use Rattle.validation.specs.Environment.{Environment, emptyEnvironment, stringsOf, numbersOf, namesFor, isStep, extend}
+use Rattle.validation.specs.Laws.{not10-few, accepted-counts, accepted-finishes}
+use Rattle.validation.specs.Laws.Cards.{deck-counts, accepted-cards}
+use Rattle.validation.specs.Names.{names-for}
+use Rattle.validation.specs.Placed.{NamesOf, deckSizes}
+use Rattle.validation.specs.Placed.Again.{IsStep, Again, ends, past, reads, passed-again}
+use Rattle.validation.specs.Refusals.{is8}
+use Rattle.validation.specs.Rules.{accepted-program}
+use Rattle.syntax.specs.Keywords.{leading}
+use Rattle.syntax.specs.Placed.{Each, PlacedBy}
+use Rattle.syntax.specs.Program.{Statement, Step, Program}
+use Rattle.syntax.specs.Parsing.{forString, Mentions, Parsed, got}
 use Rattle.calls.specs.Literals.{TextWhole, entries-whole}
-use Rattle.calls.specs.Rules.{statementHolds, stepHolds, isProgram}
-use Rattle.calls.specs.Table.{elementsOf, itemsOf, allElements, allItems, allLiterals}
-use Rattle.calls.specs.Yielding.{viewOf, Fit}
-use Rattle.calls.specs.YieldingForms.{FormedOrNone, literals-append, statement-yields}
-use Rattle.calls.specs.YieldingRoles.{Distinct}
+use Rattle.encoding.specs.Rules.{statementHolds, stepHolds, isProgram}
+use Rattle.encoding.specs.Table.{elementsOf, itemsOf, allElements, allItems, allLiterals}
+use Rattle.calls.specs.Producing.{viewOf, LiteralsFit}
+use Rattle.calls.specs.ProducingForms.{FormedOrNone, statement-produces}
+use Rattle.encoding.specs.TableLiterals.{all-literals-append}
+use Rattle.calls.specs.ProducingRoles.{Distinct}
 
 -- names that stand at one place in a list are equal
 index-injective : (ws : List (List ℕ)) (m n : List ℕ) → any (same m) ws ≡ true → any (same n) ws ≡ true → indexOf m ws ≡ indexOf n ws
@@ -54,12 +55,12 @@ index-injective (w ∷ ws) m n h g q =
     h q
 
 -- strings of other names have other places
-places-distinct : (k : Known) (i : ℕ) → Distinct (NamesOf k) (placesOf k i)
-unfolding placesOf strings
+places-distinct : (k : Environment) (i : ℕ) → Distinct (NamesOf k) (resolution k i)
+unfolding resolution stringsOf
 places-distinct k i m n h g differ =
-    let ws = namesFor string (k .names) in
+    let ws = namesFor forString (k .names) in
     ne-eqb (indexOf m ws) (indexOf n ws) (λ q.
-    let equal = index-injective ws m n (names-for string m (k .names) ∙ h) (names-for string n (k .names) ∙ g) q in
+    let equal = index-injective ws m n (names-for forString m (k .names) ∙ h) (names-for forString n (k .names) ∙ g) q in
     true≢false (sym (same-refl n) ∙ ap (same n) (sym equal) ∙ differ))
 
 -- statements name only strings, numbers and steps of which there are so many, and are in range
@@ -67,15 +68,15 @@ abbrev pub StatementsHold : Edition → (strings numbers steps : ℕ) → List S
 StatementsHold e s n k ss = all (λ (a : Step). statementHolds e s n k (a .statement)) ss ≡ true
 
 -- steps that come behind these counts, make up the deck's and hold
-record Sound (e : Edition) (whole : Known) (steps elements items literals : ℕ) (ss : List Step) : Type 0 where
+record Sound (e : Edition) (whole : Environment) (steps elements items literals : ℕ) (ss : List Step) : Type 0 where
   all-steps : steps + length ss ≡ whole .steps
   all-elements : elements + length (allElements ss) ≡ whole .elements
   all-items : items + length (allItems ss) ≡ whole .items
   all-literals : literals + length (allLiterals (allElements ss)) ≡ whole .literals
-  holds : StatementsHold e (length (strings whole)) (length (numbers whole)) (whole .steps) ss
+  holds : StatementsHold e (length (stringsOf whole)) (length (numbersOf whole)) (whole .steps) ss
 
 -- a statement goes before the steps behind it
-statement-sound : (e : Edition) (whole : Known) (step : Bool) (s : Option Statement) (m : Met) (rest : List ℕ) (card n el it li : ℕ)
+statement-sound : (e : Edition) (whole : Environment) (step : Bool) (s : Option Statement) (m : Mentions) (rest : List ℕ) (card n el it li : ℕ)
     (more : ℕ → List Step) → IsStep step s → FormedOrNone e (deckSizes whole) s (viewOf m) → is8 m ≡ false
     → Sound e whole (cond step (suc n) n) (el + total (λ n. n) (m .rows)) (it + m .items) (li + m .literals) (more (cond step (suc n) n))
     → Sound e whole n el it li (stepRead card (got s m rest) ++ more (elim (stepRead card (got s m rest)) [ [] ↦ n | s ∷ ss ↦ suc n ]))
@@ -85,7 +86,7 @@ statement-sound e whole true (some a) m rest card n el it li more step h not8 so
     let ss = more (suc n) in
     let elements = length-append (elementsOf a) (allElements ss) in
     let literals =
-    ap length (literals-append (elementsOf a) (allElements ss))
+    ap length (all-literals-append (elementsOf a) (allElements ss))
     ∙ length-append (allLiterals (elementsOf a)) (allLiterals (allElements ss)) in
     let items = length-append (itemsOf a) (allItems ss) in
     record {
@@ -106,48 +107,48 @@ statement-sound e whole false none m rest card n el it li more step h not8 sound
 statement-sound e whole false (some a) m rest card n el it li more step h not8 sound = absurd step
 
 -- entries that pass make steps that hold, with as many elements, items and literal bytes as were counted
-again-sound : {e : Edition} {whole k : Known} {es : List Entry}
-    → ((n : ℕ) → PlacedBy (NamesOf whole) (deckSizes whole) (placesOf whole n)) → Each TextWhole es → Again e whole k es
-    → Sound e whole (k .steps) (k .elements) (k .items) (k .literals) (stepsFrom e whole (k .steps) es)
-unfolding stepsFrom learn placesOf allElements allItems allLiterals all Each
+again-sound : {e : Edition} {whole k : Environment} {es : List Entry}
+    → ((n : ℕ) → PlacedBy (NamesOf whole) (deckSizes whole) (resolution whole n)) → Each TextWhole es → Again e whole k es
+    → Sound e whole (k .steps) (k .elements) (k .items) (k .literals) (programSteps e whole (k .steps) es)
+unfolding programSteps extend resolution allElements allItems allLiterals all Each
 again-sound placed texts ends =
     record { all-steps = omega arith; all-elements = omega arith; all-items = omega arith; all-literals = omega arith; holds = refl }
 again-sound placed texts (past j) = again-sound placed (texts .1) j
 again-sound {e} {whole} placed texts (reads {k} {card} {label} {complete} {text} {es} s m rest q step p used next j) =
     let kind = leading text .kind in
-    let fit : Fit (NamesOf whole) m = record { used = used; rows = not10-few (learn k kind m) m (p .not10) .1 } in
+    let fit : LiteralsFit (NamesOf whole) m = record { used = used; rows = not10-few (extend k kind m) m (p .not10) .1 } in
     let form =
-    statement-yields e (placed (suc (k .steps))) _ label complete text (texts .0) s m rest next (places-distinct whole (suc (k .steps))) q fit in
+    statement-produces e (placed (suc (k .steps))) _ label complete text (texts .0) s m rest next (places-distinct whole (suc (k .steps))) q fit in
     subst
-    (λ (read : Read (Option Statement)).
+    (λ (read : Parsed (Option Statement)).
     Sound e whole (k .steps) (k .elements) (k .items) (k .literals)
-    (stepRead card read ++ stepsFrom e whole (elim (stepRead card read) [ [] ↦ k .steps | s ∷ ss ↦ suc (k .steps) ]) es))
+    (stepRead card read ++ programSteps e whole (elim (stepRead card read) [ [] ↦ k .steps | s ∷ ss ↦ suc (k .steps) ]) es))
     (sym q)
-    (statement-sound e whole (isStep kind) s m rest card (k .steps) (k .elements) (k .items) (k .literals) (λ n. stepsFrom e whole n es)
+    (statement-sound e whole (isStep kind) s m rest card (k .steps) (k .elements) (k .items) (k .literals) (λ n. programSteps e whole n es)
     step form (p .not8) (again-sound placed (texts .1) j))
 
 -- a program's totals and statements are in range
-pub record Totals (e : Edition) (p : Program) : Type 0 where
+pub record TotalsHold (e : Edition) (p : Program) : Type 0 where
   pub elements : length (allElements (p .steps)) ≤ Limits.elements
   pub items : length (allItems (p .steps)) ≤ Limits.items
   pub literals : length (allLiterals (allElements (p .steps))) ≤ Limits.literals
   pub holds : StatementsHold e (p .strings) (p .numbers) (length (p .steps)) (p .steps)
 
 -- those of an accepted program are
-pub accepted-totals : (e : Edition) (deck : List ℕ) (p : Program) → judge e deck ≡ accepted p → Totals e p
-unfolding programOf nothingKnown
+pub accepted-totals : (e : Edition) (deck : List ℕ) (p : Program) → judge e deck ≡ accepted p → TotalsHold e p
+unfolding programOf emptyEnvironment
 accepted-totals e deck p q =
-    accepted-program e deck p q (Totals e) (λ k j _ _.
+    accepted-program e deck p q (TotalsHold e) (λ k j _ _.
     let again = passed-again j in
     let few = deck-counts j in
     let sound = again-sound (again .0) (entries-whole e deck) (again .1) in
-    let ss = stepsFrom e k 0 (entries e deck) in
+    let ss = programSteps e k 0 (entries e deck) in
     let count : k .steps ≡ length ss = omega arith in
     record {
       elements = omega arith;
       items = omega arith;
       literals = omega arith;
-      holds = subst (λ n. StatementsHold e (length (strings k)) (length (numbers k)) n ss) count (sound .holds);
+      holds = subst (λ n. StatementsHold e (length (stringsOf k)) (length (numbersOf k)) n ss) count (sound .holds);
     })
 
 -- steps hold where their cards are below 2 ^ 16 and their statements hold

@@ -7,16 +7,16 @@ use lib.Dec.{ltb, eqb}
 use lib.ListN.{length, drop, getD, replicate}
 use Rattle.base.specs.Edition.{Edition}
 use Rattle.base.specs.Limits.{longestDeck}
-use Rattle.judgement.specs.Deck.{Judgement, accepted, refused, judge}
+use Rattle.validation.specs.Deck.{Judgement, accepted, refused, judge}
 use Rattle.machine.specs.Run.{Outcome, FINISHED, STOPPED, SPENT, REFUSED}
 use Rattle.machine.specs.State.{State}
 use Rattle.machine.specs.Step.{Stepped, step, turnedDownBy}
 use Rattle.scanning.specs.Call.{answerNumbers, noAnswer}
-use Rattle.values.specs.Work.{stopsStep}
-use Rattle.calls.specs.Buffers.{storeSize, storeKeeps, stateKeeps, stateIn, storeLeft, stateLeft, outputLeft, firstState}
-use Rattle.calls.specs.Rules.{keepsRules}
-use Rattle.calls.specs.Table.{image}
-use Rattle.calls.specs.TableReading.{programIn}
+use Rattle.values.specs.Result.{stopsStep}
+use Rattle.encoding.specs.Buffers.{storeSize, storeKeeps, stateKeeps, stateIn, storeLeft, stateLeft, outputLeft, firstState}
+use Rattle.encoding.specs.Rules.{keepsRules}
+use Rattle.encoding.specs.Table.{image}
+use Rattle.encoding.specs.TableReading.{programIn}
 
 -- the deck call: number, card, and the table left
 pub record ReadCalled : Type 0 where
@@ -95,8 +95,8 @@ module _ (e : Edition) (table input : List ℕ) where
       (cond (outOfRange b) 15
       (turnedDownBy (programIn table) (givenIn b)))))
 
-  unfoldable pub carried : Buffers → Stepped → StepCalled
-  carried b s =
+  unfoldable pub stepDone : Buffers → Stepped → StepCalled
+  stepDone b s =
       record {
         number = s .answer .number;
         answer = answerNumbers (s .answer .notes) (s .answer .scanned);
@@ -107,7 +107,7 @@ module _ (e : Edition) (table input : List ℕ) where
   unfoldable pub stepCall : Buffers → StepCalled
   stepCall b =
       cond (eqb (stepRefusal b) 0)
-      (carried b (step e (programIn table) (length (b .output)) (givenIn b)))
+      (stepDone b (step e (programIn table) (length (b .output)) (givenIn b)))
       (record { number = stepRefusal b; answer = noAnswer; left = b })
 
   -- R8 the buffers behind k steps, each given all that the last one left
@@ -150,9 +150,9 @@ returned r =
 unfoldable pub runEnded : Outcome → ℕ → Buffers → RunCalled
 runEnded o n b = record { outcome = o; number = n; steps = 0; notes = 0; left = b }
 
--- R6 "A finishing or stopping step counts as done, one turned down doesn't."
-unfoldable pub withStep : StepCalled → RunCalled → RunCalled
-withStep s r =
+-- R6 "A finishing or stopping step counts as done, one turned down doesn't."; the answer has its notes at place 3 (scanning/Call: splitNumbers)
+unfoldable pub runWithStep : StepCalled → RunCalled → RunCalled
+runWithStep s r =
     record {
       outcome = r .outcome;
       number = r .number;
@@ -161,13 +161,14 @@ withStep s r =
       left = r .left;
     }
 
--- a run behind a step, from how the step ended and what the rest of the run would come to
+-- A run behind a step, from how the step ended and what the rest of the run would come to: 17 to 21 stopped it; any other number but 0, so 2 or
+-- 13 to 16, turned it down; with 0 the state's first number tells its status, and 1 is finished (encoding/Buffers: statusNumber).
 unfoldable pub runBehind : StepCalled → RunCalled → RunCalled
 runBehind s rest =
-    cond (stopsStep (s .number)) (withStep s (runEnded STOPPED (s .number) (s .left)))
+    cond (stopsStep (s .number)) (runWithStep s (runEnded STOPPED (s .number) (s .left)))
     (cond (ltb 0 (s .number)) (runEnded REFUSED (s .number) (s .left))
-    (cond (eqb (getD (s .left .state) 0 0) 1) (withStep s (runEnded FINISHED 0 (s .left)))
-    (withStep s rest)))
+    (cond (eqb (getD (s .left .state) 0 0) 1) (runWithStep s (runEnded FINISHED 0 (s .left)))
+    (runWithStep s rest)))
 
 -- R5 "A run of k steps repeats the step until one finishes, stops or is turned down, else k are done ("spent")."
 unfoldable pub runCall : Edition → (table input : List ℕ) → ℕ → Buffers → RunCalled

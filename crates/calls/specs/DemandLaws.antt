@@ -1,51 +1,49 @@
 -- The claim about lists of calls that keep their equations, proved of every table that keeps its rules; the customer's third demand is the case
 -- of an accepted deck's table. Assumes nothing; every edition whose sizes fit is covered, and the current one is among them.
-use mathlib.Core.Bool.{true, false, not, _&&_, and-eq-true-iff}
+use mathlib.Core.Bool.{true, false, not}
 use mathlib.Core.List.{List, [], _∷_, _++_}
 use mathlib.Core.Logic.{⊎-elim}
 use mathlib.Core.Option.{Option, none}
 use mathlib.Core.Path.{_≡_, refl, sym, _∙_, ap, ap₂, subst, subst₂}
 use Prim.Native.Nat.{ℕ, zero, suc, _+_, _≤_, _<_}
 use native.Mathlib.Omega.{arith}
-use lib.Dec.{ltb, eqb, lit<, lit≤}
+use lib.Dec.{ltb, eqb}
 use lib.ListN.{length, getD, set, length-set, List·getD-eq-default}
 use lib.Seq.{getD-set-same, getD-set-other}
 use borrow.Author.Tests.{ltb-true, ltb-false, lt-ltb, eqb-true, eqb-false, not-true}
 use Rattle.base.specs.Choice.{test-cases, both-true}
-use Rattle.base.specs.Current.{current}
 use Rattle.base.specs.Edition.{Edition}
-use Rattle.base.specs.Limits.{longestDeck}
 use Rattle.base.specs.Lists.{all}
-use Rattle.judgement.specs.Deck.{accepted, judge}
-use Rattle.language.specs.Program as Program
-use Rattle.language.specs.Program.{Part, PatternElement, value, freeFiller, fixedFiller, Direction, Branch, Program}
-use Rattle.machine.specs.Run.{after, run}
+use Rattle.validation.specs.Deck.{accepted, judge}
+use Rattle.syntax.specs.Program as Program
+use Rattle.syntax.specs.Program.{Part, PatternElement, value, freeFiller, fixedFiller, Direction, Branch, Program}
+use Rattle.machine.specs.Run.{stateAfter, run}
 use Rattle.machine.specs.Scanning.{withoutFillers}
 use Rattle.machine.specs.State.{Memory, State, stringAt, withString, mostStrings, fresh}
 use Rattle.scanning.specs.Call.{splitIn}
 use Rattle.scanning.specs.Splits.{Split}
-use Rattle.machine.specs.Step.{carrying, statementAt, turnedDownBy, concluded, step}
+use Rattle.machine.specs.Step.{execution, statementAt, turnedDownBy, concluded, step}
 use Rattle.values.specs.Conversion.{longestString}
 use Rattle.calls.specs.Accepted.{accepted-isProgram}
-use Rattle.calls.specs.Buffers.{storeSize, stateIn}
+use Rattle.encoding.specs.Buffers.{storeSize, stateIn}
 use Rattle.calls.specs.Calls.{readCall, StartCalled, startCall, Buffers, givenIn}
-use Rattle.calls.specs.Calls.{StepCalled, carried, stepCall, buffersAfter, RunReturned, resultNumbers, returned, runEnded, runCall}
-use Rattle.calls.specs.Demands.{LeftBy, Scans, IsFiller, Fails, Observed, observedStep, observedRun, stepsTried}
+use Rattle.calls.specs.Calls.{StepCalled, stepDone, stepCall, buffersAfter, RunReturned, resultNumbers, returned, runEnded, runCall}
+use Rattle.calls.specs.Demands.{LeftBy, ScanClaim, IsFiller, Fails, Observed, observedStep, observedRun, stepsTried}
 use Rattle.calls.specs.Demands.{StepClaim, RunClaim, ListClaim, AllRefused, Linked, TableClaim, History, Demand3}
 use Rattle.calls.specs.GivenLaws.{held-written}
 use Rattle.calls.specs.Holding.{Holding}
-use Rattle.calls.specs.Invariant.{Sound, returns-enough, next-sound, step-sound, fresh-sound}
-use Rattle.calls.specs.ProgramLaws.{Runs, statement-holds, program-runs}
-use Rattle.calls.specs.Numerals.{bias}
-use Rattle.calls.specs.RuleLaws.{scan-parts, lengthHolds, fixed-holds}
-use Rattle.calls.specs.Rules.{patternHolds, statementHolds, placeOf, namedBy, isAmong, rolesHold, isProgram, keepsRules}
+use Rattle.calls.specs.Invariant.{StateSound, returns-enough, next-sound, step-sound, fresh-sound}
+use Rattle.encoding.specs.ProgramLaws.{Runs, statement-holds, program-runs}
+use Rattle.encoding.specs.Numerals.{bias}
+use Rattle.encoding.specs.RuleLaws.{scan-parts, lengthHolds, fixed-holds}
+use Rattle.encoding.specs.Rules.{patternHolds, statementHolds, placeOf, namedBy, isAmong, rolesHold, isProgram, keepsRules}
 use Rattle.calls.specs.ScanLaws.{concluded-scans}
 use Rattle.calls.specs.RunLaws.{call-numbers, run-same, run-left, small-run}
 use Rattle.calls.specs.StartLaws.{read-accepted, read-short, read-tabled, startedWith, started-small, started-holds}
 use Rattle.calls.specs.StepLaws.{Tabled, small-called, call-held, call-answer, step-holds}
-use Rattle.calls.specs.Table.{literalsAt}
-use Rattle.calls.specs.TableLaws.{in-range, keeps-image}
-use Rattle.calls.specs.TableReading.{programIn}
+use Rattle.encoding.specs.Table.{literalsAt}
+use Rattle.encoding.specs.TableLaws.{in-range, keeps-image}
+use Rattle.encoding.specs.TableReading.{programIn}
 
 -- a string made null leaves every other
 null-apart : (s place : ℕ) (m : Memory) → not (eqb s place) ≡ true → stringAt (withString m s []) place ≡ stringAt m place
@@ -123,26 +121,26 @@ module _ (e : Edition) (strings numbers steps : ℕ) where
 module _ (e : Edition) (limit : e .limit < bias) (wide : longestString ≤ e .limit) (p : Program) (runs : Runs e p)
     (table input : List ℕ) (t : Tabled e p table) where
   -- buffers b that hold a machine c in range
-  module _ (lent : ℕ) (c : State) (b : Buffers) (s : Sound e p lent input c) (h : Holding e p lent input c b) where
+  module _ (lent : ℕ) (c : State) (b : Buffers) (s : StateSound e p lent input c) (h : Holding e p lent input c b) where
     -- a scanning step on them that is neither stopped nor turned down
     scans-held : (d : Direction) (q : Part) (xs : List PatternElement) (r : Option (List Program.Element)) (f : Branch)
         → statementAt p (c .next) ≡ Program.scan d q xs r f
         → stepCall e table input b .number ≡ 0
-        → Scans e (c .memory) d q xs r (stepCall e table input b .answer) (givenIn e table input (stepCall e table input b .left) .memory)
-    unfolding step carried givenIn
+        → ScanClaim e (c .memory) d q xs r (stepCall e table input b .answer) (givenIn e table input (stepCall e table input b .left) .memory)
+    unfolding step stepDone givenIn
     scans-held d q xs r f is passes =
         let left = stepCall e table input b .left in
-        test-cases (λ _. Scans e (c .memory) d q xs r (stepCall e table input b .answer) (givenIn e table input left .memory))
+        test-cases (λ _. ScanClaim e (c .memory) d q xs r (stepCall e table input b .answer) (givenIn e table input left .memory))
         (eqb (turnedDownBy p c) 0)
         (λ goes.
-        let w = carrying e lent (Program.scan d q xs r f) c in
+        let w = execution e lent (Program.scan d q xs r f) c in
         let stepped : step e p lent c ≡ concluded c w = rw (goes, is) in
-        let called : stepCall e table input b ≡ carried e table input b (concluded c w) =
-        call-held e p table input t lent c b h true goes ∙ ap (carried e table input b) stepped in
+        let called : stepCall e table input b ≡ stepDone e table input b (concluded c w) =
+        call-held e p table input t lent c b h true goes ∙ ap (stepDone e table input b) stepped in
         let ended = rw is at (next-sound e wide p runs lent input c s (returns-enough p c (eqb-true (turnedDownBy p c) 0 goes))) in
         let number : concluded c w .answer .number ≡ 0 = sym (ap (λ x. x .number) called) ∙ passes in
         let held = step-holds e p table input t limit wide runs lent c b s h .given in
-        subst₂ (Scans e (c .memory) d q xs r) (sym (ap (λ x. x .answer) called))
+        subst₂ (ScanClaim e (c .memory) d q xs r) (sym (ap (λ x. x .answer) called))
         (sym (ap (λ x. x .memory) held ∙ ap (λ x. x .state .memory) stepped))
         (concluded-scans e lent c d q xs r f w refl ended number))
         (λ goes.
@@ -197,7 +195,7 @@ module _ (e : Edition) (limit : e .limit < bias) (wide : longestString ≤ e .li
   -- calls one behind the other: buffers b that hold a machine c in range, so the buffers left hold the machine left
   module _ (lent : ℕ) where
     pub record Behind (c : State) (b : Buffers) : Type 0 where
-      pub sound : Sound e p lent input c
+      pub sound : StateSound e p lent input c
       pub holds : Holding e p lent input c b
 
     pub behind-step : (c : State) (b : Buffers) → Behind c b → Behind (step e p lent c .state) (stepCall e table input b .left)
@@ -207,8 +205,8 @@ module _ (e : Edition) (limit : e .limit < bias) (wide : longestString ≤ e .li
           holds = step-holds e p table input t limit wide runs lent c b (k .sound) (k .holds);
         }
 
-    pub behind-steps : (k : ℕ) (c : State) (b : Buffers) → Behind c b → Behind (after e p lent k c) (buffersAfter e table input k b)
-    unfolding after buffersAfter
+    pub behind-steps : (k : ℕ) (c : State) (b : Buffers) → Behind c b → Behind (stateAfter e p lent k c) (buffersAfter e table input k b)
+    unfolding stateAfter buffersAfter
     behind-steps zero c b h = h
     behind-steps (suc k) c b h = behind-steps k (step e p lent c .state) (stepCall e table input b .left) (behind-step c b h)
 
@@ -224,7 +222,7 @@ module _ (e : Edition) (limit : e .limit < bias) (wide : longestString ≤ e .li
           steps =
               λ k _.
               let k-behind = behind-steps k c b h in
-              claim-held lent (after e p lent k c) (buffersAfter e table input k b) (k-behind .sound) (k-behind .holds);
+              claim-held lent (stateAfter e p lent k c) (buffersAfter e table input k b) (k-behind .sound) (k-behind .holds);
           left-is = run-left e table input count b;
           leaves = same .holds .given;
           written = held-written e p lent input (run e p lent count c .state) (runCall e table input count b .left) (same .holds);
@@ -244,8 +242,8 @@ module _ (e : Edition) (limit : e .limit < bias) (wide : longestString ≤ e .li
     list-claim (observedRun count given back ∷ calls) c b z h linked =
         let here = subst (Behind c) (sym (linked .0)) h in
         let claim = subst (RunClaim e p table input lent count c given) (sym (linked .1)) (behind-run count c given here) in
-        let next = subst (Behind (after e p lent (stepsTried back) c)) (sym (claim .left-is)) (behind-steps (stepsTried back) c given here) in
-        (claim, list-claim calls (after e p lent (stepsTried back) c) (back .left) z next (linked .2))
+        let next = subst (Behind (stateAfter e p lent (stepsTried back) c)) (sym (claim .left-is)) (behind-steps (stepsTried back) c given here) in
+        (claim, list-claim calls (stateAfter e p lent (stepsTried back) c) (back .left) z next (linked .2))
 
     -- what starting leaves with a large enough store, and the machine before its first step
     pub behind-start : (store output : List ℕ) → length output ≡ lent → storeSize ≤ length store → Behind (fresh input) (startedWith store output)
@@ -381,18 +379,3 @@ module _ (e : Edition) (limit : e .limit < bias) (wide : longestString ≤ e .li
             subst (λ (x : Program). ListClaim e x table input (length (h .output)) calls (fresh input)) (t .reads) (sound .claim large);
         small = sound .small;
       }
-
--- the current edition: its numbers fit their places
-pub current-limit : current .limit < bias
-unfolding current bias
-current-limit = lit< tt
-
--- a string's length is one of them
-pub current-wide : longestString ≤ current .limit
-unfolding current longestString
-current-wide = lit≤ tt
-
--- its tables have room for all literal bytes
-pub current-size : literalsAt + 4096 ≤ current .tableSize
-unfolding current literalsAt
-current-size = lit≤ tt

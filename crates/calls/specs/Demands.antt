@@ -9,21 +9,21 @@ use Prim.Native.Nat.{ℕ, zero, suc, _+_, _≤_, _<_}
 use lib.Dec.{eqb}
 use lib.ListN.{length, drop, getD}
 use Rattle.base.specs.Edition.{Edition}
-use Rattle.judgement.specs.Deck.{accepted, judge}
-use Rattle.language.specs.Program as Program
-use Rattle.language.specs.Program.{Part, PatternElement, value, freeFiller, fixedFiller, Direction, Branch, Program}
-use Rattle.machine.specs.Run.{REFUSED, SPENT, after, run}
+use Rattle.validation.specs.Deck.{accepted, judge}
+use Rattle.syntax.specs.Program as Program
+use Rattle.syntax.specs.Program.{Part, PatternElement, value, freeFiller, fixedFiller, Direction, Branch, Program}
+use Rattle.machine.specs.Run.{REFUSED, SPENT, stateAfter, run}
 use Rattle.machine.specs.Scanning.{Searched, searchedIn, turned, Valued, patternIn, withoutFillers, naming, replacing}
 use Rattle.machine.specs.State.{Memory, State, stringAt, fresh}
 use Rattle.machine.specs.Step.{statementAt, step}
 use Rattle.scanning.specs.Call.{answerNumbers, noAnswer, splitIn}
 use Rattle.scanning.specs.Splits.{Split, AnswersFirstFit}
-use Rattle.values.specs.Work.{done}
-use Rattle.calls.specs.Buffers.{storeSize}
+use Rattle.values.specs.Result.{done}
+use Rattle.encoding.specs.Buffers.{storeSize}
 use Rattle.calls.specs.Calls.{readCall, StartCalled, startCall, Buffers, StepCalled, givenIn, stepCall, buffersAfter}
 use Rattle.calls.specs.Calls.{RunReturned, outcomeNumber, resultNumbers, returned, runEnded, runCall}
-use Rattle.calls.specs.Rules.{placeOf}
-use Rattle.calls.specs.TableReading.{programIn}
+use Rattle.encoding.specs.Rules.{placeOf}
+use Rattle.encoding.specs.TableReading.{programIn}
 
 -- "The fillers and the reference that it leaves are those that document 01's naming and replacement make from the first fit": left is the
 -- memory that naming and replacement make of m, the memory given; after a failure, m with its fillers made null
@@ -36,7 +36,7 @@ LeftBy e m d xs r x vs (some s) left =
 
 -- A SCAN or BACKSCAN step that is neither stopped nor turned down, with the answer and the memory it left: the reference and the
 -- pattern that the paper makes of the memory given; it "fails exactly when no split fits. Otherwise it answers the first fit"; and what is left.
-pub record Scans (e : Edition) (m : Memory) (d : Direction) (p : Part) (xs : List PatternElement) (r : Option (List Program.Element)) (answer : List ℕ) (left : Memory) : Type 0 where
+pub record ScanClaim (e : Edition) (m : Memory) (d : Direction) (p : Part) (xs : List PatternElement) (r : Option (List Program.Element)) (answer : List ℕ) (left : Memory) : Type 0 where
   pub searched : Searched
   pub searchedNotes : ℕ
   pub isSearched : searchedIn m d p ≡ done searched searchedNotes
@@ -83,7 +83,7 @@ module _ (e : Edition) (p : Program) (table input : List ℕ) (lent : ℕ) where
     pub scans : (d : Direction) (q : Part) (xs : List PatternElement) (r : Option (List Program.Element)) (f : Branch)
         → statementAt p (c .next) ≡ Program.scan d q xs r f
         → back .number ≡ 0
-        → Scans e (c .memory) d q xs r (back .answer) (givenIn e table input (back .left) .memory)
+        → ScanClaim e (c .memory) d q xs r (back .answer) (givenIn e table input (back .left) .memory)
     -- each such step that answers no split
     pub failure : (d : Direction) (q : Part) (xs : List PatternElement) (r : Option (List Program.Element)) (f : Branch)
         → statementAt p (c .next) ≡ Program.scan d q xs r f
@@ -102,7 +102,7 @@ module _ (e : Edition) (p : Program) (table input : List ℕ) (lent : ℕ) where
     pub result : (let r = run e p lent count c in back .result ≡ resultNumbers (r .outcome) (r .number) (r .steps) (r .notes))
     -- each step that it tried is as claimed, given all that the one before left
     pub steps : (k : ℕ) → k < stepsTried back
-        → (let given = buffersAfter e table input k b in StepClaim (after e p lent k c) given (stepCall e table input given))
+        → (let given = buffersAfter e table input k b in StepClaim (stateAfter e p lent k c) given (stepCall e table input given))
     -- what it leaves is what they leave, and what the paper's machine leaves behind its run
     pub left-is : back .left ≡ buffersAfter e table input (stepsTried back) b
     pub leaves : givenIn e table input (back .left) ≡ run e p lent count c .state
@@ -112,7 +112,7 @@ module _ (e : Edition) (p : Program) (table input : List ℕ) (lent : ℕ) where
   unfoldable pub ListClaim : List Observed → State → Type 0
   ListClaim [] c = Unit {0}
   ListClaim (observedStep b back ∷ calls) c = StepClaim c b back × ListClaim calls (step e p lent c .state)
-  ListClaim (observedRun count b back ∷ calls) c = RunClaim count c b back × ListClaim calls (after e p lent (stepsTried back) c)
+  ListClaim (observedRun count b back ∷ calls) c = RunClaim count c b back × ListClaim calls (stateAfter e p lent (stepsTried back) c)
 
 -- R13 "a store too small stays and gets 14": then every step is turned down by 14, and so is every run, but for one of no steps; all stays
 unfoldable pub AllRefused : List Observed → Type 0

@@ -13,21 +13,21 @@ use borrow.Author.Tests.{leb-true, ltb-true, ltb-false, le-leb, lt-ltb, not-fals
 use Rattle.base.specs.Edition.{Edition}
 use Rattle.base.specs.ListLaws.{all-at, length-stretch}
 use Rattle.base.specs.Lists.{all}
-use Rattle.language.specs.Program.{Program}
-use Rattle.machine.specs.Bounds.{Bounded}
+use Rattle.syntax.specs.Program.{Program}
+use Rattle.machine.specs.Bounds.{MemoryBounded}
 use Rattle.machine.specs.State.{State, stringAt, numberAt, mostStrings, mostNumbers}
 use Rattle.machine.specs.Step.{mostReturns, turnedDownBy}
 use Rattle.values.specs.Conversion.{longestString}
 use Rattle.values.specs.Numbers.{isInRange}
-use Rattle.calls.specs.BufferLaws.{keeps-good, good-short, count-strings}
-use Rattle.calls.specs.Buffers.{storeKeeps, stateSize, returnsAt, numbersAt, returnsIn, numbersIn, stateKeeps, stateIn}
+use Rattle.encoding.specs.BufferLaws.{keeps-good, good-short, count-strings}
+use Rattle.encoding.specs.Buffers.{storeKeeps, stateSize, returnsAt, numbersAt, returnsIn, numbersIn, stateKeeps, stateIn}
 use Rattle.calls.specs.Calls.{Buffers, givenIn, outOfRange, stepRefusal}
 use Rattle.calls.specs.Holding.{Holding, all-reverse}
-use Rattle.calls.specs.Invariant.{Sound, unread-any}
-use Rattle.calls.specs.Numerals.{unbiased}
-use Rattle.calls.specs.Rules.{keepsRules}
+use Rattle.calls.specs.Invariant.{StateSound, unread-any}
+use Rattle.encoding.specs.Numerals.{unbiased}
+use Rattle.encoding.specs.Rules.{keepsRules}
 use Rattle.calls.specs.StepLaws.{Tabled}
-use Rattle.calls.specs.TableReading.{programIn}
+use Rattle.encoding.specs.TableReading.{programIn}
 
 -- what is in range in a state
 pub record StateInRange (e : Edition) (steps input output : ℕ) (state : List ℕ) : Type 0 where
@@ -84,7 +84,7 @@ module _ (e : Edition) (p : Program) (input : List ℕ) (b : Buffers) (size : le
       ltb-true _ _ (all-at (λ k. ltb k steps) (reverse (returnsIn (b .state))) 0 first (all-reverse _ (returnsIn (b .state)) (facts .returns)) i)
 
   -- strings and numbers are within their bounds
-  given-bounded : Bounded e (stateIn (b .store) (b .state) input (b .output) .memory)
+  given-bounded : MemoryBounded e (stateIn (b .store) (b .state) input (b .output) .memory)
   unfolding stateIn stringAt numberAt numbersIn isInRange mostStrings mostNumbers numbersAt longestString
   given-bounded =
       let numbers = take 32 (drop 21 (b .state)) in
@@ -98,7 +98,7 @@ module _ (e : Edition) (p : Program) (input : List ℕ) (b : Buffers) (size : le
       }
 
   -- the machine they hold is in range
-  pub given-sound : Sound e p (length (b .output)) input (stateIn (b .store) (b .state) input (b .output))
+  pub given-sound : StateSound e p (length (b .output)) input (stateIn (b .store) (b .state) input (b .output))
   unfolding stateIn returnsIn
   given-sound =
       let output = b .output in

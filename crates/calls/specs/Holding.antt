@@ -12,18 +12,18 @@ use borrow.Author.Tests.{le-leb, lt-ltb}
 use Rattle.base.specs.Choice.{both-pass}
 use Rattle.base.specs.Edition.{Edition}
 use Rattle.base.specs.Lists.{all}
-use Rattle.language.specs.Program.{Program}
+use Rattle.syntax.specs.Program.{Program}
 use Rattle.machine.specs.State.{Status, running, finished, stopped, State, stringAt, numberAt, mostStrings, mostNumbers}
 use Rattle.machine.specs.Step.{mostReturns}
 use Rattle.values.specs.Conversion.{longestString}
 use Rattle.values.specs.Numbers.{isInRange}
-use Rattle.calls.specs.BufferLaws.{Good, image-strings, image-good}
-use Rattle.calls.specs.Buffers.{storeSize, storeKeeps, storeImage, stateSize, returnsAt, numbersAt, statusNumber, statusOf}
-use Rattle.calls.specs.Buffers.{returnsIn, numbersIn, stateKeeps, stateIn, storeLeft, stateLeft, outputLeft}
+use Rattle.encoding.specs.BufferLaws.{StoreGood, image-strings, image-good}
+use Rattle.encoding.specs.Buffers.{storeSize, storeKeeps, storeImage, stateSize, returnsAt, numbersAt, statusNumber, statusOf}
+use Rattle.encoding.specs.Buffers.{returnsIn, numbersIn, stateKeeps, stateIn, storeLeft, stateLeft, outputLeft}
 use Rattle.calls.specs.Calls.{Buffers, leftOf}
-use Rattle.calls.specs.Invariant.{Sound}
-use Rattle.calls.specs.NumeralLaws.{unbiased-biased}
-use Rattle.calls.specs.Numerals.{bias, biased, unbiased}
+use Rattle.calls.specs.Invariant.{StateSound}
+use Rattle.encoding.specs.NumeralLaws.{unbiased-biased}
+use Rattle.encoding.specs.Numerals.{bias, biased, unbiased}
 
 -- the buffers hold the machine c: a step is given c, and nothing in them is out of range
 pub record Holding (e : Edition) (p : Program) (lent : ℕ) (input : List ℕ) (c : State) (b : Buffers) : Type 0 where
@@ -71,7 +71,7 @@ abbrev numbersBehind : List ℕ → State → List ℕ
 numbersBehind state c = map biased (c .memory .numbers) ++ drop (numbersAt + mostNumbers) state
 
 -- numbers fit their places, and c is in range
-module _ (e : Edition) (limit : e .limit < bias) (p : Program) (lent : ℕ) (input : List ℕ) (c : State) (s : Sound e p lent input c) where
+module _ (e : Edition) (limit : e .limit < bias) (p : Program) (lent : ℕ) (input : List ℕ) (c : State) (s : StateSound e p lent input c) where
   module _ (state : List ℕ) (size : length state ≡ stateSize) where
     -- all places for returns, held and not
     places : length (reverse (c .returns) ++ unheld state c) ≡ mostReturns
@@ -135,7 +135,7 @@ module _ (e : Edition) (limit : e .limit < bias) (p : Program) (lent : ℕ) (inp
   left-holds b size lends =
       let strings = c .memory .strings in
       let rest = drop storeSize (b .store) in
-      let good : Good (storeImage strings ++ rest) = image-good strings rest (s .memory .strings) (s .memory .short) in
+      let good : StoreGood (storeImage strings ++ rest) = image-good strings rest (s .memory .strings) (s .memory .short) in
       let strings-left = image-strings strings rest (s .memory .strings) (s .memory .short) in
       let returns : reverse (returnsIn (stateLeft (b .state) input c)) ≡ c .returns =
       ap reverse (returns-left (b .state) size) ∙ reverse-reverse (c .returns) in

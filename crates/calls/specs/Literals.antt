@@ -29,20 +29,20 @@ use Rattle.cards.specs.Packing.{
   literalsFrom,
   literalsWhole,
 }
-use Rattle.language.specs.Fuel.{run-within}
-use Rattle.language.specs.Keywords.{Kind, UNKNOWN, keywords, Leading, longest, isReplacement, leading}
-use Rattle.language.specs.Placed.{Each}
-use Rattle.language.specs.Reading.{Read, got, aLiteral}
-use Rattle.language.specs.Strings.{literalAt}
-use Rattle.language.specs.Words.{run, nameLength}
+use Rattle.syntax.specs.Fuel.{run-within}
+use Rattle.syntax.specs.Keywords.{StatementKind, UNKNOWN, keywords, Leading, longest, isReplacement, leading}
+use Rattle.syntax.specs.Placed.{Each}
+use Rattle.syntax.specs.Parsing.{Parsed, got, oneLiteral}
+use Rattle.syntax.specs.Strings.{literalAt}
+use Rattle.syntax.specs.Lexemes.{runLength, nameLength}
 
 -- the literals of some bytes are whole
-abbrev pub Whole : List ℕ → Type 0
-Whole bs = literalsFrom outside bs ≡ true
+abbrev pub LiteralsWhole : List ℕ → Type 0
+LiteralsWhole bs = literalsFrom outside bs ≡ true
 
 -- a byte that is no quote
-abbrev pub isPlain : ℕ → Bool
-isPlain b = not (eqb b quote)
+abbrev pub isUnquoted : ℕ → Bool
+isUnquoted b = not (eqb b quote)
 
 -- literals are whole behind packing where they are before it
 pack-literals : (bs : List ℕ) (place : Place) → literalsFrom place (packFrom place bs) ≡ literalsFrom place bs
@@ -70,7 +70,7 @@ pack-literals (b ∷ bs) inside = pack-literals bs (placeAfter inside b)
 -- the literals of a statement's text are whole where its entry says so
 abbrev pub TextWhole : Entry → Type 0
 TextWhole (skipped card sound) = Unit
-TextWhole (statement card sound label whole text) = whole ≡ true → Whole text
+TextWhole (statement card sound label whole text) = whole ≡ true → LiteralsWhole text
 
 -- so are those of a deck's statements
 pub entries-whole : (e : Edition) (deck : List ℕ) → Each TextWhole (entries e deck)
@@ -83,27 +83,27 @@ entries-whole e deck = each (unpackedFrom e 1 (lines deck))
     each (Unpacked.statement card sound label text ∷ us) = ((λ h. pack-literals text outside ∙ h), each us)
 
 -- outside a literal a byte that is no quote may go
-whole-tail : (b : ℕ) (bs : List ℕ) → eqb b quote ≡ false → Whole (b ∷ bs) → Whole bs
+whole-tail : (b : ℕ) (bs : List ℕ) → eqb b quote ≡ false → LiteralsWhole (b ∷ bs) → LiteralsWhole bs
 unfolding literalsFrom placeAfter
 whole-tail b bs h whole = rw (h, placeAfter) at whole
 
 -- bytes at the front, none of them a quote, may go
-pub whole-behind : (w bs : List ℕ) → all isPlain w ≡ true → begins w bs ≡ true → Whole bs → Whole (drop (length w) bs)
+pub whole-behind : (w bs : List ℕ) → all isUnquoted w ≡ true → begins w bs ≡ true → LiteralsWhole bs → LiteralsWhole (drop (length w) bs)
 unfolding begins same all
 whole-behind [] bs plain h whole = whole
 whole-behind (x ∷ w) [] plain h whole = absurd (false≢true h)
 whole-behind (x ∷ w) (b ∷ bs) plain h whole =
     let both = and-eq-true-iff (eqb b x) (same (take (length w) bs) w) .0 h in
-    let clean = and-eq-true-iff (isPlain x) (all isPlain w) .0 plain in
+    let clean = and-eq-true-iff (isUnquoted x) (all isUnquoted w) .0 plain in
     let here : eqb b quote ≡ false = ap (λ c. eqb c quote) (eqb-true b x (both .0)) ∙ not-true (eqb x quote) (clean .0) in
     whole-behind w bs (clean .1) (both .1) (whole-tail b bs here whole)
 
 -- bytes that pass a test which a quote fails may go
-pub whole-run : (f : ℕ → Bool) → f quote ≡ false → (bs : List ℕ) → Whole bs → Whole (drop (run f bs) bs)
-unfolding run
+pub whole-run : (f : ℕ → Bool) → f quote ≡ false → (bs : List ℕ) → LiteralsWhole bs → LiteralsWhole (drop (runLength f bs) bs)
+unfolding runLength
 whole-run f fails [] whole = whole
 whole-run f fails (b ∷ bs) whole =
-    test-cases (λ t. Whole (drop (elim t [ true ↦ suc (run f bs) | false ↦ 0 ]) (b ∷ bs))) (f b)
+    test-cases (λ t. LiteralsWhole (drop (elim t [ true ↦ suc (runLength f bs) | false ↦ 0 ]) (b ∷ bs))) (f b)
     (λ h. whole-run f fails bs (whole-tail b bs (differs h) whole)) (λ _. whole)
   where
     differs : f b ≡ true → eqb b quote ≡ false
@@ -112,71 +112,71 @@ whole-run f fails (b ∷ bs) whole =
         (λ q. absurd (true≢false (sym h ∙ ap f (eqb-true b quote q) ∙ fails))) (λ _. refl)
 
 -- a name may go
-pub whole-name : (bs : List ℕ) → Whole bs → Whole (drop (nameLength bs) bs)
+pub whole-name : (bs : List ℕ) → LiteralsWhole bs → LiteralsWhole (drop (nameLength bs) bs)
 unfolding nameLength isNameByte isLetter isDigit between quote
 whole-name bs whole =
-    cond-cases (λ n. Whole (drop n bs)) (isLetter (getD bs 0 0) && leb (run isNameByte bs) 8) (λ _. whole-run isNameByte refl bs whole)
+    cond-cases (λ n. LiteralsWhole (drop n bs)) (isLetter (getD bs 0 0) && leb (runLength isNameByte bs) 8) (λ _. whole-run isNameByte refl bs whole)
     (λ _. whole)
 
 -- so may the digits of a number
-pub whole-digits : (bs : List ℕ) → Whole bs → Whole (drop (run isDigit bs) bs)
+pub whole-digits : (bs : List ℕ) → LiteralsWhole bs → LiteralsWhole (drop (runLength isDigit bs) bs)
 unfolding isDigit between quote
 whole-digits bs whole = whole-run isDigit refl bs whole
 
 -- and the longest of some keywords
-whole-longest : (ws : List (List ℕ × Kind)) (bs : List ℕ) (best : Leading)
-    → all (λ ((w, k) : List ℕ × Kind). all isPlain w) ws ≡ true → Whole bs → Whole (drop (best .size) bs)
-    → Whole (drop (longest ws bs best .size) bs)
+whole-longest : (ws : List (List ℕ × StatementKind)) (bs : List ℕ) (best : Leading)
+    → all (λ ((w, k) : List ℕ × StatementKind). all isUnquoted w) ws ≡ true → LiteralsWhole bs → LiteralsWhole (drop (best .size) bs)
+    → LiteralsWhole (drop (longest ws bs best .size) bs)
 unfolding longest all
 whole-longest [] bs best plain whole h = h
 whole-longest ((w, k) ∷ ws) bs best plain whole h =
-    let clean = and-eq-true-iff (all isPlain w) _ .0 plain in
+    let clean = and-eq-true-iff (all isUnquoted w) _ .0 plain in
     whole-longest ws bs (cond (begins w bs && ltb (best .size) (length w)) (record { kind = k; size = length w }) best) (clean .1) whole
-    (cond-cases (λ (l : Leading). Whole (drop (l .size) bs)) (begins w bs && ltb (best .size) (length w))
+    (cond-cases (λ (l : Leading). LiteralsWhole (drop (l .size) bs)) (begins w bs && ltb (best .size) (length w))
     (λ t. whole-behind w bs (clean .0) (and-eq-true-iff (begins w bs) (ltb (best .size) (length w)) .0 t .0) whole)
     (λ _. h))
 
 -- the keyword that leads a statement may go
-pub whole-leading : (bs : List ℕ) → Whole bs → Whole (drop (leading bs .size) bs)
+pub whole-leading : (bs : List ℕ) → LiteralsWhole bs → LiteralsWhole (drop (leading bs .size) bs)
 unfolding leading keywords bytes all quote
 whole-leading bs whole =
-    cond-cases (λ (l : Leading). Whole (drop (l .size) bs)) (isReplacement bs) (λ _. whole)
+    cond-cases (λ (l : Leading). LiteralsWhole (drop (l .size) bs)) (isReplacement bs) (λ _. whole)
     (λ _. whole-longest keywords bs (record { kind = UNKNOWN; size = 0 }) refl whole whole)
 
 -- bytes that pass a test are as many as they are counted
-run-length : (f : ℕ → Bool) (bs : List ℕ) → length (take (run f bs) bs) ≡ run f bs
-run-length f bs = length-take-le (run f bs) bs (run-within f bs)
+run-length : (f : ℕ → Bool) (bs : List ℕ) → length (take (runLength f bs) bs) ≡ runLength f bs
+run-length f bs = length-take-le (runLength f bs) bs (run-within f bs)
 
 -- a literal is closed by the next quote
-whole-closed : (bs : List ℕ) → literalsFrom inside bs ≡ true → Whole (drop (suc (run isPlain bs)) bs)
-unfolding literalsFrom placeAfter run
+whole-closed : (bs : List ℕ) → literalsFrom inside bs ≡ true → LiteralsWhole (drop (suc (runLength isUnquoted bs)) bs)
+unfolding literalsFrom placeAfter runLength
 whole-closed [] h = absurd (false≢true h)
 whole-closed (b ∷ bs) h =
     test-cases
     (λ t. literalsFrom (elim t [ true ↦ outside | false ↦ inside ]) bs ≡ true
-    → Whole (drop (elim (not t) [ true ↦ suc (run isPlain bs) | false ↦ 0 ]) bs)) (eqb b quote)
+    → LiteralsWhole (drop (elim (not t) [ true ↦ suc (runLength isUnquoted bs) | false ↦ 0 ]) bs)) (eqb b quote)
     (λ _ g. g) (λ _ g. whole-closed bs g) h
 
 -- a literal read has a byte, and those behind it are whole
-pub data LiteralRead : Read (List ℕ) → Type 0 where
-  literalRead : {w rest : List ℕ} → isNil w ≡ false → Whole rest → LiteralRead (got w (aLiteral (length w)) rest)
+pub data LiteralParsed : Parsed (List ℕ) → Type 0 where
+  literalRead : {w rest : List ℕ} → isNil w ≡ false → LiteralsWhole rest → LiteralParsed (got w (oneLiteral (length w)) rest)
 
 -- where no two quotes follow, behind a quote a literal is read up to the next
 plain-literal : (bs : List ℕ) → literalsFrom opened bs ≡ true → begins (quote ∷ (quote ∷ [])) bs ≡ false
-    → LiteralRead (got (take (run isPlain bs) bs) (aLiteral (run isPlain bs)) (drop (suc (run isPlain bs)) bs))
-unfolding literalsFrom placeAfter begins same run isNil
+    → LiteralParsed (got (take (runLength isUnquoted bs) bs) (oneLiteral (runLength isUnquoted bs)) (drop (suc (runLength isUnquoted bs)) bs))
+unfolding literalsFrom placeAfter begins same runLength isNil
 plain-literal [] h two = absurd (false≢true h)
 plain-literal (b ∷ bs) h two =
     test-cases
     (λ t. literalsFrom (elim t [ true ↦ doubled | false ↦ inside ]) bs ≡ true → (t && same (take 1 bs) (quote ∷ [])) ≡ false
-    → LiteralRead
-    (got (take (elim (not t) [ true ↦ suc (run isPlain bs) | false ↦ 0 ]) (b ∷ bs))
-    (aLiteral (elim (not t) [ true ↦ suc (run isPlain bs) | false ↦ 0 ]))
-    (drop (elim (not t) [ true ↦ suc (run isPlain bs) | false ↦ 0 ]) bs)))
+    → LiteralParsed
+    (got (take (elim (not t) [ true ↦ suc (runLength isUnquoted bs) | false ↦ 0 ]) (b ∷ bs))
+    (oneLiteral (elim (not t) [ true ↦ suc (runLength isUnquoted bs) | false ↦ 0 ]))
+    (drop (elim (not t) [ true ↦ suc (runLength isUnquoted bs) | false ↦ 0 ]) bs)))
     (eqb b quote) (λ _ g one. absurd (third bs g one))
     (λ _ g _.
-    subst (λ n. LiteralRead (got (b ∷ take (run isPlain bs) bs) (aLiteral (suc n)) (drop (suc (run isPlain bs)) bs)))
-    (run-length isPlain bs)
+    subst (λ n. LiteralParsed (got (b ∷ take (runLength isUnquoted bs) bs) (oneLiteral (suc n)) (drop (suc (runLength isUnquoted bs)) bs)))
+    (run-length isUnquoted bs)
     (literalRead refl (whole-closed bs g)))
     h two
   where
@@ -188,7 +188,7 @@ plain-literal (b ∷ bs) h two =
         (eqb c quote) (λ _ _ h. true≢false h) (λ _ h _. false≢true h) g one
 
 -- behind three quotes
-whole-doubled : (bs : List ℕ) → literalsFrom opened bs ≡ true → begins (quote ∷ (quote ∷ [])) bs ≡ true → Whole (drop 2 bs)
+whole-doubled : (bs : List ℕ) → literalsFrom opened bs ≡ true → begins (quote ∷ (quote ∷ [])) bs ≡ true → LiteralsWhole (drop 2 bs)
 unfolding literalsFrom placeAfter begins same
 whole-doubled [] h two = absurd (false≢true two)
 whole-doubled (b ∷ []) h two = absurd (false≢true (and-eq-true-iff (eqb b quote) false .0 two .1))
@@ -198,7 +198,7 @@ whole-doubled (b ∷ (c ∷ bs)) h two =
     rw (first .0, placeAfter, second .0, literalsFrom) at h
 
 -- a literal that begins here
-pub literal-read : (bs : List ℕ) → begins (bytes "\"") bs ≡ true → Whole bs → LiteralRead (literalAt (drop 1 bs))
+pub literal-read : (bs : List ℕ) → begins (bytes "\"") bs ≡ true → LiteralsWhole bs → LiteralParsed (literalAt (drop 1 bs))
 unfolding begins same bytes literalsFrom placeAfter literalAt isNil quote
 literal-read [] h whole = absurd (false≢true h)
 literal-read (b ∷ bs) h whole =
@@ -206,10 +206,10 @@ literal-read (b ∷ bs) h whole =
     let inner : literalsFrom opened bs ≡ true = rw (opens, placeAfter) at whole in
     test-cases
     (λ t. begins (34 ∷ (34 ∷ [])) bs ≡ t
-    → LiteralRead
+    → LiteralParsed
     (elim t [
-      | true ↦ got (quote ∷ []) (aLiteral 1) (drop 2 bs)
-      | false ↦ got (take (run isPlain bs) bs) (aLiteral (run isPlain bs)) (drop (run isPlain bs + 1) bs)
+      | true ↦ got (quote ∷ []) (oneLiteral 1) (drop 2 bs)
+      | false ↦ got (take (runLength isUnquoted bs) bs) (oneLiteral (runLength isUnquoted bs)) (drop (runLength isUnquoted bs + 1) bs)
     ]))
     (begins (34 ∷ (34 ∷ [])) bs)
     (λ _ two. literalRead refl (whole-doubled bs inner two))

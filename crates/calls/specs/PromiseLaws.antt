@@ -5,18 +5,19 @@ use Prim.Native.Nat.{ℕ, _+_, _≤_, _<_}
 use lib.ListN.{length}
 use Rattle.base.specs.Current.{current}
 use Rattle.base.specs.Edition.{Edition}
-use Rattle.judgement.specs.Deck.{accepted}
+use Rattle.validation.specs.Deck.{accepted}
 use Rattle.scanning.specs.Call.{noAnswer}
 use Rattle.values.specs.Conversion.{longestString}
-use Rattle.calls.specs.Buffers.{stateSize}
+use Rattle.encoding.specs.Buffers.{stateSize}
 use Rattle.calls.specs.Calls.{ReadCalled, readCall, Buffers, StepCalled, stepCall, RunReturned, returned, runCall}
-use Rattle.calls.specs.DemandLaws.{accepted-tabled, demand3, current-limit, current-wide, current-size}
+use Rattle.calls.specs.DemandLaws.{accepted-tabled, demand3}
+use Rattle.encoding.specs.Conditions.{current-limit, current-wide, current-size}
 use Rattle.calls.specs.Demands.{Linked, observedRun, observedStep}
-use Rattle.calls.specs.Numerals.{bias}
+use Rattle.encoding.specs.Numerals.{bias}
 use Rattle.calls.specs.Promises.{HoldsProgram, ReadPromise, Keeps, StepPromise, RunPromise}
 use Rattle.calls.specs.StartLaws.{read-accepted}
 use Rattle.calls.specs.StopLaws.{LastKeeps, step-keeps, step-silent, run-keeps}
-use Rattle.calls.specs.Table.{literalsAt}
+use Rattle.encoding.specs.Table.{literalsAt}
 
 -- numbers fit their places, and tables and string lengths their sizes
 module _ (e : Edition) (limit : e .limit < bias) (wide : longestString ≤ e .limit) (size : literalsAt + 4096 ≤ e .tableSize) where

@@ -6,16 +6,16 @@ use mathlib.Core.Path.{_≡_}
 use Prim.Native.Nat.{ℕ, suc, _<_}
 use lib.ListN.{drop, getD}
 use Rattle.base.specs.Edition.{Edition}
-use Rattle.judgement.specs.Deck.{accepted, judge}
+use Rattle.validation.specs.Deck.{accepted, judge}
 use Rattle.machine.specs.State.{stopped}
 use Rattle.scanning.specs.Call.{noAnswer}
-use Rattle.values.specs.Work.{stopsStep}
-use Rattle.calls.specs.Buffers.{statusNumber}
+use Rattle.values.specs.Result.{stopsStep}
+use Rattle.encoding.specs.Buffers.{statusNumber}
 use Rattle.calls.specs.Calls.{ReadCalled, readCall, StartCalled, startCall, Buffers, StepCalled, stepCall, buffersAfter}
 use Rattle.calls.specs.Calls.{RunReturned, returned, runCall}
 use Rattle.calls.specs.Demands.{Demand3, History, observedRun, observedStep, stepsTried}
-use Rattle.calls.specs.Rules.{keepsRules}
-use Rattle.calls.specs.TableReading.{programIn}
+use Rattle.encoding.specs.Rules.{keepsRules}
+use Rattle.encoding.specs.TableReading.{programIn}
 
 -- what came back from a call, by its parts
 abbrev pub readBack : (number card : ℕ) (table : List ℕ) → ReadCalled

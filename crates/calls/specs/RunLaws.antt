@@ -12,28 +12,27 @@ use lib.ListN.{length, getD}
 use borrow.Author.Tests.{eqb-true, eqb-false, lt-ltb}
 use Rattle.base.specs.Choice.{test-cases, cond-cases}
 use Rattle.base.specs.Edition.{Edition}
-use Rattle.language.specs.Program as Program
-use Rattle.language.specs.Program.{Statement}
-use Rattle.language.specs.Program.{Program}
-use Rattle.machine.specs.Ends.{Ends, stops}
-use Rattle.machine.specs.Run.{FINISHED, Ran, counted, endedWith, goingOn, run, STOPPED, REFUSED}
+use Rattle.syntax.specs.Program.{Statement}
+use Rattle.syntax.specs.Program.{Program}
+use Rattle.machine.specs.Ends.{Ending, stops}
+use Rattle.machine.specs.Run.{FINISHED, Ran, stepCounted, endedWith, goingOn, run, STOPPED, REFUSED}
 use Rattle.machine.specs.State.{Status, running, finished, stopped, Memory, State}
-use Rattle.machine.specs.StepEnds.{step-turned, still-running, Alive, carrying-alive, undone-answer}
-use Rattle.machine.specs.Step.{Done, Stepped, step, statementAt, turnedDownBy, concluded, carrying}
+use Rattle.machine.specs.StepEnds.{step-turned, still-running, Alive, execution-alive, undone-answer}
+use Rattle.machine.specs.Step.{Done, Stepped, step, statementAt, turnedDownBy, concluded, execution}
 use Rattle.scanning.specs.Call.{splitNumbers, answerNumbers, noAnswer}
 use Rattle.scanning.specs.Splits.{Split}
 use Rattle.scanning.specs.Trials.{Scanned}
 use Rattle.values.specs.Conversion.{longestString}
-use Rattle.values.specs.Work.{Work, done, stop, stopsStep}
-use Rattle.values.specs.WorkLaws.{stops-some}
-use Rattle.calls.specs.Buffers.{storeSize, statusOf, stateIn}
-use Rattle.calls.specs.Calls.{Buffers, StepCalled, carried, stepCall, buffersAfter, RunCalled, runEnded, withStep, runBehind, runCall}
+use Rattle.values.specs.Result.{Result, done, stop, stopsStep}
+use Rattle.values.specs.ResultLaws.{stops-some}
+use Rattle.encoding.specs.Buffers.{storeSize, statusOf, stateIn}
+use Rattle.calls.specs.Calls.{Buffers, StepCalled, stepDone, stepCall, buffersAfter, RunCalled, runEnded, runWithStep, runBehind, runCall}
 use Rattle.calls.specs.Calls.{outcomeNumber, resultNumbers, returned}
 use Rattle.calls.specs.Demands.{stepsTried}
 use Rattle.calls.specs.Holding.{Holding}
-use Rattle.calls.specs.Invariant.{Sound, returns-enough, next-sound, step-sound}
-use Rattle.calls.specs.Numerals.{bias}
-use Rattle.calls.specs.ProgramLaws.{Runs}
+use Rattle.calls.specs.Invariant.{StateSound, returns-enough, next-sound, step-sound}
+use Rattle.encoding.specs.Numerals.{bias}
+use Rattle.encoding.specs.ProgramLaws.{Runs}
 use Rattle.calls.specs.StepLaws.{Tabled, small-called, call-held, step-holds}
 
 -- how a run of calls went is how a run of the machine went, and the buffers left hold the machine left
@@ -68,12 +67,12 @@ module _ (e : Edition) (p : Program) (lent : ℕ) (input : List ℕ) (notes : �
   went-on : (x : Status) → ¬ (x ≡ stopped) → Holding e p lent input (with-status x) b
       → RunSame e p lent input (goingOn (record { answer = record { number = 0; notes = notes; scanned = scanned }; state = with-status x }) r)
       (runBehind (record { number = 0; answer = answer; left = b }) k)
-  unfolding goingOn runBehind stopsStep counted withStep endedWith runEnded with-status stateIn
+  unfolding goingOn runBehind stopsStep stepCounted runWithStep endedWith runEnded with-status stateIn
   went-on running alive h =
       let called : StepCalled = record { number = 0; answer = answer; left = b } in
       let n = getD (b .state) 0 0 in
       let told : statusOf n ≡ running = ap (λ c. c .status) (h .given) in
-      cond-cases (RunSame e p lent input (counted 1 notes r)) (eqb n 1)
+      cond-cases (RunSame e p lent input (stepCounted 1 notes r)) (eqb n 1)
       (λ q. absurd (let f = one-finished n q in let z : _≡_ {A = ℕ} 0 1 = cc in omega arith))
       (λ q.
       record {
@@ -86,7 +85,7 @@ module _ (e : Edition) (p : Program) (lent : ℕ) (input : List ℕ) (notes : �
   went-on finished alive h =
       let n = getD (b .state) 0 0 in
       let told : statusOf n ≡ finished = ap (λ c. c .status) (h .given) in
-      cond-cases (RunSame e p lent input (counted 1 notes (endedWith FINISHED 0 (with-status finished)))) (eqb n 1)
+      cond-cases (RunSame e p lent input (stepCounted 1 notes (endedWith FINISHED 0 (with-status finished)))) (eqb n 1)
       (λ q. record { outcome = refl; number = refl; steps = refl; notes = ap (λ j. j + 0) same; holds = h })
       (λ q. absurd (other-unfinished n q told))
   went-on stopped alive h = absurd (alive refl)
@@ -94,9 +93,9 @@ module _ (e : Edition) (p : Program) (lent : ℕ) (input : List ℕ) (notes : �
 -- a step that is not done ends both runs
 ended : (e : Edition) (p : Program) (lent : ℕ) (input : List ℕ) (n : ℕ) (z : State) (y : StepCalled) → Holding e p lent input z (y .left)
     → getD (y .answer) 3 0 ≡ 0 → (r : Ran) (k : RunCalled) (stops met : Bool) → met ≡ true
-    → RunSame e p lent input (cond stops (counted 1 0 (endedWith STOPPED n z)) (cond met (endedWith REFUSED n z) r))
-    (cond stops (withStep y (runEnded STOPPED n (y .left))) (cond met (runEnded REFUSED n (y .left)) k))
-unfolding counted withStep endedWith runEnded
+    → RunSame e p lent input (cond stops (stepCounted 1 0 (endedWith STOPPED n z)) (cond met (endedWith REFUSED n z) r))
+    (cond stops (runWithStep y (runEnded STOPPED n (y .left))) (cond met (runEnded REFUSED n (y .left)) k))
+unfolding stepCounted runWithStep endedWith runEnded
 ended e p lent input n z y h no-notes r k true met is =
     record { outcome = refl; number = refl; steps = refl; notes = ap (λ j. j + 0) no-notes; holds = h }
 ended e p lent input n z y h no-notes r k false true is = record { outcome = refl; number = refl; steps = refl; notes = refl; holds = h }
@@ -112,10 +111,10 @@ notes-at notes (some a) trials = refl
 module _ (e : Edition) (limit : e .limit < bias) (wide : longestString ≤ e .limit) (p : Program) (runs : Runs e p)
     (table input : List ℕ) (t : Tabled e p table) (lent : ℕ) where
   -- a step that is done has not stopped
-  concluded-alive : {P : Done → Type 0} (c : State) (x : Statement) (w : Work Done) → carrying e lent x c ≡ w → Ends P w
+  concluded-alive : {P : Done → Type 0} (c : State) (x : Statement) (w : Result Done) → execution e lent x c ≡ w → Ending P w
       → ¬ (c .status ≡ stopped) → concluded c w .answer .number ≡ 0 → ¬ (concluded c w .state .status ≡ stopped)
   unfolding concluded
-  concluded-alive c x (done d n) is ended alive none-met halted = either (carrying-alive e lent x c d n is)
+  concluded-alive c x (done d n) is ended alive none-met halted = either (execution-alive e lent x c d n is)
     where
       either : Alive c (d .state) → ⊥
       either (inl same) = alive (sym same ∙ halted)
@@ -123,7 +122,7 @@ module _ (e : Edition) (limit : e .limit < bias) (wide : longestString ≤ e .li
   concluded-alive c x (stop k) is (stops h) alive none-met halted = stops-some h none-met
 
   -- nor has a step with no number
-  step-alive : (c : State) → Sound e p lent input c → step e p lent c .answer .number ≡ 0 → ¬ (step e p lent c .state .status ≡ stopped)
+  step-alive : (c : State) → StateSound e p lent input c → step e p lent c .answer .number ≡ 0 → ¬ (step e p lent c .state .status ≡ stopped)
   unfolding step
   step-alive c s =
       let n = turnedDownBy p c in
@@ -131,7 +130,7 @@ module _ (e : Edition) (limit : e .limit < bias) (wide : longestString ≤ e .li
       cond-cases (λ (k : Stepped). k .answer .number ≡ 0 → ¬ (k .state .status ≡ stopped)) (eqb n 0)
       (λ q.
       let goes = eqb-true n 0 q in
-      concluded-alive c x (carrying e lent x c) refl (next-sound e wide p runs lent input c s (returns-enough p c goes)) (still-running p c goes))
+      concluded-alive c x (execution e lent x c) refl (next-sound e wide p runs lent input c s (returns-enough p c goes)) (still-running p c goes))
       (λ q none-met. absurd (eqb-false n 0 q none-met))
 
   -- buffers b that hold a machine c
@@ -139,7 +138,7 @@ module _ (e : Edition) (limit : e .limit < bias) (wide : longestString ≤ e .li
     -- the number and the notes of the call are those of the step
     pub call-numbers : (stepCall e table input b .number ≡ step e p lent c .answer .number)
         × (getD (stepCall e table input b .answer) 3 0 ≡ step e p lent c .answer .notes)
-    unfolding carried step answerNumbers noAnswer splitNumbers
+    unfolding stepDone step answerNumbers noAnswer splitNumbers
     call-numbers =
         let a = step e p lent c .answer in
         test-cases
@@ -156,7 +155,7 @@ module _ (e : Edition) (limit : e .limit < bias) (wide : longestString ≤ e .li
         ))
 
     -- the runs behind the step, r of the machine and k of the calls
-    module _ (r : Ran) (k : RunCalled) (s : Sound e p lent input c) (rest : RunSame e p lent input r k) where
+    module _ (r : Ran) (k : RunCalled) (s : StateSound e p lent input c) (rest : RunSame e p lent input r k) where
       machine : Stepped
       machine = step e p lent c
 
@@ -193,7 +192,7 @@ module _ (e : Edition) (limit : e .limit < bias) (wide : longestString ≤ e .li
           (ended e p lent input n (machine .state) behind left no-notes _ _ (stopsStep n) (ltb 0 n) (lt-ltb 0 n (omega (arith, some-met))))
 
   -- a run of calls is the run of the machine
-  pub run-same : (k : ℕ) (c : State) (b : Buffers) → Sound e p lent input c → Holding e p lent input c b
+  pub run-same : (k : ℕ) (c : State) (b : Buffers) → StateSound e p lent input c → Holding e p lent input c b
       → RunSame e p lent input (run e p lent k c) (runCall e table input k b)
   unfolding run runCall endedWith runEnded machine called
   run-same zero c b s h = record { outcome = refl; number = refl; steps = refl; notes = refl; holds = h }
@@ -211,11 +210,11 @@ module _ (e : Edition) (table input : List ℕ) (b : Buffers) (rest : RunCalled)
   behind-left : (stops met ends : Bool)
       → (let s = stepCall e table input b in
       rest .left ≡ buffersAfter e table input (stepsTried (returned rest)) (s .left)
-      → (let r = cond stops (withStep s (runEnded STOPPED (s .number) (s .left)))
+      → (let r = cond stops (runWithStep s (runEnded STOPPED (s .number) (s .left)))
       (cond met (runEnded REFUSED (s .number) (s .left))
-      (cond ends (withStep s (runEnded FINISHED 0 (s .left))) (withStep s rest))) in
+      (cond ends (runWithStep s (runEnded FINISHED 0 (s .left))) (runWithStep s rest))) in
       r .left ≡ buffersAfter e table input (stepsTried (returned r)) b))
-  unfolding withStep runEnded returned resultNumbers stepsTried outcomeNumber buffersAfter
+  unfolding runWithStep runEnded returned resultNumbers stepsTried outcomeNumber buffersAfter
   behind-left true met ends h = refl
   behind-left false true ends h = refl
   behind-left false false true h = refl

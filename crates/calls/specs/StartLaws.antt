@@ -10,23 +10,22 @@ use lib.ListN.{length, drop, replicate, length-append, length-replicate}
 use borrow.Author.Tests.{ltb-false, le-ltb}
 use Rattle.base.specs.Edition.{Edition}
 use Rattle.base.specs.Limits.{longestDeck}
-use Rattle.judgement.specs.Deck.{Judgement, accepted, refused, judge}
-use Rattle.judgement.specs.Laws.{judge-answers}
-use Rattle.language.specs.Program as Program
-use Rattle.language.specs.Program.{Program}
+use Rattle.validation.specs.Deck.{Judgement, accepted, refused, judge}
+use Rattle.validation.specs.Laws.{judge-answers}
+use Rattle.syntax.specs.Program.{Program}
 use Rattle.machine.specs.State.{freshMemory, fresh, mostStrings}
 use Rattle.values.specs.Conversion.{longestString}
-use Rattle.calls.specs.BufferLaws.{fresh-image}
-use Rattle.calls.specs.Buffers.{storeSize, stateSize, storeLeft, stateLeft, outputLeft, firstState}
+use Rattle.encoding.specs.BufferLaws.{fresh-image}
+use Rattle.encoding.specs.Buffers.{storeSize, stateSize, storeLeft, stateLeft, outputLeft, firstState}
 use Rattle.calls.specs.Calls.{readJudged, readBy, readCall, StartCalled, startCall, Buffers, leftOf}
 use Rattle.calls.specs.Holding.{Holding, left-holds}
 use Rattle.calls.specs.Invariant.{fresh-sound}
-use Rattle.calls.specs.ProgramLaws.{Runs}
-use Rattle.calls.specs.Numerals.{bias}
-use Rattle.calls.specs.Rules.{isProgram}
+use Rattle.encoding.specs.ProgramLaws.{Runs}
+use Rattle.encoding.specs.Numerals.{bias}
+use Rattle.encoding.specs.Rules.{isProgram}
 use Rattle.calls.specs.StepLaws.{Tabled}
-use Rattle.calls.specs.Table.{image, literalsAt}
-use Rattle.calls.specs.TableLaws.{image-length, programIn-image, image-keeps}
+use Rattle.encoding.specs.Table.{image, literalsAt}
+use Rattle.encoding.specs.TableLaws.{image-length, programIn-image, image-keeps}
 
 -- of an accepted deck, with both sizes right
 accepted-table : (e : Edition) (table : List ℕ) (long short : Bool) (p : Program) → readBy e table long short (accepted p) .number ≡ 0

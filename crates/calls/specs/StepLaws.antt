@@ -9,20 +9,20 @@ use lib.ListN.{length}
 use borrow.Author.Tests.{le-ltb, lt-leb}
 use Rattle.base.specs.Choice.{test-cases}
 use Rattle.base.specs.Edition.{Edition}
-use Rattle.language.specs.Program.{Program}
+use Rattle.syntax.specs.Program.{Program}
 use Rattle.machine.specs.State.{State, mostStrings}
 use Rattle.machine.specs.Step.{noScan, turnedDownBy, Stepped, step}
 use Rattle.machine.specs.StepEnds.{step-turned}
 use Rattle.scanning.specs.Call.{answerNumbers, noAnswer, splitNumbers}
 use Rattle.values.specs.Conversion.{longestString}
-use Rattle.calls.specs.Buffers.{storeSize, storeKeeps, cellsKeep, stateKeeps}
-use Rattle.calls.specs.Calls.{Buffers, StepCalled, givenIn, outOfRange, stepRefusal, carried, stepCall}
+use Rattle.encoding.specs.Buffers.{storeSize, storeKeeps, cellsKeep, stateKeeps}
+use Rattle.calls.specs.Calls.{Buffers, StepCalled, givenIn, outOfRange, stepRefusal, stepDone, stepCall}
 use Rattle.calls.specs.Holding.{Holding, left-holds}
-use Rattle.calls.specs.Invariant.{Sound, step-sound}
-use Rattle.calls.specs.ProgramLaws.{Runs}
-use Rattle.calls.specs.Numerals.{bias}
-use Rattle.calls.specs.Rules.{keepsRules}
-use Rattle.calls.specs.TableReading.{programIn}
+use Rattle.calls.specs.Invariant.{StateSound, step-sound}
+use Rattle.encoding.specs.ProgramLaws.{Runs}
+use Rattle.encoding.specs.Numerals.{bias}
+use Rattle.encoding.specs.Rules.{keepsRules}
+use Rattle.encoding.specs.TableReading.{programIn}
 
 -- a table that keeps its rules and holds the program p
 pub record Tabled (e : Edition) (p : Program) (table : List ℕ) : Type 0 where
@@ -56,7 +56,7 @@ module _ (e : Edition) (p : Program) (table input : List ℕ) (t : Tabled e p ta
       → stepCall e table input b ≡ record { number = 14; answer = noAnswer; left = b }
   unfolding stepCall
   small-called b small =
-      let went = carried e table input b (step e (programIn table) (length (b .output)) (givenIn e table input b)) in
+      let went = stepDone e table input b (step e (programIn table) (length (b .output)) (givenIn e table input b)) in
       ap (λ n. cond (eqb n 0) went (record { number = n; answer = noAnswer; left = b })) (small-refused b small)
 
   -- buffers b that hold a machine c
@@ -75,18 +75,18 @@ module _ (e : Edition) (p : Program) (table input : List ℕ) (t : Tabled e p ta
     -- the call in terms of the machine's step
     pub call-held : (goes : Bool) → eqb (turnedDownBy p c) 0 ≡ goes
         → stepCall e table input b
-        ≡ cond goes (carried e table input b (step e p lent c)) (record { number = turnedDownBy p c; answer = noAnswer; left = b })
+        ≡ cond goes (stepDone e table input b (step e p lent c)) (record { number = turnedDownBy p c; answer = noAnswer; left = b })
     unfolding stepCall givenIn
     call-held goes q =
         let went : ℕ → Bool → Stepped → StepCalled =
-        λ n x s. cond x (carried e table input b s) (record { number = n; answer = noAnswer; left = b }) in
+        λ n x s. cond x (stepDone e table input b s) (record { number = n; answer = noAnswer; left = b }) in
         let calls : stepCall e table input b ≡ went (turnedDownBy p c) (eqb (turnedDownBy p c) 0) (step e p lent c) =
         λ i. went (refusal-held i) (eqb (refusal-held i) 0) (step e (t .reads i) (h .outputLength i) (h .given i)) in
         calls ∙ ap (λ x. went (turnedDownBy p c) x (step e p lent c)) q
 
     -- the answer's numbers are those of the machine's answer
     pub call-answer : (let a = step e p lent c .answer in stepCall e table input b .answer ≡ answerNumbers (a .notes) (a .scanned))
-    unfolding carried step answerNumbers noAnswer noScan splitNumbers
+    unfolding stepDone step answerNumbers noAnswer noScan splitNumbers
     call-answer =
         let a = step e p lent c .answer in
         test-cases (λ _. stepCall e table input b .answer ≡ answerNumbers (a .notes) (a .scanned)) (eqb (turnedDownBy p c) 0)
@@ -96,9 +96,9 @@ module _ (e : Edition) (p : Program) (table input : List ℕ) (t : Tabled e p ta
   -- numbers fit their places, a string's length is a number, and p is a program in range
   module _ (limit : e .limit < bias) (wide : longestString ≤ e .limit) (runs : Runs e p) (lent : ℕ) where
     -- the buffers left hold the machine left
-    pub step-holds : (c : State) (b : Buffers) → Sound e p lent input c → Holding e p lent input c b
+    pub step-holds : (c : State) (b : Buffers) → StateSound e p lent input c → Holding e p lent input c b
         → Holding e p lent input (step e p lent c .state) (stepCall e table input b .left)
-    unfolding carried
+    unfolding stepDone
     step-holds c b s h =
         let Held : StepCalled → Type 0 = λ x. Holding e p lent input (step e p lent c .state) (x .left) in
         test-cases (λ _. Held (stepCall e table input b)) (eqb (turnedDownBy p c) 0)

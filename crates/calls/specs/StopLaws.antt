@@ -12,31 +12,31 @@ use borrow.Author.Tests.{eqb-true, eqb-false}
 use Rattle.base.specs.Choice.{cond-cases, test-cases}
 use Rattle.base.specs.Edition.{Edition}
 use Rattle.base.specs.ListLaws.{stretch-behind}
-use Rattle.calls.specs.NumeralLaws.{numbers-same}
+use Rattle.encoding.specs.NumeralLaws.{numbers-same}
 use Rattle.machine.specs.State.{Status, stopped, State, withStatus, mostNumbers}
 use Rattle.machine.specs.Run.{FINISHED, STOPPED, REFUSED}
 use Rattle.machine.specs.StepEnds.{stopped-step, step-stops, turned-down-unstopped, undone-answer}
 use Rattle.machine.specs.Step.{mostReturns, noScan, turnedDownBy, step}
 use Rattle.scanning.specs.Call.{answerNumbers, noAnswer, splitNumbers}
 use Rattle.values.specs.Conversion.{longestString}
-use Rattle.values.specs.Work.{stopsStep}
-use Rattle.values.specs.WorkLaws.{stops-some}
-use Rattle.calls.specs.BufferLaws.{good-image, keeps-good}
-use Rattle.calls.specs.Buffers.{storeKeeps, stateSize, returnsAt, numbersAt, statusNumber, returnsIn, numbersIn}
-use Rattle.calls.specs.Buffers.{stateKeeps, stateIn, storeLeft, stateLeft, outputLeft}
-use Rattle.calls.specs.Calls.{Buffers, leftOf, StepCalled, givenIn, outOfRange, stepRefusal, carried, stepCall, buffersAfter}
-use Rattle.calls.specs.Calls.{RunCalled, RunReturned, outcomeNumber, resultNumbers, returned, runEnded, withStep, runBehind, runCall}
+use Rattle.values.specs.Result.{stopsStep}
+use Rattle.values.specs.ResultLaws.{stops-some}
+use Rattle.encoding.specs.BufferLaws.{good-image, keeps-good}
+use Rattle.encoding.specs.Buffers.{storeKeeps, stateSize, returnsAt, numbersAt, statusNumber, returnsIn, numbersIn}
+use Rattle.encoding.specs.Buffers.{stateKeeps, stateIn, storeLeft, stateLeft, outputLeft}
+use Rattle.calls.specs.Calls.{Buffers, leftOf, StepCalled, givenIn, outOfRange, stepRefusal, stepDone, stepCall, buffersAfter}
+use Rattle.calls.specs.Calls.{RunCalled, RunReturned, outcomeNumber, resultNumbers, returned, runEnded, runWithStep, runBehind, runCall}
 use Rattle.calls.specs.Demands.{stepsTried}
 use Rattle.calls.specs.GivenLaws.{StateInRange, state-in-range, returns-count, given-sound, given-holds, Unrefused, unrefused}
 use Rattle.calls.specs.Holding.{Holding}
 use Rattle.calls.specs.Invariant.{next-sound, returns-enough}
-use Rattle.calls.specs.Numerals.{bias}
-use Rattle.calls.specs.ProgramLaws.{program-runs}
+use Rattle.encoding.specs.Numerals.{bias}
+use Rattle.encoding.specs.ProgramLaws.{program-runs}
 use Rattle.calls.specs.Promises.{Keeps}
-use Rattle.calls.specs.Rules.{keepsRules}
+use Rattle.encoding.specs.Rules.{keepsRules}
 use Rattle.calls.specs.StepLaws.{Tabled, step-holds}
-use Rattle.calls.specs.TableLaws.{keeps-image}
-use Rattle.calls.specs.TableReading.{programIn}
+use Rattle.encoding.specs.TableLaws.{keeps-image}
+use Rattle.encoding.specs.TableReading.{programIn}
 
 -- the buffers with another state
 abbrev pub withState : List ℕ → Buffers → Buffers
@@ -116,7 +116,7 @@ module _ (e : Edition) (table input : List ℕ) (b : Buffers) where
 
   -- a step is refused, and all stays, or is carried out
   by-refusal : (P : StepCalled → Type 0) → (¬ (stepRefusal e table input b ≡ 0) → P (record { number = stepRefusal e table input b; answer = noAnswer; left = b }))
-      → (Unrefused e table input b → P (carried e table input b (step e (programIn table) (length (b .output)) (givenIn e table input b))))
+      → (Unrefused e table input b → P (stepDone e table input b (step e (programIn table) (length (b .output)) (givenIn e table input b))))
       → P (stepCall e table input b)
   unfolding stepCall
   by-refusal P f g =
@@ -127,11 +127,11 @@ module _ (e : Edition) (table input : List ℕ) (b : Buffers) where
   abbrev Stopped : Buffers → Type 0
   Stopped left = left ≡ withState (statusNumber stopped ∷ drop 1 (b .state)) b
 
-  carried-stopped : length (b .state) ≡ stateSize → Unrefused e table input b
+  done-stopped : length (b .state) ≡ stateSize → Unrefused e table input b
       → (let s = step e (programIn table) (length (b .output)) (givenIn e table input b) in
       ¬ (s .answer .number ≡ 0) → Stopped (leftOf input b (s .state)))
   unfolding givenIn
-  carried-stopped size u h =
+  done-stopped size u h =
       ap (leftOf input b) (stopped-step e (programIn table) (length (b .output)) (givenIn e table input b) (u .goes) h)
       ∙ left-same e (length (programIn table .steps)) input b stopped size (u .storeGood) (u .stateGood)
 
@@ -152,7 +152,7 @@ module _ (e : Edition) (table input : List ℕ) (b : Buffers) where
 
     -- demand 1 "a refused or stopped step leaves store, numbers, input place and output as before it"
     pub step-keeps : Keeps b (stepCall e table input b .number) (stepCall e table input b .left)
-    unfolding carried
+    unfolding stepDone
     step-keeps =
         by-refusal (λ s. Keeps b (s .number) (s .left))
         (λ q.
@@ -165,16 +165,16 @@ module _ (e : Edition) (table input : List ℕ) (b : Buffers) where
         })
         (λ u.
         record {
-          store = λ h. ap (λ x. x .store) (carried-stopped size u h);
-          state = λ h. ap (λ x. drop 1 (x .state)) (carried-stopped size u h);
-          output = λ h. ap (λ x. x .output) (carried-stopped size u h);
+          store = λ h. ap (λ x. x .store) (done-stopped size u h);
+          state = λ h. ap (λ x. drop 1 (x .state)) (done-stopped size u h);
+          output = λ h. ap (λ x. x .output) (done-stopped size u h);
           handed-back = λ some turned. absurd (true≢false (sym (carried-stops u (λ z. omega arith)) ∙ turned));
-          marked = λ stops. ap (λ x. getD (x .state) 0 0) (carried-stopped size u (stops-some stops));
+          marked = λ stops. ap (λ x. getD (x .state) 0 0) (done-stopped size u (stops-some stops));
         })
 
     -- V12, V13: such a step answers nothing
     pub step-silent : ¬ (stepCall e table input b .number ≡ 0) → stepCall e table input b .answer ≡ noAnswer
-    unfolding carried answerNumbers noAnswer noScan splitNumbers
+    unfolding stepDone answerNumbers noAnswer noScan splitNumbers
     step-silent =
         by-refusal (λ s. ¬ (s .number ≡ 0) → s .answer ≡ noAnswer) (λ q h. refl)
         (λ u h.
@@ -217,11 +217,11 @@ module _ (e : Edition) (table input : List ℕ) (b : Buffers) (rest : RunCalled)
       → (let s = stepCall e table input b in
       Keeps b (s .number) (s .left)
       → (¬ (rest .number ≡ 0) → LastKeeps e table input (s .left) (returned rest))
-      → (let r = cond stops (withStep s (runEnded STOPPED (s .number) (s .left)))
+      → (let r = cond stops (runWithStep s (runEnded STOPPED (s .number) (s .left)))
       (cond met (runEnded REFUSED (s .number) (s .left))
-      (cond ends (withStep s (runEnded FINISHED 0 (s .left))) (withStep s rest))) in
+      (cond ends (runWithStep s (runEnded FINISHED 0 (s .left))) (runWithStep s rest))) in
       ¬ (r .number ≡ 0) → LastKeeps e table input b (returned r)))
-  unfolding withStep runEnded returned resultNumbers stepsTried outcomeNumber buffersAfter
+  unfolding runWithStep runEnded returned resultNumbers stepsTried outcomeNumber buffersAfter
   behind-keeps true met ends k h n = (0, refl, k)
   behind-keeps false true ends k h n = (0, refl, k)
   behind-keeps false false true k h n = absurd (n refl)

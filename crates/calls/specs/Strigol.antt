@@ -8,7 +8,7 @@ use Rattle.base.specs.Edition.{Edition}
 use Rattle.base.specs.Limits.{longestDeck}
 use Rattle.base.specs.Text.{bytes}
 use Rattle.cards.specs.Bytes.{newline}
-use Rattle.judgement.specs.Deck.{Judgement, accepted, refused, judge}
+use Rattle.validation.specs.Deck.{Judgement, accepted, refused, judge}
 use Rattle.machine.specs.Run.{Outcome, FINISHED, STOPPED, SPENT, REFUSED, Ran, run}
 use Rattle.machine.specs.State.{fresh}
 use Rattle.values.specs.Conversion.{digits}

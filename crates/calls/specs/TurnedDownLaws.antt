@@ -10,48 +10,48 @@ use lib.Dec.{eqb}
 use lib.ListN.{length, getD}
 use Rattle.base.specs.Choice.{cond-cases}
 use Rattle.base.specs.Edition.{Edition}
-use Rattle.judgement.specs.Chains.{Executes}
-use Rattle.judgement.specs.ScopeLaws.{HasScopes, accepted-scoped}
-use Rattle.language.specs.Placed.{Each}
-use Rattle.language.specs.Program.{Program}
-use Rattle.machine.specs.Ends.{Ends, ends, stops}
+use Rattle.validation.specs.Chains.{Executes}
+use Rattle.validation.specs.ScopeLaws.{HasScopes, accepted-scoped}
+use Rattle.syntax.specs.Placed.{Each}
+use Rattle.syntax.specs.Program.{Program}
+use Rattle.machine.specs.Ends.{Ending, ends, stops}
 use Rattle.machine.specs.Nesting.{NestedIn, fresh-nested, step-nested, nested-turned}
-use Rattle.machine.specs.Run.{REFUSED, Ran, after, counted, endedWith, goingOn, run}
+use Rattle.machine.specs.Run.{REFUSED, Ran, stateAfter, stepCounted, endedWith, goingOn, run}
 use Rattle.machine.specs.State.{Status, running, finished, stopped, isRunning, Memory, State, fresh}
-use Rattle.machine.specs.Step.{Done, carrying, statementAt, turnedDownBy, Stepped, concluded, step}
+use Rattle.machine.specs.Step.{Done, execution, statementAt, turnedDownBy, Stepped, concluded, step}
 use Rattle.machine.specs.StepEnds.{step-turned}
 use Rattle.scanning.specs.Trials.{Scanned}
 use Rattle.values.specs.Conversion.{longestString}
-use Rattle.values.specs.Work.{stopsStep, Work, done, stop}
-use Rattle.calls.specs.Buffers.{storeSize, statusOf, stateIn}
+use Rattle.values.specs.Result.{stopsStep, Result, done, stop}
+use Rattle.encoding.specs.Buffers.{storeSize, statusOf, stateIn}
 use Rattle.calls.specs.Calls.{readCall, Buffers, StepCalled, stepCall, buffersAfter, RunReturned, outcomeNumber, resultNumbers}
 use Rattle.calls.specs.Calls.{returned, runEnded, runCall}
 use Rattle.calls.specs.Demands.{Observed, observedStep, observedRun, stepsTried, Linked, History}
 use Rattle.calls.specs.DemandLaws.{Behind, behind-step, behind-steps, behind-start, read-loaded, history-loaded, history-linked}
-use Rattle.calls.specs.Invariant.{Sound, returns-enough, next-sound, step-sound}
-use Rattle.calls.specs.Numerals.{bias}
-use Rattle.calls.specs.ProgramLaws.{Runs}
+use Rattle.calls.specs.Invariant.{StateSound, returns-enough, next-sound, step-sound}
+use Rattle.encoding.specs.Numerals.{bias}
+use Rattle.encoding.specs.ProgramLaws.{Runs}
 use Rattle.calls.specs.RunLaws.{call-numbers, run-same, run-left}
 use Rattle.calls.specs.StartLaws.{startedWith}
 use Rattle.calls.specs.StepLaws.{Tabled}
-use Rattle.calls.specs.Table.{literalsAt}
+use Rattle.encoding.specs.Table.{literalsAt}
 
 -- a call is done, or it is stopped by a number that stops a step
 abbrev pub DoneOrStopped : ℕ → Type 0
 DoneOrStopped n = (n ≡ 0) ⊎ (stopsStep n ≡ true)
 
 -- the number of a step or run in a state with this status: Q16 where the run is over, else none that turns it down
-unfoldable pub GoesOn : Status → ℕ → Type 0
-GoesOn running n = DoneOrStopped n
-GoesOn finished n = n ≡ 16
-GoesOn stopped n = n ≡ 16
+unfoldable pub StepGoesOn : Status → ℕ → Type 0
+StepGoesOn running n = DoneOrStopped n
+StepGoesOn finished n = n ≡ 16
+StepGoesOn stopped n = n ≡ 16
 
 -- a call as it was observed: a run of no steps is done at once, and one in a run that goes on is not REFUSED
 unfoldable pub CallGoes : Observed → Type 0
-CallGoes (observedStep b back) = GoesOn (statusOf (getD (b .state) 0 0)) (back .number)
+CallGoes (observedStep b back) = StepGoesOn (statusOf (getD (b .state) 0 0)) (back .number)
 CallGoes (observedRun zero b back) = back .number ≡ 0
 CallGoes (observedRun (suc k) b back) =
-    GoesOn (statusOf (getD (b .state) 0 0)) (back .number)
+    StepGoesOn (statusOf (getD (b .state) 0 0)) (back .number)
     × (statusOf (getD (b .state) 0 0) ≡ running → ¬ (getD (back .result) 0 0 ≡ outcomeNumber REFUSED))
 
 -- a run that is not turned down
@@ -60,7 +60,7 @@ pub record RunsOn (r : Ran) : Type 0 where
   pub number : DoneOrStopped (r .number)
 
 -- how a statement's work is concluded
-concluded-goes : {P : Done → Type 0} (c : State) (w : Work Done) → Ends P w → DoneOrStopped (concluded c w .answer .number)
+concluded-goes : {P : Done → Type 0} (c : State) (w : Result Done) → Ending P w → DoneOrStopped (concluded c w .answer .number)
 unfolding concluded
 concluded-goes c (done d n) (ends h) = inl refl
 concluded-goes c (stop n) (stops h) = inr h
@@ -75,13 +75,13 @@ module _ (notes : ℕ) (scanned : Scanned) (next : ℕ) (returns : List ℕ) (m 
       }
 
   done-behind : (x : Status) → (x ≡ running → RunsOn rest) → RunsOn (goingOn (stepped 0 x) rest)
-  unfolding goingOn counted endedWith stepped outcomeNumber stopsStep
+  unfolding goingOn stepCounted endedWith stepped outcomeNumber stopsStep
   done-behind running h = record { unrefused = h refl .unrefused; number = h refl .number }
   done-behind finished h = record { unrefused = λ q. omega arith; number = inl refl }
   done-behind stopped h = record { unrefused = λ q. omega arith; number = inl refl }
 
   step-behind : (n : ℕ) (x : Status) → DoneOrStopped n → (x ≡ running → RunsOn rest) → RunsOn (goingOn (stepped n x) rest)
-  unfolding goingOn counted endedWith stepped outcomeNumber
+  unfolding goingOn stepCounted endedWith stepped outcomeNumber
   step-behind n x (inl none) h = subst (λ (n : ℕ). RunsOn (goingOn (stepped n x) rest)) (sym none) (done-behind x h)
   step-behind n x (inr halts) h = rw halts (record { unrefused = λ q. omega arith; number = inr halts })
 
@@ -104,8 +104,8 @@ module _ (e : Edition) (limit : e .limit < bias) (wide : longestString ≤ e .li
   step-nests : (c : State) → Nests c → Nests (step e p lent c .state)
   step-nests c h = step-nested (scopes .scope) (Executes (scopes .uses)) p (scopes .scoped) e lent c h
 
-  steps-nest : (k : ℕ) (c : State) → Nests c → Nests (after e p lent k c)
-  unfolding after
+  steps-nest : (k : ℕ) (c : State) → Nests c → Nests (stateAfter e p lent k c)
+  unfolding stateAfter
   steps-nest zero c h = h
   steps-nest (suc k) c h = steps-nest k (step e p lent c .state) (step-nests c h)
 
@@ -118,19 +118,19 @@ module _ (e : Edition) (limit : e .limit < bias) (wide : longestString ≤ e .li
   step-over c h = ap (λ s. s .answer .number) (step-turned e p lent c (ap (λ n. eqb n 0) h)) ∙ h
 
   -- the number of a step
-  step-goes : (c : State) → Sound e p lent input c → Nests c → (x : Status) → c .status ≡ x → GoesOn x (step e p lent c .answer .number)
-  unfolding GoesOn isRunning step
+  step-goes : (c : State) → StateSound e p lent input c → Nests c → (x : Status) → c .status ≡ x → StepGoesOn x (step e p lent c .answer .number)
+  unfolding StepGoesOn isRunning step
   step-goes c s h running is =
       let goes : turnedDownBy p c ≡ 0 = turned-down c h ∙ ap (λ x. cond (isRunning x) 0 16) is in
       let ended = next-sound e wide p runs lent input c s (returns-enough p c goes) in
       cond-cases (λ (x : Stepped). DoneOrStopped (x .answer .number)) (eqb (turnedDownBy p c) 0)
-      (λ _. concluded-goes c (carrying e lent (statementAt p (c .next)) c) ended) (λ _. inl goes)
+      (λ _. concluded-goes c (execution e lent (statementAt p (c .next)) c) ended) (λ _. inl goes)
   step-goes c s h finished is = step-over c (turned-down c h ∙ ap (λ x. cond (isRunning x) 0 16) is)
   step-goes c s h stopped is = step-over c (turned-down c h ∙ ap (λ x. cond (isRunning x) 0 16) is)
 
   -- a run that goes on
-  run-goes : (k : ℕ) (c : State) → Sound e p lent input c → Nests c → c .status ≡ running → RunsOn (run e p lent k c)
-  unfolding run endedWith GoesOn stepped outcomeNumber
+  run-goes : (k : ℕ) (c : State) → StateSound e p lent input c → Nests c → c .status ≡ running → RunsOn (run e p lent k c)
+  unfolding run endedWith StepGoesOn stepped outcomeNumber
   run-goes zero c s h is = record { unrefused = λ q. omega arith; number = inl refl }
   run-goes (suc k) c s h is =
       let next = step e p lent c .state in
@@ -140,9 +140,9 @@ module _ (e : Edition) (limit : e .limit < bias) (wide : longestString ≤ e .li
       (λ still. run-goes k next (step-sound e wide p runs lent input c s) (step-nests c h) still)
 
   -- the number of a run of some steps
-  run-number : (k : ℕ) (c : State) → Sound e p lent input c → Nests c → (x : Status) → c .status ≡ x
-      → GoesOn x (run e p lent (suc k) c .number)
-  unfolding GoesOn run isRunning
+  run-number : (k : ℕ) (c : State) → StateSound e p lent input c → Nests c → (x : Status) → c .status ≡ x
+      → StepGoesOn x (run e p lent (suc k) c .number)
+  unfolding StepGoesOn run isRunning
   run-number k c s h running is = run-goes (suc k) c s h is .number
   run-number k c s h finished is = refused-behind (step e p lent c) _ (step-goes c s h finished is)
   run-number k c s h stopped is = refused-behind (step e p lent c) _ (step-goes c s h stopped is)
@@ -159,7 +159,7 @@ module _ (e : Edition) (limit : e .limit < bias) (wide : longestString ≤ e .li
     step-call-goes : (c : State) (b : Buffers) → Before c b → Nests c → CallGoes (observedStep b (stepCall e table input b))
     unfolding CallGoes
     step-call-goes c b h n =
-        subst (GoesOn (statusOf (getD (b .state) 0 0))) (sym (call-numbers e limit wide p runs table input t lent c b (h .holds) .0))
+        subst (StepGoesOn (statusOf (getD (b .state) 0 0))) (sym (call-numbers e limit wide p runs table input t lent c b (h .holds) .0))
         (step-goes c (h .sound) n _ (given-status c b h))
 
     run-call-goes : (count : ℕ) (c : State) (b : Buffers) → Before c b → Nests c
@@ -169,7 +169,7 @@ module _ (e : Edition) (limit : e .limit < bias) (wide : longestString ≤ e .li
     run-call-goes (suc k) c b h n =
         let same = run-same e limit wide p runs table input t lent (suc k) c b (h .sound) (h .holds) in
         let status = given-status c b h in (
-          subst (GoesOn (statusOf (getD (b .state) 0 0))) (sym (same .number)) (run-number k c (h .sound) n _ status),
+          subst (StepGoesOn (statusOf (getD (b .state) 0 0))) (sym (same .number)) (run-number k c (h .sound) n _ status),
           λ is refused. run-goes (suc k) c (h .sound) n (status ∙ is) .unrefused (sym (ap outcomeNumber (same .outcome)) ∙ refused),
         )
 
@@ -193,8 +193,8 @@ module _ (e : Edition) (limit : e .limit < bias) (wide : longestString ≤ e .li
         (run-left e table input count given) in
         let next = behind-steps e limit wide p runs table input t lent tried c given here in (
           subst (λ (x : RunReturned). CallGoes (observedRun count given x)) (sym (linked .1)) (run-call-goes count c given here n),
-          list-goes calls (after e p lent tried c) (back .left) z
-              (subst (Before (after e p lent tried c)) (sym left-is) next) (steps-nest tried c n) (linked .2),
+          list-goes calls (stateAfter e p lent tried c) (back .left) z
+              (subst (Before (stateAfter e p lent tried c)) (sym left-is) next) (steps-nest tried c n) (linked .2),
         )
 
 -- numbers fit their places, and tables and string lengths their sizes
@@ -221,7 +221,7 @@ module _ (e : Edition) (limit : e .limit < bias) (wide : longestString ≤ e .li
   -- nor is a step of it, before the run is over; then 16 turns it down
   pub step-never-refused : (deck table store input output : List ℕ) (k : ℕ) → readCall e deck table .number ≡ 0 → storeSize ≤ length store
       → (let b = buffersAfter e (readCall e deck table .table) input k (startedWith store output) in
-      GoesOn (statusOf (getD (b .state) 0 0)) (stepCall e (readCall e deck table .table) input b .number))
+      StepGoesOn (statusOf (getD (b .state) 0 0)) (stepCall e (readCall e deck table .table) input b .number))
   unfolding CallGoes
   step-never-refused deck table store input output k read large =
       let l = read-loaded e limit wide size deck table read in
@@ -230,7 +230,7 @@ module _ (e : Edition) (limit : e .limit < bias) (wide : longestString ≤ e .li
       let table′ = readCall e deck table .table in
       let scopes = accepted-scoped e deck p (l .accepts) in
       let start = behind-start e limit wide p (l .runs) table′ input (l .tabled) lent store output refl large in
-      step-call-goes e limit wide p (l .runs) scopes input lent table′ (l .tabled) (after e p lent k (fresh input))
+      step-call-goes e limit wide p (l .runs) scopes input lent table′ (l .tabled) (stateAfter e p lent k (fresh input))
       (buffersAfter e table′ input k (startedWith store output))
       (behind-steps e limit wide p (l .runs) table′ input (l .tabled) lent k (fresh input) (startedWith store output) start)
       (steps-nest e limit wide p (l .runs) scopes input lent k (fresh input) (fresh-nests e limit wide p (l .runs) scopes input lent))

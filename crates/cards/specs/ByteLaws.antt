@@ -25,10 +25,10 @@ name-byte b =
     (λ e _. let range = within 65 90 b e in (omega arith, omega arith))
     (λ _ e. let range = within 48 57 b e in (omega arith, omega arith))
 
-pub letter : (b : ℕ) → isLetter b ≡ true → (65 ≤ b) × (b ≤ 90)
+pub letter-range : (b : ℕ) → isLetter b ≡ true → (65 ≤ b) × (b ≤ 90)
 unfolding isLetter
-letter b e = within 65 90 b e
+letter-range b e = within 65 90 b e
 
-pub digit : (b : ℕ) → isDigit b ≡ true → (48 ≤ b) × (b ≤ 57)
+pub digit-range : (b : ℕ) → isDigit b ≡ true → (48 ≤ b) × (b ≤ 57)
 unfolding isDigit
-digit b e = within 48 57 b e
+digit-range b e = within 48 57 b e

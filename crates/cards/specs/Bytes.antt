@@ -1,6 +1,6 @@
 -- Document 01, "Cards": the class of a byte, and the bytes that the definitions name. Assumes nothing.
 use mathlib.Core.Bool.{Bool, true, false, cond, _&&_, _||_}
-use mathlib.Core.List.{List, []}
+use mathlib.Core.List.{List}
 use Prim.Native.Nat.{ℕ}
 use lib.Dec.{leb, eqb}
 use Rattle.base.specs.Lists.{among}
@@ -8,7 +8,7 @@ use Rattle.base.specs.Text.{bytes}
 
 -- C7 "letter A-Z, digit, blank, mark (`= + - * / ( ) , " [ ] < > $`), other data 32-126, refused"
 pub data Class : Type 0 where
-  letter digit blank mark other refused : Class
+  letter digit blank mark otherByte refusedByte : Class
 
 unfoldable pub between : ℕ → ℕ → ℕ → Bool
 between low high b = leb low b && leb b high
@@ -36,16 +36,16 @@ classOf b =
     (cond (isDigit b) digit
     (cond (isBlank b) blank
     (cond (among b marks) mark
-    (cond (between 32 126 b) other
-    refused))))
+    (cond (between 32 126 b) otherByte
+    refusedByte))))
 
 unfoldable pub isRefused : Class → Bool
 isRefused letter = false
 isRefused digit = false
 isRefused blank = false
 isRefused mark = false
-isRefused other = false
-isRefused refused = true
+isRefused otherByte = false
+isRefused refusedByte = true
 
 -- the byte that ends a line or a record
 unfoldable pub newline : ℕ

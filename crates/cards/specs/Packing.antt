@@ -28,6 +28,7 @@ packFrom place [] = []
 packFrom place (b ∷ bs) =
     elim (isDropped place b) [ true ↦ packFrom (placeAfter place b) bs | false ↦ b ∷ packFrom (placeAfter place b) bs ]
 
+-- F4 "the packed statement": document 01's word
 unfoldable pub packed : List ℕ → List ℕ
 packed text = packFrom outside text
 

@@ -15,7 +15,7 @@ use Rattle.cards.specs.Bytes.{
   letter,
   digit,
   blank,
-  refused,
+  refusedByte,
   between,
   marks,
   isLetter,
@@ -96,9 +96,9 @@ module _ (b : ℕ) (byte : b < 256) where
   unfolding every agree between marks isLetter isDigit isBlank classOf classNumber among bytes isDigitOrBlank
   numeric-class = same-test (λ k. hasNumber digit k || hasNumber blank k) isDigitOrBlank refl b byte
 
-  pub refused-class : hasNumber refused b ≡ isRefused (classOf b)
+  pub refused-class : hasNumber refusedByte b ≡ isRefused (classOf b)
   unfolding every agree between marks isLetter isDigit isBlank classOf classNumber isRefused among bytes
-  refused-class = same-test (hasNumber refused) (λ k. isRefused (classOf k)) refl b byte
+  refused-class = same-test (hasNumber refusedByte) (λ k. isRefused (classOf k)) refl b byte
 
   -- what comparing a byte says of the number of its class
   pub blank-compared : eqb b 32 ≡ hasNumber blank b

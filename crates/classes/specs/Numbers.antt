@@ -2,15 +2,15 @@
 use mathlib.Core.Bool.{Bool}
 use Prim.Native.Nat.{ℕ}
 use lib.Dec.{eqb}
-use Rattle.cards.specs.Bytes.{Class, letter, digit, blank, mark, other, refused, classOf}
+use Rattle.cards.specs.Bytes.{Class, letter, digit, blank, mark, otherByte, refusedByte, classOf}
 
 unfoldable pub classNumber : Class → ℕ
 classNumber letter = 0
 classNumber digit = 1
 classNumber blank = 2
 classNumber mark = 3
-classNumber other = 4
-classNumber refused = 5
+classNumber otherByte = 4
+classNumber refusedByte = 5
 
 -- the table's number for a byte is that of a class
 abbrev pub hasNumber : Class → ℕ → Bool

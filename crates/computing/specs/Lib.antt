@@ -15,19 +15,19 @@ unfolding
     Rattle.base.specs.Text.bytes
     Rattle.scanning.specs.Call.longestReference
     Rattle.scanning.specs.Call.mostElements
-    Rattle.scanning.specs.Call.rowBytes
+    Rattle.scanning.specs.Call.scanRowSize
     Rattle.scanning.specs.Call.number4
-    Rattle.scanning.specs.Call.countOf
-    Rattle.scanning.specs.Call.stringIn
+    Rattle.scanning.specs.Call.rowCount
+    Rattle.scanning.specs.Call.stringOfRow
     Rattle.scanning.specs.Call.fixedBy
-    Rattle.scanning.specs.Call.elementIn
+    Rattle.scanning.specs.Call.elementOfRow
     Rattle.scanning.specs.Call.joinElement
-    Rattle.scanning.specs.Call.elementsFrom
-    Rattle.scanning.specs.Call.patternIn
+    Rattle.scanning.specs.Call.elementsOfRows
+    Rattle.scanning.specs.Call.patternOfRows
     Rattle.scanning.specs.Call.splitNumbers
     Rattle.scanning.specs.Call.answerNumbers
     Rattle.scanning.specs.Call.noAnswer
-    Rattle.scanning.specs.Call.turnedDown
+    Rattle.scanning.specs.Call.scanTurnedDown
     Rattle.scanning.specs.Call.scanWith
     Rattle.scanning.specs.Call.scanCall
     Rattle.scanning.specs.Call.splitIn
@@ -37,9 +37,9 @@ unfolding
     Rattle.scanning.specs.Splits.Longer
     Rattle.scanning.specs.Splits.Later
     Rattle.scanning.specs.Splits.FirstFit
-    Rattle.scanning.specs.Trials.passed
+    Rattle.scanning.specs.Trials.elementPassed
     Rattle.scanning.specs.Trials.tested
-    Rattle.scanning.specs.Trials.moved
+    Rattle.scanning.specs.Trials.placeMoved
     Rattle.scanning.specs.Trials.settled
     Rattle.scanning.specs.Trials.slide
     Rattle.scanning.specs.Trials.match
@@ -66,7 +66,7 @@ unfolding
     Rattle.cards.specs.Cards.isBlankLine
     Rattle.cards.specs.Cards.column9
     Rattle.cards.specs.Cards.labelOf
-    Rattle.cards.specs.Cards.textOf
+    Rattle.cards.specs.Cards.statementText
     Rattle.cards.specs.Cards.joined
     Rattle.cards.specs.Cards.unpackedFrom
     Rattle.cards.specs.Entries.packedEntry
@@ -78,159 +78,159 @@ unfolding
     Rattle.cards.specs.Packing.packed
     Rattle.cards.specs.Packing.literalsFrom
     Rattle.cards.specs.Packing.literalsWhole
-    Rattle.language.specs.Forms.stepEnd
-    Rattle.language.specs.Forms.noStepEnd
-    Rattle.language.specs.Forms.withoutUnit
-    Rattle.language.specs.Forms.labelName
-    Rattle.language.specs.Forms.branch
-    Rattle.language.specs.Forms.branchIfAny
-    Rattle.language.specs.Forms.setsNumber
-    Rattle.language.specs.Forms.replacement
-    Rattle.language.specs.Forms.ifForm
-    Rattle.language.specs.Forms.replacementIfAny
-    Rattle.language.specs.Forms.scanForm
-    Rattle.language.specs.Forms.readForm
-    Rattle.language.specs.Forms.writeForm
-    Rattle.language.specs.Forms.gotoForm
-    Rattle.language.specs.Forms.routineForm
-    Rattle.language.specs.Forms.executeForm
-    Rattle.language.specs.Forms.programForm
-    Rattle.language.specs.Forms.numberForm
-    Rattle.language.specs.Forms.formOf
-    Rattle.language.specs.Forms.statementForm
-    Rattle.language.specs.Fuel.expressionBy
-    Rattle.language.specs.Fuel.moreTermsBy
-    Rattle.language.specs.Fuel.termBy
-    Rattle.language.specs.Fuel.moreFactorsBy
-    Rattle.language.specs.Fuel.factorBy
-    Rattle.language.specs.Fuel.expressionFrom
-    Rattle.language.specs.Fuel.moreTermsFrom
-    Rattle.language.specs.Fuel.termFrom
-    Rattle.language.specs.Fuel.moreFactorsFrom
-    Rattle.language.specs.Fuel.factorFrom
-    Rattle.language.specs.Keywords.kindNumber
-    Rattle.language.specs.Keywords.sameKind
-    Rattle.language.specs.Keywords.keywords
-    Rattle.language.specs.Keywords.longest
-    Rattle.language.specs.Keywords.boundLength
-    Rattle.language.specs.Keywords.isReplacement
-    Rattle.language.specs.Keywords.leading
-    Rattle.language.specs.Numeric.deepest
-    Rattle.language.specs.Numeric.fuelFor
-    Rattle.language.specs.Numeric.sumOperator
-    Rattle.language.specs.Numeric.productOperator
-    Rattle.language.specs.Numeric.leadingSign
-    Rattle.language.specs.Numeric.comparison
-    Rattle.language.specs.Numeric.calledOrNumber
-    Rattle.language.specs.Numeric.plainFactor
-    Rattle.language.specs.Numeric.ifOperand
-    Rattle.language.specs.Numeric.test
-    Rattle.language.specs.Numeric.numericExpression
-    Rattle.language.specs.Numeric.expressionAt
-    Rattle.language.specs.Numeric.moreTerms
-    Rattle.language.specs.Numeric.termAt
-    Rattle.language.specs.Numeric.moreFactors
-    Rattle.language.specs.Numeric.factorAt
-    Rattle.language.specs.Placed.Each
-    Rattle.language.specs.Program.isFinish
-    Rattle.language.specs.Program.lastFinishes
-    Rattle.language.specs.Reading.purposeNumber
-    Rattle.language.specs.Reading.samePurpose
-    Rattle.language.specs.Reading.nothing
-    Rattle.language.specs.Reading.both
-    Rattle.language.specs.Reading.declaring
-    Rattle.language.specs.Reading.naming
-    Rattle.language.specs.Reading.anItem
-    Rattle.language.specs.Reading.aRow
-    Rattle.language.specs.Reading.aLiteral
-    Rattle.language.specs.Reading.meeting
-    Rattle.language.specs.Reading.give
-    Rattle.language.specs.Reading._>>=_
-    Rattle.language.specs.Reading.skip
-    Rattle.language.specs.Reading.finished
-    Rattle.language.specs.ScopeForms.goesOn
-    Rattle.language.specs.ScopeForms.StepLeads
-    Rattle.language.specs.ScopeForms.UseLeads
-    Rattle.language.specs.Scopes.Leads
-    Rattle.language.specs.Scopes.Nested
-    Rattle.language.specs.Strings.literalAt
-    Rattle.language.specs.Strings.nothingHere
-    Rattle.language.specs.Strings.moreOf
-    Rattle.language.specs.Strings.listOf
-    Rattle.language.specs.Strings.rowOf
-    Rattle.language.specs.Strings.textCall
-    Rattle.language.specs.Strings.element
-    Rattle.language.specs.Strings.stringExpression
-    Rattle.language.specs.Strings.fillerAt
-    Rattle.language.specs.Strings.patternElement
-    Rattle.language.specs.Strings.pattern
-    Rattle.language.specs.Words.run
-    Rattle.language.specs.Words.nameLength
-    Rattle.language.specs.Words.name
-    Rattle.language.specs.Words.nameAs
-    Rattle.language.specs.Words.decimalFrom
-    Rattle.language.specs.Words.noRole
-    Rattle.language.specs.Words.isSign
-    Rattle.language.specs.Words.unsigned
-    Rattle.language.specs.Words.signed
-    Rattle.language.specs.Words.numberName
-    Rattle.language.specs.Words.bound
-    Rattle.language.specs.Words.partOf
-    Rattle.language.specs.Words.stringName
-    Rattle.language.specs.Words.partName
-    Rattle.judgement.specs.Chains.Chained
-    Rattle.judgement.specs.Deck.unplaced
-    Rattle.judgement.specs.Deck.metBy
-    Rattle.judgement.specs.Deck.judgeFrom
-    Rattle.judgement.specs.Deck.is11
-    Rattle.judgement.specs.Deck.executedBy
-    Rattle.judgement.specs.Deck.withNew
-    Rattle.judgement.specs.Deck.executedByAll
-    Rattle.judgement.specs.Deck.reached
-    Rattle.judgement.specs.Deck.is12
-    Rattle.judgement.specs.Deck.indexOf
-    Rattle.judgement.specs.Deck.stepOf
-    Rattle.judgement.specs.Deck.routineNamed
-    Rattle.judgement.specs.Deck.placesOf
-    Rattle.judgement.specs.Deck.stepRead
-    Rattle.judgement.specs.Deck.stepsFrom
-    Rattle.judgement.specs.Deck.programOf
-    Rattle.judgement.specs.Deck.concluded
-    Rattle.judgement.specs.Deck.judgeEntries
-    Rattle.judgement.specs.Deck.judge
-    Rattle.judgement.specs.Known.nothingKnown
-    Rattle.judgement.specs.Known.sameNaming
-    Rattle.judgement.specs.Known.namesFor
-    Rattle.judgement.specs.Known.strings
-    Rattle.judgement.specs.Known.numbers
-    Rattle.judgement.specs.Known.isOneOf
-    Rattle.judgement.specs.Known.withNames
-    Rattle.judgement.specs.Known.isStep
-    Rattle.judgement.specs.Known.labelsAt
-    Rattle.judgement.specs.Known.usesAt
-    Rattle.judgement.specs.Known.opened
-    Rattle.judgement.specs.Known.closed
-    Rattle.judgement.specs.Known.scopeAfter
-    Rattle.judgement.specs.Known.learn
-    Rattle.judgement.specs.Refusals.isMisplaced
-    Rattle.judgement.specs.Refusals.labelForm
-    Rattle.judgement.specs.Refusals.labelled
-    Rattle.judgement.specs.Refusals.readStatement
-    Rattle.judgement.specs.Refusals.hasOther
-    Rattle.judgement.specs.Refusals.isDeclared
-    Rattle.judgement.specs.Refusals.hasTwice
-    Rattle.judgement.specs.Refusals.is6
-    Rattle.judgement.specs.Refusals.is7
-    Rattle.judgement.specs.Refusals.clashes
-    Rattle.judgement.specs.Refusals.is8
-    Rattle.judgement.specs.Refusals.is9
-    Rattle.judgement.specs.Refusals.is10
-    Rattle.judgement.specs.Refusals.metNumber
-    Rattle.judgement.specs.Refusals.formNumber
-    Rattle.judgement.specs.Refusals.statementNumber
-    Rattle.judgement.specs.Standing.scopedStep
-    Rattle.judgement.specs.Standing.scopesOf
-    Rattle.judgement.specs.Standing.From
+    Rattle.syntax.specs.Forms.stepForm
+    Rattle.syntax.specs.Forms.noStepForm
+    Rattle.syntax.specs.Forms.withoutUnit
+    Rattle.syntax.specs.Forms.labelName
+    Rattle.syntax.specs.Forms.branch
+    Rattle.syntax.specs.Forms.branchIfAny
+    Rattle.syntax.specs.Forms.setsNumber
+    Rattle.syntax.specs.Forms.replacement
+    Rattle.syntax.specs.Forms.ifForm
+    Rattle.syntax.specs.Forms.replacementIfAny
+    Rattle.syntax.specs.Forms.scanForm
+    Rattle.syntax.specs.Forms.readForm
+    Rattle.syntax.specs.Forms.writeForm
+    Rattle.syntax.specs.Forms.gotoForm
+    Rattle.syntax.specs.Forms.routineForm
+    Rattle.syntax.specs.Forms.executeForm
+    Rattle.syntax.specs.Forms.programForm
+    Rattle.syntax.specs.Forms.numberForm
+    Rattle.syntax.specs.Forms.formOf
+    Rattle.syntax.specs.Forms.statementForm
+    Rattle.syntax.specs.Fuel.expressionBy
+    Rattle.syntax.specs.Fuel.moreTermsBy
+    Rattle.syntax.specs.Fuel.termBy
+    Rattle.syntax.specs.Fuel.moreFactorsBy
+    Rattle.syntax.specs.Fuel.factorBy
+    Rattle.syntax.specs.Fuel.expressionFrom
+    Rattle.syntax.specs.Fuel.moreTermsFrom
+    Rattle.syntax.specs.Fuel.termFrom
+    Rattle.syntax.specs.Fuel.moreFactorsFrom
+    Rattle.syntax.specs.Fuel.factorFrom
+    Rattle.syntax.specs.Keywords.statementKindNumber
+    Rattle.syntax.specs.Keywords.sameKind
+    Rattle.syntax.specs.Keywords.keywords
+    Rattle.syntax.specs.Keywords.longest
+    Rattle.syntax.specs.Keywords.boundLength
+    Rattle.syntax.specs.Keywords.isReplacement
+    Rattle.syntax.specs.Keywords.leading
+    Rattle.syntax.specs.Lexemes.runLength
+    Rattle.syntax.specs.Lexemes.nameLength
+    Rattle.syntax.specs.Lexemes.name
+    Rattle.syntax.specs.Lexemes.nameAs
+    Rattle.syntax.specs.Lexemes.decimalFrom
+    Rattle.syntax.specs.Lexemes.noRole
+    Rattle.syntax.specs.Lexemes.isSign
+    Rattle.syntax.specs.Lexemes.unsigned
+    Rattle.syntax.specs.Lexemes.signed
+    Rattle.syntax.specs.Lexemes.numberName
+    Rattle.syntax.specs.Lexemes.bound
+    Rattle.syntax.specs.Lexemes.partOf
+    Rattle.syntax.specs.Lexemes.stringName
+    Rattle.syntax.specs.Lexemes.partName
+    Rattle.syntax.specs.Numeric.deepest
+    Rattle.syntax.specs.Numeric.fuelFor
+    Rattle.syntax.specs.Numeric.sumOperator
+    Rattle.syntax.specs.Numeric.productOperator
+    Rattle.syntax.specs.Numeric.leadingSign
+    Rattle.syntax.specs.Numeric.comparison
+    Rattle.syntax.specs.Numeric.calledOrNumber
+    Rattle.syntax.specs.Numeric.plainFactor
+    Rattle.syntax.specs.Numeric.ifOperand
+    Rattle.syntax.specs.Numeric.test
+    Rattle.syntax.specs.Numeric.numericExpression
+    Rattle.syntax.specs.Numeric.expressionAt
+    Rattle.syntax.specs.Numeric.moreTerms
+    Rattle.syntax.specs.Numeric.termAt
+    Rattle.syntax.specs.Numeric.moreFactors
+    Rattle.syntax.specs.Numeric.factorAt
+    Rattle.syntax.specs.Parsing.purposeNumber
+    Rattle.syntax.specs.Parsing.samePurpose
+    Rattle.syntax.specs.Parsing.noMentions
+    Rattle.syntax.specs.Parsing.mergeMentions
+    Rattle.syntax.specs.Parsing.declaring
+    Rattle.syntax.specs.Parsing.usage
+    Rattle.syntax.specs.Parsing.oneItem
+    Rattle.syntax.specs.Parsing.oneRow
+    Rattle.syntax.specs.Parsing.oneLiteral
+    Rattle.syntax.specs.Parsing.mentioning
+    Rattle.syntax.specs.Parsing.succeed
+    Rattle.syntax.specs.Parsing._>>=_
+    Rattle.syntax.specs.Parsing.expect
+    Rattle.syntax.specs.Parsing.endOfText
+    Rattle.syntax.specs.Placed.Each
+    Rattle.syntax.specs.Program.isFinish
+    Rattle.syntax.specs.Program.lastFinishes
+    Rattle.syntax.specs.ScopeForms.goesOn
+    Rattle.syntax.specs.ScopeForms.StepLeads
+    Rattle.syntax.specs.ScopeForms.UseLeads
+    Rattle.syntax.specs.Scopes.Leads
+    Rattle.syntax.specs.Scopes.Nested
+    Rattle.syntax.specs.Strings.literalAt
+    Rattle.syntax.specs.Strings.nothingHere
+    Rattle.syntax.specs.Strings.moreOf
+    Rattle.syntax.specs.Strings.listOf
+    Rattle.syntax.specs.Strings.rowParser
+    Rattle.syntax.specs.Strings.textCall
+    Rattle.syntax.specs.Strings.element
+    Rattle.syntax.specs.Strings.stringExpression
+    Rattle.syntax.specs.Strings.fillerAt
+    Rattle.syntax.specs.Strings.patternElement
+    Rattle.syntax.specs.Strings.pattern
+    Rattle.validation.specs.Chains.Chained
+    Rattle.validation.specs.Deck.unresolved
+    Rattle.validation.specs.Deck.mentionsOf
+    Rattle.validation.specs.Deck.judgeFrom
+    Rattle.validation.specs.Deck.is11
+    Rattle.validation.specs.Deck.executedBy
+    Rattle.validation.specs.Deck.withNew
+    Rattle.validation.specs.Deck.executedByAll
+    Rattle.validation.specs.Deck.reached
+    Rattle.validation.specs.Deck.is12
+    Rattle.validation.specs.Deck.indexOf
+    Rattle.validation.specs.Deck.stepOf
+    Rattle.validation.specs.Deck.routineNamed
+    Rattle.validation.specs.Deck.resolution
+    Rattle.validation.specs.Deck.stepRead
+    Rattle.validation.specs.Deck.programSteps
+    Rattle.validation.specs.Deck.programOf
+    Rattle.validation.specs.Deck.judgementOf
+    Rattle.validation.specs.Deck.judgeEntries
+    Rattle.validation.specs.Deck.judge
+    Rattle.validation.specs.Environment.emptyEnvironment
+    Rattle.validation.specs.Environment.sameMention
+    Rattle.validation.specs.Environment.namesFor
+    Rattle.validation.specs.Environment.stringsOf
+    Rattle.validation.specs.Environment.numbersOf
+    Rattle.validation.specs.Environment.isOneOf
+    Rattle.validation.specs.Environment.withNames
+    Rattle.validation.specs.Environment.isStep
+    Rattle.validation.specs.Environment.labelsAt
+    Rattle.validation.specs.Environment.usesAt
+    Rattle.validation.specs.Environment.openRoutine
+    Rattle.validation.specs.Environment.closeRoutine
+    Rattle.validation.specs.Environment.scopeAfter
+    Rattle.validation.specs.Environment.extend
+    Rattle.validation.specs.Refusals.isMisplaced
+    Rattle.validation.specs.Refusals.labelForm
+    Rattle.validation.specs.Refusals.withLabel
+    Rattle.validation.specs.Refusals.readStatement
+    Rattle.validation.specs.Refusals.hasOtherPurpose
+    Rattle.validation.specs.Refusals.isDeclaredBefore
+    Rattle.validation.specs.Refusals.hasDuplicate
+    Rattle.validation.specs.Refusals.is6
+    Rattle.validation.specs.Refusals.is7
+    Rattle.validation.specs.Refusals.clashes
+    Rattle.validation.specs.Refusals.is8
+    Rattle.validation.specs.Refusals.is9
+    Rattle.validation.specs.Refusals.is10
+    Rattle.validation.specs.Refusals.mentionsNumber
+    Rattle.validation.specs.Refusals.formNumber
+    Rattle.validation.specs.Refusals.statementNumber
+    Rattle.validation.specs.Standing.scopedStep
+    Rattle.validation.specs.Standing.scopesOf
+    Rattle.validation.specs.Standing.From
     Rattle.values.specs.Conversion.longestString
     Rattle.values.specs.Conversion.substring
     Rattle.values.specs.Conversion.isDigitOrBlank
@@ -253,10 +253,10 @@ unfolding
     Rattle.values.specs.Numbers.difference
     Rattle.values.specs.Numbers.product
     Rattle.values.specs.Numbers.quotient
-    Rattle.values.specs.Work.stopsStep
-    Rattle.values.specs.Work.noting
-    Rattle.values.specs.Work.quietly
-    Rattle.values.specs.Work._>>=_
+    Rattle.values.specs.Result.stopsStep
+    Rattle.values.specs.Result.withNotes
+    Rattle.values.specs.Result.pure
+    Rattle.values.specs.Result._>>=_
     Rattle.machine.specs.Expressions.lengthIn
     Rattle.machine.specs.Expressions.partIn
     Rattle.machine.specs.Expressions.operation
@@ -272,8 +272,8 @@ unfolding
     Rattle.machine.specs.Expressions.stringIn
     Rattle.machine.specs.Expressions.numericPart
     Rattle.machine.specs.Expressions.testIn
-    Rattle.machine.specs.Run.after
-    Rattle.machine.specs.Run.counted
+    Rattle.machine.specs.Run.stateAfter
+    Rattle.machine.specs.Run.stepCounted
     Rattle.machine.specs.Run.endedWith
     Rattle.machine.specs.Run.goingOn
     Rattle.machine.specs.Run.run
@@ -286,7 +286,7 @@ unfolding
     Rattle.machine.specs.Scanning.withoutFillers
     Rattle.machine.specs.Scanning.named
     Rattle.machine.specs.Scanning.naming
-    Rattle.machine.specs.Scanning.replaced
+    Rattle.machine.specs.Scanning.withReplaced
     Rattle.machine.specs.Scanning.storing
     Rattle.machine.specs.Scanning.replacing
     Rattle.machine.specs.Scanning.leaving
@@ -311,54 +311,177 @@ unfolding
     Rattle.machine.specs.Step.scannedTo
     Rattle.machine.specs.Step.setStringIn
     Rattle.machine.specs.Step.recordLength
-    Rattle.machine.specs.Step.taking
+    Rattle.machine.specs.Step.takeRecord
     Rattle.machine.specs.Step.reading
     Rattle.machine.specs.Step.shortened
-    Rattle.machine.specs.Step.putting
+    Rattle.machine.specs.Step.putRecord
     Rattle.machine.specs.Step.returning
-    Rattle.machine.specs.Step.carrying
+    Rattle.machine.specs.Step.execution
     Rattle.machine.specs.Step.statementAt
     Rattle.machine.specs.Step.mostReturns
     Rattle.machine.specs.Step.lacksReturn
     Rattle.machine.specs.Step.turnedDownBy
     Rattle.machine.specs.Step.concluded
     Rattle.machine.specs.Step.step
-    Rattle.calls.specs.BufferLaws.storeWith
-    Rattle.calls.specs.Buffers.cellSize
-    Rattle.calls.specs.Buffers.cellImage
-    Rattle.calls.specs.Buffers.storeImage
-    Rattle.calls.specs.Buffers.stringIn
-    Rattle.calls.specs.Buffers.stringsFrom
-    Rattle.calls.specs.Buffers.stringsIn
-    Rattle.calls.specs.Buffers.cellKeeps
-    Rattle.calls.specs.Buffers.cellsKeep
-    Rattle.calls.specs.Buffers.storeKeeps
-    Rattle.calls.specs.Buffers.returnsAt
-    Rattle.calls.specs.Buffers.numbersAt
-    Rattle.calls.specs.Buffers.statusNumber
-    Rattle.calls.specs.Buffers.statusOf
-    Rattle.calls.specs.Buffers.returnsIn
-    Rattle.calls.specs.Buffers.numbersIn
-    Rattle.calls.specs.Buffers.stateKeeps
-    Rattle.calls.specs.Buffers.stateIn
-    Rattle.calls.specs.Buffers.storeLeft
-    Rattle.calls.specs.Buffers.stateLeft
-    Rattle.calls.specs.Buffers.outputLeft
-    Rattle.calls.specs.Buffers.firstState
+    Rattle.encoding.specs.BufferLaws.storeWith
+    Rattle.encoding.specs.Buffers.cellSize
+    Rattle.encoding.specs.Buffers.cellImage
+    Rattle.encoding.specs.Buffers.storeImage
+    Rattle.encoding.specs.Buffers.storedString
+    Rattle.encoding.specs.Buffers.stringsFrom
+    Rattle.encoding.specs.Buffers.stringsIn
+    Rattle.encoding.specs.Buffers.cellKeeps
+    Rattle.encoding.specs.Buffers.cellsKeep
+    Rattle.encoding.specs.Buffers.storeKeeps
+    Rattle.encoding.specs.Buffers.returnsAt
+    Rattle.encoding.specs.Buffers.numbersAt
+    Rattle.encoding.specs.Buffers.statusNumber
+    Rattle.encoding.specs.Buffers.statusOf
+    Rattle.encoding.specs.Buffers.returnsIn
+    Rattle.encoding.specs.Buffers.numbersIn
+    Rattle.encoding.specs.Buffers.stateKeeps
+    Rattle.encoding.specs.Buffers.stateIn
+    Rattle.encoding.specs.Buffers.storeLeft
+    Rattle.encoding.specs.Buffers.stateLeft
+    Rattle.encoding.specs.Buffers.outputLeft
+    Rattle.encoding.specs.Buffers.firstState
+    Rattle.encoding.specs.KindLaws.kindIn
+    Rattle.encoding.specs.KindLaws.placeFor
+    Rattle.encoding.specs.KindLaws.hasNone
+    Rattle.encoding.specs.KindLaws.allPlain
+    Rattle.encoding.specs.KindLaws.rowIn
+    Rattle.encoding.specs.Kinds.partKinds
+    Rattle.encoding.specs.Kinds.spellPart
+    Rattle.encoding.specs.Kinds.operatorNumber
+    Rattle.encoding.specs.Kinds.signNumber
+    Rattle.encoding.specs.Kinds.operandKinds
+    Rattle.encoding.specs.Kinds.spellOperand
+    Rattle.encoding.specs.Kinds.itemKinds
+    Rattle.encoding.specs.Kinds.spellItem
+    Rattle.encoding.specs.Kinds.elementKinds
+    Rattle.encoding.specs.Kinds.spellElement
+    Rattle.encoding.specs.Kinds.patternKinds
+    Rattle.encoding.specs.Kinds.spellPattern
+    Rattle.encoding.specs.Kinds.rowKinds
+    Rattle.encoding.specs.Kinds.spellStatement
+    Rattle.encoding.specs.Numerals.inBytes
+    Rattle.encoding.specs.Numerals.numeralAt
+    Rattle.encoding.specs.Numerals.bias
+    Rattle.encoding.specs.Numerals.biased
+    Rattle.encoding.specs.Numerals.unbiased
+    Rattle.encoding.specs.RuleLaws.lengthHolds
+    Rattle.encoding.specs.RuleLaws.signedLengthHolds
+    Rattle.encoding.specs.RuleLaws.testHolds
+    Rattle.encoding.specs.Rules.mostWaiting
+    Rattle.encoding.specs.Rules.balanced
+    Rattle.encoding.specs.Rules.placeOf
+    Rattle.encoding.specs.Rules.namedBy
+    Rattle.encoding.specs.Rules.isAmong
+    Rattle.encoding.specs.Rules.rolesHold
+    Rattle.encoding.specs.Rules.leftPlace
+    Rattle.encoding.specs.Rules.placeHolds
+    Rattle.encoding.specs.Rules.valueHolds
+    Rattle.encoding.specs.Rules.holds
+    Rattle.encoding.specs.Rules.partHolds
+    Rattle.encoding.specs.Rules.operandHolds
+    Rattle.encoding.specs.Rules.itemHolds
+    Rattle.encoding.specs.Rules.elementHolds
+    Rattle.encoding.specs.Rules.patternHolds
+    Rattle.encoding.specs.Rules.rowHolds
+    Rattle.encoding.specs.Rules.patternsHold
+    Rattle.encoding.specs.Rules.branchHolds
+    Rattle.encoding.specs.Rules.leftHolds
+    Rattle.encoding.specs.Rules.rightHolds
+    Rattle.encoding.specs.Rules.stepsHold
+    Rattle.encoding.specs.Rules.statementHolds
+    Rattle.encoding.specs.Rules.stepHolds
+    Rattle.encoding.specs.Rules.isProgram
+    Rattle.encoding.specs.Rules.keepsRules
+    Rattle.encoding.specs.Splices.splice
+    Rattle.encoding.specs.Table.cell
+    Rattle.encoding.specs.Table.noCell
+    Rattle.encoding.specs.Table.cellBytes
+    Rattle.encoding.specs.Table.rangeValue
+    Rattle.encoding.specs.Table.payloadValue
+    Rattle.encoding.specs.Table.literalOf
+    Rattle.encoding.specs.Table.cellFor
+    Rattle.encoding.specs.Table.partCell
+    Rattle.encoding.specs.Table.operandCell
+    Rattle.encoding.specs.Table.itemCell
+    Rattle.encoding.specs.Table.elementCell
+    Rattle.encoding.specs.Table.patternCell
+    Rattle.encoding.specs.Table.literalIn
+    Rattle.encoding.specs.Table.rightElements
+    Rattle.encoding.specs.Table.rightItems
+    Rattle.encoding.specs.Table.elementsOf
+    Rattle.encoding.specs.Table.itemsOf
+    Rattle.encoding.specs.Table.replacementOf
+    Rattle.encoding.specs.Table.rowBytes
+    Rattle.encoding.specs.Table.rowWith
+    Rattle.encoding.specs.Table.rangeCell
+    Rattle.encoding.specs.Table.comparisonNumber
+    Rattle.encoding.specs.Table.directionNumber
+    Rattle.encoding.specs.Table.flagNumber
+    Rattle.encoding.specs.Table.successOf
+    Rattle.encoding.specs.Table.failureOf
+    Rattle.encoding.specs.Table.leftCell
+    Rattle.encoding.specs.Table.rightCell
+    Rattle.encoding.specs.Table.rowFor
+    Rattle.encoding.specs.Table.statementRow
+    Rattle.encoding.specs.Table.stepRows
+    Rattle.encoding.specs.Table.allElements
+    Rattle.encoding.specs.Table.allItems
+    Rattle.encoding.specs.Table.allLiterals
+    Rattle.encoding.specs.Table.elementRows
+    Rattle.encoding.specs.Table.itemRows
+    Rattle.encoding.specs.Table.filledTo
+    Rattle.encoding.specs.Table.stepsAt
+    Rattle.encoding.specs.Table.elementsAt
+    Rattle.encoding.specs.Table.itemsAt
+    Rattle.encoding.specs.Table.literalsAt
+    Rattle.encoding.specs.Table.format
+    Rattle.encoding.specs.Table.header
+    Rattle.encoding.specs.Table.image
+    Rattle.encoding.specs.TableReading.cellAt
+    Rattle.encoding.specs.TableReading.rangeFrom
+    Rattle.encoding.specs.TableReading.rangeCount
+    Rattle.encoding.specs.TableReading.rangeMore
+    Rattle.encoding.specs.TableReading.payloadIn
+    Rattle.encoding.specs.TableReading.readCell
+    Rattle.encoding.specs.TableReading.partOfCell
+    Rattle.encoding.specs.TableReading.operandOfCell
+    Rattle.encoding.specs.TableReading.itemOfCell
+    Rattle.encoding.specs.TableReading.elementOfCell
+    Rattle.encoding.specs.TableReading.patternOfCell
+    Rattle.encoding.specs.TableReading.readItems
+    Rattle.encoding.specs.TableReading.readElements
+    Rattle.encoding.specs.TableReading.readPattern
+    Rattle.encoding.specs.TableReading.comparisonOf
+    Rattle.encoding.specs.TableReading.readRowAt
+    Rattle.encoding.specs.TableReading.directionOf
+    Rattle.encoding.specs.TableReading.flagIn
+    Rattle.encoding.specs.TableReading.stepsIn
+    Rattle.encoding.specs.TableReading.leftIn
+    Rattle.encoding.specs.TableReading.rightIn
+    Rattle.encoding.specs.TableReading.readRow
+    Rattle.encoding.specs.TableReading.statementOfRow
+    Rattle.encoding.specs.TableReading.stepIn
+    Rattle.encoding.specs.TableReading.readSteps
+    Rattle.encoding.specs.TableReading.programIn
     Rattle.calls.specs.Calls.readJudged
     Rattle.calls.specs.Calls.readCall
     Rattle.calls.specs.Calls.startCall
     Rattle.calls.specs.Calls.givenIn
     Rattle.calls.specs.Calls.outOfRange
     Rattle.calls.specs.Calls.stepRefusal
-    Rattle.calls.specs.Calls.carried
+    Rattle.calls.specs.Calls.stepDone
     Rattle.calls.specs.Calls.stepCall
     Rattle.calls.specs.Calls.buffersAfter
     Rattle.calls.specs.Calls.outcomeNumber
     Rattle.calls.specs.Calls.resultNumbers
     Rattle.calls.specs.Calls.returned
     Rattle.calls.specs.Calls.runEnded
-    Rattle.calls.specs.Calls.withStep
+    Rattle.calls.specs.Calls.runWithStep
     Rattle.calls.specs.Calls.runBehind
     Rattle.calls.specs.Calls.runCall
     Rattle.calls.specs.Demands.LeftBy
@@ -367,59 +490,7 @@ unfolding
     Rattle.calls.specs.Demands.ListClaim
     Rattle.calls.specs.Demands.AllRefused
     Rattle.calls.specs.Demands.Linked
-    Rattle.calls.specs.KindLaws.kindIn
-    Rattle.calls.specs.KindLaws.placeFor
-    Rattle.calls.specs.KindLaws.hasNone
-    Rattle.calls.specs.KindLaws.isPlain
-    Rattle.calls.specs.KindLaws.rowIn
-    Rattle.calls.specs.Kinds.partKinds
-    Rattle.calls.specs.Kinds.spellPart
-    Rattle.calls.specs.Kinds.operatorNumber
-    Rattle.calls.specs.Kinds.signNumber
-    Rattle.calls.specs.Kinds.operandKinds
-    Rattle.calls.specs.Kinds.spellOperand
-    Rattle.calls.specs.Kinds.itemKinds
-    Rattle.calls.specs.Kinds.spellItem
-    Rattle.calls.specs.Kinds.elementKinds
-    Rattle.calls.specs.Kinds.spellElement
-    Rattle.calls.specs.Kinds.patternKinds
-    Rattle.calls.specs.Kinds.spellPattern
-    Rattle.calls.specs.Kinds.rowKinds
-    Rattle.calls.specs.Kinds.spellStatement
-    Rattle.calls.specs.Numerals.inBytes
-    Rattle.calls.specs.Numerals.numberAt
-    Rattle.calls.specs.Numerals.bias
-    Rattle.calls.specs.Numerals.biased
-    Rattle.calls.specs.Numerals.unbiased
-    Rattle.calls.specs.RuleLaws.lengthHolds
-    Rattle.calls.specs.RuleLaws.signedLengthHolds
-    Rattle.calls.specs.RuleLaws.testHolds
-    Rattle.calls.specs.Rules.mostWaiting
-    Rattle.calls.specs.Rules.balanced
-    Rattle.calls.specs.Rules.placeOf
-    Rattle.calls.specs.Rules.namedBy
-    Rattle.calls.specs.Rules.isAmong
-    Rattle.calls.specs.Rules.rolesHold
-    Rattle.calls.specs.Rules.leftPlace
-    Rattle.calls.specs.Rules.placeHolds
-    Rattle.calls.specs.Rules.valueHolds
-    Rattle.calls.specs.Rules.holds
-    Rattle.calls.specs.Rules.partHolds
-    Rattle.calls.specs.Rules.operandHolds
-    Rattle.calls.specs.Rules.itemHolds
-    Rattle.calls.specs.Rules.elementHolds
-    Rattle.calls.specs.Rules.patternHolds
-    Rattle.calls.specs.Rules.rowHolds
-    Rattle.calls.specs.Rules.patternsHold
-    Rattle.calls.specs.Rules.branchHolds
-    Rattle.calls.specs.Rules.leftHolds
-    Rattle.calls.specs.Rules.rightHolds
-    Rattle.calls.specs.Rules.stepsHold
-    Rattle.calls.specs.Rules.statementHolds
-    Rattle.calls.specs.Rules.stepHolds
-    Rattle.calls.specs.Rules.isProgram
-    Rattle.calls.specs.Rules.keepsRules
-    Rattle.calls.specs.Splices.splice
+    Rattle.calls.specs.Producing.viewOf
     Rattle.calls.specs.StartLaws.startedWith
     Rattle.calls.specs.Strigol.keptDeck
     Rattle.calls.specs.Strigol.keptInput
@@ -430,77 +501,6 @@ unfolding
     Rattle.calls.specs.Strigol.printedBy
     Rattle.calls.specs.Strigol.printedFor
     Rattle.calls.specs.Strigol.printed
-    Rattle.calls.specs.Table.cell
-    Rattle.calls.specs.Table.noCell
-    Rattle.calls.specs.Table.cellBytes
-    Rattle.calls.specs.Table.range
-    Rattle.calls.specs.Table.valueOf
-    Rattle.calls.specs.Table.literalOf
-    Rattle.calls.specs.Table.cellFor
-    Rattle.calls.specs.Table.partCell
-    Rattle.calls.specs.Table.operandCell
-    Rattle.calls.specs.Table.itemCell
-    Rattle.calls.specs.Table.elementCell
-    Rattle.calls.specs.Table.patternCell
-    Rattle.calls.specs.Table.literalIn
-    Rattle.calls.specs.Table.rightElements
-    Rattle.calls.specs.Table.rightItems
-    Rattle.calls.specs.Table.elementsOf
-    Rattle.calls.specs.Table.itemsOf
-    Rattle.calls.specs.Table.replacementOf
-    Rattle.calls.specs.Table.rowBytes
-    Rattle.calls.specs.Table.row
-    Rattle.calls.specs.Table.rangeCell
-    Rattle.calls.specs.Table.comparisonNumber
-    Rattle.calls.specs.Table.directionNumber
-    Rattle.calls.specs.Table.flagNumber
-    Rattle.calls.specs.Table.successOf
-    Rattle.calls.specs.Table.failureOf
-    Rattle.calls.specs.Table.leftCell
-    Rattle.calls.specs.Table.rightCell
-    Rattle.calls.specs.Table.rowFor
-    Rattle.calls.specs.Table.rowOf
-    Rattle.calls.specs.Table.stepRows
-    Rattle.calls.specs.Table.allElements
-    Rattle.calls.specs.Table.allItems
-    Rattle.calls.specs.Table.allLiterals
-    Rattle.calls.specs.Table.elementRows
-    Rattle.calls.specs.Table.itemRows
-    Rattle.calls.specs.Table.filledTo
-    Rattle.calls.specs.Table.stepsAt
-    Rattle.calls.specs.Table.elementsAt
-    Rattle.calls.specs.Table.itemsAt
-    Rattle.calls.specs.Table.literalsAt
-    Rattle.calls.specs.Table.format
-    Rattle.calls.specs.Table.header
-    Rattle.calls.specs.Table.image
-    Rattle.calls.specs.TableReading.cellAt
-    Rattle.calls.specs.TableReading.rangeFrom
-    Rattle.calls.specs.TableReading.rangeCount
-    Rattle.calls.specs.TableReading.rangeMore
-    Rattle.calls.specs.TableReading.payloadIn
-    Rattle.calls.specs.TableReading.readCell
-    Rattle.calls.specs.TableReading.partOfCell
-    Rattle.calls.specs.TableReading.operandOfCell
-    Rattle.calls.specs.TableReading.itemOfCell
-    Rattle.calls.specs.TableReading.elementOfCell
-    Rattle.calls.specs.TableReading.patternOfCell
-    Rattle.calls.specs.TableReading.itemsFrom
-    Rattle.calls.specs.TableReading.elementsFrom
-    Rattle.calls.specs.TableReading.patternFrom
-    Rattle.calls.specs.TableReading.comparisonOf
-    Rattle.calls.specs.TableReading.rowAt
-    Rattle.calls.specs.TableReading.directionOf
-    Rattle.calls.specs.TableReading.flagIn
-    Rattle.calls.specs.TableReading.stepsIn
-    Rattle.calls.specs.TableReading.leftIn
-    Rattle.calls.specs.TableReading.rightIn
-    Rattle.calls.specs.TableReading.readRow
-    Rattle.calls.specs.TableReading.statementOfRow
-    Rattle.calls.specs.TableReading.stepIn
-    Rattle.calls.specs.TableReading.stepsFrom
-    Rattle.calls.specs.TableReading.programIn
-    Rattle.calls.specs.TurnedDownLaws.GoesOn
+    Rattle.calls.specs.TurnedDownLaws.StepGoesOn
     Rattle.calls.specs.TurnedDownLaws.CallGoes
-    Rattle.calls.specs.Yielding.viewOf
 everything = tt

@@ -1,5 +1,5 @@
 -- Document 01, "Values": the values of operands, expressions and tests in a memory. Assumes nothing.
-use mathlib.Core.Bool.{Bool, true, false, _&&_, _||_}
+use mathlib.Core.Bool.{Bool, _&&_, _||_}
 use mathlib.Core.List.{List, [], _∷_, _++_}
 use Prim.Native.Nat.{ℕ}
 use lib.IntN.{ℤ, pos, negℤ}
@@ -7,7 +7,7 @@ use lib.ListN.{length}
 use lib.Signed.{ltZ, leZ}
 use Rattle.base.specs.Edition.{Edition}
 use Rattle.base.specs.Lists.{isNil}
-use Rattle.language.specs.Program.{
+use Rattle.syntax.specs.Program.{
   Length,
   constantly,
   numbered,
@@ -16,7 +16,7 @@ use Rattle.language.specs.Program.{
   first,
   Operand,
   constant,
-  number,
+  variable,
   lengthOf,
   numberOf,
   Operator,
@@ -34,7 +34,7 @@ use Rattle.language.specs.Program.{
   Element,
   literal,
   part,
-  text,
+  stringCall,
   Comparison,
   equal,
   unequal,
@@ -49,8 +49,8 @@ use Rattle.language.specs.Program.{
 }
 use Rattle.values.specs.Conversion as Conversion
 use Rattle.values.specs.Conversion.{substring, textOf}
-use Rattle.values.specs.Numbers.{isNegative, sum, difference, product, quotient}
-use Rattle.values.specs.Work.{Work, done, stop, _>>=_, quietly}
+use Rattle.values.specs.Numbers.{sum, difference, product, quotient}
+use Rattle.values.specs.Result.{Result, _>>=_, pure}
 use Rattle.machine.specs.State.{Memory, stringAt, numberAt}
 
 unfoldable pub lengthIn : Memory → Length → ℤ
@@ -58,22 +58,22 @@ lengthIn m (constantly z) = z
 lengthIn m (numbered i) = numberAt m i
 
 -- V3, V4 a name's string, or its substring
-unfoldable pub partIn : Memory → Part → Work (List ℕ)
-partIn m (whole s) = quietly (stringAt m s)
+unfoldable pub partIn : Memory → Part → Result (List ℕ)
+partIn m (whole s) = pure (stringAt m s)
 partIn m (first s n) = substring (stringAt m s) (lengthIn m n)
 
 -- Q18, Q19 each operator's result is held to the range at once
-unfoldable pub operation : Edition → Operator → ℤ → ℤ → Work ℤ
+unfoldable pub operation : Edition → Operator → ℤ → ℤ → Result ℤ
 operation e plus a b = sum e a b
 operation e minus a b = difference e a b
 operation e times a b = product e a b
 operation e over a b = quotient e a b
 
 -- an item adds to the numbers known, the latest first: an operand its value, an operator what it makes of the latest two
-unfoldable pub combined : (ℤ → ℤ → Work ℤ) → List ℤ → Work (List ℤ)
-combined f [] = quietly []
-combined f (b ∷ []) = quietly (b ∷ [])
-combined f (b ∷ (a ∷ known)) = f a b >>= λ z. quietly (z ∷ known)
+unfoldable pub combined : (ℤ → ℤ → Result ℤ) → List ℤ → Result (List ℤ)
+combined f [] = pure []
+combined f (b ∷ []) = pure (b ∷ [])
+combined f (b ∷ (a ∷ known)) = f a b >>= λ z. pure (z ∷ known)
 
 unfoldable pub signIn : Sign → List ℤ → List ℤ
 signIn positive known = known
@@ -93,53 +93,53 @@ compared atMost a b = leZ a b
 compared atLeast a b = leZ b a
 
 module _ (e : Edition) (m : Memory) where
-  unfoldable pub operandIn : Operand → Work ℤ
-  operandIn (constant z) = quietly z
-  operandIn (number i) = quietly (numberAt m i)
-  operandIn (lengthOf s) = quietly (pos (length (stringAt m s)))
+  unfoldable pub operandIn : Operand → Result ℤ
+  operandIn (constant z) = pure z
+  operandIn (variable i) = pure (numberAt m i)
+  operandIn (lengthOf s) = pure (pos (length (stringAt m s)))
   operandIn (numberOf p) = do
     s ← partIn m p
     Conversion.numberOf e s
 
-  unfoldable pub itemIn : List ℤ → Item → Work (List ℤ)
-  itemIn known (operand a) = operandIn a >>= λ z. quietly (z ∷ known)
+  unfoldable pub itemIn : List ℤ → Item → Result (List ℤ)
+  itemIn known (operand a) = operandIn a >>= λ z. pure (z ∷ known)
   itemIn known (operator o) = combined (operation e o) known
-  itemIn known (sign s) = quietly (signIn s known)
+  itemIn known (sign s) = pure (signIn s known)
 
-  unfoldable pub itemsIn : List ℤ → List Item → Work (List ℤ)
-  itemsIn known [] = quietly known
+  unfoldable pub itemsIn : List ℤ → List Item → Result (List ℤ)
+  itemsIn known [] = pure known
   itemsIn known (i ∷ is) = do
     more ← itemIn known i
     itemsIn more is
 
   -- V2 "Operators go left to right, * and / first, each once its right side is known"
-  unfoldable pub numericIn : List Item → Work ℤ
+  unfoldable pub numericIn : List Item → Result ℤ
   numericIn is = do
     known ← itemsIn [] is
-    quietly (latest known)
+    pure (latest known)
 
-  unfoldable pub elementIn : Element → Work (List ℕ)
-  elementIn (literal w) = quietly w
+  unfoldable pub elementIn : Element → Result (List ℕ)
+  elementIn (literal w) = pure w
   elementIn (part p) = partIn m p
-  elementIn (text n i) = textOf (lengthIn m n) (numberAt m i)
+  elementIn (stringCall n i) = textOf (lengthIn m n) (numberAt m i)
 
-  unfoldable pub stringIn : List Element → Work (List ℕ)
-  stringIn [] = quietly []
+  unfoldable pub stringIn : List Element → Result (List ℕ)
+  stringIn [] = pure []
   stringIn (x ∷ xs) = do
     v ← elementIn x
     vs ← stringIn xs
-    quietly (v ++ vs)
+    pure (v ++ vs)
 
   -- V7 "a negative substring" is not numeric, V4 with a note
-  unfoldable pub numericPart : Part → Work Bool
+  unfoldable pub numericPart : Part → Result Bool
   numericPart p = do
     s ← partIn m p
-    quietly (Conversion.isNumeric s)
+    pure (Conversion.isNumeric s)
 
-  unfoldable pub testIn : Test → Work Bool
-  testIn (isNull s) = quietly (isNil (stringAt m s))
+  unfoldable pub testIn : Test → Result Bool
+  testIn (isNull s) = pure (isNil (stringAt m s))
   testIn (isNumeric p) = numericPart p
   testIn (compares a c b) = do
     x ← operandIn a
     y ← operandIn b
-    quietly (compared c x y)
+    pure (compared c x y)

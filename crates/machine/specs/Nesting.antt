@@ -13,41 +13,41 @@ use borrow.Author.Tests.{lt-leb}
 use Rattle.base.specs.Choice.{cond-cases}
 use Rattle.base.specs.Edition.{Edition}
 use Rattle.base.specs.Lists.{isNil}
-use Rattle.language.specs.Program as Program
-use Rattle.language.specs.Program.{Part, whole, first, Branch, Statement, setNumber, setString, goto, finish, ifTest, read, write, execute}
-use Rattle.language.specs.Program.{return, Program}
-use Rattle.language.specs.Scopes.{BranchStays, Leads, Nested, Scoped}
+use Rattle.syntax.specs.Program as Program
+use Rattle.syntax.specs.Program.{Part, whole, first, Branch, Statement, setNumber, setString, goto, finish, ifTest, read, write, execute}
+use Rattle.syntax.specs.Program.{return, Program}
+use Rattle.syntax.specs.Scopes.{BranchStays, Leads, Nested, Scoped}
 use Rattle.machine.specs.Expressions.{lengthIn, numericIn, testIn, stringIn}
 use Rattle.machine.specs.Scanning.{scanningIn}
 use Rattle.machine.specs.State.{State, isRunning, fresh, goingTo, withReturns, withInput, withOutput, withStatus}
-use Rattle.machine.specs.Step.{Done, moving, chosen, scannedTo, setStringIn, taking, reading, shortened, putting, returning, carrying}
+use Rattle.machine.specs.Step.{Done, moving, chosen, scannedTo, setStringIn, takeRecord, reading, shortened, putRecord, returning, execution}
 use Rattle.machine.specs.Step.{statementAt, mostReturns, lacksReturn, turnedDownBy, Stepped, concluded, step}
 use Rattle.scanning.specs.Splits.{Split}
 use Rattle.values.specs.Conversion.{longestString}
 use Rattle.values.specs.Numbers.{isNegative}
-use Rattle.values.specs.Work.{Work, done, stop, noting, quietly, _>>=_}
+use Rattle.values.specs.Result.{Result, done, stop, withNotes, pure, _>>=_}
 
 -- P holds of the value of work that is done
-data Comes {A : Type 0} (P : A → Type 0) : Work A → Type 0 where
+data Comes {A : Type 0} (P : A → Type 0) : Result A → Type 0 where
   comes : {a : A} {n : ℕ} → P a → Comes P (done a n)
   halts : {k : ℕ} → Comes P (stop k)
 
-comes-noting : {A : Type 0} {P : A → Type 0} {w : Work A} (n : ℕ) → Comes P w → Comes P (noting n w)
-unfolding noting
-comes-noting n (comes h) = comes h
-comes-noting n halts = halts
+comes-notes : {A : Type 0} {P : A → Type 0} {w : Result A} (n : ℕ) → Comes P w → Comes P (withNotes n w)
+unfolding withNotes
+comes-notes n (comes h) = comes h
+comes-notes n halts = halts
 
 -- work behind work
-comes-next : {A B : Type 0} {P : A → Type 0} {Q : B → Type 0} {w : Work A} (f : A → Work B) → Comes P w
+comes-next : {A B : Type 0} {P : A → Type 0} {Q : B → Type 0} {w : Result A} (f : A → Result B) → Comes P w
     → ((a : A) → P a → Comes Q (f a)) → Comes Q (w >>= f)
 unfolding _>>=_
-comes-next f (comes {a} {n} h) g = comes-noting n (g a h)
+comes-next f (comes {a} {n} h) g = comes-notes n (g a h)
 comes-next f halts g = halts
 
 -- where nothing need hold of the first value
-comes-behind : {A B : Type 0} {Q : B → Type 0} (w : Work A) (f : A → Work B) → ((a : A) → Comes Q (f a)) → Comes Q (w >>= f)
+comes-behind : {A B : Type 0} {Q : B → Type 0} (w : Result A) (f : A → Result B) → ((a : A) → Comes Q (f a)) → Comes Q (w >>= f)
 unfolding _>>=_
-comes-behind (done a n) f g = comes-noting n (g a)
+comes-behind (done a n) f g = comes-notes n (g a)
 comes-behind (stop k) f g = halts
 
 module _ (scope : ℕ → List ℕ) (Executes : (first second : List ℕ) → Type 0) where
@@ -76,8 +76,8 @@ module _ (scope : ℕ → List ℕ) (Executes : (first second : List ℕ) → Ty
   scanned-nested (some s) b here rs stays h = nested-stays here (b .success) rs (stays .0) h
 
   taking-nested : (s most : ℕ) (b : Branch) (c : State) → BranchStays scope Executes (c .next) b → NestedIn c
-      → NestedIn (taking s most b c)
-  unfolding taking goingTo withInput
+      → NestedIn (takeRecord s most b c)
+  unfolding takeRecord goingTo withInput
   taking-nested s most b c stays h =
       cond-cases NestedIn (eqb most 0 || isNil (c .input))
       (λ _. nested-stays (c .next) (b .failure) (c .returns) (stays .1) h)
@@ -88,17 +88,17 @@ module _ (scope : ℕ → List ℕ) (Executes : (first second : List ℕ) → Ty
 
   reading-nested : (q : Part) (b : Branch) (c : State) → BranchStays scope Executes (c .next) b → NestedIn c
       → Comes NestedDone (reading q b c)
-  unfolding reading moving quietly
+  unfolding reading moving pure
   reading-nested (whole s) b c stays h = comes (taking-nested s longestString b c stays h)
   reading-nested (first s n) b c stays h =
       let z = lengthIn (c .memory) n in
       cond-cases (Comes NestedDone) (isNegative z) (λ _. halts) (λ _. comes (taking-nested s (natAbs z) b c stays h))
 
   -- WRITE leaves the returns
-  putting-returns : (lent : ℕ) (v : List ℕ) (c : State) → Comes (λ d. d .returns ≡ c .returns) (putting lent v c)
-  unfolding putting quietly withOutput
+  putting-returns : (lent : ℕ) (v : List ℕ) (c : State) → Comes (λ d. d .returns ≡ c .returns) (putRecord lent v c)
+  unfolding putRecord pure withOutput
   putting-returns lent v c =
-      let P : Work State → Type 0 = Comes (λ d. d .returns ≡ c .returns) in
+      let P : Result State → Type 0 = Comes (λ d. d .returns ≡ c .returns) in
       cond-cases P (isNil v) (λ _. comes refl) (λ _.
       cond-cases P (leb (length (c .output) + (length v + 1)) lent) (λ _. comes refl) (λ _. halts))
 
@@ -108,32 +108,32 @@ module _ (scope : ℕ → List ℕ) (Executes : (first second : List ℕ) → Ty
   returning-nested (r ∷ rs) c h same = h .1
 
   -- what a statement that leads where it may makes of what is nested
-  carrying-nested : (e : Edition) (lent : ℕ) (x : Statement) (c : State) → Leads scope Executes (c .next) x → NestedIn c
-      → Comes NestedDone (carrying e lent x c)
-  unfolding carrying Leads Nested moving quietly goingTo withStatus withReturns
-  carrying-nested e lent (setNumber i x) c leads h =
+  execution-nested : (e : Edition) (lent : ℕ) (x : Statement) (c : State) → Leads scope Executes (c .next) x → NestedIn c
+      → Comes NestedDone (execution e lent x c)
+  unfolding execution Leads Nested moving pure goingTo withStatus withReturns
+  execution-nested e lent (setNumber i x) c leads h =
       comes-behind (numericIn e (c .memory) x) _ (λ _. comes (nested-stays (c .next) (suc (c .next)) (c .returns) leads h))
-  carrying-nested e lent (setString p xs) c leads h =
+  execution-nested e lent (setString p xs) c leads h =
       comes-behind (setStringIn e (c .memory) p xs) _ (λ _. comes (nested-stays (c .next) (suc (c .next)) (c .returns) leads h))
-  carrying-nested e lent (goto k) c leads h = comes (nested-stays (c .next) k (c .returns) leads h)
-  carrying-nested e lent finish c leads h = comes h
-  carrying-nested e lent (ifTest t b) c leads h =
+  execution-nested e lent (goto k) c leads h = comes (nested-stays (c .next) k (c .returns) leads h)
+  execution-nested e lent finish c leads h = comes h
+  execution-nested e lent (ifTest t b) c leads h =
       comes-behind (testIn e (c .memory) t) _ (λ r. comes (chosen-nested r b (c .next) (c .returns) leads h))
-  carrying-nested e lent (Program.scan d p xs r b) c leads h =
+  execution-nested e lent (Program.scan d p xs r b) c leads h =
       comes-behind (scanningIn e (c .memory) d p xs r) _ (λ l. comes (scanned-nested (l .scanned .split) b (c .next) (c .returns) leads h))
-  carrying-nested e lent (read p b) c leads h = reading-nested p b c leads h
-  carrying-nested e lent (write xs) c leads h =
+  execution-nested e lent (read p b) c leads h = reading-nested p b c leads h
+  execution-nested e lent (write xs) c leads h =
       comes-behind (stringIn e (c .memory) xs) _ (λ v.
       comes-behind (shortened v) _ (λ w.
       comes-next _ (putting-returns lent w c) (λ d same.
       comes (subst (Nested scope Executes (suc (c .next))) (sym same) (nested-stays (c .next) (suc (c .next)) (c .returns) leads h)))))
-  carrying-nested e lent (execute k) c leads h =
+  execution-nested e lent (execute k) c leads h =
       let entered : Nested scope Executes k (suc (c .next) ∷ c .returns) = (
         subst (λ (s : List ℕ). Executes s (scope k)) (sym (leads .1)) (leads .0),
         nested-stays (c .next) (suc (c .next)) (c .returns) (leads .1) h,
       ) in
       comes entered
-  carrying-nested e lent return c leads h = comes (returning-nested (c .returns) c h refl)
+  execution-nested e lent return c leads h = comes (returning-nested (c .returns) c h refl)
 
   -- a program with these scopes
   module _ (p : Program) (scoped : Scoped scope Executes (p .steps)) where
@@ -152,9 +152,9 @@ module _ (scope : ℕ → List ℕ) (Executes : (first second : List ℕ) → Ty
     step-nested e lent c h =
         let x = statementAt p (c .next) in
         cond-cases (λ (s : Stepped). NestedIn (s .state)) (eqb (turnedDownBy p c) 0)
-        (λ _. concludes (carrying e lent x c) (carrying-nested e lent x c (here-leads c) h)) (λ _. h)
+        (λ _. concludes (execution e lent x c) (execution-nested e lent x c (here-leads c) h)) (λ _. h)
       where
-        concludes : (w : Work Done) → Comes NestedDone w → NestedIn (concluded c w .state)
+        concludes : (w : Result Done) → Comes NestedDone w → NestedIn (concluded c w .state)
         concludes (done d n) (comes g) = g
         concludes (stop n) halts = h
 

@@ -1,21 +1,20 @@
 -- Document 01, "Run": lists of steps, and a run of k steps. Assumes nothing.
-use mathlib.Core.Bool.{Bool, true, false, cond, _&&_}
-use mathlib.Core.List.{List, []}
+use mathlib.Core.Bool.{cond}
 use Prim.Native.Nat.{ℕ, zero, suc, _+_}
-use lib.Dec.{leb, ltb, eqb}
+use lib.Dec.{ltb}
 use Rattle.base.specs.Edition.{Edition}
-use Rattle.language.specs.Program.{Program}
-use Rattle.values.specs.Work.{stopsStep}
+use Rattle.syntax.specs.Program.{Program}
+use Rattle.values.specs.Result.{stopsStep}
 use Rattle.machine.specs.State.{Status, running, finished, stopped, State}
-use Rattle.machine.specs.Step.{Answer, Stepped, step}
+use Rattle.machine.specs.Step.{Stepped, step}
 
 module _ (e : Edition) (p : Program) (lent : ℕ) where
   -- R8 "Each step takes all that the last one returned and left": the state behind k steps
-  unfoldable pub after : ℕ → State → State
-  after zero c = c
-  after (suc k) c = after k (step e p lent c .state)
+  unfoldable pub stateAfter : ℕ → State → State
+  stateAfter zero c = c
+  stateAfter (suc k) c = stateAfter k (step e p lent c .state)
 
--- how a run ended, with which number, after how many steps done, with how many notes
+-- how a run ended (L15 has document 01's words), with which number, after how many steps done, with how many notes
 pub data Outcome : Type 0 where
   FINISHED STOPPED SPENT REFUSED : Outcome
 
@@ -27,8 +26,8 @@ pub record Ran : Type 0 where
   pub state : State
 
 -- R6 "A finishing or stopping step counts as done, one turned down doesn't."
-unfoldable pub counted : ℕ → ℕ → Ran → Ran
-counted steps notes r =
+unfoldable pub stepCounted : ℕ → ℕ → Ran → Ran
+stepCounted steps notes r =
     record {
       outcome = r .outcome;
       number = r .number;
@@ -44,9 +43,9 @@ endedWith o n c = record { outcome = o; number = n; steps = 0; notes = 0; state 
 -- never leaves the status stopped
 unfoldable pub goingOn : Stepped → Ran → Ran
 goingOn s rest =
-    cond (stopsStep (s .answer .number)) (counted 1 0 (endedWith STOPPED (s .answer .number) (s .state)))
+    cond (stopsStep (s .answer .number)) (stepCounted 1 0 (endedWith STOPPED (s .answer .number) (s .state)))
     (cond (ltb 0 (s .answer .number)) (endedWith REFUSED (s .answer .number) (s .state))
-    (counted 1 (s .answer .notes) (byStatus (s .state .status))))
+    (stepCounted 1 (s .answer .notes) (byStatus (s .state .status))))
   where
     byStatus : Status → Ran
     byStatus running = rest

@@ -1,4 +1,4 @@
--- What the machine holds between two steps. Assumes nothing.
+-- What the machine holds between two steps: document 01's state (R13), with its strings and numbers. Assumes nothing.
 use mathlib.Core.Bool.{Bool, true, false}
 use mathlib.Core.List.{List, []}
 use Prim.Native.Nat.{ℕ}
@@ -6,6 +6,7 @@ use lib.IntN.{ℤ, pos}
 use lib.ListN.{getD, set, replicate}
 use Rattle.base.specs.Limits as Limits
 
+-- R4, R5, Q17: running, or finished or stopped, document 01's words
 pub data Status : Type 0 where
   running finished stopped : Status
 

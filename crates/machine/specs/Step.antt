@@ -1,22 +1,20 @@
 -- Document 01, "Run": one step of each statement, and what it answers. Assumes nothing.
-use mathlib.Core.Bool.{Bool, true, false, cond, not, _&&_, _||_}
+use mathlib.Core.Bool.{Bool, true, false, cond, _||_}
 use mathlib.Core.List.{List, [], _∷_, _++_, map}
 use mathlib.Core.Option.{Option, none, some}
 use Prim.Native.Nat.{ℕ, suc, _+_, min}
-use lib.Dec.{leb, ltb, eqb}
-use lib.IntN.{ℤ, natAbs}
+use lib.Dec.{leb, eqb}
+use lib.IntN.{natAbs}
 use lib.ListN.{length, take, drop, getD}
 use Rattle.base.specs.Edition.{Edition}
 use Rattle.base.specs.Limits as Limits
 use Rattle.base.specs.Lists.{isNil}
 use Rattle.cards.specs.Bytes.{newline}
-use Rattle.language.specs.Program as Program
-use Rattle.language.specs.Program.{
-  Length,
+use Rattle.syntax.specs.Program as Program
+use Rattle.syntax.specs.Program.{
   Part,
   whole,
   first,
-  Item,
   Element,
   Branch,
   Statement,
@@ -29,19 +27,16 @@ use Rattle.language.specs.Program.{
   write,
   execute,
   return,
-  Step,
   Program,
 }
 use Rattle.scanning.specs.Splits.{Split}
 use Rattle.scanning.specs.Trials.{Scanned}
 use Rattle.values.specs.Conversion.{longestString}
 use Rattle.values.specs.Numbers.{isNegative}
-use Rattle.values.specs.Work.{Work, done, stop, _>>=_, quietly}
+use Rattle.values.specs.Result.{Result, done, stop, _>>=_, pure}
 use Rattle.machine.specs.Expressions.{lengthIn, numericIn, stringIn, testIn}
-use Rattle.machine.specs.Scanning.{Left, scanningIn, storing}
+use Rattle.machine.specs.Scanning.{scanningIn, storing}
 use Rattle.machine.specs.State.{
-  Status,
-  running,
   finished,
   stopped,
   isRunning,
@@ -72,8 +67,8 @@ pub record Done : Type 0 where
   pub state : State
   pub scanned : Scanned
 
-unfoldable pub moving : State → Work Done
-moving s = quietly (record { state = s; scanned = noScan })
+unfoldable pub moving : State → Result Done
+moving s = pure (record { state = s; scanned = noScan })
 
 -- the step of a branch field
 unfoldable pub chosen : Bool → Branch → ℕ
@@ -86,7 +81,7 @@ scannedTo none b = b .failure
 scannedTo (some s) b = b .success
 
 -- V6 "A replacement of `S$n` changes only those bytes; with negative n, seen before the expression, it gives a note and does nothing."
-unfoldable pub setStringIn : Edition → Memory → Part → List Element → Work Memory
+unfoldable pub setStringIn : Edition → Memory → Part → List Element → Result Memory
 setStringIn e m (whole s) xs = do
   v ← stringIn e m xs
   storing s v m
@@ -101,8 +96,8 @@ recordLength (b ∷ bs) = elim (eqb b newline) [ true ↦ 0 | false ↦ suc (rec
 
 -- R2 "It keeps its first 1,024 bytes, or n if less for a substring, and replaces the whole string. n = 0 or no bytes left: branch f,
 -- nothing taken or changed."
-unfoldable pub taking : ℕ → ℕ → Branch → State → State
-taking s most b c =
+unfoldable pub takeRecord : ℕ → ℕ → Branch → State → State
+takeRecord s most b c =
     let n = recordLength (c .input) in
     cond (eqb most 0 || isNil (c .input))
     (goingTo (b .failure) (c .memory) c)
@@ -110,22 +105,22 @@ taking s most b c =
     (goingTo (b .success) (withString (c .memory) s (take (min most longestString) (take n (c .input)))) c))
 
 -- Q17 "The .. READ length is negative"
-unfoldable pub reading : Part → Branch → State → Work Done
-reading (whole s) b c = moving (taking s longestString b c)
+unfoldable pub reading : Part → Branch → State → Result Done
+reading (whole s) b c = moving (takeRecord s longestString b c)
 reading (first s n) b c =
     let z = lengthIn (c .memory) n in
-    cond (isNegative z) (stop 17) (moving (taking s (natAbs z) b c))
+    cond (isNegative z) (stop 17) (moving (takeRecord s (natAbs z) b c))
 
 -- R3 "beyond 1,024 bytes the tail is dropped with a note"
-unfoldable pub shortened : List ℕ → Work (List ℕ)
+unfoldable pub shortened : List ℕ → Result (List ℕ)
 shortened v = cond (leb (length v) longestString) (done v 0) (done (take longestString v) 1)
 
 -- R3 "WRITE and PRINT put the bytes and byte 10; a null expression does nothing"; Q21 "A record and its byte 10 exceed the output left."
-unfoldable pub putting : (lent : ℕ) → List ℕ → State → Work State
-putting lent v c =
-    cond (isNil v) (quietly c)
+unfoldable pub putRecord : (lent : ℕ) → List ℕ → State → Result State
+putRecord lent v c =
+    cond (isNil v) (pure c)
     (cond (leb (length (c .output) + (length v + 1)) lent)
-    (quietly (withOutput (c .output ++ (v ++ (newline ∷ []))) c))
+    (pure (withOutput (c .output ++ (v ++ (newline ∷ []))) c))
     (stop 21))
 
 -- the latest return, and the others
@@ -134,29 +129,29 @@ returning [] c = c
 returning (k ∷ rs) c = withReturns rs (goingTo k (c .memory) c)
 
 -- N6 "All of it follows the deck's statement, starting from the strings and numbers that the step was given."
-unfoldable pub carrying : Edition → (lent : ℕ) → Statement → State → Work Done
-carrying e lent (setNumber i x) c = do
+unfoldable pub execution : Edition → (lent : ℕ) → Statement → State → Result Done
+execution e lent (setNumber i x) c = do
   z ← numericIn e (c .memory) x
   moving (goingTo (suc (c .next)) (withNumber (c .memory) i z) c)
-carrying e lent (setString p xs) c = do
+execution e lent (setString p xs) c = do
   m ← setStringIn e (c .memory) p xs
   moving (goingTo (suc (c .next)) m c)
-carrying e lent (goto k) c = moving (goingTo k (c .memory) c)
-carrying e lent finish c = moving (withStatus finished c)
-carrying e lent (ifTest t b) c = do
+execution e lent (goto k) c = moving (goingTo k (c .memory) c)
+execution e lent finish c = moving (withStatus finished c)
+execution e lent (ifTest t b) c = do
   r ← testIn e (c .memory) t
   moving (goingTo (chosen r b) (c .memory) c)
-carrying e lent (Program.scan d p xs r b) c = do
+execution e lent (Program.scan d p xs r b) c = do
   left ← scanningIn e (c .memory) d p xs r
-  quietly (record { state = goingTo (scannedTo (left .scanned .split) b) (left .memory) c; scanned = left .scanned })
-carrying e lent (read p b) c = reading p b c
-carrying e lent (write xs) c = do
+  pure (record { state = goingTo (scannedTo (left .scanned .split) b) (left .memory) c; scanned = left .scanned })
+execution e lent (read p b) c = reading p b c
+execution e lent (write xs) c = do
   v ← stringIn e (c .memory) xs
   w ← shortened v
-  c′ ← putting lent w c
+  c′ ← putRecord lent w c
   moving (goingTo (suc (c .next)) (c .memory) c′)
-carrying e lent (execute k) c = moving (withReturns (suc (c .next) ∷ c .returns) (goingTo k (c .memory) c))
-carrying e lent return c = moving (returning (c .returns) c)
+execution e lent (execute k) c = moving (withReturns (suc (c .next) ∷ c .returns) (goingTo k (c .memory) c))
+execution e lent return c = moving (returning (c .returns) c)
 
 -- the statement of a step; behind the last one there is none, and a run never comes there
 unfoldable pub statementAt : Program → ℕ → Statement
@@ -191,16 +186,16 @@ pub record Stepped : Type 0 where
   pub state : State
 
 -- Q17 "17 to 21 mark the state stopped, no more"; V12 "0 if stopped"
-unfoldable pub concluded : State → Work Done → Stepped
+unfoldable pub concluded : State → Result Done → Stepped
 concluded c (done d notes) =
     record { answer = record { number = 0; notes = notes; scanned = d .scanned }; state = d .state }
 concluded c (stop n) =
     record { answer = record { number = n; notes = 0; scanned = noScan }; state = withStatus stopped c }
 
--- D5 "A step turned down by .. hands its state back unchanged"
+-- a step, document 01's word (R4, R5); D5 "A step turned down by .. hands its state back unchanged"
 unfoldable pub step : Edition → Program → (lent : ℕ) → State → Stepped
 step e p lent c =
     let n = turnedDownBy p c in
-    let carried = concluded c (carrying e lent (statementAt p (c .next)) c) in
+    let carried = concluded c (execution e lent (statementAt p (c .next)) c) in
     cond (eqb n 0) carried
     (record { answer = record { number = n; notes = 0; scanned = noScan }; state = c })

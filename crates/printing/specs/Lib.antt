@@ -1,3 +1,3 @@
 -- Bytes put one behind the other (Printing), with laws.
-pub mod Printing
 pub mod PrintLaws
+pub mod Printing

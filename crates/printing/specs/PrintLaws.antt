@@ -5,8 +5,8 @@ use Prim.Native.Nat.{ℕ, _+_, _≤_, _<_, _^_}
 use native.Mathlib.Omega.{arith}
 use lib.ListN.{length, take, length-append}
 use lib.Seq.{sets-eq}
-use Rattle.calls.specs.Splices.{splice, take-written, length-splice}
-use Rattle.convert.specs.Text.{Stored}
+use Rattle.encoding.specs.Splices.{splice, take-written, length-splice}
+use Rattle.numbers.specs.Text.{DigitsStored}
 use Rattle.values.specs.Conversion.{digits}
 use Rattle.values.specs.Laws.{digits-length}
 use Rattle.printing.specs.Printing.{Put}
@@ -20,7 +20,7 @@ put-written before at xs room =
 
 -- bytes stored from a place on
 pub put-stored : {before after : List ℕ} {at : ℕ} {xs : List ℕ} {end : ℕ} → at + length xs ≤ length before
-    → Stored before after at xs end → Put before after at xs end
+    → DigitsStored before after at xs end → Put before after at xs end
 unfolding splice
 put-stored {before} {after} {at} {xs} {end} room s =
     let same : after ≡ splice before at xs = s .holds ∙ sets-eq xs before at room ∙ append-assoc (take at before) xs _ in

@@ -6,8 +6,8 @@ ghost use lib.ListN.{length};
 ghost use Rattle.base.specs.Text.{bytes};
 ghost use Rattle.values.specs.Conversion.{digits};
 ghost use Rattle.printing.specs.Printing.{Put, PutWithin, longestNumber, longestNumbers, numbersText};
-use cells::spans::write;
-use convert::put_digits;
+use numbers::put_digits;
+use store::spans::write;
 
 // a comma and the digits of a number of 64 bits
 const LONGEST_NUMBER: usize = 21;

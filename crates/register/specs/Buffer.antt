@@ -7,7 +7,7 @@ use Prim.Native.Nat.{ℕ, zero, suc, _*_, _-_}
 use lib.Dec.{eqb, leb}
 use lib.ListN.{length, take, drop, getD, replicate}
 use Rattle.base.specs.Lists.{all}
-use Rattle.register.specs.Register.{Lines, Register, mostLines, differ, formOf, isHouse}
+use Rattle.register.specs.Register.{Lines, Register, mostLines, differ, heldForm, isHouse}
 
 -- W2.5 "in the first 8,192 bytes of a lent buffer"
 abbrev pub registerSize : ℕ
@@ -30,8 +30,8 @@ unfoldable pub slotsOf : Lines → List ℕ
 slotsOf [] = []
 slotsOf (line ∷ lines) = cellOf slotSize line ++ slotsOf lines
 
-unfoldable pub image : Register → List ℕ
-image register =
+unfoldable pub registerImage : Register → List ℕ
+registerImage register =
     cellOf headerSize (register .house)
     ++ (slotsOf (register .lines) ++ replicate (slotSize * (mostLines - length (register .lines))) 0)
 
@@ -56,8 +56,8 @@ registerIn buffer = record { house = textIn (headerIn buffer); lines = linesIn m
 
 -- The rules. A cell keeps its rule when its text has the form and zeros stand behind it. 1: the header's text is a house currency, or none. 2: that
 -- of a slot that doesn't begin with zero is a line of four fields if the header has no currency, of five if it has one.
-unfoldable pub cellKeeps : (form : List ℕ → Bool) (cell : List ℕ) → Bool
-cellKeeps form cell = form (textIn cell) && all isZero (drop (length (textIn cell)) cell)
+unfoldable pub slotCellKeeps : (form : List ℕ → Bool) (cell : List ℕ) → Bool
+slotCellKeeps form cell = form (textIn cell) && all isZero (drop (length (textIn cell)) cell)
 
 -- 3: from the first slot that begins with zero on, all is zero
 unfoldable pub slotsKeep : (form : List ℕ → Bool) (count : ℕ) (slots : List ℕ) → Bool
@@ -65,15 +65,15 @@ slotsKeep form zero slots = true
 slotsKeep form (suc n) slots =
     elim (isZero (getD slots 0 0)) [
       | true ↦ all isZero slots
-      | false ↦ cellKeeps form (take slotSize slots) && slotsKeep form n (drop slotSize slots)
+      | false ↦ slotCellKeeps form (take slotSize slots) && slotsKeep form n (drop slotSize slots)
     ]
 
 -- 4: no two lines have the same contract
-unfoldable pub keepsRules : (buffer : List ℕ) → Bool
-keepsRules buffer =
-    cellKeeps isHouse (headerIn buffer)
-    && (slotsKeep (formOf (textIn (headerIn buffer))) mostLines (slotsIn buffer) && differ (registerIn buffer .lines))
+unfoldable pub registerKeepsRules : (buffer : List ℕ) → Bool
+registerKeepsRules buffer =
+    slotCellKeeps isHouse (headerIn buffer)
+    && (slotsKeep (heldForm (textIn (headerIn buffer))) mostLines (slotsIn buffer) && differ (registerIn buffer .lines))
 
 -- W2.7 not "14 for a buffer under 8,192 bytes or against its written rules"
 unfoldable pub bufferKeeps : (buffer : List ℕ) → Bool
-bufferKeeps buffer = leb registerSize (length buffer) && keepsRules buffer
+bufferKeeps buffer = leb registerSize (length buffer) && registerKeepsRules buffer

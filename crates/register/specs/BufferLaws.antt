@@ -19,21 +19,21 @@ use Rattle.register.specs.Buffer.{
   isZero,
   cellOf,
   slotsOf,
-  image,
+  registerImage,
   textIn,
   linesIn,
   headerIn,
   slotsIn,
   registerIn,
-  cellKeeps,
+  slotCellKeeps,
   slotsKeep,
-  keepsRules,
+  registerKeepsRules,
   bufferKeeps,
 }
 use Rattle.register.specs.Line.{hasForm, isCurrency}
 use Rattle.register.specs.LineLaws.{isText, currency-size, currency-text, line-size, line-text}
-use Rattle.register.specs.Register.{Lines, Register, mostLines, differ, formOf, isHouse}
-use Rattle.register.specs.RegisterLaws.{Sound, all-forms, form-has}
+use Rattle.register.specs.Register.{Lines, Register, mostLines, differ, heldForm, isHouse}
+use Rattle.register.specs.RegisterLaws.{RegisterSound, all-forms, form-has}
 
 -- a cell: its size, and its text is read back, with zeros behind it
 pub cell-size : (size : ℕ) (text : List ℕ) → length text ≤ size → length (cellOf size text) ≡ size
@@ -66,15 +66,15 @@ unfolding cellOf
 cell-read size text e = text-read text (replicate (size - length text) 0) e (all-zeros (size - length text))
 
 module _ (form : List ℕ → Bool) where
-  pub cell-sound : (size : ℕ) (text : List ℕ) → all isText text ≡ true → form text ≡ true → cellKeeps form (cellOf size text) ≡ true
-  unfolding cellKeeps cellOf
+  pub cell-sound : (size : ℕ) (text : List ℕ) → all isText text ≡ true → form text ≡ true → slotCellKeeps form (cellOf size text) ≡ true
+  unfolding slotCellKeeps cellOf
   cell-sound size text t e =
       let zeros : List ℕ = replicate (size - length text) 0 in
       rw (cell-read size text t, e, drop-at text zeros (length text) refl) (all-zeros (size - length text))
 
   -- a cell that keeps its rule is that of the text read
-  cell-is : (size : ℕ) (cell : List ℕ) → length cell ≡ size → cellKeeps form cell ≡ true → cellOf size (textIn cell) ≡ cell
-  unfolding cellKeeps cellOf
+  cell-is : (size : ℕ) (cell : List ℕ) → length cell ≡ size → slotCellKeeps form cell ≡ true → cellOf size (textIn cell) ≡ cell
+  unfolding slotCellKeeps cellOf
   cell-is size cell is e =
       let text = textIn cell in
       let parts = both-true (form text) (all isZero (drop (length text) cell)) e in
@@ -82,12 +82,12 @@ module _ (form : List ℕ → Bool) where
       let count : length (drop (length text) cell) ≡ size - length text = length-drop (length text) cell ∙ ap (λ n. n - length text) is in
       ap (λ (z : List ℕ). text ++ z) (sym (zeros ∙ ap (λ n. replicate n 0) count)) ∙ text-front cell
 
-  pub cell-form : (cell : List ℕ) → cellKeeps form cell ≡ true → form (textIn cell) ≡ true
-  unfolding cellKeeps
+  pub cell-form : (cell : List ℕ) → slotCellKeeps form cell ≡ true → form (textIn cell) ≡ true
+  unfolding slotCellKeeps
   cell-form cell e = both-true (form (textIn cell)) (all isZero (drop (length (textIn cell)) cell)) e .0
 
-  pub cell-zeros : (cell : List ℕ) → cellKeeps form cell ≡ true → all isZero (drop (length (textIn cell)) cell) ≡ true
-  unfolding cellKeeps
+  pub cell-zeros : (cell : List ℕ) → slotCellKeeps form cell ≡ true → all isZero (drop (length (textIn cell)) cell) ≡ true
+  unfolding slotCellKeeps
   cell-zeros cell e = both-true (form (textIn cell)) (all isZero (drop (length (textIn cell)) cell)) e .1
 
 first-zero : (zeros : List ℕ) → all isZero zeros ≡ true → isZero (getD zeros 0 0) ≡ true
@@ -111,7 +111,7 @@ pub record ReadBack (form : List ℕ → Bool) (count : ℕ) (held : Lines) (slo
   pub keep : slotsKeep form count slots ≡ true
 
 -- Slots that keep the rules are those of the lines read, with zeros behind them.
-pub record Filled (form : List ℕ → Bool) (count : ℕ) (held : Lines) (slots : List ℕ) : Type 0 where
+pub record SlotsFilled (form : List ℕ → Bool) (count : ℕ) (held : Lines) (slots : List ℕ) : Type 0 where
   pub lines : all form held ≡ true
   pub few : length held ≤ count
   pub is : slotsOf held ++ replicate (slotSize * (count - length held)) 0 ≡ slots
@@ -179,7 +179,7 @@ module _ (form : List ℕ → Bool) (has : (line : List ℕ) → form line ≡ t
       }
 
   module _ (n : ℕ) (slots : List ℕ) (size : length slots ≡ slotSize * suc n) where
-    filled-none : all isZero slots ≡ true → Filled form (suc n) [] slots
+    filled-none : all isZero slots ≡ true → SlotsFilled form (suc n) [] slots
     unfolding slotsOf all
     filled-none z =
         let count : slotSize * (suc n - 0) ≡ length slots = omega arith in
@@ -188,8 +188,8 @@ module _ (form : List ℕ → Bool) (has : (line : List ℕ) → form line ≡ t
     less : (n k : ℕ) → suc n - suc k ≡ n - k
     less n k = omega arith
 
-    filled-more : (held : Lines) → cellKeeps form (take slotSize slots) ≡ true → Filled form n held (drop slotSize slots)
-        → Filled form (suc n) (textIn (take slotSize slots) ∷ held) slots
+    filled-more : (held : Lines) → slotCellKeeps form (take slotSize slots) ≡ true → SlotsFilled form n held (drop slotSize slots)
+        → SlotsFilled form (suc n) (textIn (take slotSize slots) ∷ held) slots
     unfolding slotsOf all
     filled-more held e w =
         let slot = take slotSize slots in
@@ -207,20 +207,20 @@ module _ (form : List ℕ → Bool) (has : (line : List ℕ) → form line ≡ t
         }
 
   filled : (count : ℕ) (slots : List ℕ) → length slots ≡ slotSize * count → slotsKeep form count slots ≡ true
-      → Filled form count (linesIn count slots) slots
+      → SlotsFilled form count (linesIn count slots) slots
   unfolding linesIn slotsKeep slotsOf all
   filled zero slots size e = record { lines = refl; few = omega arith; is = sym (no-bytes slots (omega arith)) }
   filled (suc n) slots size e =
       let behind : length (drop slotSize slots) ≡ slotSize * n = omega (arith, length-drop slotSize slots) in
       test-cases
       (λ t.
-      elim t as (λ _. Bool) [ true ↦ all isZero slots | false ↦ cellKeeps form (take slotSize slots) && slotsKeep form n (drop slotSize slots) ]
+      elim t as (λ _. Bool) [ true ↦ all isZero slots | false ↦ slotCellKeeps form (take slotSize slots) && slotsKeep form n (drop slotSize slots) ]
       ≡ true
-      → Filled form (suc n) (elim t as (λ _. Lines) [ true ↦ [] | false ↦ textIn (take slotSize slots) ∷ linesIn n (drop slotSize slots) ]) slots)
+      → SlotsFilled form (suc n) (elim t as (λ _. Lines) [ true ↦ [] | false ↦ textIn (take slotSize slots) ∷ linesIn n (drop slotSize slots) ]) slots)
       (isZero (getD slots 0 0))
       (λ _ z. filled-none n slots size z)
       (λ _ h.
-      let parts = both-true (cellKeeps form (take slotSize slots)) (slotsKeep form n (drop slotSize slots)) h in
+      let parts = both-true (slotCellKeeps form (take slotSize slots)) (slotsKeep form n (drop slotSize slots)) h in
       filled-more n slots size (linesIn n (drop slotSize slots)) (parts .0) (filled n (drop slotSize slots) behind (parts .1)))
       e
 
@@ -238,14 +238,14 @@ pub house-size : (house : List ℕ) → isHouse house ≡ true → length house 
 house-size house e = house-cases house e (λ none. omega (arith, ap length none)) (λ is. omega (arith, currency-size house is))
 
 -- The sizes of a register's parts.
-abbrev pub header : Register → List ℕ
-header register = cellOf headerSize (register .house)
+abbrev pub headerImage : Register → List ℕ
+headerImage register = cellOf headerSize (register .house)
 
 abbrev pub slotted : Register → List ℕ
 slotted register = slotsOf (register .lines) ++ replicate (slotSize * (mostLines - length (register .lines))) 0
 
-module _ (register : Register) (s : Sound register) where
-  pub header-size : length (header register) ≡ headerSize
+module _ (register : Register) (s : RegisterSound register) where
+  pub header-size : length (headerImage register) ≡ headerSize
   header-size = cell-size headerSize (register .house) (omega (arith, house-size (register .house) (s .home)))
 
   pub slotted-size : length (slotted register) ≡ slotSize * mostLines
@@ -254,77 +254,77 @@ module _ (register : Register) (s : Sound register) where
       length-append (slotsOf (register .lines)) (replicate (slotSize * (mostLines - length (register .lines))) 0)
       ∙ rw (slots-size (register .lines) (all-forms register s), length-replicate) (omega arith)
 
-  pub image-size : length (image register) ≡ registerSize
-  unfolding image
-  image-size = omega (arith, length-append (header register) (slotted register), header-size, slotted-size)
+  pub image-size : length (registerImage register) ≡ registerSize
+  unfolding registerImage
+  image-size = omega (arith, length-append (headerImage register) (slotted register), header-size, slotted-size)
 
 -- The first law of a round trip: the image of a register, whatever lies behind it, keeps the rules and is read as that register.
-module _ (register : Register) (s : Sound register) (rest : List ℕ) where
-  whole : image register ++ rest ≡ header register ++ (slotted register ++ rest)
-  unfolding image
-  whole = append-assoc (header register) (slotted register) rest
+module _ (register : Register) (s : RegisterSound register) (rest : List ℕ) where
+  whole : registerImage register ++ rest ≡ headerImage register ++ (slotted register ++ rest)
+  unfolding registerImage
+  whole = append-assoc (headerImage register) (slotted register) rest
 
-  slots-back : slotsIn (image register ++ rest) ≡ slotted register
+  slots-back : slotsIn (registerImage register ++ rest) ≡ slotted register
   slots-back =
       ap (λ l. take (slotSize * mostLines) (drop headerSize l)) whole
-      ∙ ap (take (slotSize * mostLines)) (drop-at (header register) (slotted register ++ rest) headerSize (header-size register s))
+      ∙ ap (take (slotSize * mostLines)) (drop-at (headerImage register) (slotted register ++ rest) headerSize (header-size register s))
       ∙ take-at (slotted register) rest (slotSize * mostLines) (slotted-size register s)
 
-  header-back : headerIn (image register ++ rest) ≡ header register
-  header-back = ap (take headerSize) whole ∙ take-at (header register) (slotted register ++ rest) headerSize (header-size register s)
+  header-back : headerIn (registerImage register ++ rest) ≡ headerImage register
+  header-back = ap (take headerSize) whole ∙ take-at (headerImage register) (slotted register ++ rest) headerSize (header-size register s)
 
-  house-back : textIn (headerIn (image register ++ rest)) ≡ register .house
+  house-back : textIn (headerIn (registerImage register ++ rest)) ≡ register .house
   house-back = ap textIn header-back ∙ cell-read headerSize (register .house) (house-text (register .house) (s .home))
 
-  back : ReadBack (formOf (register .house)) mostLines (register .lines) (slotsIn (image register ++ rest))
+  back : ReadBack (heldForm (register .house)) mostLines (register .lines) (slotsIn (registerImage register ++ rest))
   back =
-      subst (ReadBack (formOf (register .house)) mostLines (register .lines)) (sym slots-back)
-      (read-back (formOf (register .house)) (form-has (register .house)) mostLines (register .lines)
+      subst (ReadBack (heldForm (register .house)) mostLines (register .lines)) (sym slots-back)
+      (read-back (heldForm (register .house)) (form-has (register .house)) mostLines (register .lines)
       (replicate (slotSize * (mostLines - length (register .lines))) 0) (s .good) (s .few)
       (all-zeros (slotSize * (mostLines - length (register .lines)))))
 
-  pub image-read : registerIn (image register ++ rest) ≡ register
+  pub image-read : registerIn (registerImage register ++ rest) ≡ register
   unfolding registerIn
   image-read = λ i. record { house = house-back i; lines = back .lines i }
 
-  pub image-sound : bufferKeeps (image register ++ rest) ≡ true
-  unfolding bufferKeeps keepsRules
+  pub image-sound : bufferKeeps (registerImage register ++ rest) ≡ true
+  unfolding bufferKeeps registerKeepsRules
   image-sound =
       let size = image-size register s in
-      both-pass (le-leb registerSize (length (image register ++ rest)) (omega (arith, length-append (image register) rest)))
-      (both-pass (ap (cellKeeps isHouse) header-back
+      both-pass (le-leb registerSize (length (registerImage register ++ rest)) (omega (arith, length-append (registerImage register) rest)))
+      (both-pass (ap (slotCellKeeps isHouse) header-back
       ∙ cell-sound isHouse headerSize (register .house) (house-text (register .house) (s .home)) (s .home))
-      (both-pass (ap (λ h. slotsKeep (formOf h) mostLines (slotsIn (image register ++ rest))) house-back ∙ back .keep)
+      (both-pass (ap (λ h. slotsKeep (heldForm h) mostLines (slotsIn (registerImage register ++ rest))) house-back ∙ back .keep)
       (ap (λ (r : Register). differ (r .lines)) image-read ∙ s .different)))
 
 -- what a buffer that keeps the rules keeps
-pub record Kept (buffer : List ℕ) : Type 0 where
+pub record BufferKept (buffer : List ℕ) : Type 0 where
   pub size : registerSize ≤ length buffer
-  pub home : cellKeeps isHouse (headerIn buffer) ≡ true
-  pub slots : slotsKeep (formOf (textIn (headerIn buffer))) mostLines (slotsIn buffer) ≡ true
+  pub home : slotCellKeeps isHouse (headerIn buffer) ≡ true
+  pub slots : slotsKeep (heldForm (textIn (headerIn buffer))) mostLines (slotsIn buffer) ≡ true
   pub different : differ (registerIn buffer .lines) ≡ true
 
 -- The second: a buffer that keeps the rules is the image of the register that is read, and that is one.
 module _ (buffer : List ℕ) (e : bufferKeeps buffer ≡ true) where
-  pub kept : Kept buffer
-  unfolding bufferKeeps keepsRules
+  pub kept : BufferKept buffer
+  unfolding bufferKeeps registerKeepsRules
   kept =
-      let first = both-true (leb registerSize (length buffer)) (keepsRules buffer) e in
-      let home = both-true (cellKeeps isHouse (headerIn buffer)) _ (first .1) in
-      let slots = both-true (slotsKeep (formOf (textIn (headerIn buffer))) mostLines (slotsIn buffer)) (differ (registerIn buffer .lines))
+      let first = both-true (leb registerSize (length buffer)) (registerKeepsRules buffer) e in
+      let home = both-true (slotCellKeeps isHouse (headerIn buffer)) _ (first .1) in
+      let slots = both-true (slotsKeep (heldForm (textIn (headerIn buffer))) mostLines (slotsIn buffer)) (differ (registerIn buffer .lines))
       (home .1) in
       record { size = leb-true registerSize (length buffer) (first .0); home = home .0; slots = slots .0; different = slots .1 }
 
   pub sound-size : registerSize ≤ length buffer
   sound-size = kept .size
 
-  slots-filled : Filled (formOf (textIn (headerIn buffer))) mostLines (linesIn mostLines (slotsIn buffer)) (slotsIn buffer)
+  slots-filled : SlotsFilled (heldForm (textIn (headerIn buffer))) mostLines (linesIn mostLines (slotsIn buffer)) (slotsIn buffer)
   slots-filled =
       let size = sound-size in
-      filled (formOf (textIn (headerIn buffer))) (form-has (textIn (headerIn buffer))) mostLines (slotsIn buffer)
+      filled (heldForm (textIn (headerIn buffer))) (form-has (textIn (headerIn buffer))) mostLines (slotsIn buffer)
       (length-take-le (slotSize * mostLines) (drop headerSize buffer) (omega (arith, length-drop headerSize buffer))) (kept .slots)
 
-  pub read-sound : Sound (registerIn buffer)
+  pub read-sound : RegisterSound (registerIn buffer)
   unfolding registerIn
   read-sound =
       record {
@@ -334,8 +334,8 @@ module _ (buffer : List ℕ) (e : bufferKeeps buffer ≡ true) where
         different = kept .different;
       }
 
-  pub read-image : image (registerIn buffer) ≡ take registerSize buffer
-  unfolding image registerIn
+  pub read-image : registerImage (registerIn buffer) ≡ take registerSize buffer
+  unfolding registerImage registerIn
   read-image =
       let size = sound-size in
       let front : length (headerIn buffer) ≡ headerSize = length-take-le headerSize buffer (omega arith) in

@@ -1,5 +1,5 @@
 -- The calls on a buffer that holds a register: what they answer, and which register is left. Assumes nothing.
-use mathlib.Core.Bool.{true, false, cond, not}
+use mathlib.Core.Bool.{true, false, cond}
 use mathlib.Core.List.{List, [], _∷_, _++_, map}
 use mathlib.Core.Path.{_≡_, refl, sym, ap, _∙_, subst}
 use Prim.Native.Nat.{ℕ, _*_, _≤_, _<_}
@@ -9,11 +9,11 @@ use lib.ListN.{length, take, drop, replicate, length-replicate, replicate-append
 use lib.Seq.{take-all, take-at}
 use borrow.Author.Tests.{le-leb, lt-leb, leb-true, leb-false}
 use Rattle.base.specs.Choice.{both-true, test-cases}
-use Rattle.base.specs.Lists.{all, isNil}
-use Rattle.register.specs.Buffer.{registerSize, headerSize, slotSize, cellOf, slotsOf, image, registerIn, bufferKeeps}
+use Rattle.base.specs.Lists.{isNil}
+use Rattle.register.specs.Buffer.{registerSize, headerSize, slotSize, cellOf, slotsOf, registerImage, registerIn, bufferKeeps}
 use Rattle.register.specs.BufferLaws.{image-read, image-sound, read-sound, read-image}
-use Rattle.register.specs.Calls.{BufferCalled, turnedDown, withRegister, openCall, bufferOpen, offerCall}
-use Rattle.register.specs.Calls.{LineCalled, handing, lineCall, ReportCalled, puttingNothing, putting, reportCall}
+use Rattle.register.specs.Calls.{BufferCalled, registerTurnedDown, withRegister, openCall, bufferOpen, offerCall}
+use Rattle.register.specs.Calls.{LineCalled, handing, lineCall, ReportCalled, puttingNothing, putReport, reportCall}
 use Rattle.register.specs.Claims.{
   Observed,
   observedOpen,
@@ -25,7 +25,7 @@ use Rattle.register.specs.Claims.{
   History,
   madeByOpening,
   madeByOffer,
-  Agrees,
+  ReportAgrees,
   ReportClaim,
   IfOpen,
   ListClaim,
@@ -38,30 +38,30 @@ use Rattle.register.specs.Line.{isCurrency}
 use Rattle.register.specs.Register.{
   Register,
   isOpen,
-  nothing,
+  emptyRegister,
   mostLines,
   offerNumber,
   offered,
-  opened,
+  openedWith,
   Act,
   opening,
   offering,
-  after,
+  registerAfter,
   fold,
   lineAt,
   withLine,
 }
-use Rattle.register.specs.RegisterLaws.{Sound, empty-sound, is-fold, is-register, after-sound, offered-taken, offered-declined, open-records}
+use Rattle.register.specs.RegisterLaws.{RegisterSound, empty-sound, is-fold, is-register, after-sound, offered-taken, offered-declined, open-records}
 use Rattle.register.specs.Report.{report}
 use Rattle.register.specs.ReportLaws.{report-agrees}
 
 -- a buffer keeps its rules and holds this register
-pub record Holds (buffer : List ℕ) (register : Register) : Type 0 where
+pub record RegisterHeld (buffer : List ℕ) (register : Register) : Type 0 where
   pub keeps : bufferKeeps buffer ≡ true
   pub holds : registerIn buffer ≡ register
 
 -- a buffer with another register in it
-pub with-holds : (buffer : List ℕ) (register : Register) → Sound register → Holds (withRegister buffer register) register
+pub with-holds : (buffer : List ℕ) (register : Register) → RegisterSound register → RegisterHeld (withRegister buffer register) register
 unfolding withRegister
 with-holds buffer register s =
     record { keeps = image-sound register s (drop registerSize buffer); holds = image-read register s (drop registerSize buffer) }
@@ -86,22 +86,22 @@ open-both buffer e = both-true (bufferKeeps buffer) (isOpen (registerIn buffer))
 
 -- An opening: 29 first, then 14, else the register is opened
 module _ (buffer currency : List ℕ) where
-  pub open-bad : isCurrency currency ≡ false → openCall buffer currency ≡ turnedDown 29 buffer
+  pub open-bad : isCurrency currency ≡ false → openCall buffer currency ≡ registerTurnedDown 29 buffer
   unfolding openCall
   open-bad e = rw e
 
-  pub open-refused : isCurrency currency ≡ true → bufferKeeps buffer ≡ false → openCall buffer currency ≡ turnedDown 14 buffer
+  pub open-refused : isCurrency currency ≡ true → bufferKeeps buffer ≡ false → openCall buffer currency ≡ registerTurnedDown 14 buffer
   unfolding openCall
   open-refused e f = rw (e, f)
 
   pub open-does : isCurrency currency ≡ true → bufferKeeps buffer ≡ true
-      → openCall buffer currency ≡ record { number = 0; left = withRegister buffer (opened (registerIn buffer) currency) }
+      → openCall buffer currency ≡ record { number = 0; left = withRegister buffer (openedWith (registerIn buffer) currency) }
   unfolding openCall
   open-does e f = rw (e, f)
 
   -- W2.6 "a call turned down leaves it unchanged"
   open-same : ¬ (openCall buffer currency .number ≡ 0) → openCall buffer currency .left ≡ buffer
-  unfolding turnedDown
+  unfolding registerTurnedDown
   open-same n =
       test-cases (λ t. isCurrency currency ≡ t → openCall buffer currency .left ≡ buffer) (isCurrency currency)
       (λ c _.
@@ -113,17 +113,17 @@ module _ (buffer currency : List ℕ) where
   -- of a buffer that keeps the rules
   module _ (keeps : bufferKeeps buffer ≡ true) where
     open-number : openCall buffer currency .number ≡ cond (isCurrency currency) 0 29
-    unfolding turnedDown
+    unfolding registerTurnedDown
     open-number =
         test-cases (λ t. isCurrency currency ≡ t → openCall buffer currency .number ≡ cond t 0 29) (isCurrency currency)
         (λ c _. ap (λ (x : BufferCalled). x .number) (open-does c keeps)) (λ c _. ap (λ (x : BufferCalled). x .number) (open-bad c)) refl
 
-    open-left : openCall buffer currency .left ≡ withRegister buffer (after (registerIn buffer) (opening currency))
-    unfolding turnedDown after
+    open-left : openCall buffer currency .left ≡ withRegister buffer (registerAfter (registerIn buffer) (opening currency))
+    unfolding registerTurnedDown registerAfter
     open-left =
         test-cases
         (λ t. isCurrency currency ≡ t
-        → openCall buffer currency .left ≡ withRegister buffer (cond t (opened (registerIn buffer) currency) (registerIn buffer)))
+        → openCall buffer currency .left ≡ withRegister buffer (cond t (openedWith (registerIn buffer) currency) (registerIn buffer)))
         (isCurrency currency)
         (λ c _. ap (λ (x : BufferCalled). x .left) (open-does c keeps))
         (λ c _. ap (λ (x : BufferCalled). x .left) (open-bad c) ∙ sym (with-same buffer keeps)) refl
@@ -138,7 +138,7 @@ module _ (buffer line : List ℕ) where
   unfolding offerCall
   offer-left e = rw e
 
-  pub offer-refused : bufferOpen buffer ≡ false → offerCall buffer line ≡ turnedDown 14 buffer
+  pub offer-refused : bufferOpen buffer ≡ false → offerCall buffer line ≡ registerTurnedDown 14 buffer
   unfolding offerCall
   offer-refused e = rw e
 
@@ -157,7 +157,7 @@ module _ (buffer line : List ℕ) where
 
   -- W2.6 "a call turned down leaves it unchanged"
   offer-same : ¬ (offerCall buffer line .number ≡ 0) → offerCall buffer line .left ≡ buffer
-  unfolding turnedDown
+  unfolding registerTurnedDown
   offer-same n =
       test-cases (λ t. bufferOpen buffer ≡ t → offerCall buffer line .left ≡ buffer) (bufferOpen buffer)
       (λ e _.
@@ -168,15 +168,15 @@ module _ (buffer line : List ℕ) where
   -- of a buffer that keeps the rules, opened or not
   module _ (keeps : bufferKeeps buffer ≡ true) where
     offer-gets : offerCall buffer line .number ≡ cond (isOpen (registerIn buffer)) (offerNumber (registerIn buffer .lines) line) 14
-    unfolding turnedDown
+    unfolding registerTurnedDown
     offer-gets =
         test-cases (λ t. isOpen (registerIn buffer) ≡ t → offerCall buffer line .number ≡ cond t (offerNumber (registerIn buffer .lines) line) 14)
         (isOpen (registerIn buffer))
         (λ e _. offer-number (open-keeps buffer keeps ∙ e))
         (λ e _. ap (λ (x : BufferCalled). x .number) (offer-refused (open-keeps buffer keeps ∙ e))) refl
 
-    offer-leaves : offerCall buffer line .left ≡ withRegister buffer (after (registerIn buffer) (offering line))
-    unfolding turnedDown after
+    offer-leaves : offerCall buffer line .left ≡ withRegister buffer (registerAfter (registerIn buffer) (offering line))
+    unfolding registerTurnedDown registerAfter
     offer-leaves =
         test-cases
         (λ t. isOpen (registerIn buffer) ≡ t
@@ -203,7 +203,7 @@ module _ (buffer : List ℕ) (place : ℕ) where
 
 -- A report likewise
 module _ (buffer output : List ℕ) where
-  pub report-put : bufferOpen buffer ≡ true → reportCall buffer output ≡ putting (report (registerIn buffer .lines)) output
+  pub report-put : bufferOpen buffer ≡ true → reportCall buffer output ≡ putReport (report (registerIn buffer .lines)) output
   unfolding reportCall
   report-put e = rw e
 
@@ -213,25 +213,25 @@ module _ (buffer output : List ℕ) where
 
 -- what is put where it fits, and where it doesn't; W4.5 "14 and 21 write nothing"
 module _ (put output : List ℕ) where
-  pub put-fits : length put ≤ length output → putting put output ≡ record { number = 0; left = put ++ drop (length put) output; size = length put }
-  unfolding putting
+  pub put-fits : length put ≤ length output → putReport put output ≡ record { number = 0; left = put ++ drop (length put) output; size = length put }
+  unfolding putReport
   put-fits h = rw (le-leb (length put) (length output) h)
 
-  pub put-full : length output < length put → putting put output ≡ puttingNothing 21 output
-  unfolding putting
+  pub put-full : length output < length put → putReport put output ≡ puttingNothing 21 output
+  unfolding putReport
   put-full h = rw (lt-leb (length put) (length output) h)
 
-  put-nothing : ¬ (putting put output .number ≡ 0) → putting put output ≡ puttingNothing 21 output
+  put-nothing : ¬ (putReport put output .number ≡ 0) → putReport put output ≡ puttingNothing 21 output
   put-nothing n =
-      test-cases (λ _. putting put output ≡ puttingNothing 21 output) (leb (length put) (length output))
+      test-cases (λ _. putReport put output ≡ puttingNothing 21 output) (leb (length put) (length output))
       (λ e. absurd (n (ap (λ (x : ReportCalled). x .number) (put-fits (leb-true (length put) (length output) e)))))
       (λ e. put-full (leb-false (length put) (length output) e))
 
   -- the bytes that were put
-  put-bytes : putting put output .number ≡ 0 → take (putting put output .size) (putting put output .left) ≡ put
+  put-bytes : putReport put output .number ≡ 0 → take (putReport put output .size) (putReport put output .left) ≡ put
   unfolding puttingNothing
   put-bytes z =
-      test-cases (λ _. take (putting put output .size) (putting put output .left) ≡ put) (leb (length put) (length output))
+      test-cases (λ _. take (putReport put output .size) (putReport put output .left) ≡ put) (leb (length put) (length output))
       (λ e.
       ap (λ (x : ReportCalled). take (x .size) (x .left)) (put-fits (leb-true (length put) (length output) e))
       ∙ take-at put (drop (length put) output) (length put) refl)
@@ -259,16 +259,16 @@ report-claim : (buffer output : List ℕ) (back : ReportCalled) → bufferKeeps 
     → ReportClaim (registerIn buffer .lines) output back
 report-claim buffer output back keeps e does =
     let held = registerIn buffer .lines in
-    let is : back ≡ putting (report held) output = does ∙ report-put buffer output (open-keeps buffer keeps ∙ e) in
+    let is : back ≡ putReport (report held) output = does ∙ report-put buffer output (open-keeps buffer keeps ∙ e) in
     record {
       is = is;
       agrees = λ z.
           let put = put-bytes (report held) output (sym (ap (λ (x : ReportCalled). x .number) is) ∙ z) in
-          subst (Agrees held) (sym (ap (λ (x : ReportCalled). take (x .size) (x .left)) is ∙ put))
+          subst (ReportAgrees held) (sym (ap (λ (x : ReportCalled). take (x .size) (x .left)) is ∙ put))
           (report-agrees held (open-records (registerIn buffer) (read-sound buffer keeps) e));
     }
 
-report-gets : (buffer output : List ℕ) (back : ReportCalled) (made : Register) → Holds buffer made → back ≡ reportCall buffer output
+report-gets : (buffer output : List ℕ) (back : ReportCalled) (made : Register) → RegisterHeld buffer made → back ≡ reportCall buffer output
     → IfOpen (isOpen made) (ReportClaim (made .lines) output back) (back ≡ puttingNothing 14 output)
 unfolding IfOpen
 report-gets buffer output back made h does =
@@ -281,23 +281,23 @@ report-gets buffer output back made h does =
     (λ e _. does ∙ report-refused buffer output (open-keeps buffer (h .keeps) ∙ e)) refl)
 
 -- W2.6 "all zeros is the empty one"
-pub zeros-image : image nothing ≡ replicate registerSize 0
-unfolding image slotsOf cellOf
+pub zeros-image : registerImage emptyRegister ≡ replicate registerSize 0
+unfolding registerImage slotsOf cellOf
 zeros-image = replicate-append-replicate headerSize (slotSize * mostLines) 0
 
 -- a buffer that begins with the same bytes holds the same register
-image-holds : (buffer : List ℕ) (register : Register) → Sound register → image register ≡ take registerSize buffer → Holds buffer register
+image-holds : (buffer : List ℕ) (register : Register) → RegisterSound register → registerImage register ≡ take registerSize buffer → RegisterHeld buffer register
 image-holds buffer register s e =
-    subst (λ b. Holds b register) (ap (λ l. l ++ drop registerSize buffer) e ∙ take-append-drop registerSize buffer)
+    subst (λ b. RegisterHeld b register) (ap (λ l. l ++ drop registerSize buffer) e ∙ take-append-drop registerSize buffer)
     (record { keeps = image-sound register s (drop registerSize buffer); holds = image-read register s (drop registerSize buffer) })
 
-same-holds : (b c : List ℕ) (register : Register) → take registerSize b ≡ take registerSize c → Holds b register → Holds c register
+same-holds : (b c : List ℕ) (register : Register) → take registerSize b ≡ take registerSize c → RegisterHeld b register → RegisterHeld c register
 same-holds b c register e h =
-    subst (Holds c) (h .holds)
+    subst (RegisterHeld c) (h .holds)
     (image-holds c (registerIn b) (read-sound b (h .keeps)) (read-image b (h .keeps) ∙ e))
 
-pub zeros-hold : (buffer : List ℕ) → take registerSize buffer ≡ replicate registerSize 0 → Holds buffer nothing
-zeros-hold buffer e = image-holds buffer nothing empty-sound (zeros-image ∙ sym e)
+pub zeros-hold : (buffer : List ℕ) → take registerSize buffer ≡ replicate registerSize 0 → RegisterHeld buffer emptyRegister
+zeros-hold buffer e = image-holds buffer emptyRegister empty-sound (zeros-image ∙ sym e)
 
 -- so zeros are a register that isn't opened
 pub zeros-old : (buffer : List ℕ) → take registerSize buffer ≡ replicate registerSize 0 → Old buffer
@@ -306,26 +306,26 @@ zeros-old buffer e =
     let h = zeros-hold buffer e in
     record { keeps = h .keeps; unopened = ap isOpen (h .holds) }
 
-old-holds : (buffer : List ℕ) → Old buffer → Holds buffer (registerIn buffer)
+old-holds : (buffer : List ℕ) → Old buffer → RegisterHeld buffer (registerIn buffer)
 old-holds buffer o = record { keeps = o .keeps; holds = refl }
 
 -- what a call leaves: the register after the act
-act-holds : (buffer : List ℕ) (made : Register) (act : Act) (left : List ℕ) → Holds buffer made → Sound (after (registerIn buffer) act)
-    → left ≡ withRegister buffer (after (registerIn buffer) act)
-    → Holds left (after made act)
+act-holds : (buffer : List ℕ) (made : Register) (act : Act) (left : List ℕ) → RegisterHeld buffer made → RegisterSound (registerAfter (registerIn buffer) act)
+    → left ≡ withRegister buffer (registerAfter (registerIn buffer) act)
+    → RegisterHeld left (registerAfter made act)
 act-holds buffer made act left h s is =
-    subst (Holds left) (ap (λ r. after r act) (h .holds)) (subst (λ b. Holds b (after (registerIn buffer) act)) (sym is) (with-holds buffer _ s))
+    subst (RegisterHeld left) (ap (λ r. registerAfter r act) (h .holds)) (subst (λ b. RegisterHeld b (registerAfter (registerIn buffer) act)) (sym is) (with-holds buffer _ s))
 
-module _ (buffer : List ℕ) (made : Register) (h : Holds buffer made) where
-  held-sound : Sound (registerIn buffer)
+module _ (buffer : List ℕ) (made : Register) (h : RegisterHeld buffer made) where
+  held-sound : RegisterSound (registerIn buffer)
   held-sound = read-sound buffer (h .keeps)
 
-  open-holds : (currency : List ℕ) → Holds (openCall buffer currency .left) (after made (opening currency))
+  open-holds : (currency : List ℕ) → RegisterHeld (openCall buffer currency .left) (registerAfter made (opening currency))
   open-holds currency =
       act-holds buffer made (opening currency) (openCall buffer currency .left) h (after-sound (registerIn buffer) (opening currency) held-sound)
       (open-left buffer currency (h .keeps))
 
-  offer-holds : (line : List ℕ) → Holds (offerCall buffer line .left) (after made (offering line))
+  offer-holds : (line : List ℕ) → RegisterHeld (offerCall buffer line .left) (registerAfter made (offering line))
   offer-holds line =
       act-holds buffer made (offering line) (offerCall buffer line .left) h (after-sound (registerIn buffer) (offering line) held-sound)
       (offer-leaves buffer line (h .keeps))
@@ -348,16 +348,16 @@ module _ (buffer : List ℕ) (made : Register) (h : Holds buffer made) where
 
 -- what was made by the numbers that came back is what the acts make
 opening-is : (made : Register) (currency : List ℕ) (back : BufferCalled) → back .number ≡ cond (isCurrency currency) 0 29
-    → madeByOpening made currency back ≡ after made (opening currency)
-unfolding madeByOpening after
+    → madeByOpening made currency back ≡ registerAfter made (opening currency)
+unfolding madeByOpening registerAfter
 opening-is made currency back e =
-    ap (λ n. cond (eqb n 0) (opened made currency) made) e
-    ∙ test-cases (λ t. cond (eqb (cond t 0 29) 0) (opened made currency) made ≡ cond t (opened made currency) made) (isCurrency currency)
+    ap (λ n. cond (eqb n 0) (openedWith made currency) made) e
+    ∙ test-cases (λ t. cond (eqb (cond t 0 29) 0) (openedWith made currency) made ≡ cond t (openedWith made currency) made) (isCurrency currency)
     (λ _. refl) (λ _. refl)
 
 offer-is : (made : Register) (line : List ℕ) (back : BufferCalled) → back .number ≡ cond (isOpen made) (offerNumber (made .lines) line) 14
-    → madeByOffer made line back ≡ after made (offering line)
-unfolding madeByOffer after offered
+    → madeByOffer made line back ≡ registerAfter made (offering line)
+unfolding madeByOffer registerAfter offered
 offer-is made line back e =
     ap (λ n. cond (eqb n 0) (withLine made line) made) e
     ∙ test-cases
@@ -367,25 +367,25 @@ offer-is made line back e =
 
 -- A list of calls from a buffer that holds this register, and one call more, of which the claim holds whatever register the buffer holds that it is
 -- given.
-list-claim : (buffer : List ℕ) (made : Register) (calls : List Observed) (given : List ℕ) (call : Observed) → Holds buffer made
+list-claim : (buffer : List ℕ) (made : Register) (calls : List Observed) (given : List ℕ) (call : Observed) → RegisterHeld buffer made
     → Linked buffer calls given
-    → ((register : Register) → Holds given register → ListClaim register (call ∷ []))
+    → ((register : Register) → RegisterHeld given register → ListClaim register (call ∷ []))
     → ListClaim made (calls ++ (call ∷ []))
 unfolding Linked ListClaim
 list-claim buffer made [] given call h same last = last made (same-holds buffer given made same h)
 list-claim buffer made (observedOpen b currency back ∷ calls) given call h (at, does, linked) last =
     let here = same-holds buffer b made at h in
     let number = opening-gets b made here currency back does in
-    let left : Holds (back .left) (madeByOpening made currency back) =
-    subst (Holds (back .left)) (sym (opening-is made currency back number))
-    (subst (λ (x : BufferCalled). Holds (x .left) (after made (opening currency))) (sym does) (open-holds b made here currency)) in
+    let left : RegisterHeld (back .left) (madeByOpening made currency back) =
+    subst (RegisterHeld (back .left)) (sym (opening-is made currency back number))
+    (subst (λ (x : BufferCalled). RegisterHeld (x .left) (registerAfter made (opening currency))) (sym does) (open-holds b made here currency)) in
     (number, list-claim (back .left) (madeByOpening made currency back) calls given call left linked last)
 list-claim buffer made (observedOffer b line back ∷ calls) given call h (at, does, linked) last =
     let here = same-holds buffer b made at h in
     let number = offering-gets b made here line back does in
-    let left : Holds (back .left) (madeByOffer made line back) =
-    subst (Holds (back .left)) (sym (offer-is made line back number))
-    (subst (λ (x : BufferCalled). Holds (x .left) (after made (offering line))) (sym does) (offer-holds b made here line)) in
+    let left : RegisterHeld (back .left) (madeByOffer made line back) =
+    subst (RegisterHeld (back .left)) (sym (offer-is made line back number))
+    (subst (λ (x : BufferCalled). RegisterHeld (x .left) (registerAfter made (offering line))) (sym does) (offer-holds b made here line)) in
     (number, list-claim (back .left) (madeByOffer made line back) calls given call left linked last)
 list-claim buffer made (observedLine b place back ∷ calls) given call h (at, does, linked) last =
     let here = same-holds buffer b made at h in
@@ -395,7 +395,7 @@ list-claim buffer made (observedReport b output back ∷ calls) given call h (at
     (report-gets b output back made here does, list-claim b made calls given call here linked last)
 
 -- the claim of every history that ends with a call
-carries : (buffer : List ℕ) (call : Observed) → ((register : Register) → Holds buffer register → ListClaim register (call ∷ []))
+carries : (buffer : List ℕ) (call : Observed) → ((register : Register) → RegisterHeld buffer register → ListClaim register (call ∷ []))
     → (h : History buffer) → ListClaim (registerIn (h .start)) (h .calls ++ (call ∷ []))
 carries buffer call last h = list-claim (h .start) (registerIn (h .start)) (h .calls) buffer call (old-holds (h .start) (h .old)) (h .linked) last
 
@@ -446,24 +446,24 @@ acts (observedOffer given line back ∷ calls) = offering line ∷ acts calls
 acts (observedLine given place back ∷ calls) = acts calls
 acts (observedReport given output back ∷ calls) = acts calls
 
-linked-holds : (buffer : List ℕ) (register : Register) (calls : List Observed) (left : List ℕ) → Holds buffer register → Linked buffer calls left
-    → Holds left (fold register (acts calls))
+linked-holds : (buffer : List ℕ) (register : Register) (calls : List Observed) (left : List ℕ) → RegisterHeld buffer register → Linked buffer calls left
+    → RegisterHeld left (fold register (acts calls))
 unfolding Linked acts fold
 linked-holds buffer register [] left h same = same-holds buffer left register same h
 linked-holds buffer register (observedOpen b currency back ∷ calls) left h (at, does, linked) =
     let next = open-holds b register (same-holds buffer b register at h) currency in
-    linked-holds (back .left) (after register (opening currency)) calls left
-    (subst (λ (x : BufferCalled). Holds (x .left) (after register (opening currency))) (sym does) next) linked
+    linked-holds (back .left) (registerAfter register (opening currency)) calls left
+    (subst (λ (x : BufferCalled). RegisterHeld (x .left) (registerAfter register (opening currency))) (sym does) next) linked
 linked-holds buffer register (observedOffer b line back ∷ calls) left h (at, does, linked) =
     let next = offer-holds b register (same-holds buffer b register at h) line in
-    linked-holds (back .left) (after register (offering line)) calls left
-    (subst (λ (x : BufferCalled). Holds (x .left) (after register (offering line))) (sym does) next) linked
+    linked-holds (back .left) (registerAfter register (offering line)) calls left
+    (subst (λ (x : BufferCalled). RegisterHeld (x .left) (registerAfter register (offering line))) (sym does) next) linked
 linked-holds buffer register (observedLine b place back ∷ calls) left h (at, does, linked) =
     linked-holds b register calls left (same-holds buffer b register at h) linked
 linked-holds buffer register (observedReport b output back ∷ calls) left h (at, does, linked) =
     linked-holds b register calls left (same-holds buffer b register at h) linked
 
-pub history-holds : (buffer : List ℕ) (h : History buffer) → Holds buffer (fold (registerIn (h .start)) (acts (h .calls)))
+pub history-holds : (buffer : List ℕ) (h : History buffer) → RegisterHeld buffer (fold (registerIn (h .start)) (acts (h .calls)))
 history-holds buffer h = linked-holds (h .start) (registerIn (h .start)) (h .calls) buffer (old-holds (h .start) (h .old)) (h .linked)
 
 -- and each buffer that keeps them is left by calls: one that isn't opened by none, one that is by an opening with its house currency and offers of
@@ -492,9 +492,9 @@ done-linked buffer [] = (buffer, refl)
 done-linked buffer (opening currency ∷ more) = let rest = done-linked (openCall buffer currency .left) more in (rest .0, (refl, refl, rest .1))
 done-linked buffer (offering line ∷ more) = let rest = done-linked (offerCall buffer line .left) more in (rest .0, (refl, refl, rest .1))
 
-same-bytes : (b c : List ℕ) (register : Register) → Holds b register → Holds c register → take registerSize b ≡ take registerSize c
+same-bytes : (b c : List ℕ) (register : Register) → RegisterHeld b register → RegisterHeld c register → take registerSize b ≡ take registerSize c
 same-bytes b c register h g =
-    sym (read-image b (h .keeps)) ∙ ap image (h .holds ∙ sym (g .holds)) ∙ read-image c (g .keeps)
+    sym (read-image b (h .keeps)) ∙ ap registerImage (h .holds ∙ sym (g .holds)) ∙ read-image c (g .keeps)
 
 linked-to : (b : List ℕ) (calls : List Observed) (left other : List ℕ) → take registerSize left ≡ take registerSize other → Linked b calls left
     → Linked b calls other
@@ -513,15 +513,15 @@ opened-history buffer e is =
     let r = registerIn buffer in
     let todo : List Act = opening (r .house) ∷ map offering (r .lines) in
     let made = done-linked start todo in
-    let held = linked-holds start nothing (done start todo) (made .0) (zeros-hold start zeros) (made .1) in
-    let same : fold nothing (acts (done start todo)) ≡ r = ap (fold nothing) (done-acts start todo) ∙ is-fold r
+    let held = linked-holds start emptyRegister (done start todo) (made .0) (zeros-hold start zeros) (made .1) in
+    let same : fold emptyRegister (acts (done start todo)) ≡ r = ap (fold emptyRegister) (done-acts start todo) ∙ is-fold r
     (is-register r (read-sound buffer e)) is in
-    let own : Holds buffer r = record { keeps = e; holds = refl } in
+    let own : RegisterHeld buffer r = record { keeps = e; holds = refl } in
     record {
       start = start;
       old = zeros-old start zeros;
       calls = done start todo;
-      linked = linked-to start (done start todo) (made .0) buffer (same-bytes (made .0) buffer r (subst (Holds (made .0)) same held) own) (made .1);
+      linked = linked-to start (done start todo) (made .0) buffer (same-bytes (made .0) buffer r (subst (RegisterHeld (made .0)) same held) own) (made .1);
     }
 
 pub keeps-history : (buffer : List ℕ) → bufferKeeps buffer ≡ true → History buffer

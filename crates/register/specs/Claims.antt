@@ -11,11 +11,11 @@ use Rattle.base.specs.Lists.{all, any, same}
 use Rattle.cards.specs.Cards.{lines}
 use Rattle.register.specs.Buffer.{registerSize, registerIn, bufferKeeps}
 use Rattle.register.specs.Calls.{BufferCalled, openCall, offerCall, LineCalled, handing, lineCall}
-use Rattle.register.specs.Calls.{ReportCalled, putting, puttingNothing, reportCall}
+use Rattle.register.specs.Calls.{ReportCalled, putReport, puttingNothing, reportCall}
 use Rattle.register.specs.Line.{currencyOf, isCurrency}
-use Rattle.register.specs.Register.{Lines, Register, isOpen, withLine, offerNumber, opened, lineAt}
-use Rattle.register.specs.Report.{totalsOf, linesOf, printed, report}
-use Rattle.register.specs.Report.{recordsIn, totalLinesIn, isTotalLine, currencyShown, totalsShown, isAmong, inOrder}
+use Rattle.register.specs.Register.{Lines, Register, isOpen, withLine, offerNumber, openedWith, lineAt}
+use Rattle.register.specs.Report.{totalsOf, linesOf, printedRecords, report}
+use Rattle.register.specs.Report.{recordsIn, totalLinesIn, isTotalLine, currencyShown, totalsShown, isOneWord, inOrder}
 
 -- A call as it was observed: what it was given, and what came back.
 pub data Observed : Type 0 where
@@ -53,22 +53,22 @@ pub record History (buffer : List ℕ) : Type 0 where
 -- currency, and the first one wrote it out behind old lines; an offer that got 0 put its line behind all others, a line of four fields with the house
 -- currency of that time; any other leaves no trace.
 unfoldable pub madeByOpening : Register → (currency : List ℕ) → BufferCalled → Register
-madeByOpening made currency back = cond (eqb (back .number) 0) (opened made currency) made
+madeByOpening made currency back = cond (eqb (back .number) 0) (openedWith made currency) made
 
 unfoldable pub madeByOffer : Register → (line : List ℕ) → BufferCalled → Register
 madeByOffer made line back = cond (eqb (back .number) 0) (withLine made line) made
 
 -- W4.3 and W10.4 of the bytes that a report put, read back from them, with the lines held
-pub record Agrees (held : Lines) (put : List ℕ) : Type 0 where
+pub record ReportAgrees (held : Lines) (put : List ℕ) : Type 0 where
   -- the records printed are the lines held, in order and byte for byte: "the declined ones counting nothing"
   pub records : recordsIn put ≡ held
   -- "printed above them": first the records, then the TOTAL lines; "all with byte 10"
   pub above : lines put ≡ recordsIn put ++ totalLinesIn put
-  pub ends : put ≡ printed (lines put)
+  pub ends : put ≡ printedRecords (lines put)
   -- each of these is TOTAL, a currency and three numbers without leading zeros
   pub forms : all isTotalLine (totalLinesIn put) ≡ true
   -- "one TOTAL line for each currency held": a TOTAL line shows a currency exactly when a record printed has it; "in letter order", so each once
-  pub each-held : (currency : List ℕ) → isAmong currency (map currencyShown (totalLinesIn put))
+  pub each-held : (currency : List ℕ) → isOneWord currency (map currencyShown (totalLinesIn put))
       ≡ any (λ line. same (currencyOf line) currency) (recordsIn put)
   pub ordered : inOrder (map currencyShown (totalLinesIn put)) ≡ true
   -- "The three numbers equal those of the records printed above them", of those of its currency
@@ -78,8 +78,8 @@ pub record Agrees (held : Lines) (put : List ℕ) : Type 0 where
 
 -- a report, with the lines held before it: what comes back is theirs, put or 21; and what was put agrees with them and with itself
 pub record ReportClaim (held : Lines) (output : List ℕ) (back : ReportCalled) : Type 0 where
-  pub is : back ≡ putting (report held) output
-  pub agrees : back .number ≡ 0 → Agrees held (take (back .size) (back .left))
+  pub is : back ≡ putReport (report held) output
+  pub agrees : back .number ≡ 0 → ReportAgrees held (take (back .size) (back .left))
 
 -- one of two claims, as the register is opened or not
 unfoldable pub IfOpen : (isOpened : Bool) → Type 0 → Type 0 → Type 0

@@ -70,9 +70,9 @@ unfoldable pub currencyOf : List ℕ → List ℕ
 currencyOf line = getD (fields line) 4 []
 
 -- a line with a currency behind it as one field more
-unfoldable pub written : (currency line : List ℕ) → List ℕ
-written currency line = line ++ (comma ∷ currency)
+unfoldable pub withCurrency : (currency line : List ℕ) → List ℕ
+withCurrency currency line = line ++ (comma ∷ currency)
 
 -- W10.3 "a line of four fields is stored with it written out", one of five as it came
 unfoldable pub stored : (house line : List ℕ) → List ℕ
-stored house line = cond (isLine line) (written house line) line
+stored house line = cond (isLine line) (withCurrency house line) line

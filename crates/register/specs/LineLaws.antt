@@ -13,7 +13,7 @@ use Rattle.base.specs.Choice.{both-true, both-pass, same-truth, test-cases}
 use Rattle.base.specs.ListLaws.{all-imply}
 use Rattle.base.specs.Lists.{all, begins, same, total}
 use Rattle.base.specs.Text.{bytes}
-use Rattle.cards.specs.ByteLaws.{digit, in-between, letter, name-byte, within}
+use Rattle.cards.specs.ByteLaws.{digit-range, in-between, letter-range, name-byte, within}
 use Rattle.cards.specs.Bytes.{between, comma, isDigit, isLetter, isNameByte}
 use Rattle.cards.specs.Cards.{onFirst}
 use Rattle.values.specs.Conversion.{decimal, digitOf}
@@ -32,7 +32,7 @@ use Rattle.register.specs.Line.{
   hasForm,
   contractOf,
   currencyOf,
-  written,
+  withCurrency,
 }
 
 -- v with so many zeros behind it
@@ -73,7 +73,7 @@ decimal-least v s =
 pub digit-value : (b : ℕ) → isDigit b ≡ true → digitOf b ≡ b - 48
 unfolding digitOf
 digit-value b e =
-    let range = digit b e in
+    let range = digit-range b e in
     rw (ne-eqb b 32 (λ is. omega arith))
 
 decimal-high : (v : ℕ) (s : List ℕ) → all isDigit s ≡ true → decimal v s < scale (length s) (v + 1)
@@ -81,7 +81,7 @@ unfolding scale decimal all
 decimal-high v [] a = omega arith
 decimal-high v (b ∷ s) a =
     let parts = both-true (isDigit b) (all isDigit s) a in
-    let range = digit b (parts .0) in
+    let range = digit-range b (parts .0) in
     let value = digit-value b (parts .0) in
     let rest = decimal-high (v * 10 + digitOf b) s (parts .1) in
     let more = scale-more (length s) (v * 10 + digitOf b + 1) ((v + 1) * 10) (omega arith) in
@@ -100,7 +100,7 @@ module _ (k most : ℕ) (size : most + 1 ≡ scale k 1) where
   number-short (b ∷ s) e =
       let parts = both-true (all isDigit (b ∷ s)) (not (begins (bytes "0") (b ∷ s))) e in
       let digits = both-true (isDigit b) (all isDigit s) (parts .0) in
-      let range = digit b (digits .0) in
+      let range = digit-range b (digits .0) in
       let value = digit-value b (digits .0) in
       let some : ¬ (b ≡ 48) = λ is. false≢true (sym (ap not (eq-eqb b 48 is)) ∙ (sym (lead b s) ∙ parts .1)) in
       let n = length s in
@@ -168,7 +168,7 @@ fields-all p c (b ∷ l) a =
         (first .0, both-pass (first .1) (parts .1))
 
 -- What a line of good form is: four fields, each with its form, and a currency or none behind them.
-pub record Formed (line : List ℕ) : Type 0 where
+pub record LineFormed (line : List ℕ) : Type 0 where
   pub contract : List ℕ
   pub grain : List ℕ
   pub tonnes : List ℕ
@@ -205,7 +205,7 @@ each-none (f ∷ fs) e = absurd (false≢true e)
 -- a line whose fields pass the tests of the four and of what stands behind them
 module _ (line : List ℕ) (ts : List (List ℕ → Bool))
     (all-of : (fs : List (List ℕ)) → each ts fs ≡ true → (all isCurrency fs ≡ true) × (length fs ≤ 1)) where
-  formed-by : each (isContract ∷ isGrain ∷ isTonnes ∷ isPrice ∷ ts) (fields line) ≡ true → Formed line
+  formed-by : each (isContract ∷ isGrain ∷ isTonnes ∷ isPrice ∷ ts) (fields line) ≡ true → LineFormed line
   formed-by e =
       let one = each-first isContract (isGrain ∷ isTonnes ∷ isPrice ∷ ts) (fields line) e in
       let two = each-first isGrain (isTonnes ∷ isPrice ∷ ts) (one .rest) (one .others) in
@@ -262,7 +262,7 @@ each-count [] (f ∷ fs) e = absurd (false≢true e)
 each-count (t ∷ ts) [] e = absurd (false≢true e)
 each-count (t ∷ ts) (f ∷ fs) e = ap suc (each-count ts fs (both-true (t f) (each ts fs) e .1))
 
-pub formed : (line : List ℕ) → hasForm line ≡ true → Formed line
+pub formed : (line : List ℕ) → hasForm line ≡ true → LineFormed line
 unfolding isLine isRecord
 formed line e = form-cases line e (formed-by line [] no-more) (formed-by line (isCurrency ∷ []) one-more)
 
@@ -270,7 +270,7 @@ formed line e = form-cases line e (formed-by line [] no-more) (formed-by line (i
 unfoldable pub isText : ℕ → Bool
 isText b = not (eqb b 0)
 
-module _ {line : List ℕ} (f : Formed line) where
+module _ {line : List ℕ} (f : LineFormed line) where
   contract-size : (1 ≤ length (f .contract)) × (length (f .contract) ≤ 8)
   unfolding isContract
   contract-size = within 1 8 (length (f .contract)) (both-true _ _ (f .contract-form) .0)
@@ -293,7 +293,7 @@ more-size (f ∷ fs) a =
     omega (arith, currency-size f (parts .0))
 
 -- how many bytes a line has: 24 at most, and 4 more with a currency; none is empty
-module _ {line : List ℕ} (f : Formed line) where
+module _ {line : List ℕ} (f : LineFormed line) where
   size-by : (1 ≤ length line) × (length line ≤ 24 + 4 * length (f .more))
   unfolding isGrain total
   size-by =
@@ -317,53 +317,53 @@ line-short line e =
     omega (arith, size-by f .1, ap length (f .parts), none)
 
 -- W2.3 no byte of a line is below the comma
-unfoldable pub isPlain : ℕ → Bool
-isPlain b = leb comma b
+unfoldable pub aboveComma : ℕ → Bool
+aboveComma b = leb comma b
 
-plain : (b : ℕ) → 48 ≤ b → isPlain b ≡ true
-unfolding isPlain comma
+plain : (b : ℕ) → 48 ≤ b → aboveComma b ≡ true
+unfolding aboveComma comma
 plain b h = le-leb 44 b (omega arith)
 
-pub digit-plain : (b : ℕ) → isDigit b ≡ true → isPlain b ≡ true
-digit-plain b d = plain b (digit b d .0)
+pub digit-plain : (b : ℕ) → isDigit b ≡ true → aboveComma b ≡ true
+digit-plain b d = plain b (digit-range b d .0)
 
 pub number-bytes : (most : ℕ) (f : List ℕ) → isNumber most f ≡ true → all isDigit f ≡ true
 unfolding isNumber isDecimal
 number-bytes most f e = both-true (all isDigit f) _ (both-true (isDecimal f) _ e .0) .0
 
-number-plain : (most : ℕ) (f : List ℕ) → isNumber most f ≡ true → all isPlain f ≡ true
-number-plain most f e = all-imply isDigit isPlain digit-plain f (number-bytes most f e)
+number-plain : (most : ℕ) (f : List ℕ) → isNumber most f ≡ true → all aboveComma f ≡ true
+number-plain most f e = all-imply isDigit aboveComma digit-plain f (number-bytes most f e)
 
 pub currency-letters : (c : List ℕ) → isCurrency c ≡ true → all isLetter c ≡ true
 unfolding isCurrency
 currency-letters c e = both-true (eqb (length c) 3) (all isLetter c) e .1
 
-pub currency-plain : (c : List ℕ) → isCurrency c ≡ true → all isPlain c ≡ true
-currency-plain c e = all-imply isLetter isPlain (λ b h. let range = letter b h in plain b (omega arith)) c (currency-letters c e)
+pub currency-plain : (c : List ℕ) → isCurrency c ≡ true → all aboveComma c ≡ true
+currency-plain c e = all-imply isLetter aboveComma (λ b h. let range = letter-range b h in plain b (omega arith)) c (currency-letters c e)
 
-pub line-plain : (line : List ℕ) → hasForm line ≡ true → all isPlain line ≡ true
-unfolding isContract isGrain isTonnes isPrice all isPlain comma
+pub line-plain : (line : List ℕ) → hasForm line ≡ true → all aboveComma line ≡ true
+unfolding isContract isGrain isTonnes isPrice all aboveComma comma
 line-plain line e =
     let f = formed line e in
-    let c = all-imply isNameByte isPlain (λ b h. plain b (name-byte b h .0)) (f .contract)
+    let c = all-imply isNameByte aboveComma (λ b h. plain b (name-byte b h .0)) (f .contract)
     (both-true (between 1 8 (length (f .contract))) _ (f .contract-form) .1) in
-    let g = all-imply isLetter isPlain (λ b h. let range = letter b h in plain b (omega arith)) (f .grain)
+    let g = all-imply isLetter aboveComma (λ b h. let range = letter-range b h in plain b (omega arith)) (f .grain)
     (both-true (eqb (length (f .grain)) 2) _ (f .grain-form) .1) in
     let t = number-plain 99_999 (f .tonnes) (f .tonnes-form) in
     let p = number-plain 999_999 (f .price) (f .price-form) in
-    let m = all-imply isCurrency (all isPlain) currency-plain (f .more) (f .more-form) in
-    fields-all isPlain refl line (rw (f .parts) (both-pass c (both-pass g (both-pass t (both-pass p m)))))
+    let m = all-imply isCurrency (all aboveComma) currency-plain (f .more) (f .more-form) in
+    fields-all aboveComma refl line (rw (f .parts) (both-pass c (both-pass g (both-pass t (both-pass p m)))))
 
 -- so none is zero
-plain-text : (b : ℕ) → isPlain b ≡ true → isText b ≡ true
-unfolding isPlain isText comma
+plain-text : (b : ℕ) → aboveComma b ≡ true → isText b ≡ true
+unfolding aboveComma isText comma
 plain-text b h = ap not (ne-eqb b 0 (λ z. omega (arith, leb-true 44 b h)))
 
 pub line-text : (line : List ℕ) → hasForm line ≡ true → all isText line ≡ true
-line-text line e = all-imply isPlain isText plain-text line (line-plain line e)
+line-text line e = all-imply aboveComma isText plain-text line (line-plain line e)
 
 pub currency-text : (c : List ℕ) → isCurrency c ≡ true → all isText c ≡ true
-currency-text c e = all-imply isPlain isText plain-text c (currency-plain c e)
+currency-text c e = all-imply aboveComma isText plain-text c (currency-plain c e)
 
 -- there is a first field
 abbrev pub firstField : List ℕ → List ℕ
@@ -521,8 +521,8 @@ module _ (c : List ℕ) (is : isCurrency c ≡ true) where
       let parts = both-true (t f) (each ts fs) e in
       both-pass (parts .0) (each-behind ts fs (parts .1))
 
-  pub written-fields : (line : List ℕ) → fields (written c line) ≡ fields line ++ (c ∷ [])
-  unfolding written fields comma isLetter between
+  pub written-fields : (line : List ℕ) → fields (withCurrency c line) ≡ fields line ++ (c ∷ [])
+  unfolding withCurrency fields comma isLetter between
   written-fields [] = ap (λ fs. [] ∷ fs) (run-whole isLetter refl c (currency-letters c is))
   written-fields (b ∷ line) =
       test-cases
@@ -532,20 +532,20 @@ module _ (c : List ℕ) (is : isCurrency c ≡ true) where
       (λ _. ap (λ (fs : List (List ℕ)). [] ∷ fs) (written-fields line))
       (λ _. ap (onFirst b) (written-fields line) ∙ onFirst-append b (fields line) (c ∷ []) (fields-some line))
 
-  pub written-contract : (line : List ℕ) → contractOf (written c line) ≡ contractOf line
+  pub written-contract : (line : List ℕ) → contractOf (withCurrency c line) ≡ contractOf line
   unfolding contractOf
   written-contract line =
       let first : List (List ℕ) → List ℕ = λ fs. getD fs 0 [] in
       ap first (written-fields line ∙ ap (λ fs. fs ++ (c ∷ [])) (some-field line)) ∙ sym (ap first (some-field line))
 
-  pub written-record : (line : List ℕ) → isLine line ≡ true → isRecord (written c line) ≡ true
+  pub written-record : (line : List ℕ) → isLine line ≡ true → isRecord (withCurrency c line) ≡ true
   unfolding isLine isRecord
   written-record line e =
       ap (each (isContract ∷ isGrain ∷ isTonnes ∷ isPrice ∷ isCurrency ∷ [])) (written-fields line)
       ∙ each-behind (isContract ∷ isGrain ∷ isTonnes ∷ isPrice ∷ []) (fields line) e
 
 -- A register record: five fields, each with its form.
-pub record Recorded (line : List ℕ) : Type 0 where
+pub record RecordFormed (line : List ℕ) : Type 0 where
   pub contract : List ℕ
   pub grain : List ℕ
   pub tonnes : List ℕ
@@ -562,7 +562,7 @@ only [] e = absurd (omega (arith, e))
 only (f ∷ []) e = refl
 only (f ∷ g ∷ fs) e = absurd (omega (arith, e))
 
-pub recorded : (line : List ℕ) → isRecord line ≡ true → Recorded line
+pub recorded : (line : List ℕ) → isRecord line ≡ true → RecordFormed line
 unfolding isRecord all
 recorded line e =
     let f = formed line (record-form line e) in
@@ -581,6 +581,6 @@ recorded line e =
       currency-form = both-true (isCurrency (getD (f .more) 0 [])) true (sym (ap (all isCurrency) last) ∙ f .more-form) .0;
     }
 
-pub currency-is : {line : List ℕ} (r : Recorded line) → currencyOf line ≡ r .currency
+pub currency-is : {line : List ℕ} (r : RecordFormed line) → currencyOf line ≡ r .currency
 unfolding currencyOf
 currency-is r = ap (λ fs. getD fs 4 []) (r .parts)

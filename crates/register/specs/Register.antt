@@ -6,7 +6,7 @@ use Prim.Native.Nat.{ℕ}
 use lib.Dec.{eqb, leb}
 use lib.ListN.{length, getD}
 use Rattle.base.specs.Lists.{all, any, same, isNil}
-use Rattle.register.specs.Line.{contractOf, hasForm, isCurrency, isLine, isRecord, stored, written}
+use Rattle.register.specs.Line.{contractOf, hasForm, isCurrency, isLine, isRecord, stored, withCurrency}
 
 -- W2.5 "Lines are kept in order of arrival": the first that came first
 abbrev pub Lines : Type 0
@@ -22,16 +22,16 @@ unfoldable pub isOpen : Register → Bool
 isOpen register = not (isNil (register .house))
 
 -- the empty register, not opened
-abbrev pub nothing : Register
-nothing = record { house = []; lines = [] }
+abbrev pub emptyRegister : Register
+emptyRegister = record { house = []; lines = [] }
 
 -- W2.7 "256 lines are held"
 abbrev pub mostLines : ℕ
 mostLines = 256
 
 -- W2.7 "its contract is held already"
-unfoldable pub holds : Lines → (contract : List ℕ) → Bool
-holds lines contract = any (λ line. same (contractOf line) contract) lines
+unfoldable pub isHeld : Lines → (contract : List ℕ) → Bool
+isHeld lines contract = any (λ line. same (contractOf line) contract) lines
 
 -- W2.7 "25 when a line breaks its form, 26 when its contract is held already, 27 when 256 lines are held": the lowest that applies, else 0
 unfoldable pub lowestOf : (formed held full : Bool) → ℕ
@@ -39,14 +39,14 @@ lowestOf formed held full = cond (not formed) 25 (cond held 26 (cond full 27 0))
 
 -- the number for a line offered
 unfoldable pub offerNumber : Lines → (line : List ℕ) → ℕ
-offerNumber lines line = lowestOf (hasForm line) (holds lines (contractOf line)) (leb mostLines (length lines))
+offerNumber lines line = lowestOf (hasForm line) (isHeld lines (contractOf line)) (leb mostLines (length lines))
 
 -- a register with a line behind the others, W10.3 with its currency
 abbrev pub withLine : Register → (line : List ℕ) → Register
 withLine register line = record { house = register .house; lines = register .lines ++ (stored (register .house) line ∷ []) }
 
--- Of an opened register (`after` and Calls: bufferOpen see to that): W2.5 a line that is taken stands behind all others, W10.3 with its currency;
--- W2.6 "a call turned down leaves it unchanged"
+-- Of an opened register (`registerAfter` and Calls: bufferOpen see to that): W2.5 a line that is taken stands behind all others, W10.3 with its
+-- currency; W2.6 "a call turned down leaves it unchanged"
 unfoldable pub offered : Register → (line : List ℕ) → Register
 offered register line = cond (eqb (offerNumber (register .lines) line) 0) (withLine register line) register
 
@@ -54,7 +54,7 @@ offered register line = cond (eqb (offerNumber (register .lines) line) 0) (withL
 -- that isn't opened came about (RegisterLaws: old-is, is-old).
 unfoldable pub oldOffered : Lines → (line : List ℕ) → Lines
 oldOffered lines line =
-    cond (eqb (lowestOf (isLine line) (holds lines (contractOf line)) (leb mostLines (length lines))) 0) (lines ++ (line ∷ [])) lines
+    cond (eqb (lowestOf (isLine line) (isHeld lines (contractOf line)) (leb mostLines (length lines))) 0) (lines ++ (line ∷ [])) lines
 
 unfoldable pub oldLines : Lines → (offers : List (List ℕ)) → Lines
 oldLines lines [] = lines
@@ -62,9 +62,9 @@ oldLines lines (line ∷ rest) = oldLines (oldOffered lines line) rest
 
 -- W10.3 "On opening, the register is told the house currency", "a held register of old lines is rewritten so, with order and other fields kept;
 -- opening again changes only the house currency"
-unfoldable pub opened : Register → (currency : List ℕ) → Register
-opened register currency =
-    record { house = currency; lines = cond (isOpen register) (register .lines) (map (written currency) (register .lines)) }
+unfoldable pub openedWith : Register → (currency : List ℕ) → Register
+openedWith register currency =
+    record { house = currency; lines = cond (isOpen register) (register .lines) (map (withCurrency currency) (register .lines)) }
 
 -- what is done to a register, and what it is then: W10.6 an opening with what isn't a currency is turned down, and so is an offer before the
 -- register is opened
@@ -72,13 +72,13 @@ pub data Act : Type 0 where
   opening : (currency : List ℕ) → Act
   offering : (line : List ℕ) → Act
 
-unfoldable pub after : Register → Act → Register
-after register (opening currency) = cond (isCurrency currency) (opened register currency) register
-after register (offering line) = cond (isOpen register) (offered register line) register
+unfoldable pub registerAfter : Register → Act → Register
+registerAfter register (opening currency) = cond (isCurrency currency) (openedWith register currency) register
+registerAfter register (offering line) = cond (isOpen register) (offered register line) register
 
 unfoldable pub fold : Register → (acts : List Act) → Register
 fold register [] = register
-fold register (act ∷ acts) = fold (after register act) acts
+fold register (act ∷ acts) = fold (registerAfter register act) acts
 
 -- W2.5 "the register hands out any line by its place from 0", "an empty one where none stands"; W10.5 "Handing out gives five fields, which replaces
 -- the byte-for-byte wish for lines of four"
@@ -88,11 +88,11 @@ lineAt lines place = getD lines place []
 -- no two lines have the same contract
 unfoldable pub differ : Lines → Bool
 differ [] = true
-differ (line ∷ lines) = not (holds lines (contractOf line)) && differ lines
+differ (line ∷ lines) = not (isHeld lines (contractOf line)) && differ lines
 
 -- The form of the lines held: four fields in a register that isn't opened, as wishes 2 and 4 left it; five in one that is.
-unfoldable pub formOf : (house : List ℕ) → (line : List ℕ) → Bool
-formOf house line = cond (isNil house) (isLine line) (isRecord line)
+unfoldable pub heldForm : (house : List ℕ) → (line : List ℕ) → Bool
+heldForm house line = cond (isNil house) (isLine line) (isRecord line)
 
 -- a house currency, or none yet
 unfoldable pub isHouse : List ℕ → Bool
@@ -102,4 +102,4 @@ isHouse house = isNil house || isCurrency house
 unfoldable pub isRegister : Register → Bool
 isRegister register =
     isHouse (register .house)
-    && (leb (length (register .lines)) mostLines && (all (formOf (register .house)) (register .lines) && differ (register .lines)))
+    && (leb (length (register .lines)) mostLines && (all (heldForm (register .house)) (register .lines) && differ (register .lines)))

@@ -37,21 +37,21 @@ unfoldable pub totalsOf : (above : Lines) → Totals
 totalsOf above = record { count = length above; tonnes = total tonnesOf above; value = total valueOf above }
 
 -- W10.4 "in letter order": the first differing letter is the lower one, or there is none and the word is shorter
-unfoldable pub before : List ℕ → List ℕ → Bool
-before [] [] = false
-before [] (b ∷ v) = true
-before (a ∷ u) [] = false
-before (a ∷ u) (b ∷ v) = ltb a b || (eqb a b && before u v)
+unfoldable pub letterBefore : List ℕ → List ℕ → Bool
+letterBefore [] [] = false
+letterBefore [] (b ∷ v) = true
+letterBefore (a ∷ u) [] = false
+letterBefore (a ∷ u) (b ∷ v) = ltb a b || (eqb a b && letterBefore u v)
 
 -- a word put in its place among words in order, unless it is there already
-unfoldable pub entered : (word : List ℕ) → List (List ℕ) → List (List ℕ)
-entered word [] = word ∷ []
-entered word (w ∷ ws) = cond (same word w) (w ∷ ws) (cond (before word w) (word ∷ w ∷ ws) (w ∷ entered word ws))
+unfoldable pub inLetterOrder : (word : List ℕ) → List (List ℕ) → List (List ℕ)
+inLetterOrder word [] = word ∷ []
+inLetterOrder word (w ∷ ws) = cond (same word w) (w ∷ ws) (cond (letterBefore word w) (word ∷ w ∷ ws) (w ∷ inLetterOrder word ws))
 
 -- W10.4 "each currency held, in letter order"
 unfoldable pub currencies : Lines → List (List ℕ)
 currencies [] = []
-currencies (line ∷ rest) = entered (currencyOf line) (currencies rest)
+currencies (line ∷ rest) = inLetterOrder (currencyOf line) (currencies rest)
 
 -- W10.4 "that currency's lines"
 unfoldable pub linesOf : (currency : List ℕ) → Lines → Lines
@@ -68,13 +68,13 @@ unfoldable pub totalLines : Lines → List (List ℕ)
 totalLines held = map (λ currency. totalLine currency (totalsOf (linesOf currency held))) (currencies held)
 
 -- W4.2 "all with byte 10"
-unfoldable pub printed : List (List ℕ) → List ℕ
-printed [] = []
-printed (r ∷ rs) = r ++ (newline ∷ printed rs)
+unfoldable pub printedRecords : List (List ℕ) → List ℕ
+printedRecords [] = []
+printedRecords (r ∷ rs) = r ++ (newline ∷ printedRecords rs)
 
 -- W4.2 "Each line held, in order and byte for byte, then" the TOTAL lines
 unfoldable pub report : Lines → List ℕ
-report held = printed (held ++ totalLines held)
+report held = printedRecords (held ++ totalLines held)
 
 -- Reading back. The bytes put, cut at byte 10, as C1 has it: lines with the form of a register record are the records printed, all others count as
 -- TOTAL lines. No TOTAL line has that form, for its second field is no grain.
@@ -100,9 +100,9 @@ unfoldable pub totalsShown : (line : List ℕ) → Totals
 totalsShown line = record { count = numberIn line 2; tonnes = numberIn line 3; value = numberIn line 4 }
 
 -- a word among others; and words of which each stands before all behind it
-unfoldable pub isAmong : (word : List ℕ) → List (List ℕ) → Bool
-isAmong word = any (λ w. same w word)
+unfoldable pub isOneWord : (word : List ℕ) → List (List ℕ) → Bool
+isOneWord word = any (λ w. same w word)
 
 unfoldable pub inOrder : List (List ℕ) → Bool
 inOrder [] = true
-inOrder (w ∷ ws) = all (before w) ws && inOrder ws
+inOrder (w ∷ ws) = all (letterBefore w) ws && inOrder ws

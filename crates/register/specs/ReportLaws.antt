@@ -16,7 +16,7 @@ use Rattle.cards.specs.Bytes.{between, comma, newline, isDigit, isNameByte, isL
 use Rattle.cards.specs.Cards.{lines, onFirst}
 use Rattle.values.specs.Conversion.{decimal, digits}
 use Rattle.values.specs.Laws.{digits-digits, digits-length, digits-read}
-use Rattle.register.specs.Claims.{Agrees}
+use Rattle.register.specs.Claims.{ReportAgrees}
 use Rattle.register.specs.Line.{fields, isContract, isGrain, isDecimal, isNumber, isTonnes, isPrice, isCurrency, each, isRecord, currencyOf}
 use Rattle.register.specs.LineLaws.{
   currency-is,
@@ -25,7 +25,7 @@ use Rattle.register.specs.LineLaws.{
   currency-size,
   digit-plain,
   fields-all,
-  isPlain,
+  aboveComma,
   line-plain,
   line-size,
   record-form,
@@ -48,7 +48,7 @@ use Rattle.register.specs.Report.{
   linesOf,
   totalLine,
   totalLines,
-  printed,
+  printedRecords,
   report,
   recordsIn,
   isNumeral,
@@ -57,32 +57,32 @@ use Rattle.register.specs.Report.{
   currencyShown,
   totalsShown,
   inOrder,
-  isAmong,
+  isOneWord,
 }
 
 -- Lines without byte 10, each printed with one, are read back.
-line-back : (r rest : List ℕ) → all isPlain r ≡ true → lines (r ++ (newline ∷ rest)) ≡ r ∷ lines rest
-unfolding lines onFirst all isPlain comma newline
+line-back : (r rest : List ℕ) → all aboveComma r ≡ true → lines (r ++ (newline ∷ rest)) ≡ r ∷ lines rest
+unfolding lines onFirst all aboveComma comma newline
 line-back [] rest a = refl
 line-back (b ∷ r) rest a =
-    let parts = both-true (isPlain b) (all isPlain r) a in
+    let parts = both-true (aboveComma b) (all aboveComma r) a in
     let other = ne-eqb b 10 (λ is. omega (arith, leb-true 44 b (parts .0))) in
     rw (lines, other, line-back r rest (parts .1))
 
-lines-back : (rs : List (List ℕ)) → all (all isPlain) rs ≡ true → lines (printed rs) ≡ rs
-unfolding printed all lines
+lines-back : (rs : List (List ℕ)) → all (all aboveComma) rs ≡ true → lines (printedRecords rs) ≡ rs
+unfolding printedRecords all lines
 lines-back [] a = refl
 lines-back (r ∷ rs) a =
-    let parts = both-true (all isPlain r) (all (all isPlain) rs) a in
-    line-back r (printed rs) (parts .0) ∙ ap (λ (l : List (List ℕ)). r ∷ l) (lines-back rs (parts .1))
+    let parts = both-true (all aboveComma r) (all (all aboveComma) rs) a in
+    line-back r (printedRecords rs) (parts .0) ∙ ap (λ (l : List (List ℕ)). r ∷ l) (lines-back rs (parts .1))
 
 -- the digits of a number are digits, so none is below the comma
 all-digits : (n : ℕ) → all isDigit (digits n) ≡ true
 unfolding isDigit between
 all-digits = digits-digits
 
-digits-plain : (n : ℕ) → all isPlain (digits n) ≡ true
-digits-plain n = all-imply isDigit isPlain digit-plain (digits n) (all-digits n)
+digits-plain : (n : ℕ) → all aboveComma (digits n) ≡ true
+digits-plain n = all-imply isDigit aboveComma digit-plain (digits n) (all-digits n)
 
 -- A TOTAL line: its fields, no byte below the comma, that it is no record, and the currency and the numbers that it shows.
 module _ (c : List ℕ) (form : isCurrency c ≡ true) (t : Totals) where
@@ -96,12 +96,12 @@ module _ (c : List ℕ) (form : isCurrency c ≡ true) (t : Totals) where
       ∙ ap (first (digits (t .count))) (run-comma isDigit refl (digits (t .tonnes)) _ (all-digits (t .tonnes))
       ∙ ap (first (digits (t .tonnes))) (run-whole isDigit refl (digits (t .value)) (all-digits (t .value))))))
 
-  total-plain : all isPlain (totalLine c t) ≡ true
-  unfolding bytes all isPlain comma
+  total-plain : all aboveComma (totalLine c t) ≡ true
+  unfolding bytes all aboveComma comma
   total-plain =
       let sums = both-pass (digits-plain (t .tonnes)) (both-pass (digits-plain (t .value)) refl) in
       let shown = both-pass (currency-plain c form) (both-pass (digits-plain (t .count)) sums) in
-      fields-all isPlain refl (totalLine c t) (rw total-fields (both-pass refl shown))
+      fields-all aboveComma refl (totalLine c t) (rw total-fields (both-pass refl shown))
 
   total-other : isRecord (totalLine c t) ≡ false
   unfolding isRecord each isContract isGrain bytes between all isNameByte isLetter
@@ -163,8 +163,8 @@ module _ (held : Lines) (good : all isRecord held ≡ true) where
   unfolding report totalLines
   read-back =
       lines-back (held ++ below)
-      (all-append (all isPlain) held below (all-imply isRecord (all isPlain) (λ line e. line-plain line (record-form line e)) held good)
-      (below-all (all isPlain) (λ c form. total-plain c form (totalsOf (linesOf c held)))))
+      (all-append (all aboveComma) held below (all-imply isRecord (all aboveComma) (λ line e. line-plain line (record-form line e)) held good)
+      (below-all (all aboveComma) (λ c form. total-plain c form (totalsOf (linesOf c held)))))
 
   records-back : recordsIn (report held) ≡ held
   unfolding recordsIn
@@ -202,17 +202,17 @@ module _ (held : Lines) (good : all isRecord held ≡ true) where
       totals-shown c form t ∙ ap (λ w. totalsOf (linesOf w held)) (sym (currency-shown c form t))) words words-form
       ∙ sym (map-map (λ line. totalsOf (linesOf (currencyShown line) held)) (totalOf held) words)
 
-  pub report-agrees : Agrees held (report held)
+  pub report-agrees : ReportAgrees held (report held)
   unfolding report totalLines
   report-agrees =
       let counted : Lines → List (List ℕ) → List Totals = λ above ls. map (λ line. totalsOf (linesOf (currencyShown line) above)) ls in
       record {
         records = records-back;
         above = read-back ∙ sym (ap₂ {C = List (List ℕ)} _++_ records-back totals-back);
-        ends = ap printed (sym read-back);
+        ends = ap printedRecords (sym read-back);
         forms = ap (all isTotalLine) totals-back ∙ below-all isTotalLine (λ c form. total-form c form (totalsOf (linesOf c held)));
         each-held = λ c.
-            ap (isAmong c) currencies-back
+            ap (isOneWord c) currencies-back
             ∙ currencies-among c held
             ∙ ap (any (λ line. same (currencyOf line) c)) (sym records-back);
         ordered = ap inOrder currencies-back ∙ currencies-order held;
@@ -225,13 +225,13 @@ module _ (held : Lines) (good : all isRecord held ≡ true) where
 
 -- W4.3 "for every list of lines offered from an empty register, the declined ones counting nothing": now of openings and offers, from an old one too
 pub fold-agrees : (register : Register) (acts : List Act) → isRegister register ≡ true → isOpen (fold register acts) ≡ true
-    → Agrees (fold register acts .lines) (report (fold register acts .lines))
+    → ReportAgrees (fold register acts .lines) (report (fold register acts .lines))
 fold-agrees register acts good is =
     let left = fold register acts in
     report-agrees (left .lines) (open-records left (sound left (fold-is register acts good)) is)
 
 -- What a record adds to the sums is at most 99,999 tonnes and 99,999 times 999,999 cents.
-pub record Small (line : List ℕ) : Type 0 where
+pub record RecordSmall (line : List ℕ) : Type 0 where
   pub tonnes : tonnesOf line ≤ 99_999
   pub price : priceOf line ≤ 999_999
 
@@ -239,7 +239,7 @@ pub number-small : (most : ℕ) (f : List ℕ) → isNumber most f ≡ true → 
 unfolding isNumber
 number-small most f e = within 1 most (decimal 0 f) (both-true (isDecimal f) _ e .1) .1
 
-pub record-small : (line : List ℕ) → isRecord line ≡ true → Small line
+pub record-small : (line : List ℕ) → isRecord line ≡ true → RecordSmall line
 unfolding tonnesOf priceOf numberIn isTonnes isPrice
 record-small line e =
     let f = recorded line e in
@@ -276,12 +276,12 @@ tonnes-small = total-small tonnesOf 99_999 (λ l e. record-small l e .tonnes)
 pub cents-small : (ls : Lines) → all isRecord ls ≡ true → total valueOf ls ≤ mostValue * length ls
 cents-small = total-small valueOf mostValue value-small
 
-pub record Bounded (ls : Lines) : Type 0 where
+pub record LinesBounded (ls : Lines) : Type 0 where
   pub count : length ls ≤ mostLines
   pub tonnes : total tonnesOf ls ≤ 99_999 * mostLines
   pub value : total valueOf ls ≤ mostValue * mostLines
 
-pub sums-bounded : (ls : Lines) → length ls ≤ mostLines → all isRecord ls ≡ true → Bounded ls
+pub sums-bounded : (ls : Lines) → length ls ≤ mostLines → all isRecord ls ≡ true → LinesBounded ls
 sums-bounded ls few good =
     record {
       count = few;
@@ -297,23 +297,23 @@ pub of-good : (c : List ℕ) (held : Lines) → all isRecord held ≡ true → a
 unfolding linesOf
 of-good c held good = all-keep isRecord (λ line. same (currencyOf line) c) held good
 
-pub printed-append : (xs ys : List (List ℕ)) → printed (xs ++ ys) ≡ printed xs ++ printed ys
-unfolding printed
+pub printed-append : (xs ys : List (List ℕ)) → printedRecords (xs ++ ys) ≡ printedRecords xs ++ printedRecords ys
+unfolding printedRecords
 printed-append [] ys = refl
-printed-append (x ∷ xs) ys = ap (λ l. x ++ (newline ∷ l)) (printed-append xs ys) ∙ sym (append-assoc x (newline ∷ printed xs) (printed ys))
+printed-append (x ∷ xs) ys = ap (λ l. x ++ (newline ∷ l)) (printed-append xs ys) ∙ sym (append-assoc x (newline ∷ printedRecords xs) (printedRecords ys))
 
 -- a record is printed in 29 bytes at most
-pub printed-size : (ls : Lines) → all isRecord ls ≡ true → length (printed ls) ≤ 29 * length ls
-unfolding printed all
+pub printed-size : (ls : Lines) → all isRecord ls ≡ true → length (printedRecords ls) ≤ 29 * length ls
+unfolding printedRecords all
 printed-size [] a = omega arith
 printed-size (l ∷ ls) a =
     let parts = both-true (isRecord l) (all isRecord ls) a in
     let size = line-size l (record-form l (parts .0)) .1 in
     let rest = printed-size ls (parts .1) in
-    omega (arith, length-append l (newline ∷ printed ls))
+    omega (arith, length-append l (newline ∷ printedRecords ls))
 
 -- a TOTAL line has 37 bytes at most: 3 digits, 8 and 14
-total-size : (c : List ℕ) → isCurrency c ≡ true → (ls : Lines) → Bounded ls → length (totalLine c (totalsOf ls)) ≤ 37
+total-size : (c : List ℕ) → isCurrency c ≡ true → (ls : Lines) → LinesBounded ls → length (totalLine c (totalsOf ls)) ≤ 37
 unfolding totalLine totalsOf bytes
 total-size c form ls b =
     let word = currency-size c form in
@@ -327,18 +327,18 @@ abbrev pub mostReport : ℕ
 mostReport = 17_152
 
 module _ (held : Lines) (few : length held ≤ mostLines) (good : all isRecord held ≡ true) where
-  pub of-bounded : (c : List ℕ) → Bounded (linesOf c held)
+  pub of-bounded : (c : List ℕ) → LinesBounded (linesOf c held)
   of-bounded c = sums-bounded (linesOf c held) (omega (arith, of-few c held)) (of-good c held good)
 
   -- the TOTAL lines of some currencies
-  pub totals-size : (ws : List (List ℕ)) → all isCurrency ws ≡ true → length (printed (map (totalOf held) ws)) ≤ 38 * length ws
-  unfolding printed all
+  pub totals-size : (ws : List (List ℕ)) → all isCurrency ws ≡ true → length (printedRecords (map (totalOf held) ws)) ≤ 38 * length ws
+  unfolding printedRecords all
   totals-size [] a = omega arith
   totals-size (w ∷ ws) a =
       let parts = both-true (isCurrency w) (all isCurrency ws) a in
       let size = total-size w (parts .0) (linesOf w held) (of-bounded w) in
       let rest = totals-size ws (parts .1) in
-      omega (arith, length-append (totalOf held w) (newline ∷ printed (map (totalOf held) ws)))
+      omega (arith, length-append (totalOf held w) (newline ∷ printedRecords (map (totalOf held) ws)))
 
   pub report-size : length (report held) ≤ mostReport
   unfolding report totalLines
@@ -349,5 +349,5 @@ module _ (held : Lines) (few : length held ≤ mostLines) (good : all isRecord h
         arith,
         currencies-few held,
         ap length (printed-append held (map (totalOf held) (currencies held))),
-        length-append (printed held) (printed (map (totalOf held) (currencies held))),
+        length-append (printedRecords held) (printedRecords (map (totalOf held) (currencies held))),
       )

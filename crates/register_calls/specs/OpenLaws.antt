@@ -10,18 +10,18 @@ use lib.ListN.{length-append, length-map, length-replicate, replicate-append-rep
 use lib.Seq.{drop-at, length-take-le, take-all, take-at, take-suc}
 use Rattle.base.specs.ListLaws.{all-inside, all-take, drop-next, stretch-cut}
 use Rattle.base.specs.Lists.{all}
-use Rattle.calls.specs.Splices.{splice, splice-seam}
+use Rattle.encoding.specs.Splices.{splice, splice-seam}
 use Rattle.cards.specs.Bytes.{comma}
-use Rattle.register.specs.Buffer.{bufferKeeps, cellOf, headerSize, image, registerIn, registerSize, slotSize, slotsOf}
+use Rattle.register.specs.Buffer.{bufferKeeps, cellOf, headerSize, registerImage, registerIn, registerSize, slotSize, slotsOf}
 use Rattle.register.specs.BufferLaws.{cell-read, cell-size, cell-sound, house-cases, house-size, read-sound, slots-append, slots-size, sound-size}
 use Rattle.register.specs.CallLaws.{open-bad, open-does, open-refused, with-same}
-use Rattle.register.specs.Calls.{openCall, turnedDown, withRegister}
+use Rattle.register.specs.Calls.{openCall, registerTurnedDown, withRegister}
 use Rattle.register.specs.Claims.{bufferBack}
-use Rattle.register.specs.Line.{hasForm, isCurrency, isLine, written}
+use Rattle.register.specs.Line.{hasForm, isCurrency, isLine, withCurrency}
 use Rattle.register.specs.LineLaws.{currency-size, line-form, line-short, line-text, record-form, written-record}
-use Rattle.register.specs.Register.{Lines, Register, isHouse, lineAt, mostLines, opened}
-use Rattle.register.specs.RegisterLaws.{Sound, map-all, old-lines, opened-again, opened-old}
-use Rattle.register_reading.specs.Reading.{Ready, Trimmed, Unopened, slotAt}
+use Rattle.register.specs.Register.{Lines, Register, isHouse, lineAt, mostLines}
+use Rattle.register.specs.RegisterLaws.{RegisterSound, map-all, old-lines, opened-again, opened-old}
+use Rattle.register_reading.specs.Reading.{RegisterReady, Trimmed, Unopened, slotAt}
 use Rattle.register_reading.specs.SlotLaws.{trim-size}
 use Rattle.register_calls.specs.Putting.{WrittenTo, WrittenOut, writtenTo}
 
@@ -53,7 +53,7 @@ module _ (buffer house : List ℕ) (small : length house ≤ 3) (done rest : Lin
   same-count l = omega (arith, length-append done (l ∷ rest), length-append done (line ∷ rest))
 
   holding-is : (l : List ℕ) → holding l ≡ front ++ (cellOf slotSize l ++ back)
-  unfolding withRegister image slotsOf
+  unfolding withRegister registerImage slotsOf
   holding-is l =
       ap (λ s. (cellOf headerSize house ++ (s ++ replicate (slotSize * (mostLines - length (done ++ (l ∷ rest)))) 0)) ++ drop registerSize buffer)
       (slots-append done (l ∷ rest))
@@ -80,13 +80,13 @@ module _ (buffer house : List ℕ) (small : length house ≤ 3) (done rest : Lin
       let size : 4 + (24 - length line) ≡ slotSize - length line = omega arith in
       ap (λ l. line ++ l) (ap (λ n. replicate n 0) (sym size) ∙ sym (replicate-append-replicate 4 (24 - length line) 0))
 
-  written-parts : line ++ ((44 ∷ c) ++ replicate (24 - length line) 0) ≡ cellOf slotSize (written c line)
-  unfolding cellOf written comma
+  written-parts : line ++ ((44 ∷ c) ++ replicate (24 - length line) 0) ≡ cellOf slotSize (withCurrency c line)
+  unfolding cellOf withCurrency comma
   written-parts =
       let size : 24 - length line ≡ slotSize - length (line ++ (44 ∷ c)) = omega (arith, length-append line (44 ∷ c)) in
       sym (append-assoc line (44 ∷ c) (replicate (24 - length line) 0)) ∙ ap (λ n. (line ++ (44 ∷ c)) ++ replicate n 0) size
 
-  pub written-here : splice (holding line) (place + length line) (44 ∷ c) ≡ holding (written c line)
+  pub written-here : splice (holding line) (place + length line) (44 ∷ c) ≡ holding (withCurrency c line)
   written-here =
       let left : List ℕ = replicate (24 - length line) 0 in
       let before : length (front ++ line) ≡ place + length line = omega (arith, length-append front line, front-size) in
@@ -96,7 +96,7 @@ module _ (buffer house : List ℕ) (small : length house ≤ 3) (done rest : Lin
       (omega (arith, length-replicate {A = ℕ} 4 0))
       ∙ sym (apart front line (44 ∷ c) left back)
       ∙ ap (λ x. front ++ (x ++ back)) written-parts
-      ∙ sym (holding-is (written c line))
+      ∙ sym (holding-is (withCurrency c line))
     where
       apart : (f l x y b : List ℕ) → f ++ ((l ++ (x ++ y)) ++ b) ≡ (f ++ l) ++ (x ++ (y ++ b))
       apart f l x y b = simp append-assoc
@@ -106,7 +106,7 @@ module _ (buffer : List ℕ) (n : ℕ) (u : Unopened buffer n) (c : List ℕ) (i
   abbrev r : Register
   r = registerIn buffer
 
-  s : Sound r
+  s : RegisterSound r
   s = read-sound buffer (u .keeps)
 
   four : all isLine (r .lines) ≡ true
@@ -119,14 +119,14 @@ module _ (buffer : List ℕ) (n : ℕ) (u : Unopened buffer n) (c : List ℕ) (i
   pub slot-inside : (k : ℕ) → k < n → slotAt k + slotSize ≤ length buffer
   slot-inside k h = omega (arith, sound-size buffer (u .keeps), s .few, u .count)
 
-  all-written : withRegister buffer (writtenTo buffer c n) ≡ withRegister buffer (record { house = r .house; lines = map (written c) (r .lines) })
+  all-written : withRegister buffer (writtenTo buffer c n) ≡ withRegister buffer (record { house = r .house; lines = map (withCurrency c) (r .lines) })
   all-written =
       let count = u .count in
       let full : length (r .lines) ≤ n = omega (arith, count) in
       let none : drop n (r .lines) ≡ [] = drop-of-length-le (r .lines) full in
       let all-of : take n (r .lines) ≡ r .lines = take-all n (r .lines) (omega (arith, count)) in
-      let whole : map (written c) (take n (r .lines)) ++ drop n (r .lines) ≡ map (written c) (r .lines) =
-      ap₂ {C = Lines} (λ a b. map (written c) a ++ b) all-of none ∙ append-nil (map (written c) (r .lines)) in
+      let whole : map (withCurrency c) (take n (r .lines)) ++ drop n (r .lines) ≡ map (withCurrency c) (r .lines) =
+      ap₂ {C = Lines} (λ a b. map (withCurrency c) a ++ b) all-of none ∙ append-nil (map (withCurrency c) (r .lines)) in
       ap (λ l. withRegister buffer (record { house = r .house; lines = l })) whole
 
   pub all-done : (k : ℕ) (left : List ℕ) → k ≡ n → WrittenTo buffer c k left → WrittenOut buffer c left
@@ -137,7 +137,7 @@ module _ (buffer : List ℕ) (n : ℕ) (u : Unopened buffer n) (c : List ℕ) (i
     line = lineAt (r .lines) k
 
     abbrev done : Lines
-    done = map (written c) (take k (r .lines))
+    done = map (withCurrency c) (take k (r .lines))
 
     abbrev rest : Lines
     rest = drop (k + 1) (r .lines)
@@ -149,14 +149,14 @@ module _ (buffer : List ℕ) (n : ℕ) (u : Unopened buffer n) (c : List ℕ) (i
     unfolding lineAt
     next-is = λ i. record { house = r .house; lines = done ++ drop-next (r .lines) k [] inside i }
 
-    next-written : record { house = r .house; lines = done ++ (written c line ∷ rest) } ≡ writtenTo buffer c (k + 1)
+    next-written : record { house = r .house; lines = done ++ (withCurrency c line ∷ rest) } ≡ writtenTo buffer c (k + 1)
     unfolding lineAt
     next-written =
         let more : take (k + 1) (r .lines) ≡ take k (r .lines) ++ (line ∷ []) = ap (λ m. take m (r .lines)) (add-one k) ∙ take-suc
         (r .lines) k [] inside in
-        let whole : done ++ (written c line ∷ rest) ≡ map (written c) (take (k + 1) (r .lines)) ++ rest =
-        sym (append-assoc done (written c line ∷ []) rest)
-        ∙ ap (λ l. l ++ rest) (sym (map-append (written c) (take k (r .lines)) (line ∷ [])) ∙ ap (map (written c)) (sym more)) in
+        let whole : done ++ (withCurrency c line ∷ rest) ≡ map (withCurrency c) (take (k + 1) (r .lines)) ++ rest =
+        sym (append-assoc done (withCurrency c line ∷ []) rest)
+        ∙ ap (λ l. l ++ rest) (sym (map-append (withCurrency c) (take k (r .lines)) (line ∷ [])) ∙ ap (map (withCurrency c)) (sym more)) in
         λ i. record { house = r .house; lines = whole i }
 
     form : isLine line ≡ true
@@ -167,12 +167,12 @@ module _ (buffer : List ℕ) (n : ℕ) (u : Unopened buffer n) (c : List ℕ) (i
     small = house-size (r .house) (s .home)
 
     good : all hasForm done ≡ true
-    good = map-all isLine hasForm (written c) (λ l e. record-form (written c l) (written-record c is l e)) (take k (r .lines))
+    good = map-all isLine hasForm (withCurrency c) (λ l e. record-form (withCurrency c l) (written-record c is l e)) (take k (r .lines))
         (all-take isLine k (r .lines) four)
 
     place-is : slotAt (length done) ≡ slotAt k
     place-is =
-        ap slotAt (length-map (take k (r .lines)) (written c) ∙ length-take-le k (r .lines) (omega (arith, inside)))
+        ap slotAt (length-map (take k (r .lines)) (withCurrency c) ∙ length-take-le k (r .lines) (omega (arith, inside)))
 
     -- the buffer so far
     module _ (so-far : List ℕ) (e : WrittenTo buffer c k so-far) where
@@ -222,7 +222,7 @@ house-cell house c home three =
 
 pub house-told : (buffer : List ℕ) (register : Register) (c : List ℕ) → isHouse (register .house) ≡ true → isCurrency c ≡ true
     → splice (withRegister buffer register) 0 c ≡ withRegister buffer (record { house = c; lines = register .lines })
-unfolding withRegister image
+unfolding withRegister registerImage
 house-told buffer register c home is =
     let three = currency-size c is in
     let slots = slotsOf (register .lines) ++ replicate (slotSize * (mostLines - length (register .lines))) 0 in
@@ -242,13 +242,13 @@ house-told buffer register c home is =
 -- What opening makes of what was read.
 module _ (buffer c : List ℕ) (is : isCurrency c ≡ true) where
   pub open-broken-gets : bufferKeeps buffer ≡ false → bufferBack 14 buffer ≡ openCall buffer c
-  unfolding turnedDown
+  unfolding registerTurnedDown
   open-broken-gets e = sym (open-refused buffer c is e)
 
   pub told-room : bufferKeeps buffer ≡ true → 0 + length c ≤ length buffer
   told-room keeps = omega (arith, currency-size c is, sound-size buffer keeps)
 
-  pub opened-again-gets : (n : ℕ) (keys left : List ℕ) → Ready buffer n keys → left ≡ splice buffer 0 c → bufferBack 0 left ≡ openCall buffer c
+  pub opened-again-gets : (n : ℕ) (keys left : List ℕ) → RegisterReady buffer n keys → left ≡ splice buffer 0 c → bufferBack 0 left ≡ openCall buffer c
   opened-again-gets n keys left ready put =
       let s = read-sound buffer (ready .counted .keeps) in
       ap (bufferBack 0)
@@ -260,12 +260,12 @@ module _ (buffer c : List ℕ) (is : isCurrency c ≡ true) where
     pub opened-old-gets : (left : List ℕ) → left ≡ splice between 0 c → bufferBack 0 left ≡ openCall buffer c
     opened-old-gets left put =
         let s = read-sound buffer (u .keeps) in
-        let old : Register = record { house = registerIn buffer .house; lines = map (written c) (registerIn buffer .lines) } in
+        let old : Register = record { house = registerIn buffer .house; lines = map (withCurrency c) (registerIn buffer .lines) } in
         ap (bufferBack 0)
         (put ∙ ap (λ b. splice b 0 c) (w .is) ∙ house-told buffer old c (s .home) is
         ∙ ap (withRegister buffer) (sym (opened-old (registerIn buffer) c (u .is-old))))
         ∙ sym (open-does buffer c is (u .keeps))
 
 pub open-bad-gets : (buffer c : List ℕ) → isCurrency c ≡ false → bufferBack 29 buffer ≡ openCall buffer c
-unfolding turnedDown
+unfolding registerTurnedDown
 open-bad-gets buffer c e = sym (open-bad buffer c e)

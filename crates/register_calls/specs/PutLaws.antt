@@ -12,26 +12,26 @@ use lib.Seq.{length-take-le, take-at, take-take}
 use borrow.Author.Tests.{eq-eqb, eqb-true, le-leb, leb-true, ne-eqb}
 use Rattle.base.specs.Choice.{same-truth, test-cases}
 use Rattle.base.specs.ListLaws.{drop-zeros}
-use Rattle.base.specs.Lists.{all, among}
+use Rattle.base.specs.Lists.{among}
 use Rattle.cards.specs.Bytes.{comma, isNameByte}
 use Rattle.cards.specs.Cards.{withoutBlanks}
-use Rattle.packer.specs.Keys.{keyOf}
-use Rattle.calls.specs.Splices.{splice, splice-behind, splice-seam, take-splice}
-use Rattle.register.specs.Buffer.{bufferKeeps, cellOf, headerIn, headerSize, image, registerIn, registerSize, slotSize, slotsOf, textIn}
-use Rattle.register.specs.BufferLaws.{header, header-size, read-image, read-sound, slots-append, slots-size, sound-size, text-front}
+use Rattle.card_reader.specs.Keys.{keyOf}
+use Rattle.encoding.specs.Splices.{splice, splice-behind, splice-seam, take-splice}
+use Rattle.register.specs.Buffer.{bufferKeeps, cellOf, headerIn, headerSize, registerImage, registerIn, registerSize, slotSize, slotsOf, textIn}
+use Rattle.register.specs.BufferLaws.{headerImage, header-size, read-image, read-sound, slots-append, slots-size, sound-size, text-front}
 use Rattle.register.specs.CallLaws.{line-handed, line-refused, offer-taken, offer-declined, offer-refused, open-keeps}
-use Rattle.register.specs.Calls.{BufferCalled, LineCalled, bufferOpen, handing, lineCall, lineSize, offerCall, turnedDown, withRegister}
+use Rattle.register.specs.Calls.{BufferCalled, LineCalled, bufferOpen, handing, lineCall, lineSize, offerCall, registerTurnedDown, withRegister}
 use Rattle.register.specs.Claims.{bufferBack, lineBack}
-use Rattle.register.specs.Line.{contractOf, hasForm, isCurrency, stored, written}
+use Rattle.register.specs.Line.{contractOf, hasForm, isCurrency, stored, withCurrency}
 use Rattle.register.specs.LineLaws.{currency-size, line-size, record-form}
-use Rattle.register.specs.Register.{Lines, Register, holds, lineAt, lowestOf, mostLines, offerNumber}
-use Rattle.register.specs.RegisterLaws.{Taken, all-forms, house-open, stored-record, taken}
+use Rattle.register.specs.Register.{Lines, Register, isHeld, lineAt, lowestOf, mostLines, offerNumber}
+use Rattle.register.specs.RegisterLaws.{OfferTaken, all-forms, house-open, stored-record, taken}
 use Rattle.register_lines.specs.FieldLaws.{contract-size, count-form, four-fields}
-use Rattle.register_lines.specs.Fields.{Run, fieldCount}
+use Rattle.register_lines.specs.Fields.{RunOfBytes, fieldCount}
 use Rattle.register_reading.specs.KeyLaws.{key-read, keys-hold}
 use Rattle.register_reading.specs.ReadLaws.{here-form, here-size}
-use Rattle.register_reading.specs.Reading.{Placed, Ready, Stands, slotAt}
-use Rattle.register_calls.specs.Putting.{Judged, Keyed, Puts, storedBy}
+use Rattle.register_reading.specs.Reading.{Placed, RegisterReady, LineStands, slotAt}
+use Rattle.register_calls.specs.Putting.{OfferJudged, Keyed, LinePut, storedBy}
 
 -- slots with zeros behind them, with a line over the first of these
 slots-put : (held : Lines) (line : List ℕ) → length line ≤ slotSize → length held < mostLines
@@ -71,7 +71,7 @@ module _ (buffer : List ℕ) (e : bufferKeeps buffer ≡ true) (line : List ℕ)
   line-room = let size = sound-size buffer e in omega (arith, fits)
 
   pub line-put : splice buffer (slotAt (length (r .lines))) line ≡ withRegister buffer (record { house = r .house; lines = r .lines ++ (line ∷ []) })
-  unfolding withRegister image
+  unfolding withRegister registerImage
   line-put =
       let s = read-sound buffer e in
       let n = length (r .lines) in
@@ -81,22 +81,22 @@ module _ (buffer : List ℕ) (e : bufferKeeps buffer ≡ true) (line : List ℕ)
       let count : length line + (slotSize * (mostLines - n) - length line) ≡ slotSize * (mostLines - n) = omega arith in
       let zeros : first ++ others ≡ replicate (slotSize * (mostLines - n)) 0 =
       replicate-append-replicate (length line) (slotSize * (mostLines - n) - length line) 0 ∙ ap (λ k. replicate k 0) count in
-      let whole : buffer ≡ (header r ++ (slotsOf (r .lines) ++ (first ++ others))) ++ rest =
+      let whole : buffer ≡ (headerImage r ++ (slotsOf (r .lines) ++ (first ++ others))) ++ rest =
       sym (take-append-drop registerSize buffer) ∙ ap (λ l. l ++ rest) (sym (read-image buffer e))
-      ∙ ap (λ l. (header r ++ (slotsOf (r .lines) ++ l)) ++ rest) (sym zeros) in
-      let before : length (header r ++ slotsOf (r .lines)) ≡ slotAt n =
-      length-append (header r) (slotsOf (r .lines)) ∙ ap₂ {C = ℕ} _+_ (header-size r s) (slots-size (r .lines) (all-forms r s)) in
+      ∙ ap (λ l. (headerImage r ++ (slotsOf (r .lines) ++ l)) ++ rest) (sym zeros) in
+      let before : length (headerImage r ++ slotsOf (r .lines)) ≡ slotAt n =
+      length-append (headerImage r) (slotsOf (r .lines)) ∙ ap₂ {C = ℕ} _+_ (header-size r s) (slots-size (r .lines) (all-forms r s)) in
       ap (λ b. splice b (slotAt n) line) whole
-      ∙ slot-seam (header r) (slotsOf (r .lines)) first others rest line (slotAt n) before (length-replicate {A = ℕ} (length line) 0)
-      ∙ ap (λ l. (header r ++ l) ++ rest) (slots-put (r .lines) line fits room)
+      ∙ slot-seam (headerImage r) (slotsOf (r .lines)) first others rest line (slotAt n) before (length-replicate {A = ℕ} (length line) 0)
+      ∙ ap (λ l. (headerImage r ++ l) ++ rest) (slots-put (r .lines) line fits room)
 
 -- a line with the house currency behind it or without, as the number of its fields tells
 pub stored-is : (house line : List ℕ) → storedBy (fieldCount line) house line ≡ stored house line
 unfolding storedBy stored
-stored-is house line = ap (λ t. cond t (written house line) line) (four-fields line)
+stored-is house line = ap (λ t. cond t (withCurrency house line) line) (four-fields line)
 
 pub stored-four : (fields : ℕ) (house line : List ℕ) → fields ≡ 4 → storedBy fields house line ≡ line ++ (44 ∷ house)
-unfolding storedBy written comma
+unfolding storedBy withCurrency comma
 stored-four fields house line e = rw (eq-eqb fields 4 e)
 
 pub stored-other : (fields : ℕ) (house line : List ℕ) → ¬ (fields ≡ 4) → storedBy fields house line ≡ line
@@ -113,9 +113,9 @@ module _ (buffer line : List ℕ) (at fields : ℕ) where
 
   module _ (low : 3 ≤ at) (room : at + length (storedBy fields house line) ≤ length buffer) where
     pub room-any : at + length line ≤ length buffer
-    unfolding storedBy written comma
+    unfolding storedBy withCurrency comma
     room-any =
-        test-cases (λ t. at + length (cond t (written house line) line) ≤ length buffer → at + length line ≤ length buffer) (eqb fields 4)
+        test-cases (λ t. at + length (cond t (withCurrency house line) line) ≤ length buffer → at + length line ≤ length buffer) (eqb fields 4)
         (λ _ h. omega (arith, h, length-append line (44 ∷ house))) (λ _ h. h) room
 
     pub front-room : 3 ≤ length buffer
@@ -154,9 +154,9 @@ house-copied from copy h put =
     put ∙ ap (λ n. take 3 from ++ drop n (replicate 3 0)) three ∙ append-nil (take 3 from)
 
 -- The number for a line offered, by what the code asks: its form, whether its key is among the others, whether all places are taken
-module _ (line keys : List ℕ) (n contract key : ℕ) (run : Run isNameByte line 0 contract)
+module _ (line keys : List ℕ) (n contract key : ℕ) (run : RunOfBytes isNameByte line 0 contract)
     (k : key ≡ keyOf (withoutBlanks (take 8 (take contract line)))) where
-  held-is : (held : Lines) → Keyed held n keys → hasForm line ≡ true → among key (take n keys) ≡ holds held (contractOf line)
+  held-is : (held : Lines) → Keyed held n keys → hasForm line ≡ true → among key (take n keys) ≡ isHeld held (contractOf line)
   held-is held r form =
       ap₂ {C = Bool} among (k ∙ key-read line contract form (contract-size line contract run form)) (r .keyed)
       ∙ keys-hold held line (r .good) form
@@ -169,14 +169,14 @@ module _ (line keys : List ℕ) (n contract key : ℕ) (run : Run isNameByte lin
 
   pub offer-judged : (fields : ℕ) (found : Bool) (number : ℕ) → fields ≡ fieldCount line → found ≡ among key (take n keys)
       → number ≡ lowestOf (not (eqb fields 0)) found (eqb n mostLines)
-      → Judged line n keys number
+      → OfferJudged line n keys number
   unfolding offerNumber lowestOf
   offer-judged fields found number f h lowest =
       let formed : not (eqb fields 0) ≡ hasForm line = ap (λ m. not (eqb m 0)) f ∙ count-form line in
       record {
         judged = λ held r.
             lowest
-            ∙ test-cases (λ t. hasForm line ≡ t → lowestOf (not (eqb fields 0)) found (eqb n mostLines) ≡ lowestOf t (holds held (contractOf line))
+            ∙ test-cases (λ t. hasForm line ≡ t → lowestOf (not (eqb fields 0)) found (eqb n mostLines) ≡ lowestOf t (isHeld held (contractOf line))
             (leb mostLines (length held)))
             (hasForm line)
             (λ form _. rw (formed ∙ form, h ∙ held-is held r form, full-is held r))
@@ -184,7 +184,7 @@ module _ (line keys : List ℕ) (n contract key : ℕ) (run : Run isNameByte lin
       }
 
 -- An offer to an opened register of n lines, by its number
-module _ (buffer line keys : List ℕ) (n fields number : ℕ) (ready : Ready buffer n keys) (j : Judged line n keys number)
+module _ (buffer line keys : List ℕ) (n fields number : ℕ) (ready : RegisterReady buffer n keys) (j : OfferJudged line n keys number)
     (f : fields ≡ fieldCount line) where
   is-ready : bufferOpen buffer ≡ true
   is-ready = open-keeps buffer (ready .counted .keeps) ∙ ready .counted .is-open
@@ -201,7 +201,7 @@ module _ (buffer line keys : List ℕ) (n fields number : ℕ) (ready : Ready bu
   offer-kept other = sym (offer-declined buffer line number is-ready number-is other)
 
   module _ (zero-is : number ≡ 0) where
-    takes : Taken (registerIn buffer .lines) line
+    takes : OfferTaken (registerIn buffer .lines) line
     takes = taken (registerIn buffer .lines) line (number-is ∙ zero-is)
 
     currency-is : isCurrency (registerIn buffer .house) ≡ true
@@ -244,16 +244,16 @@ module _ (buffer line keys : List ℕ) (n fields number : ℕ) (ready : Ready bu
         ∙ sym (offer-taken buffer line is-ready (number-is ∙ zero-is))
 
 pub offer-refuses : (buffer line : List ℕ) → bufferOpen buffer ≡ false → bufferBack 14 buffer ≡ offerCall buffer line
-unfolding turnedDown
+unfolding registerTurnedDown
 offer-refuses buffer line e = sym (offer-refused buffer line e)
 
 -- A line handed out, before zeros
-module _ (buffer : List ℕ) (place : ℕ) (p : Placed buffer place) (end : ℕ) (s : Stands buffer place end) where
+module _ (buffer : List ℕ) (place : ℕ) (p : Placed buffer place) (end : ℕ) (s : LineStands buffer place end) where
   pub line-lent : length (take (end - slotAt place) (drop (slotAt place) buffer)) ≤ slotSize
   line-lent = omega (arith, ap length (s .bytes), line-size (lineAt (registerIn buffer .lines) place) (here-form buffer place p) .1)
 
   pub line-puts : (out left : List ℕ) → out ≡ replicate lineSize 0 → left ≡ splice out 0 (take (end - slotAt place) (drop (slotAt place) buffer))
-      → Puts (lineAt (registerIn buffer .lines) place) (end - slotAt place) left
+      → LinePut (lineAt (registerIn buffer .lines) place) (end - slotAt place) left
   unfolding splice
   line-puts out left zeros put =
       let line = lineAt (registerIn buffer .lines) place in
@@ -272,7 +272,7 @@ pub none-handed : (number : ℕ) (out : List ℕ) → out ≡ replicate lineSize
 unfolding handing
 none-handed number out zeros = ap (λ l. lineBack number l 0) zeros
 
-line-handed-out : (line : List ℕ) (n : ℕ) (out : List ℕ) → Puts line n out → lineBack 0 out n ≡ handing 0 line
+line-handed-out : (line : List ℕ) (n : ℕ) (out : List ℕ) → LinePut line n out → lineBack 0 out n ≡ handing 0 line
 unfolding handing
 line-handed-out line n out puts = ap₂ {C = LineCalled} (λ l k. lineBack 0 l k) (puts .bytes) (puts .length-is)
 
@@ -280,7 +280,7 @@ module _ (buffer : List ℕ) (place : ℕ) where
   pub line-refuses : (out : List ℕ) → out ≡ replicate lineSize 0 → bufferOpen buffer ≡ false → lineBack 14 out 0 ≡ lineCall buffer place
   line-refuses out zeros e = none-handed 14 out zeros ∙ sym (line-refused buffer place e)
 
-  module _ (n : ℕ) (keys : List ℕ) (ready : Ready buffer n keys) where
+  module _ (n : ℕ) (keys : List ℕ) (ready : RegisterReady buffer n keys) where
     lent : bufferOpen buffer ≡ true
     lent = open-keeps buffer (ready .counted .keeps) ∙ ready .counted .is-open
 
@@ -294,5 +294,5 @@ module _ (buffer : List ℕ) (place : ℕ) where
         ∙ ap (handing 0) (sym (List·getD-eq-default (registerIn buffer .lines) [] (omega (arith, ready .counted .count))))
         ∙ sym (line-handed buffer place lent)
 
-    pub line-found : (size : ℕ) (out : List ℕ) → Puts (lineAt (registerIn buffer .lines) place) size out → lineBack 0 out size ≡ lineCall buffer place
+    pub line-found : (size : ℕ) (out : List ℕ) → LinePut (lineAt (registerIn buffer .lines) place) size out → lineBack 0 out size ≡ lineCall buffer place
     line-found size out puts = line-handed-out (lineAt (registerIn buffer .lines) place) size out puts ∙ sym (line-handed buffer place lent)

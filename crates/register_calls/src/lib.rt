@@ -6,18 +6,17 @@ ghost use mathlib.Core.List.{_∷_};
 ghost use mathlib.Core.Path.{_≡_};
 ghost use Prim.Native.Nat.{_+_, _≤_};
 ghost use lib.ListN.{length, replicate, take};
-ghost use Rattle.calls.specs.Splices.{splice};
+ghost use Rattle.encoding.specs.Splices.{splice};
 ghost use Rattle.cards.specs.Bytes.{isNameByte};
 ghost use Rattle.register.specs.Buffer.{registerIn};
 ghost use Rattle.register.specs.Calls.{lineSize, offerCall, openCall};
 ghost use Rattle.register.specs.Claims.{LinePromise, OfferPromise, OpenPromise, bufferBack, lineBack};
 ghost use Rattle.register.specs.Line.{isCurrency};
 ghost use Rattle.register.specs.Register.{lineAt, lowestOf};
-ghost use Rattle.register_calls.specs.Putting.{Judged, Puts, WrittenOut, storedBy};
-ghost use Rattle.register_lines.specs.Fields.{Run, fieldCount};
-ghost use Rattle.register_reading.specs.Reading.{Placed, Ready, Unopened};
-use cells::spans;
-use packer::keys;
+ghost use Rattle.register_calls.specs.Putting.{OfferJudged, LinePut, WrittenOut, storedBy};
+ghost use Rattle.register_lines.specs.Fields.{RunOfBytes, fieldCount};
+ghost use Rattle.register_reading.specs.Reading.{Placed, RegisterReady, Unopened};
+use card_reader::keys;
 use register::BAD_BUFFER;
 use register::BAD_CURRENCY;
 use register::BAD_LINE;
@@ -37,6 +36,7 @@ use register_reading::is_among;
 use register_reading::line_end;
 use register_reading::line_length;
 use register_reading::read_register;
+use store::spans;
 
 // a comma and a currency, from a place on
 fn write_currency(buffer: &mut [u8], at: usize, currency: &[u8])
@@ -72,8 +72,7 @@ fn open_old(buffer: &mut [u8], n: usize, currency: &[u8])
 }
 
 // Opens the register, or opens it again.
-#[no_mangle]
-pub extern "C" fn strigol_register_open(buffer: &mut [u8], currency: &[u8]) -> u32
+pub fn strigol_register_open(buffer: &mut [u8], currency: &[u8]) -> u32
     ensures { λ r. ⌜ OpenPromise (now (buffer .entry)) (now (currency .entry)) (bufferBack r (now (buffer .exit))) ⌝ }
 {
     if !is_currency(currency) {
@@ -112,8 +111,8 @@ fn lowest(formed: bool, held: bool, full: bool) -> u32
 
 // the number for a line whose contract has so many bytes, with so many fields, offered to a register of n lines with these keys
 fn offer_number(line: &[u8], contract: usize, fields: usize, n: usize, keys: &[u64]) -> u32
-    requires { ⌜ Run isNameByte (now line) 0 contract × (fields ≡ fieldCount (now line)) × (n ≤ length (now keys)) ⌝ }
-    ensures { λ r. ⌜ Judged (now (line .entry)) n (now (keys .entry)) r ⌝ }
+    requires { ⌜ RunOfBytes isNameByte (now line) 0 contract × (fields ≡ fieldCount (now line)) × (n ≤ length (now keys)) ⌝ }
+    ensures { λ r. ⌜ OfferJudged (now (line .entry)) n (now (keys .entry)) r ⌝ }
 {
     let held = is_among(keys, n, keys::key_of(&line[..contract]));
     lowest(fields != 0, held, n == LINES)
@@ -134,7 +133,7 @@ fn put_stored(buffer: &mut [u8], at: usize, line: &[u8], fields: usize)
 
 // a line offered to an opened register of n lines
 fn offer_to(buffer: &mut [u8], line: &[u8], n: usize, keys: &[u64]) -> u32
-    requires { ⌜ Ready (now buffer) n (now keys) × (n ≤ length (now keys)) ⌝ }
+    requires { ⌜ RegisterReady (now buffer) n (now keys) × (n ≤ length (now keys)) ⌝ }
     ensures { λ r. ⌜ bufferBack r (now (buffer .exit)) ≡ offerCall (now (buffer .entry)) (now (line .entry)) ⌝ }
 {
     let contract = contract_length(line);
@@ -147,8 +146,7 @@ fn offer_to(buffer: &mut [u8], line: &[u8], n: usize, keys: &[u64]) -> u32
 }
 
 // Offers a line to the register.
-#[no_mangle]
-pub extern "C" fn strigol_register_offer(buffer: &mut [u8], line: &[u8]) -> u32
+pub fn strigol_register_offer(buffer: &mut [u8], line: &[u8]) -> u32
     ensures { λ r. ⌜ OfferPromise (now (buffer .entry)) (now (line .entry)) (bufferBack r (now (buffer .exit))) ⌝ }
 {
     let mut keys = [0; LINES];
@@ -163,7 +161,7 @@ pub extern "C" fn strigol_register_offer(buffer: &mut [u8], line: &[u8]) -> u32
 // the line of a place where one stands, put before zeros; how many bytes it has
 fn put_line(buffer: &[u8], place: usize, line: &mut [u8; LINE_SIZE]) -> usize
     requires { ⌜ Placed (now buffer) place × (now line ≡ replicate lineSize 0) ⌝ }
-    ensures { λ r. ⌜ Puts (lineAt (registerIn (now (buffer .entry)) .lines) place) r (now (line .exit)) ⌝ }
+    ensures { λ r. ⌜ LinePut (lineAt (registerIn (now (buffer .entry)) .lines) place) r (now (line .exit)) ⌝ }
 {
     let at = HEADER + SLOT * place;
     let end = line_end(buffer, place);
@@ -172,8 +170,7 @@ fn put_line(buffer: &[u8], place: usize, line: &mut [u8; LINE_SIZE]) -> usize
 }
 
 // Hands out the line of a place.
-#[no_mangle]
-pub extern "C" fn strigol_register_line(
+pub fn strigol_register_line(
     buffer: &[u8],
     place: u64,
     line: &mut [u8; LINE_SIZE],

@@ -32,7 +32,7 @@ use Rattle.register.specs.LineLaws.{
   tonnes-digits,
   price-digits,
 }
-use Rattle.register_lines.specs.Fields.{Run, behind, countOf, fieldCount, counted, ended}
+use Rattle.register_lines.specs.Fields.{RunOfBytes, fieldsBehind, fieldCountOf, fieldCount, fieldsCounted, fieldsEnded}
 
 -- a run goes on by a byte that passes, and ends where none is left or one doesn't
 module _ (p : ℕ → Bool) (line : List ℕ) (at : ℕ) where
@@ -54,7 +54,7 @@ module _ (p : ℕ → Bool) (line : List ℕ) (at : ℕ) where
       let more = all-append p (take m (drop at line)) (getD line i 0 ∷ []) (r .2) (both-pass e refl) in
       (omega arith, omega arith, rw (next, take-suc (drop at line) m 0 inside, byte) more)
 
-  pub run-ends : (i : ℕ) → Running i → (i < length line → p (getD line i 0) ≡ false) → Run p line at (i - at)
+  pub run-ends : (i : ℕ) → Running i → (i < length line → p (getD line i 0) ≡ false) → RunOfBytes p line at (i - at)
   run-ends i r e =
       let place : at + (i - at) ≡ i = omega arith in
       record { inside = omega arith; pass = r .2; stop = λ h. rw place (e (omega arith)) }
@@ -70,26 +70,26 @@ run-lead line at (suc n) k h =
 
 -- the form of a field by its run
 module _ (line : List ℕ) (at n : ℕ) where
-  contract-run : Run isNameByte line at n → isContract (take n (drop at line)) ≡ between 1 8 n
+  contract-run : RunOfBytes isNameByte line at n → isContract (take n (drop at line)) ≡ between 1 8 n
   unfolding isContract
   contract-run r = rw (length-stretch line at n (r .inside), r .pass, and-true)
 
-  grain-run : Run isLetter line at n → isGrain (take n (drop at line)) ≡ eqb n 2
+  grain-run : RunOfBytes isLetter line at n → isGrain (take n (drop at line)) ≡ eqb n 2
   unfolding isGrain
   grain-run r = rw (length-stretch line at n (r .inside), r .pass, and-true)
 
   abbrev pub numberRun : ℕ → Bool
   numberRun most = between 1 most n && not (eqb (getD line at 0) 48)
 
-  number-run : (k : ℕ) → Run isDigit line at n
+  number-run : (k : ℕ) → RunOfBytes isDigit line at n
       → (isDecimal (take n (drop at line)) && between 1 k (length (take n (drop at line)))) ≡ numberRun k
   unfolding isDecimal
   number-run k r = rw (length-stretch line at n (r .inside), r .pass) (run-lead line at n k (r .inside))
 
-  tonnes-run : Run isDigit line at n → isTonnes (take n (drop at line)) ≡ numberRun 5
+  tonnes-run : RunOfBytes isDigit line at n → isTonnes (take n (drop at line)) ≡ numberRun 5
   tonnes-run r = tonnes-digits (take n (drop at line)) ∙ number-run 5 r
 
-  price-run : Run isDigit line at n → isPrice (take n (drop at line)) ≡ numberRun 6
+  price-run : RunOfBytes isDigit line at n → isPrice (take n (drop at line)) ≡ numberRun 6
   price-run r = price-digits (take n (drop at line)) ∙ number-run 6 r
 
 -- what holds whichever way a test comes out
@@ -97,7 +97,7 @@ either : {A : Type 0} (test : Bool) → (test ≡ true → A) → (test ≡ fals
 either {A} = test-cases (λ _. A)
 
 -- The fields from a place on, by the run there: the end of the line, a comma or another byte stands behind it.
-module _ (p : ℕ → Bool) (c : p comma ≡ false) (line : List ℕ) (at n : ℕ) (r : Run p line at n) where
+module _ (p : ℕ → Bool) (c : p comma ≡ false) (line : List ℕ) (at n : ℕ) (r : RunOfBytes p line at n) where
   -- the run is the last field
   ends : length line ≤ at + n → fields (drop at line) ≡ take n (drop at line) ∷ []
   ends h =
@@ -142,8 +142,8 @@ module _ (p : ℕ → Bool) (c : p comma ≡ false) (line : List ℕ) (at n : �
 
     -- a field with others to come: the run passes its test, and a comma and the others stand behind it
     field-then : (u : List ℕ → Bool) (us : List (List ℕ → Bool))
-        → each (t ∷ u ∷ us) (fields (drop at line)) ≡ (t (take n (drop at line)) && behind (u ∷ us) line (at + n))
-    unfolding each behind comma
+        → each (t ∷ u ∷ us) (fields (drop at line)) ≡ (t (take n (drop at line)) && fieldsBehind (u ∷ us) line (at + n))
+    unfolding each fieldsBehind comma
     field-then u us =
         endings
         (λ h. rw (ends h, List·getD-eq-default line 0 h))
@@ -177,13 +177,13 @@ range-low most n e = ltb-false n 1 (neither-true (ltb n 1) (ltb most n) e .0)
 
 -- a comma that isn't there, and one that is
 module _ (line : List ℕ) (at : ℕ) where
-  pub no-comma : (tests : List (List ℕ → Bool)) → eqb (getD line at 0) 44 ≡ false → false ≡ behind tests line at
-  unfolding behind comma
+  pub no-comma : (tests : List (List ℕ → Bool)) → eqb (getD line at 0) 44 ≡ false → false ≡ fieldsBehind tests line at
+  unfolding fieldsBehind comma
   no-comma tests e = rw e
 
-  pub no-count : (tests : List (List ℕ → Bool)) → eqb (getD line at 0) 44 ≡ false → 0 ≡ counted tests line at
-  unfolding counted
-  no-count tests e = ap₂ countOf (no-comma tests e) (no-comma (tests ++ (isCurrency ∷ [])) e)
+  pub no-count : (tests : List (List ℕ → Bool)) → eqb (getD line at 0) 44 ≡ false → 0 ≡ fieldsCounted tests line at
+  unfolding fieldsCounted
+  no-count tests e = ap₂ fieldCountOf (no-comma tests e) (no-comma (tests ++ (isCurrency ∷ [])) e)
 
   pub comma-inside : eqb (getD line at 0) 44 ≡ true → at < length line
   comma-inside e =
@@ -191,8 +191,8 @@ module _ (line : List ℕ) (at : ℕ) where
       (λ l. absurd (omega (arith, List·getD-eq-default line 0 (ltb-false at (length line) l), eqb-true (getD line at 0) 44 e)))
 
   behind-comma : (tests : List (List ℕ → Bool)) → eqb (getD line at 0) 44 ≡ true
-      → behind tests line at ≡ each tests (fields (drop (at + 1) line))
-  unfolding behind comma
+      → fieldsBehind tests line at ≡ each tests (fields (drop (at + 1) line))
+  unfolding fieldsBehind comma
   behind-comma tests e = rw e
 
 -- no comma is of a class
@@ -226,48 +226,48 @@ unfolding isPrice
 price-bytes = number-bytes 999_999
 
 -- a test that four fields and five begin with
-count-then : (t four five : Bool) → countOf (t && four) (t && five) ≡ cond t (countOf four five) 0
+count-then : (t four five : Bool) → fieldCountOf (t && four) (t && five) ≡ cond t (fieldCountOf four five) 0
 count-then true four five = refl
 count-then false four five = refl
 
 -- what stands behind a comma: a field by its run, and what follows
 module _ (line : List ℕ) (at n : ℕ) (is : eqb (getD line at 0) 44 ≡ true) where
-  counted-then : (p : ℕ → Bool) → p comma ≡ false → Run p line (at + 1) n
+  counted-then : (p : ℕ → Bool) → p comma ≡ false → RunOfBytes p line (at + 1) n
       → (t : List ℕ → Bool) → ((f : List ℕ) → t f ≡ true → all p f ≡ true)
       → (u : List ℕ → Bool) (us : List (List ℕ → Bool))
-      → counted (t ∷ u ∷ us) line at ≡ cond (t (take n (drop (at + 1) line))) (counted (u ∷ us) line (at + 1 + n)) 0
-  unfolding counted
+      → fieldsCounted (t ∷ u ∷ us) line at ≡ cond (t (take n (drop (at + 1) line))) (fieldsCounted (u ∷ us) line (at + 1 + n)) 0
+  unfolding fieldsCounted
   counted-then p c r t of u us =
       let here = t (take n (drop (at + 1) line)) in
-      let next : (vs : List (List ℕ → Bool)) → behind (t ∷ u ∷ vs) line at ≡ (here && behind (u ∷ vs) line (at + 1 + n)) =
+      let next : (vs : List (List ℕ → Bool)) → fieldsBehind (t ∷ u ∷ vs) line at ≡ (here && fieldsBehind (u ∷ vs) line (at + 1 + n)) =
       λ vs. behind-comma line at (t ∷ u ∷ vs) is ∙ field-then p c line (at + 1) n r t of u vs in
       let more = us ++ (isCurrency ∷ []) in
-      ap₂ countOf (next us) (next more) ∙ count-then here (behind (u ∷ us) line (at + 1 + n)) (behind (u ∷ more) line (at + 1 + n))
+      ap₂ fieldCountOf (next us) (next more) ∙ count-then here (fieldsBehind (u ∷ us) line (at + 1 + n)) (fieldsBehind (u ∷ more) line (at + 1 + n))
 
-  pub price-counted : Run isDigit line (at + 1) n
-      → counted (isPrice ∷ []) line at ≡ cond (numberRun line (at + 1) n 6) (ended line (at + 1 + n)) 0
-  unfolding counted ended
+  pub price-counted : RunOfBytes isDigit line (at + 1) n
+      → fieldsCounted (isPrice ∷ []) line at ≡ cond (numberRun line (at + 1) n 6) (fieldsEnded line (at + 1 + n)) 0
+  unfolding fieldsCounted fieldsEnded
   price-counted r =
       let here = isPrice (take n (drop (at + 1) line)) in
-      let last : behind (isPrice ∷ []) line at ≡ (here && eqb (at + 1 + n) (length line)) =
+      let last : fieldsBehind (isPrice ∷ []) line at ≡ (here && eqb (at + 1 + n) (length line)) =
       behind-comma line at (isPrice ∷ []) is ∙ field-last isDigit comma-digit line (at + 1) n r isPrice price-bytes in
-      let more : behind (isPrice ∷ isCurrency ∷ []) line at ≡ (here && behind (isCurrency ∷ []) line (at + 1 + n)) =
+      let more : fieldsBehind (isPrice ∷ isCurrency ∷ []) line at ≡ (here && fieldsBehind (isCurrency ∷ []) line (at + 1 + n)) =
       behind-comma line at (isPrice ∷ isCurrency ∷ []) is
       ∙ field-then isDigit comma-digit line (at + 1) n r isPrice price-bytes isCurrency [] in
-      ap₂ countOf last more ∙ count-then here (eqb (at + 1 + n) (length line)) (behind (isCurrency ∷ []) line (at + 1 + n))
-      ∙ ap (λ t. cond t (ended line (at + 1 + n)) 0) (price-run line (at + 1) n r)
+      ap₂ fieldCountOf last more ∙ count-then here (eqb (at + 1 + n) (length line)) (fieldsBehind (isCurrency ∷ []) line (at + 1 + n))
+      ∙ ap (λ t. cond t (fieldsEnded line (at + 1 + n)) 0) (price-run line (at + 1) n r)
 
-  pub tonnes-counted : Run isDigit line (at + 1) n
-      → counted (isTonnes ∷ isPrice ∷ []) line at ≡ cond (numberRun line (at + 1) n 5) (counted (isPrice ∷ []) line (at + 1 + n)) 0
+  pub tonnes-counted : RunOfBytes isDigit line (at + 1) n
+      → fieldsCounted (isTonnes ∷ isPrice ∷ []) line at ≡ cond (numberRun line (at + 1) n 5) (fieldsCounted (isPrice ∷ []) line (at + 1 + n)) 0
   tonnes-counted r =
       counted-then isDigit comma-digit r isTonnes tonnes-bytes isPrice []
-      ∙ ap (λ t. cond t (counted (isPrice ∷ []) line (at + 1 + n)) 0) (tonnes-run line (at + 1) n r)
+      ∙ ap (λ t. cond t (fieldsCounted (isPrice ∷ []) line (at + 1 + n)) 0) (tonnes-run line (at + 1) n r)
 
-  pub grain-counted : Run isLetter line (at + 1) n
-      → counted (isGrain ∷ isTonnes ∷ isPrice ∷ []) line at ≡ cond (eqb n 2) (counted (isTonnes ∷ isPrice ∷ []) line (at + 1 + n)) 0
+  pub grain-counted : RunOfBytes isLetter line (at + 1) n
+      → fieldsCounted (isGrain ∷ isTonnes ∷ isPrice ∷ []) line at ≡ cond (eqb n 2) (fieldsCounted (isTonnes ∷ isPrice ∷ []) line (at + 1 + n)) 0
   grain-counted r =
       counted-then isLetter comma-letter r isGrain grain-bytes isTonnes (isPrice ∷ [])
-      ∙ ap (λ t. cond t (counted (isTonnes ∷ isPrice ∷ []) line (at + 1 + n)) 0) (grain-run line (at + 1) n r)
+      ∙ ap (λ t. cond t (fieldsCounted (isTonnes ∷ isPrice ∷ []) line (at + 1 + n)) 0) (grain-run line (at + 1) n r)
 
 -- the currency ends the line: it is all that stands behind its comma
 currency-alone : (l : List ℕ) → each (isCurrency ∷ []) (fields l) ≡ isCurrency l
@@ -280,7 +280,7 @@ currency-alone l =
     (λ e. rw (run-whole isLetter comma-letter l (currency-letters l e)) (both-pass e refl))
 
 pub currency-behind : (line : List ℕ) (at : ℕ) → eqb (getD line at 0) 44 ≡ true
-    → behind (isCurrency ∷ []) line at ≡ isCurrency (drop (at + 1) line)
+    → fieldsBehind (isCurrency ∷ []) line at ≡ isCurrency (drop (at + 1) line)
 currency-behind line at is = behind-comma line at (isCurrency ∷ []) is ∙ currency-alone (drop (at + 1) line)
 
 -- three bytes are a currency where each is a letter
@@ -299,24 +299,24 @@ currency-three (a ∷ b ∷ c ∷ []) h = three (isLetter a) (isLetter b) (isLet
 currency-three (a ∷ b ∷ c ∷ d ∷ v) h = absurd (omega arith)
 
 -- the line by its first run
-module _ (line : List ℕ) (n : ℕ) (r : Run isNameByte line 0 n) where
+module _ (line : List ℕ) (n : ℕ) (r : RunOfBytes isNameByte line 0 n) where
   contract-then : (us : List (List ℕ → Bool))
-      → each (isContract ∷ isGrain ∷ us) (fields line) ≡ (between 1 8 n && behind (isGrain ∷ us) line n)
+      → each (isContract ∷ isGrain ∷ us) (fields line) ≡ (between 1 8 n && fieldsBehind (isGrain ∷ us) line n)
   contract-then us =
       field-then isNameByte comma-name line 0 n r isContract contract-bytes isGrain us
-      ∙ ap₂ (λ t k. t && behind (isGrain ∷ us) line k) (contract-run line 0 n r) (zero-add n)
+      ∙ ap₂ (λ t k. t && fieldsBehind (isGrain ∷ us) line k) (contract-run line 0 n r) (zero-add n)
 
-  pub line-counted : fieldCount line ≡ cond (between 1 8 n) (counted (isGrain ∷ isTonnes ∷ isPrice ∷ []) line n) 0
-  unfolding fieldCount counted isLine isRecord
+  pub line-counted : fieldCount line ≡ cond (between 1 8 n) (fieldsCounted (isGrain ∷ isTonnes ∷ isPrice ∷ []) line n) 0
+  unfolding fieldCount fieldsCounted isLine isRecord
   line-counted =
       let four = isTonnes ∷ isPrice ∷ [] in
       let five = isTonnes ∷ isPrice ∷ isCurrency ∷ [] in
-      ap₂ countOf (contract-then four) (contract-then five)
-      ∙ count-then (between 1 8 n) (behind (isGrain ∷ four) line n) (behind (isGrain ∷ five) line n)
+      ap₂ fieldCountOf (contract-then four) (contract-then five)
+      ∙ count-then (between 1 8 n) (fieldsBehind (isGrain ∷ four) line n) (fieldsBehind (isGrain ∷ five) line n)
 
   -- of a line that has its form, the run is its contract
   first-size : (us : List (List ℕ → Bool)) → each (isContract ∷ isGrain ∷ us) (fields line) ≡ true → n ≡ length (contractOf line)
-  unfolding contractOf behind comma
+  unfolding contractOf fieldsBehind comma
   first-size us e =
       let others = both-true (between 1 8 n) _ (sym (contract-then us) ∙ e) .1 in
       let here = both-true (eqb (getD line n 0) comma) _ others .0 in
@@ -335,7 +335,7 @@ module _ (line : List ℕ) where
   unfolding fieldCount
   count-line = four (isLine line) (isRecord line)
     where
-      four : (a b : Bool) → countOf a b ≡ 4 → a ≡ true
+      four : (a b : Bool) → fieldCountOf a b ≡ 4 → a ≡ true
       four true b e = refl
       four false true e = absurd (omega arith)
       four false false e = absurd (omega arith)
@@ -348,7 +348,7 @@ module _ (line : List ℕ) where
   unfolding fieldCount
   count-record = five (isLine line) (isRecord line)
     where
-      five : (a b : Bool) → countOf a b ≡ 5 → b ≡ true
+      five : (a b : Bool) → fieldCountOf a b ≡ 5 → b ≡ true
       five true b e = absurd (omega arith)
       five false true e = refl
       five false false e = absurd (omega arith)
@@ -356,14 +356,14 @@ module _ (line : List ℕ) where
   record-count : isRecord line ≡ true → fieldCount line ≡ 5
   unfolding fieldCount
   record-count e =
-      test-cases (λ t. isLine line ≡ t → countOf t (isRecord line) ≡ 5) (isLine line)
-      (λ is _. absurd (false≢true (sym (not-both line is) ∙ e))) (λ _ _. ap (countOf false) e) refl
+      test-cases (λ t. isLine line ≡ t → fieldCountOf t (isRecord line) ≡ 5) (isLine line)
+      (λ is _. absurd (false≢true (sym (not-both line is) ∙ e))) (λ _ _. ap (fieldCountOf false) e) refl
 
   pub count-form : not (eqb (fieldCount line) 0) ≡ hasForm line
   unfolding fieldCount hasForm
   count-form = some (isLine line) (isRecord line)
     where
-      some : (a b : Bool) → not (eqb (countOf a b) 0) ≡ (a || b)
+      some : (a b : Bool) → not (eqb (fieldCountOf a b) 0) ≡ (a || b)
       some true b = refl
       some false true = refl
       some false false = refl

@@ -8,7 +8,7 @@ ghost use lib.Dec.{eqb};
 ghost use lib.ListN.{length, getD};
 ghost use Rattle.cards.specs.Bytes.{isDigit, isLetter, isNameByte};
 ghost use Rattle.register.specs.Line.{isCurrency, isGrain, isTonnes, isPrice};
-ghost use Rattle.register_lines.specs.Fields.{Run, behind, counted, ended, fieldCount, isOf};
+ghost use Rattle.register_lines.specs.Fields.{RunOfBytes, fieldsBehind, fieldsCounted, fieldsEnded, fieldCount, isOf};
 ghost use Rattle.register_lines.specs.FieldLaws.{numberRun};
 use register::CURRENCY;
 use register::FIELDS;
@@ -55,7 +55,7 @@ fn is_of(class: Class, b: u8) -> bool
 // how many bytes of a class stand at a place
 fn run(line: &[u8], at: usize, class: Class) -> usize
     requires { ⌜ at ≤ length (now line) ⌝ }
-    ensures { λ r. ⌜ Run (isOf class) (now (line .entry)) at r ⌝ }
+    ensures { λ r. ⌜ RunOfBytes (isOf class) (now (line .entry)) at r ⌝ }
 {
     let mut i = at;
     while i < line.len() {
@@ -99,7 +99,7 @@ pub fn is_currency(v: &[u8]) -> bool
 
 // a comma at a place, and behind it a currency, with which the line ends
 fn currency_on(line: &[u8], at: usize) -> bool
-    ensures { λ r. ⌜ r ≡ behind (isCurrency ∷ []) (now (line .entry)) at ⌝ }
+    ensures { λ r. ⌜ r ≡ fieldsBehind (isCurrency ∷ []) (now (line .entry)) at ⌝ }
 {
     if !has_comma(line, at) {
         return false;
@@ -109,7 +109,7 @@ fn currency_on(line: &[u8], at: usize) -> bool
 
 // how many fields a line has whose price ends at a place: 4 where the line ends there, 5 where a comma and a currency end it, otherwise 0
 fn ending_on(line: &[u8], at: usize) -> usize
-    ensures { λ r. ⌜ r ≡ ended (now (line .entry)) at ⌝ }
+    ensures { λ r. ⌜ r ≡ fieldsEnded (now (line .entry)) at ⌝ }
 {
     if at == line.len() {
         return OLD_FIELDS;
@@ -122,7 +122,7 @@ fn ending_on(line: &[u8], at: usize) -> usize
 
 // a comma at a place, and behind it the price and what follows: how many fields the line then has, or 0
 fn price_on(line: &[u8], at: usize) -> usize
-    ensures { λ r. ⌜ r ≡ counted (isPrice ∷ []) (now (line .entry)) at ⌝ }
+    ensures { λ r. ⌜ r ≡ fieldsCounted (isPrice ∷ []) (now (line .entry)) at ⌝ }
 {
     if !has_comma(line, at) {
         return 0;
@@ -137,7 +137,7 @@ fn price_on(line: &[u8], at: usize) -> usize
 
 // likewise the tonnes and what follows
 fn tonnes_on(line: &[u8], at: usize) -> usize
-    ensures { λ r. ⌜ r ≡ counted (isTonnes ∷ isPrice ∷ []) (now (line .entry)) at ⌝ }
+    ensures { λ r. ⌜ r ≡ fieldsCounted (isTonnes ∷ isPrice ∷ []) (now (line .entry)) at ⌝ }
 {
     if !has_comma(line, at) {
         return 0;
@@ -152,7 +152,7 @@ fn tonnes_on(line: &[u8], at: usize) -> usize
 
 // likewise the grain and what follows
 fn grain_on(line: &[u8], at: usize) -> usize
-    ensures { λ r. ⌜ r ≡ counted (isGrain ∷ isTonnes ∷ isPrice ∷ []) (now (line .entry)) at ⌝ }
+    ensures { λ r. ⌜ r ≡ fieldsCounted (isGrain ∷ isTonnes ∷ isPrice ∷ []) (now (line .entry)) at ⌝ }
 {
     if !has_comma(line, at) {
         return 0;
@@ -167,14 +167,14 @@ fn grain_on(line: &[u8], at: usize) -> usize
 
 // how many letters and digits a line begins with: of a line that has its form, those of its contract
 pub fn contract_length(line: &[u8]) -> usize
-    ensures { λ r. ⌜ Run isNameByte (now (line .entry)) 0 r ⌝ }
+    ensures { λ r. ⌜ RunOfBytes isNameByte (now (line .entry)) 0 r ⌝ }
 {
     run(line, 0, Class::Names)
 }
 
 // how many fields a line has that begins with so many letters and digits: 4, or 5 with a currency, or 0 where it has no good form
 pub fn field_count(line: &[u8], contract: usize) -> usize
-    requires { ⌜ Run isNameByte (now line) 0 contract ⌝ }
+    requires { ⌜ RunOfBytes isNameByte (now line) 0 contract ⌝ }
     ensures { λ r. ⌜ r ≡ fieldCount (now (line .entry)) ⌝ }
 {
     if (contract < 1) | (CONTRACT < contract) {

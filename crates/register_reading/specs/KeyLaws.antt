@@ -14,12 +14,12 @@ use Rattle.base.specs.Lists.{all, among, any, same}
 use Rattle.base.specs.ListLaws.{same-true, same-iff}
 use Rattle.cards.specs.ByteLaws.{within}
 use Rattle.cards.specs.Cards.{withoutBlanks}
-use Rattle.packer.specs.Keys.{keyOf, isKeyByte}
-use Rattle.packer.specs.KeyLaws.{name-bytes, name-whole}
+use Rattle.card_reader.specs.Keys.{keyOf, isKeyByte}
+use Rattle.card_reader.specs.KeyLaws.{name-bytes, name-whole}
 use Rattle.register.specs.Line.{contractOf, hasForm}
 use Rattle.register.specs.LineLaws.{contract-form, contract-front}
-use Rattle.register.specs.Register.{Lines, holds}
-use Rattle.register_reading.specs.Reading.{keyIn, keysOf, markCount, Marked, Noted}
+use Rattle.register.specs.Register.{Lines, isHeld}
+use Rattle.register_reading.specs.Reading.{keyIn, keysOf, markCount, Marked, KeyNoted}
 
 among-append : (x : ℕ) (xs ys : List ℕ) → among x (xs ++ ys) ≡ (among x xs || among x ys)
 unfolding among
@@ -87,8 +87,8 @@ contract-key line other e f =
     (λ s. eq-eqb (keyIn line) (keyIn other) (sym (ap keyOf (same-true (contractOf other) (contractOf line) s))))
 
 pub keys-hold : (held : Lines) (line : List ℕ) → all hasForm held ≡ true → hasForm line ≡ true
-    → among (keyIn line) (keysOf held) ≡ holds held (contractOf line)
-unfolding among holds any all
+    → among (keyIn line) (keysOf held) ≡ isHeld held (contractOf line)
+unfolding among isHeld any all
 keys-hold [] line a e = refl
 keys-hold (l ∷ held) line a e =
     let parts = both-true (hasForm l) (all hasForm held) a in
@@ -152,9 +152,9 @@ module _ (keys marks : List ℕ) (k key : ℕ) (m : Marked keys marks k) (h : k 
             (λ e. mark-last j (eqb-true j k e)) (λ e. mark-earlier j l (eqb-false j k e));
       }
 
-  pub noted : among key (take k keys) ≡ false → Noted keys k key true (set keys k key) (set marks (key % markCount) 1)
+  pub noted : among key (take k keys) ≡ false → KeyNoted keys k key true (set keys k key) (set marks (key % markCount) 1)
   noted e = record { new = ap not (sym e); kept = λ _. refl; marked = λ _. marked-more }
 
-pub declined : (keys : List ℕ) (k key : ℕ) (keys′ marks′ : List ℕ) → among key (take k keys) ≡ true → Noted keys k key false keys′ marks′
+pub declined : (keys : List ℕ) (k key : ℕ) (keys′ marks′ : List ℕ) → among key (take k keys) ≡ true → KeyNoted keys k key false keys′ marks′
 declined keys k key keys′ marks′ e =
     record { new = ap not (sym e); kept = λ f. absurd (false≢true f); marked = λ f. absurd (false≢true f) }

@@ -11,14 +11,14 @@ use borrow.Author.Tests.{le-leb, lt-leb}
 use Rattle.base.specs.Choice.{both-pass, both-true, test-cases}
 use Rattle.base.specs.ListLaws.{all-append, all-drop, all-inside, all-take, stretch-cut, stretch-front}
 use Rattle.base.specs.Lists.{all, isNil}
-use Rattle.register.specs.Buffer.{headerSize, bufferKeeps, cellKeeps, headerIn, isZero, keepsRules, linesIn, registerIn, registerSize, slotSize}
+use Rattle.register.specs.Buffer.{headerSize, bufferKeeps, slotCellKeeps, headerIn, isZero, registerKeepsRules, linesIn, registerIn, registerSize, slotSize}
 use Rattle.register.specs.Buffer.{slotsIn, slotsKeep, textIn}
 use Rattle.register.specs.BufferLaws.{cell-form, cell-zeros, house-cases, house-size, kept, read-sound, sound-size, text-front, text-read}
 use Rattle.register.specs.CallLaws.{open-broken, open-keeps}
 use Rattle.register.specs.Calls.{bufferOpen}
 use Rattle.register.specs.Line.{hasForm, isCurrency, isLine, isRecord}
 use Rattle.register.specs.LineLaws.{currency-size, currency-text}
-use Rattle.register.specs.Register.{Lines, differ, formOf, isHouse, isOpen, lineAt, mostLines}
+use Rattle.register.specs.Register.{Lines, differ, heldForm, isHouse, isOpen, lineAt, mostLines}
 use Rattle.register.specs.RegisterLaws.{all-forms, currency-some, form-has, home-currency}
 use Rattle.register_lines.specs.FieldLaws.{five-fields, four-fields}
 use Rattle.register_lines.specs.Fields.{fieldCount}
@@ -26,7 +26,7 @@ use Rattle.register_reading.specs.declared.Held.{Held}
 use Rattle.register_reading.specs.declared.Held.the-variants.{Count, Bad}
 use Rattle.register_reading.specs.declared.State.{State}
 use Rattle.register_reading.specs.declared.State.the-variants.{Opened, Old, Broken}
-use Rattle.register_reading.specs.Reading.{Finds, Found, Placed, Read, Reads, Ready, Stands, Trimmed, Unopened}
+use Rattle.register_reading.specs.Reading.{SlotsFound, SlotsHold, Placed, RegisterRead, RegisterReads, RegisterReady, LineStands, Trimmed, Unopened}
 use Rattle.register_reading.specs.Reading.{fieldsOf, hasFields, headerFields, slotAt, slotsHold}
 use Rattle.register_reading.specs.SlotLaws.{trim-line}
 
@@ -38,14 +38,14 @@ later k m l h a =
 
 -- The header: by its first three bytes and those behind them.
 module _ (header : List ℕ) (size : length header ≡ headerSize) where
-  fields-by : (t : Bool) → cellKeeps isHouse header ≡ t → headerFields header ≡ cond t (fieldsOf (textIn header)) 0
+  fields-by : (t : Bool) → slotCellKeeps isHouse header ≡ t → headerFields header ≡ cond t (fieldsOf (textIn header)) 0
   unfolding headerFields
   fields-by t e = rw e
 
   -- a header that can't keep its rule
-  broken : (cellKeeps isHouse header ≡ true → ⊥) → 0 ≡ headerFields header
+  broken : (slotCellKeeps isHouse header ≡ true → ⊥) → 0 ≡ headerFields header
   broken n =
-      test-cases (λ t. cellKeeps isHouse header ≡ t → 0 ≡ headerFields header) (cellKeeps isHouse header)
+      test-cases (λ t. slotCellKeeps isHouse header ≡ t → 0 ≡ headerFields header) (slotCellKeeps isHouse header)
       (λ e _. absurd (n e)) (λ e _. sym (fields-by false e)) refl
 
   whole : take 3 header ++ drop 3 header ≡ header
@@ -62,19 +62,19 @@ module _ (header : List ℕ) (size : length header ≡ headerSize) where
 
   module _ (behind : all isZero (drop 3 header) ≡ true) where
     pub header-old : all isZero (take 3 header) ≡ true → 4 ≡ headerFields header
-    unfolding cellKeeps isHouse isNil fieldsOf all
+    unfolding slotCellKeeps isHouse isNil fieldsOf all
     header-old e =
         let zeros : all isZero header ≡ true = ap (all isZero) (sym whole) ∙ all-append isZero (take 3 header) (drop 3 header) e behind in
         let none : textIn header ≡ [] = text-read [] header refl zeros in
-        let keeps : cellKeeps isHouse header ≡ true = rw none zeros in
+        let keeps : slotCellKeeps isHouse header ≡ true = rw none zeros in
         sym (fields-by true keeps ∙ ap fieldsOf none)
 
     pub header-open : isCurrency (take 3 header) ≡ true → 5 ≡ headerFields header
-    unfolding cellKeeps fieldsOf
+    unfolding slotCellKeeps fieldsOf
     header-open is =
         let house : textIn header ≡ take 3 header =
         ap textIn (sym whole) ∙ text-read (take 3 header) (drop 3 header) (currency-text (take 3 header) is) behind in
-        let keeps : cellKeeps isHouse header ≡ true =
+        let keeps : slotCellKeeps isHouse header ≡ true =
         both-pass (ap isHouse house ∙ home-currency (take 3 header) is)
         (ap (λ k. all isZero (drop k header)) (ap length house ∙ front) ∙ behind) in
         sym (fields-by true keeps ∙ ap fieldsOf house ∙ rw (currency-some (take 3 header) is))
@@ -93,16 +93,16 @@ module _ (header : List ℕ) (size : length header ≡ headerSize) where
 
 -- a header that tells a number of fields keeps its rule
 pub header-keeps : (header : List ℕ) → ¬ (headerFields header ≡ 0)
-    → (cellKeeps isHouse header ≡ true) × (headerFields header ≡ fieldsOf (textIn header))
+    → (slotCellKeeps isHouse header ≡ true) × (headerFields header ≡ fieldsOf (textIn header))
 unfolding headerFields
 header-keeps header n =
     test-cases (λ t. ¬ (cond t (fieldsOf (textIn header)) 0 ≡ 0) → (t ≡ true) × (cond t (fieldsOf (textIn header)) 0 ≡ fieldsOf (textIn header)))
-    (cellKeeps isHouse header) (λ _ _. (refl, refl)) (λ _ no. absurd (no refl)) n
+    (slotCellKeeps isHouse header) (λ _ _. (refl, refl)) (λ _ no. absurd (no refl)) n
 
-header-lacks : (header : List ℕ) → headerFields header ≡ 0 → cellKeeps isHouse header ≡ false
+header-lacks : (header : List ℕ) → headerFields header ≡ 0 → slotCellKeeps isHouse header ≡ false
 unfolding headerFields fieldsOf
 header-lacks header z =
-    test-cases (λ t. cond t (fieldsOf (textIn header)) 0 ≡ 0 → t ≡ false) (cellKeeps isHouse header)
+    test-cases (λ t. cond t (fieldsOf (textIn header)) 0 ≡ 0 → t ≡ false) (slotCellKeeps isHouse header)
     (λ _ e. absurd (some (isNil (textIn header)) e)) (λ _ _. refl) z
   where
     some : (t : Bool) → ¬ (_≡_ {A = ℕ} (cond t 4 5) 0)
@@ -110,25 +110,25 @@ header-lacks header z =
     some false e = omega arith
 
 -- the number of fields tells the form
-form-fields : (house : List ℕ) → hasFields (fieldsOf house) ≡ formOf house
-unfolding hasFields fieldsOf formOf
+form-fields : (house : List ℕ) → hasFields (fieldsOf house) ≡ heldForm house
+unfolding hasFields fieldsOf heldForm
 form-fields house =
     test-cases (λ t. _≡_ {A = List ℕ → Bool} (λ line. eqb (fieldCount line) (cond t 4 5)) (λ line. cond t (isLine line) (isRecord line)))
     (isNil house)
     (λ _ i line. four-fields line i) (λ _ i line. five-fields line i)
 
 -- Reading: a buffer that is too small, one whose header breaks its rule, and one that is judged by its slots
-read-broken : (buffer keys : List ℕ) → length keys ≡ mostLines → bufferKeeps buffer ≡ false → Read buffer keys Broken
-unfolding Reads
+read-broken : (buffer keys : List ℕ) → length keys ≡ mostLines → bufferKeeps buffer ≡ false → RegisterRead buffer keys Broken
+unfolding RegisterReads
 read-broken buffer keys size e = record { finds = e; size = size }
 
 module _ (buffer keys : List ℕ) (size : length keys ≡ mostLines) where
-  pub buffer-small : length buffer < registerSize → Read buffer keys Broken
+  pub buffer-small : length buffer < registerSize → RegisterRead buffer keys Broken
   unfolding bufferKeeps
-  buffer-small h = read-broken buffer keys size (ap (λ b. b && keepsRules buffer) (lt-leb registerSize (length buffer) h))
+  buffer-small h = read-broken buffer keys size (ap (λ b. b && registerKeepsRules buffer) (lt-leb registerSize (length buffer) h))
 
-  pub header-bad : registerSize ≤ length buffer → headerFields (headerIn buffer) ≡ 0 → Read buffer keys Broken
-  unfolding bufferKeeps keepsRules
+  pub header-bad : registerSize ≤ length buffer → headerFields (headerIn buffer) ≡ 0 → RegisterRead buffer keys Broken
+  unfolding bufferKeeps registerKeepsRules
   header-bad h e = read-broken buffer keys size (rw (le-leb registerSize (length buffer) h, header-lacks (headerIn buffer) e))
 
 module _ (buffer : List ℕ) (fields : ℕ) (h : registerSize ≤ length buffer) (is : fields ≡ headerFields (headerIn buffer))
@@ -137,7 +137,7 @@ module _ (buffer : List ℕ) (fields : ℕ) (h : registerSize ≤ length buffer)
   fields-are = is ∙ header-keeps (headerIn buffer) (λ z. some (is ∙ z)) .1
 
   judged : bufferKeeps buffer ≡ slotsHold fields (slotsIn buffer)
-  unfolding bufferKeeps keepsRules registerIn slotsHold
+  unfolding bufferKeeps registerKeepsRules registerIn slotsHold
   judged =
       rw (le-leb registerSize (length buffer) h, header-keeps (headerIn buffer) (λ z. some (is ∙ z)) .0)
       (ap (λ f. slotsKeep f mostLines (slotsIn buffer) && differ (linesIn mostLines (slotsIn buffer)))
@@ -166,19 +166,19 @@ module _ (buffer : List ℕ) (fields : ℕ) (h : registerSize ≤ length buffer)
       either true e = e
       either false e = absurd (n e)
 
-  module _ (keys : List ℕ) (r : Held) (found : Found (slotsHold fields (slotsIn buffer)) (linesIn mostLines (slotsIn buffer)) keys r) where
-    pub read-refused : r ≡ Bad → Read buffer keys Broken
-    unfolding Finds
+  module _ (keys : List ℕ) (r : Held) (found : SlotsHold (slotsHold fields (slotsIn buffer)) (linesIn mostLines (slotsIn buffer)) keys r) where
+    pub read-refused : r ≡ Bad → RegisterRead buffer keys Broken
+    unfolding SlotsFound
     read-refused bad =
         read-broken buffer keys (found .size)
-        (judged ∙ subst (Finds (slotsHold fields (slotsIn buffer)) (linesIn mostLines (slotsIn buffer)) keys) bad (found .finds))
+        (judged ∙ subst (SlotsFound (slotsHold fields (slotsIn buffer)) (linesIn mostLines (slotsIn buffer)) keys) bad (found .finds))
 
     module _ (n : ℕ) (count : r ≡ Count n) where
-      finds : Finds (slotsHold fields (slotsIn buffer)) (linesIn mostLines (slotsIn buffer)) keys (Count n)
-      finds = subst (Finds (slotsHold fields (slotsIn buffer)) (linesIn mostLines (slotsIn buffer)) keys) count (found .finds)
+      finds : SlotsFound (slotsHold fields (slotsIn buffer)) (linesIn mostLines (slotsIn buffer)) keys (Count n)
+      finds = subst (SlotsFound (slotsHold fields (slotsIn buffer)) (linesIn mostLines (slotsIn buffer)) keys) count (found .finds)
 
-      pub read-opened : fields ≡ 5 → Read buffer keys (Opened n)
-      unfolding Finds Reads registerIn
+      pub read-opened : fields ≡ 5 → RegisterRead buffer keys (Opened n)
+      unfolding SlotsFound RegisterReads registerIn
       read-opened five =
           record {
             finds =
@@ -189,8 +189,8 @@ module _ (buffer : List ℕ) (fields : ℕ) (h : registerSize ≤ length buffer)
             size = found .size;
           }
 
-      pub read-old : ¬ (fields ≡ 5) → Read buffer keys (Old n)
-      unfolding Finds Reads registerIn
+      pub read-old : ¬ (fields ≡ 5) → RegisterRead buffer keys (Old n)
+      unfolding SlotsFound RegisterReads registerIn
       read-old n5 =
           record {
             finds = record { keeps = judged ∙ finds .0; is-old = open-is true (sym (not-five n5)); count = finds .1 };
@@ -198,18 +198,18 @@ module _ (buffer : List ℕ) (fields : ℕ) (h : registerSize ≤ length buffer)
           }
 
 -- What was read, by the state that came back.
-module _ (buffer keys : List ℕ) (r : State) (read : Read buffer keys r) where
+module _ (buffer keys : List ℕ) (r : State) (read : RegisterRead buffer keys r) where
   pub is-broken : r ≡ Broken → bufferKeeps buffer ≡ false
-  unfolding Reads
-  is-broken e = subst (Reads buffer keys) e (read .finds)
+  unfolding RegisterReads
+  is-broken e = subst (RegisterReads buffer keys) e (read .finds)
 
   pub is-old : (n : ℕ) → r ≡ Old n → Unopened buffer n
-  unfolding Reads
-  is-old n e = subst (Reads buffer keys) e (read .finds)
+  unfolding RegisterReads
+  is-old n e = subst (RegisterReads buffer keys) e (read .finds)
 
-  pub is-opened : (n : ℕ) → r ≡ Opened n → Ready buffer n keys
-  unfolding Reads
-  is-opened n e = subst (Reads buffer keys) e (read .finds)
+  pub is-opened : (n : ℕ) → r ≡ Opened n → RegisterReady buffer n keys
+  unfolding RegisterReads
+  is-opened n e = subst (RegisterReads buffer keys) e (read .finds)
 
   -- W10.6 the buffers that every call but opening turns down
   pub broken-refused : r ≡ Broken → bufferOpen buffer ≡ false
@@ -221,7 +221,7 @@ module _ (buffer keys : List ℕ) (r : State) (read : Read buffer keys r) where
 -- The line of a place stands in its slot, which keeps its rule
 record SlotHolds (form : List ℕ → Bool) (slot line : List ℕ) : Type 0 where
   is : textIn slot ≡ line
-  keeps : cellKeeps form slot ≡ true
+  keeps : slotCellKeeps form slot ≡ true
 
 abbrev slotOn : (slots : List ℕ) (k : ℕ) → List ℕ
 slotOn slots k = take slotSize (drop (slotSize * k) slots)
@@ -234,17 +234,17 @@ slots-at form (suc n) slots k e h =
     test-cases
     (λ t.
     (let lines = elim t as (λ _. Lines) [ true ↦ [] | false ↦ textIn (take slotSize slots) ∷ linesIn n (drop slotSize slots) ] in
-    elim t as (λ _. Bool) [ true ↦ all isZero slots | false ↦ cellKeeps form (take slotSize slots) && slotsKeep form n (drop slotSize slots) ] ≡ true
+    elim t as (λ _. Bool) [ true ↦ all isZero slots | false ↦ slotCellKeeps form (take slotSize slots) && slotsKeep form n (drop slotSize slots) ] ≡ true
     → k < length lines → SlotHolds form (slotOn slots k) (getD lines k [])))
     (isZero (getD slots 0 0)) (λ _ _ none. absurd (omega arith))
-    (λ _ keep. let parts = both-true (cellKeeps form (take slotSize slots)) (slotsKeep form n (drop slotSize slots)) keep in
+    (λ _ keep. let parts = both-true (slotCellKeeps form (take slotSize slots)) (slotsKeep form n (drop slotSize slots)) keep in
     placed k (parts .0) (λ j. slots-at form n (drop slotSize slots) j (parts .1)))
     e h
   where
     rest : Lines
     rest = linesIn n (drop slotSize slots)
 
-    placed : (k : ℕ) → cellKeeps form (take slotSize slots) ≡ true
+    placed : (k : ℕ) → slotCellKeeps form (take slotSize slots) ≡ true
         → ((j : ℕ) → j < length rest → SlotHolds form (slotOn (drop slotSize slots) j) (getD rest j []))
         → k < suc (length rest)
         → SlotHolds form (slotOn slots k) (getD (textIn (take slotSize slots) ∷ rest) k [])
@@ -268,7 +268,7 @@ module _ (buffer : List ℕ) (place : ℕ) (p : Placed buffer place) where
       omega (arith, p .inside)
 
   abbrev form : List ℕ → Bool
-  form = formOf (textIn (headerIn buffer))
+  form = heldForm (textIn (headerIn buffer))
 
   here : SlotHolds form slot (lineAt (registerIn buffer .lines) place)
   unfolding lineAt registerIn
@@ -284,7 +284,7 @@ module _ (buffer : List ℕ) (place : ℕ) (p : Placed buffer place) where
     trims : Trimmed slot n
     trims = subst (λ s. Trimmed s n) (stretch-cut buffer at slotSize) t
 
-    pub line-stands : Stands buffer place (at + n)
+    pub line-stands : LineStands buffer place (at + n)
     line-stands =
         let size = length-take-le slotSize (drop at buffer) (omega (arith, slot-room, length-drop at buffer)) in
         let short : n ≤ slotSize = omega (arith, trims .inside, size) in
@@ -303,7 +303,7 @@ module _ (buffer : List ℕ) (place : ℕ) (p : Placed buffer place) where
   here-form =
       all-inside hasForm (registerIn buffer .lines) [] (all-forms (registerIn buffer) (read-sound buffer (p .keeps))) place (p .inside)
 
-  pub here-size : (end : ℕ) → Stands buffer place end → end - at ≡ length (lineAt (registerIn buffer .lines) place)
+  pub here-size : (end : ℕ) → LineStands buffer place end → end - at ≡ length (lineAt (registerIn buffer .lines) place)
   here-size end s =
       let from = s .from in
       let inside = s .inside in

@@ -6,8 +6,8 @@ use Prim.Native.Nat.{ℕ, _+_, _*_, _-_, _%_, _≤_, _<_}
 use lib.Dec.{eqb}
 use lib.ListN.{length, take, drop, getD, set}
 use Rattle.base.specs.Lists.{all, among, isNil}
-use Rattle.packer.specs.Keys.{keyOf}
-use Rattle.register.specs.Buffer.{isZero, headerSize, slotSize, textIn, linesIn, registerIn, cellKeeps, slotsKeep, bufferKeeps}
+use Rattle.card_reader.specs.Keys.{keyOf}
+use Rattle.register.specs.Buffer.{isZero, headerSize, slotSize, textIn, linesIn, registerIn, slotCellKeeps, slotsKeep, bufferKeeps}
 use Rattle.register.specs.Line.{contractOf}
 use Rattle.register.specs.Register.{Lines, mostLines, differ, isHouse, isOpen, lineAt}
 use Rattle.register_lines.specs.Fields.{fieldCount}
@@ -35,7 +35,7 @@ hasFields fields line = eqb (fieldCount line) fields
 
 -- the key of the line in a slot, which should have so many fields; 0 where the slot breaks its rule
 unfoldable pub slotKey : (fields : ℕ) (slot : List ℕ) → ℕ
-slotKey fields slot = cond (cellKeeps (hasFields fields) slot) (keyIn (textIn slot)) 0
+slotKey fields slot = cond (slotCellKeeps (hasFields fields) slot) (keyIn (textIn slot)) 0
 
 -- how many marks there are; a key is marked at its place among them
 abbrev pub markCount : ℕ
@@ -48,7 +48,7 @@ pub record Marked (keys marks : List ℕ) (k : ℕ) : Type 0 where
   pub each : (j : ℕ) → j < k → ¬ (getD marks (getD keys j 0 % markCount) 0 ≡ 0)
 
 -- a key noted behind k others, unless it is one of them
-pub record Noted (keys : List ℕ) (k key : ℕ) (r : Bool) (keys′ marks′ : List ℕ) : Type 0 where
+pub record KeyNoted (keys : List ℕ) (k key : ℕ) (r : Bool) (keys′ marks′ : List ℕ) : Type 0 where
   pub new : r ≡ not (among key (take k keys))
   pub kept : r ≡ true → keys′ ≡ set keys k key
   pub marked : r ≡ true → Marked keys′ marks′ (k + 1)
@@ -58,12 +58,12 @@ unfoldable pub slotsHold : (fields : ℕ) (slots : List ℕ) → Bool
 slotsHold fields slots = slotsKeep (hasFields fields) mostLines slots && differ (linesIn mostLines slots)
 
 -- what was found, of slots that keep the rules or not: how many lines, with their keys
-unfoldable pub Finds : (keeps : Bool) → Lines → (keys : List ℕ) → Held → Type 0
-Finds keeps held keys (Count n) = (keeps ≡ true) × (n ≡ length held) × (take n keys ≡ keysOf held)
-Finds keeps held keys Bad = keeps ≡ false
+unfoldable pub SlotsFound : (keeps : Bool) → Lines → (keys : List ℕ) → Held → Type 0
+SlotsFound keeps held keys (Count n) = (keeps ≡ true) × (n ≡ length held) × (take n keys ≡ keysOf held)
+SlotsFound keeps held keys Bad = keeps ≡ false
 
-pub record Found (keeps : Bool) (held : Lines) (keys : List ℕ) (r : Held) : Type 0 where
-  pub finds : Finds keeps held keys r
+pub record SlotsHold (keeps : Bool) (held : Lines) (keys : List ℕ) (r : Held) : Type 0 where
+  pub finds : SlotsFound keeps held keys r
   pub size : length keys ≡ mostLines
 
 -- how many fields lines have in a register with this house currency; and under this header, 0 where it breaks its rule
@@ -71,16 +71,16 @@ unfoldable pub fieldsOf : (house : List ℕ) → ℕ
 fieldsOf house = cond (isNil house) 4 5
 
 unfoldable pub headerFields : (header : List ℕ) → ℕ
-headerFields header = cond (cellKeeps isHouse header) (fieldsOf (textIn header)) 0
+headerFields header = cond (slotCellKeeps isHouse header) (fieldsOf (textIn header)) 0
 
 -- a register with so many lines: one that is opened, also with their keys; and one that isn't
-pub record Counted (buffer : List ℕ) (n : ℕ) : Type 0 where
+pub record LinesCounted (buffer : List ℕ) (n : ℕ) : Type 0 where
   pub keeps : bufferKeeps buffer ≡ true
   pub is-open : isOpen (registerIn buffer) ≡ true
   pub count : n ≡ length (registerIn buffer .lines)
 
-pub record Ready (buffer : List ℕ) (n : ℕ) (keys : List ℕ) : Type 0 where
-  pub counted : Counted buffer n
+pub record RegisterReady (buffer : List ℕ) (n : ℕ) (keys : List ℕ) : Type 0 where
+  pub counted : LinesCounted buffer n
   pub keyed : take n keys ≡ keysOf (registerIn buffer .lines)
 
 pub record Unopened (buffer : List ℕ) (n : ℕ) : Type 0 where
@@ -89,13 +89,13 @@ pub record Unopened (buffer : List ℕ) (n : ℕ) : Type 0 where
   pub count : n ≡ length (registerIn buffer .lines)
 
 -- what was read
-unfoldable pub Reads : (buffer keys : List ℕ) → State → Type 0
-Reads buffer keys (Opened n) = Ready buffer n keys
-Reads buffer keys (Old n) = Unopened buffer n
-Reads buffer keys Broken = bufferKeeps buffer ≡ false
+unfoldable pub RegisterReads : (buffer keys : List ℕ) → State → Type 0
+RegisterReads buffer keys (Opened n) = RegisterReady buffer n keys
+RegisterReads buffer keys (Old n) = Unopened buffer n
+RegisterReads buffer keys Broken = bufferKeeps buffer ≡ false
 
-pub record Read (buffer keys : List ℕ) (r : State) : Type 0 where
-  pub finds : Reads buffer keys r
+pub record RegisterRead (buffer keys : List ℕ) (r : State) : Type 0 where
+  pub finds : RegisterReads buffer keys r
   pub size : length keys ≡ mostLines
 
 -- a buffer with a register that has a line at a place
@@ -107,7 +107,7 @@ pub record Placed (buffer : List ℕ) (place : ℕ) : Type 0 where
 abbrev pub slotAt : (place : ℕ) → ℕ
 slotAt place = headerSize + slotSize * place
 
-pub record Stands (buffer : List ℕ) (place end : ℕ) : Type 0 where
+pub record LineStands (buffer : List ℕ) (place end : ℕ) : Type 0 where
   pub from : slotAt place ≤ end
   pub inside : end ≤ length buffer
   pub bytes : take (end - slotAt place) (drop (slotAt place) buffer) ≡ lineAt (registerIn buffer .lines) place

@@ -15,25 +15,25 @@ use Rattle.base.specs.ListLaws.{all-append, all-end, all-inside, all-next, stre
 use Rattle.base.specs.Lists.{all, among}
 use Rattle.cards.specs.Bytes.{isNameByte}
 use Rattle.cards.specs.Cards.{withoutBlanks}
-use Rattle.packer.specs.Keys.{keyOf}
-use Rattle.register.specs.Buffer.{isZero, slotSize, textIn, linesIn, cellKeeps, slotsKeep}
+use Rattle.card_reader.specs.Keys.{keyOf}
+use Rattle.register.specs.Buffer.{isZero, slotSize, textIn, linesIn, slotCellKeeps, slotsKeep}
 use Rattle.register.specs.BufferLaws.{cell-form, cell-zeros, text-front, text-read}
 use Rattle.register.specs.Line.{contractOf, hasForm}
 use Rattle.register.specs.LineLaws.{isText, line-size, line-text}
-use Rattle.register.specs.Register.{Lines, mostLines, differ, holds}
+use Rattle.register.specs.Register.{Lines, mostLines, differ, isHeld}
 use Rattle.register.specs.RegisterLaws.{differ-more, differ-split}
 use Rattle.register_lines.specs.FieldLaws.{contract-size, count-form}
-use Rattle.register_lines.specs.Fields.{Run, fieldCount}
+use Rattle.register_lines.specs.Fields.{RunOfBytes, fieldCount}
 use Rattle.register_reading.specs.declared.Held.{Held}
 use Rattle.register_reading.specs.declared.Held.the-variants.{Count, Bad}
 use Rattle.register_reading.specs.KeyLaws.{key-read, key-some, keys-hold, none-marked}
 use Rattle.register_reading.specs.Reading.{
   EndFinds,
   EndFound,
-  Finds,
-  Found,
+  SlotsFound,
+  SlotsHold,
   Marked,
-  Noted,
+  KeyNoted,
   Trimmed,
   hasFields,
   keyIn,
@@ -75,7 +75,7 @@ last-some line rest form =
     ∙ not-true (isZero (getD line (length line - 1) 0)) (all-inside isText line 0 (line-text line form) (length line - 1) (omega arith))
 
 -- Slots read up to slot k: the lines so far, with their keys, all marked; what is left to read, and to judge.
-pub record ReadTo (fields : ℕ) (slots keys marks : List ℕ) (k : ℕ) : Type 0 where
+pub record SlotsReadTo (fields : ℕ) (slots keys marks : List ℕ) (k : ℕ) : Type 0 where
   pub done : Lines
   pub count : length done ≡ k
   pub lines : linesIn mostLines slots ≡ done ++ linesIn (mostLines - k) (drop (slotSize * k) slots)
@@ -89,7 +89,7 @@ pub record ReadTo (fields : ℕ) (slots keys marks : List ℕ) (k : ℕ) : Type 
 -- The text of a slot, for lines of a form, whichever it is.
 module _ (form : List ℕ → Bool) (has : (line : List ℕ) → form line ≡ true → hasForm line ≡ true) (slot : List ℕ) (n : ℕ) (t : Trimmed slot n) where
   -- of a slot that keeps its rule, the line is left
-  pub trim-size : cellKeeps form slot ≡ true → n ≡ length (textIn slot)
+  pub trim-size : slotCellKeeps form slot ≡ true → n ≡ length (textIn slot)
   trim-size e =
       let line = textIn slot in
       let m = length line in
@@ -101,7 +101,7 @@ module _ (form : List ℕ → Bool) (has : (line : List ℕ) → form line ≡ t
       let low : ¬ (m < n) = λ h. false≢true (sym (t .last (omega arith)) ∙ zero-behind slot m (n - 1) (cell-zeros form slot e) (omega arith)) in
       omega (arith, high, low)
 
-  pub trim-line : cellKeeps form slot ≡ true → take n slot ≡ textIn slot
+  pub trim-line : slotCellKeeps form slot ≡ true → take n slot ≡ textIn slot
   trim-line e =
       ap (take n) (sym (text-front slot)) ∙ take-at (textIn slot) (drop (length (textIn slot)) slot) n (sym (trim-size e))
 
@@ -111,8 +111,8 @@ module _ (form : List ℕ → Bool) (has : (line : List ℕ) → form line ≡ t
       ap textIn (sym (take-append-drop n slot))
       ∙ text-read (take n slot) (drop n slot) (line-text (take n slot) (has (take n slot) good)) (t .zeros)
 
-  form-keeps : form (take n slot) ≡ true → cellKeeps form slot ≡ true
-  unfolding cellKeeps
+  form-keeps : form (take n slot) ≡ true → slotCellKeeps form slot ≡ true
+  unfolding slotCellKeeps
   form-keeps good =
       let is = form-line good in
       let size : length (take n slot) ≡ n = length-take-le n slot (t .inside) in
@@ -124,12 +124,12 @@ zeros-behind l at bits e = ap (all isZero) (sym (stretch-end l at (length l - at
 
 -- what a reading finds
 found-lines : (keeps : Bool) (held : Lines) (keys : List ℕ) (n : ℕ) → length keys ≡ mostLines → keeps ≡ true → n ≡ length held
-    → take n keys ≡ keysOf held → Found keeps held keys (Count n)
-unfolding Finds
+    → take n keys ≡ keysOf held → SlotsHold keeps held keys (Count n)
+unfolding SlotsFound
 found-lines keeps held keys n size e count keyed = record { finds = (e, count, keyed); size = size }
 
-pub found-broken : (keeps : Bool) (held : Lines) (keys : List ℕ) → length keys ≡ mostLines → keeps ≡ false → Found keeps held keys Bad
-unfolding Finds
+pub found-broken : (keeps : Bool) (held : Lines) (keys : List ℕ) → length keys ≡ mostLines → keeps ≡ false → SlotsHold keeps held keys Bad
+unfolding SlotsFound
 found-broken keeps held keys size e = record { finds = e; size = size }
 
 -- what is found at slot k, where the lines end
@@ -156,13 +156,13 @@ module _ (fields : ℕ) (some-fields : 1 ≤ fields) where
       unfolding slotKey hasFields
       slot-formless other =
           let lacks : hasFields fields (take n slot) ≡ false = ne-eqb (fieldCount (take n slot)) fields (λ e. other (counted ∙ e)) in
-          test-cases (λ k. cellKeeps (hasFields fields) slot ≡ k → 0 ≡ cond k (keyIn (textIn slot)) 0) (cellKeeps (hasFields fields) slot)
+          test-cases (λ k. slotCellKeeps (hasFields fields) slot ≡ k → 0 ≡ cond k (keyIn (textIn slot)) 0) (slotCellKeeps (hasFields fields) slot)
           (λ keeps _.
           let line = trim-line (hasFields fields) fields-form slot n t keeps in
           absurd (false≢true (sym lacks ∙ ap (hasFields fields) line ∙ cell-form (hasFields fields) slot keeps)))
           (λ _ _. refl) refl
 
-      module _ (same : count ≡ fields) (contract : ℕ) (r : Run isNameByte (take n slot) 0 contract) where
+      module _ (same : count ≡ fields) (contract : ℕ) (r : RunOfBytes isNameByte (take n slot) 0 contract) where
         pub contract-within : contract ≤ n
         contract-within = omega (arith, r .inside, length-take-le n slot (t .inside))
 
@@ -178,22 +178,22 @@ module _ (fields : ℕ) (some-fields : 1 ≤ fields) where
 
   -- a slot with a key keeps its rule, one without breaks it
   pub key-holds : (slot : List ℕ) → ¬ (slotKey fields slot ≡ 0)
-      → (cellKeeps (hasFields fields) slot ≡ true) × (slotKey fields slot ≡ keyIn (textIn slot))
+      → (slotCellKeeps (hasFields fields) slot ≡ true) × (slotKey fields slot ≡ keyIn (textIn slot))
   unfolding slotKey
   key-holds slot n =
       test-cases (λ t. ¬ (cond t (keyIn (textIn slot)) 0 ≡ 0) → (t ≡ true) × (cond t (keyIn (textIn slot)) 0 ≡ keyIn (textIn slot)))
-      (cellKeeps (hasFields fields) slot)
+      (slotCellKeeps (hasFields fields) slot)
       (λ _ _. (refl, refl)) (λ _ no-key. absurd (no-key refl)) n
 
-  pub key-lacks : (slot : List ℕ) → slotKey fields slot ≡ 0 → cellKeeps (hasFields fields) slot ≡ false
-  unfolding slotKey cellKeeps
+  pub key-lacks : (slot : List ℕ) → slotKey fields slot ≡ 0 → slotCellKeeps (hasFields fields) slot ≡ false
+  unfolding slotKey slotCellKeeps
   key-lacks slot z =
-      test-cases (λ t. cellKeeps (hasFields fields) slot ≡ t → t ≡ false) (cellKeeps (hasFields fields) slot)
+      test-cases (λ t. slotCellKeeps (hasFields fields) slot ≡ t → t ≡ false) (slotCellKeeps (hasFields fields) slot)
       (λ e _. absurd (key-some (textIn slot) (fields-form (textIn slot) (cell-form (hasFields fields) slot e))
       (sym (ap (λ b. cond b (keyIn (textIn slot)) 0) e) ∙ z)))
       (λ _ _. refl) refl
 
-  pub read-none : (slots keys marks : List ℕ) → length keys ≡ mostLines → length marks ≡ markCount → ReadTo fields slots keys marks 0
+  pub read-none : (slots keys marks : List ℕ) → length keys ≡ mostLines → length marks ≡ markCount → SlotsReadTo fields slots keys marks 0
   unfolding all differ
   read-none slots keys marks size marked =
       record {
@@ -222,7 +222,7 @@ module _ (fields : ℕ) (some-fields : 1 ≤ fields) where
   lines-first n l z = rw (linesIn, z)
 
   keep-first : (n : ℕ) (l : List ℕ) → isZero (getD l 0 0) ≡ false
-      → slotsKeep (hasFields fields) (suc n) l ≡ (cellKeeps (hasFields fields) (take slotSize l) && slotsKeep (hasFields fields) n (drop slotSize l))
+      → slotsKeep (hasFields fields) (suc n) l ≡ (slotCellKeeps (hasFields fields) (take slotSize l) && slotsKeep (hasFields fields) n (drop slotSize l))
   unfolding slotsKeep
   keep-first n l z = rw (slotsKeep, z)
 
@@ -260,16 +260,16 @@ module _ (fields : ℕ) (some-fields : 1 ≤ fields) where
           ∙ ap (λ l. textIn (take slotSize here) ∷ linesIn (mostLines - (k + 1)) l) next-is
 
       keep-more : slotsKeep (hasFields fields) (mostLines - k) here ≡
-          (cellKeeps (hasFields fields) (take slotSize here) && slotsKeep (hasFields fields) (mostLines - (k + 1)) next)
+          (slotCellKeeps (hasFields fields) (take slotSize here) && slotsKeep (hasFields fields) (mostLines - (k + 1)) next)
       keep-more =
           ap (λ n. slotsKeep (hasFields fields) n here) left
           ∙ keep-first (mostLines - (k + 1)) here (ap isZero first-is ∙ z)
-          ∙ ap (λ l. cellKeeps (hasFields fields) (take slotSize here) && slotsKeep (hasFields fields) (mostLines - (k + 1)) l) next-is
+          ∙ ap (λ l. slotCellKeeps (hasFields fields) (take slotSize here) && slotsKeep (hasFields fields) (mostLines - (k + 1)) l) next-is
 
   -- The reading at slot k: it ends, breaks off or goes on.
-  module _ (slots keys marks : List ℕ) (k : ℕ) (r : ReadTo fields slots keys marks k) where
+  module _ (slots keys marks : List ℕ) (k : ℕ) (r : SlotsReadTo fields slots keys marks k) where
     -- all slots are read
-    pub read-all : k ≡ mostLines → Found (slotsHold fields slots) (linesIn mostLines slots) keys (Count k)
+    pub read-all : k ≡ mostLines → SlotsHold (slotsHold fields slots) (linesIn mostLines slots) keys (Count k)
     unfolding slotsHold linesIn slotsKeep
     read-all full =
         let none : mostLines - k ≡ 0 = omega arith in
@@ -289,7 +289,7 @@ module _ (fields : ℕ) (some-fields : 1 ≤ fields) where
         ended-keep : slotsKeep (hasFields fields) mostLines slots ≡ all isZero (drop (slotSize * k) slots)
         ended-keep = r .keep ∙ keep-stop slots k h z
 
-        pub read-ends : (held : Held) → EndFound slots k held → Found (slotsHold fields slots) (linesIn mostLines slots) keys held
+        pub read-ends : (held : Held) → EndFound slots k held → SlotsHold (slotsHold fields slots) (linesIn mostLines slots) keys held
         unfolding EndFinds slotsHold
         read-ends (Count n) e =
             let is = e .finds .0 in
@@ -306,7 +306,7 @@ module _ (fields : ℕ) (some-fields : 1 ≤ fields) where
         abbrev slot : List ℕ
         slot = take slotSize (drop (slotSize * k) slots)
 
-        pub read-bad : (key : ℕ) → key ≡ slotKey fields slot → key ≡ 0 → Found (slotsHold fields slots) (linesIn mostLines slots) keys Bad
+        pub read-bad : (key : ℕ) → key ≡ slotKey fields slot → key ≡ 0 → SlotsHold (slotsHold fields slots) (linesIn mostLines slots) keys Bad
         unfolding slotsHold
         read-bad key is none =
             let lacks = key-lacks slot (sym is ∙ none) in
@@ -322,7 +322,7 @@ module _ (fields : ℕ) (some-fields : 1 ≤ fields) where
           abbrev rest : Lines
           rest = linesIn (mostLines - (k + 1)) (drop (slotSize * (k + 1)) slots)
 
-          holds-slot : (cellKeeps (hasFields fields) slot ≡ true) × (slotKey fields slot ≡ keyIn line)
+          holds-slot : (slotCellKeeps (hasFields fields) slot ≡ true) × (slotKey fields slot ≡ keyIn line)
           holds-slot = key-holds slot (λ e. some (is ∙ e))
 
           form : hasForm line ≡ true
@@ -332,12 +332,12 @@ module _ (fields : ℕ) (some-fields : 1 ≤ fields) where
           all-lines = r .lines ∙ ap (λ l. r .done ++ l) (lines-more slots k h z)
 
           -- whether the contract is held is whether its key is among those noted
-          held-is : among key (take k keys) ≡ holds (r .done) (contractOf line)
+          held-is : among key (take k keys) ≡ isHeld (r .done) (contractOf line)
           held-is =
               ap₂ {C = Bool} among (is ∙ holds-slot .1) (r .keyed) ∙ keys-hold (r .done) line (r .good) form
 
           pub read-twice : (keys′ : List ℕ) → length keys′ ≡ mostLines → among key (take k keys) ≡ true
-              → Found (slotsHold fields slots) (linesIn mostLines slots) keys′ Bad
+              → SlotsHold (slotsHold fields slots) (linesIn mostLines slots) keys′ Bad
           unfolding slotsHold
           read-twice keys′ size found =
               let same : differ (linesIn mostLines slots) ≡ false =
@@ -349,7 +349,7 @@ module _ (fields : ℕ) (some-fields : 1 ≤ fields) where
               found-broken (slotsHold fields slots) (linesIn mostLines slots) keys′ size
               (ap (λ b. slotsKeep (hasFields fields) mostLines slots && b) same ∙ and-false (slotsKeep (hasFields fields) mostLines slots))
 
-          pub read-more : (keys′ marks′ : List ℕ) → Noted keys k key true keys′ marks′ → ReadTo fields slots keys′ marks′ (k + 1)
+          pub read-more : (keys′ marks′ : List ℕ) → KeyNoted keys k key true keys′ marks′ → SlotsReadTo fields slots keys′ marks′ (k + 1)
           unfolding all
           read-more keys′ marks′ noted =
               let fresh = not-true (among key (take k keys)) (sym (noted .new)) in

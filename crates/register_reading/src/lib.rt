@@ -7,10 +7,9 @@ ghost use lib.ListN.{length, take};
 ghost use Rattle.base.specs.Lists.{among};
 ghost use Rattle.register.specs.Buffer.{headerSize, linesIn, slotSize};
 ghost use Rattle.register.specs.Register.{mostLines};
-ghost use Rattle.register_reading.specs.Reading.{EndFound, Found, Marked, Noted, Placed, Read, Stands, Trimmed};
+ghost use Rattle.register_reading.specs.Reading.{EndFound, SlotsHold, Marked, KeyNoted, Placed, RegisterRead, LineStands, Trimmed};
 ghost use Rattle.register_reading.specs.Reading.{headerFields, slotKey, slotsHold};
-use cells::spans;
-use packer::keys;
+use card_reader::keys;
 use register::CURRENCY;
 use register::FIELDS;
 use register::HEADER;
@@ -21,6 +20,7 @@ use register::SLOT;
 use register_lines::contract_length;
 use register_lines::field_count;
 use register_lines::is_currency;
+use store::spans;
 
 // how many marks tell that a key may be held already: a prime, so that contracts in a row have marks of their own
 const MARKS: usize = 4093;
@@ -55,7 +55,7 @@ pub fn is_among(keys: &[u64], n: usize, key: u64) -> bool
 // Notes a key behind k others and marks it, unless it is one of them. It is compared with them only where its mark is there.
 fn note(keys: &mut [u64], marks: &mut [u8], k: usize, key: u64) -> bool
     requires { ⌜ Marked (now keys) (now marks) k × (k < length (now keys)) ⌝ }
-    ensures { λ r. ⌜ Noted (now (keys .entry)) k key r (now (keys .exit)) (now (marks .exit)) ⌝ }
+    ensures { λ r. ⌜ KeyNoted (now (keys .entry)) k key r (now (keys .exit)) (now (marks .exit)) ⌝ }
 {
     let place = key as usize % MARKS;
     if marks[place] != 0 {
@@ -112,7 +112,7 @@ fn found_end(slots: &[u8], k: usize) -> Held
 // the lines in the slots, which should have so many fields, with their keys
 fn read_slots(slots: &[u8], fields: usize, keys: &mut [u64; LINES]) -> Held
     requires { ⌜ (length (now slots) ≡ slotSize * mostLines) × (1 ≤ fields) × (length (now keys) ≡ mostLines) ⌝ }
-    ensures { λ r. ⌜ Found (slotsHold fields (now (slots .entry))) (linesIn mostLines (now (slots .entry))) (now (keys .exit)) r ⌝ }
+    ensures { λ r. ⌜ SlotsHold (slotsHold fields (now (slots .entry))) (linesIn mostLines (now (slots .entry))) (now (keys .exit)) r ⌝ }
 {
     let mut marks = [0; MARKS];
     let mut k = 0;
@@ -154,7 +154,7 @@ fn header_fields(header: &[u8]) -> usize
 // the register in a buffer
 pub fn read_register(buffer: &[u8], keys: &mut [u64; LINES]) -> State
     requires { ⌜ length (now keys) ≡ mostLines ⌝ }
-    ensures { λ r. ⌜ Read (now (buffer .entry)) (now (keys .exit)) r ⌝ }
+    ensures { λ r. ⌜ RegisterRead (now (buffer .entry)) (now (keys .exit)) r ⌝ }
 {
     if buffer.len() < SIZE {
         return State::Broken;
@@ -178,7 +178,7 @@ pub fn read_register(buffer: &[u8], keys: &mut [u64; LINES]) -> State
 // where the line of a place ends, in a register that has one there
 pub fn line_end(buffer: &[u8], place: usize) -> usize
     requires { ⌜ Placed (now buffer) place ⌝ }
-    ensures { λ r. ⌜ Stands (now (buffer .entry)) place r ⌝ }
+    ensures { λ r. ⌜ LineStands (now (buffer .entry)) place r ⌝ }
 {
     let at = HEADER + SLOT * place;
     let end = at + SLOT;

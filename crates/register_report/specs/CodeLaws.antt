@@ -14,15 +14,15 @@ use borrow.Author.Tests.{eq-eqb, eqb-false, eqb-true, le-leb, le-ltb, leb-true, 
 use Rattle.base.specs.Choice.{both-pass, both-true, cond-cases, either-true, same-truth, test-cases, true-behind}
 use Rattle.base.specs.ListLaws.{all-among, all-drop, all-imply, all-inside, drop-next, same-true}
 use Rattle.base.specs.Lists.{all, among, any, keep, same, total}
-use Rattle.cards.specs.ByteLaws.{letter}
+use Rattle.cards.specs.ByteLaws.{letter-range}
 use Rattle.cards.specs.Bytes.{isLetter}
 use Rattle.register.specs.Line.{currencyOf, isCurrency, isRecord}
 use Rattle.register.specs.LineLaws.{currency-letters, currency-size}
 use Rattle.register.specs.OrderLaws.{before-other, currencies-any, currencies-order}
 use Rattle.register.specs.Register.{Lines}
-use Rattle.register.specs.Report.{before, currencies, inOrder, linesOf}
+use Rattle.register.specs.Report.{letterBefore, currencies, inOrder, linesOf}
 use Rattle.register.specs.ReportLaws.{currencies-form, record-currency}
-use Rattle.register_report.specs.Codes.{codeFrom, codeIn, codeOf, countOf, lowest, noCode, sumOf, wordOf}
+use Rattle.register_report.specs.Codes.{codeFrom, currencyCodeIn, currencyCode, codeCount, lowestCode, noCode, sumOf, wordOf}
 
 -- Words of one length are in the order of their codes.
 unfoldable isByte : ℕ → Bool
@@ -46,8 +46,8 @@ code-above p q (a ∷ u) (b ∷ v) h s =
     code-above (p * 256 + a) (q * 256 + b) u v (omega arith)
     (record { size = omega (arith, s .size); left = left .1; right = right .1 })
 
-code-order : (p : ℕ) (u v : List ℕ) → Alike u v → ltb (codeFrom p u) (codeFrom p v) ≡ before u v
-unfolding codeFrom all before
+code-order : (p : ℕ) (u v : List ℕ) → Alike u v → ltb (codeFrom p u) (codeFrom p v) ≡ letterBefore u v
+unfolding codeFrom all letterBefore
 code-order p [] [] s = le-ltb p p (omega arith)
 code-order p [] (b ∷ v) s = absurd (omega (arith, s .size))
 code-order p (a ∷ u) [] s = absurd (omega (arith, s .size))
@@ -56,10 +56,10 @@ code-order p (a ∷ u) (b ∷ v) s =
     let right = both-true (isByte b) (all isByte v) (s .right) in
     let rest : Alike u v = record { size = omega (arith, s .size); left = left .1; right = right .1 } in
     let back : Alike v u = record { size = sym (rest .size); left = rest .right; right = rest .left } in
-    test-cases (λ t. (ltb a b ≡ t) → ltb (codeFrom (p * 256 + a) u) (codeFrom (p * 256 + b) v) ≡ (t || (eqb a b && before u v))) (ltb a b)
+    test-cases (λ t. (ltb a b ≡ t) → ltb (codeFrom (p * 256 + a) u) (codeFrom (p * 256 + b) v) ≡ (t || (eqb a b && letterBefore u v))) (ltb a b)
     (λ e _. lt-ltb _ _ (code-above (p * 256 + a) (p * 256 + b) u v (let h = ltb-true a b e in omega arith) rest))
     (λ e _.
-    test-cases (λ t. (eqb a b ≡ t) → ltb (codeFrom (p * 256 + a) u) (codeFrom (p * 256 + b) v) ≡ (t && before u v)) (eqb a b)
+    test-cases (λ t. (eqb a b ≡ t) → ltb (codeFrom (p * 256 + a) u) (codeFrom (p * 256 + b) v) ≡ (t && letterBefore u v)) (eqb a b)
     (λ is _. ap (λ x. ltb (codeFrom (p * 256 + a) u) (codeFrom (p * 256 + x) v)) (sym (eqb-true a b is)) ∙ code-order (p * 256 + a) u v rest)
     (λ other _.
     let more : p * 256 + b < p * 256 + a = (let h = ltb-false a b e in let differ = eqb-false a b other in omega arith) in
@@ -70,33 +70,33 @@ code-order p (a ∷ u) (b ∷ v) s =
 
 letters-bytes : (c : List ℕ) → isCurrency c ≡ true → all isByte c ≡ true
 unfolding isByte
-letters-bytes c form = all-imply isLetter isByte (λ b h. lt-ltb b 256 (let range = letter b h in omega arith)) c (currency-letters c form)
+letters-bytes c form = all-imply isLetter isByte (λ b h. lt-ltb b 256 (let range = letter-range b h in omega arith)) c (currency-letters c form)
 
 alike : (a b : List ℕ) → isCurrency a ≡ true → isCurrency b ≡ true → Alike a b
 alike a b f g =
     record { size = currency-size a f ∙ sym (currency-size b g); left = letters-bytes a f; right = letters-bytes b g }
 
-pub code-before : (a b : List ℕ) → isCurrency a ≡ true → isCurrency b ≡ true → ltb (codeOf a) (codeOf b) ≡ before a b
-unfolding codeOf
+pub code-before : (a b : List ℕ) → isCurrency a ≡ true → isCurrency b ≡ true → ltb (currencyCode a) (currencyCode b) ≡ letterBefore a b
+unfolding currencyCode
 code-before a b f g = code-order 0 a b (alike a b f g)
 
-pub code-same : (a b : List ℕ) → isCurrency a ≡ true → isCurrency b ≡ true → eqb (codeOf a) (codeOf b) ≡ same a b
+pub code-same : (a b : List ℕ) → isCurrency a ≡ true → isCurrency b ≡ true → eqb (currencyCode a) (currencyCode b) ≡ same a b
 code-same a b f g =
-    same-truth (eqb (codeOf a) (codeOf b)) (same a b)
+    same-truth (eqb (currencyCode a) (currencyCode b)) (same a b)
     (λ e.
-    let is = eqb-true (codeOf a) (codeOf b) e in
-    let first : before a b ≡ false = sym (code-before a b f g) ∙ le-ltb (codeOf a) (codeOf b) (omega arith) in
-    let last : before b a ≡ false = sym (code-before b a g f) ∙ le-ltb (codeOf b) (codeOf a) (omega arith) in
+    let is = eqb-true (currencyCode a) (currencyCode b) e in
+    let first : letterBefore a b ≡ false = sym (code-before a b f g) ∙ le-ltb (currencyCode a) (currencyCode b) (omega arith) in
+    let last : letterBefore b a ≡ false = sym (code-before b a g f) ∙ le-ltb (currencyCode b) (currencyCode a) (omega arith) in
     test-cases (λ t. (same a b ≡ t) → t ≡ true) (same a b) (λ _ _. refl)
     (λ _ other. absurd (false≢true (sym last ∙ before-other a b other first))) refl)
-    (λ e. eq-eqb (codeOf a) (codeOf b) (ap codeOf (same-true a b e)))
+    (λ e. eq-eqb (currencyCode a) (currencyCode b) (ap currencyCode (same-true a b e)))
 
 -- A currency has three bytes. Its code is above 0, within three bytes, and has the currency's bytes.
-pub code-range : (c : List ℕ) → isCurrency c ≡ true → (0 < codeOf c) × (codeOf c < noCode)
-unfolding codeOf codeFrom all
+pub code-range : (c : List ℕ) → isCurrency c ≡ true → (0 < currencyCode c) × (currencyCode c < noCode)
+unfolding currencyCode codeFrom all
 code-range c form = bounds c (currency-size c form) (currency-letters c form)
   where
-    bounds : (c : List ℕ) → length c ≡ 3 → all isLetter c ≡ true → (0 < codeOf c) × (codeOf c < noCode)
+    bounds : (c : List ℕ) → length c ≡ 3 → all isLetter c ≡ true → (0 < currencyCode c) × (currencyCode c < noCode)
     bounds [] e a = absurd (omega (arith, e))
     bounds (x ∷ []) e a = absurd (omega (arith, e))
     bounds (x ∷ y ∷ []) e a = absurd (omega (arith, e))
@@ -104,17 +104,17 @@ code-range c form = bounds c (currency-size c form) (currency-letters c form)
         let one = both-true (isLetter x) _ a in
         let two = both-true (isLetter y) _ (one .1) in
         let three = both-true (isLetter z) _ (two .1) in
-        let first = letter x (one .0) in
-        let second = letter y (two .0) in
-        let third = letter z (three .0) in
+        let first = letter-range x (one .0) in
+        let second = letter-range y (two .0) in
+        let third = letter-range z (three .0) in
         (omega arith, omega arith)
     bounds (x ∷ y ∷ z ∷ w ∷ ws) e a = absurd (omega (arith, e))
 
-pub code-word : (c : List ℕ) → isCurrency c ≡ true → wordOf (codeOf c) ≡ c
-unfolding codeOf codeFrom all wordOf
+pub code-word : (c : List ℕ) → isCurrency c ≡ true → wordOf (currencyCode c) ≡ c
+unfolding currencyCode codeFrom all wordOf
 code-word c form = bytes-are c (currency-size c form) (currency-letters c form)
   where
-    bytes-are : (c : List ℕ) → length c ≡ 3 → all isLetter c ≡ true → wordOf (codeOf c) ≡ c
+    bytes-are : (c : List ℕ) → length c ≡ 3 → all isLetter c ≡ true → wordOf (currencyCode c) ≡ c
     bytes-are [] e a = absurd (omega (arith, e))
     bytes-are (x ∷ []) e a = absurd (omega (arith, e))
     bytes-are (x ∷ y ∷ []) e a = absurd (omega (arith, e))
@@ -122,9 +122,9 @@ code-word c form = bytes-are c (currency-size c form) (currency-letters c form)
         let one = both-true (isLetter x) _ a in
         let two = both-true (isLetter y) _ (one .1) in
         let three = both-true (isLetter z) _ (two .1) in
-        let first = letter x (one .0) in
-        let second = letter y (two .0) in
-        let third = letter z (three .0) in
+        let first = letter-range x (one .0) in
+        let second = letter-range y (two .0) in
+        let third = letter-range z (three .0) in
         ap₂ {C = List ℕ} _∷_ (omega arith) (ap₂ {C = List ℕ} _∷_ (omega arith) (ap₂ {C = List ℕ} _∷_ (omega arith) refl))
     bytes-are (x ∷ y ∷ z ∷ w ∷ ws) e a = absurd (omega (arith, e))
 
@@ -171,13 +171,13 @@ module _ (last next code : ℕ) (codes : List ℕ) (r : ℕ) where
         is = ⊎-elim (λ is. inl is) (λ found. inr (among-rest r code codes (found .0), found .1)) (rest .is);
       }
 
-lowest-found : (last next : ℕ) (codes : List ℕ) → Lowest last next codes (lowest last next codes)
-unfolding lowest among
+lowest-found : (last next : ℕ) (codes : List ℕ) → Lowest last next codes (lowestCode last next codes)
+unfolding lowestCode among
 lowest-found last next [] = record { within = omega arith; each = λ x e. absurd (false≢true e); is = inl refl }
 lowest-found last next (code ∷ codes) =
     let with-it = lowest-found last code codes in
     let without = lowest-found last next codes in
-    test-cases (λ t. (ltb last code && ltb code next) ≡ t → Lowest last next (code ∷ codes) (lowest last (cond t code next) codes))
+    test-cases (λ t. (ltb last code && ltb code next) ≡ t → Lowest last next (code ∷ codes) (lowestCode last (cond t code next) codes))
     (ltb last code && ltb code next)
     (λ _ e. let tests = both-true (ltb last code) (ltb code next) e in
     lowest-taken last next code codes _ (ltb-true last code (tests .0)) (ltb-true code next (tests .1)) with-it)
@@ -216,16 +216,16 @@ module _ (last : ℕ) (codes done rest : List ℕ) (parted : (x : ℕ) → among
       ⊎-elim (λ old. let low = leb-true x last (all-among (λ y. leb y last) x done passed old) in absurd (omega arith)) (λ new. new)
       (either-true (among x done) (among x rest) (sym (parted x) ∙ e))
 
-  lowest-next : lowest last noCode codes ≡ getD rest 0 noCode
+  lowest-next : lowestCode last noCode codes ≡ getD rest 0 noCode
   unfolding all among ascend
   lowest-next = first rest in-rest above small order parted
     where
       first : (rest : List ℕ) → ((x : ℕ) → among x codes ≡ true → last < x → among x rest ≡ true) → all (ltb last) rest ≡ true
           → all (λ x. ltb x noCode) rest ≡ true → ascend rest ≡ true → ((x : ℕ) → among x codes ≡ (among x done || among x rest))
-          → lowest last noCode codes ≡ getD rest 0 noCode
+          → lowestCode last noCode codes ≡ getD rest 0 noCode
       first [] found above small order parted =
           let r = lowest-found last noCode codes in
-          ⊎-elim (λ is. is) (λ one. absurd (false≢true (found (lowest last noCode codes) (one .0) (one .1)))) (r .is)
+          ⊎-elim (λ is. is) (λ one. absurd (false≢true (found (lowestCode last noCode codes) (one .0) (one .1)))) (r .is)
       first (w ∷ ws) found above small order parted =
           let r = lowest-found last noCode codes in
           let is-above = ltb-true last w (both-true (ltb last w) _ above .0) in
@@ -234,10 +234,10 @@ module _ (last : ℕ) (codes done rest : List ℕ) (parted : (x : ℕ) → among
           ⊎-elim (λ is. absurd (omega arith))
           (λ one.
           ⊎-elim (λ is. is)
-          (λ later. let more = ltb-true w (lowest last noCode codes)
-          (all-among (ltb w) (lowest last noCode codes) ws (both-true (all (ltb w) ws) (ascend ws) order .0) later) in
+          (λ later. let more = ltb-true w (lowestCode last noCode codes)
+          (all-among (ltb w) (lowestCode last noCode codes) ws (both-true (all (ltb w) ws) (ascend ws) order .0) later) in
           absurd (omega arith))
-          (among-cases (lowest last noCode codes) w ws (found (lowest last noCode codes) (one .0) (one .1))))
+          (among-cases (lowestCode last noCode codes) w ws (found (lowestCode last noCode codes) (one .0) (one .1))))
           (r .is)
 
 among-parted : (x i : ℕ) (xs : List ℕ) → among x xs ≡ (among x (take i xs) || among x (drop i xs))
@@ -252,43 +252,43 @@ among-parted x (suc i) (y ∷ xs) = ap (λ t. eqb x y || t) (among-parted x i xs
 
 -- The codes of the currencies held, in order: they ascend, are those of the lines, and lie in three bytes.
 unfoldable pub codesOf : Lines → List ℕ
-codesOf held = map codeOf (currencies held)
+codesOf held = map currencyCode (currencies held)
 
-words-ascend : (ws : List (List ℕ)) → all isCurrency ws ≡ true → inOrder ws ≡ true → ascend (map codeOf ws) ≡ true
+words-ascend : (ws : List (List ℕ)) → all isCurrency ws ≡ true → inOrder ws ≡ true → ascend (map currencyCode ws) ≡ true
 unfolding all inOrder ascend
 words-ascend [] a o = refl
 words-ascend (w ∷ ws) a o =
     let forms = both-true (isCurrency w) (all isCurrency ws) a in
-    let parts = both-true (all (before w) ws) (inOrder ws) o in
+    let parts = both-true (all (letterBefore w) ws) (inOrder ws) o in
     both-pass (first ws (forms .1) (parts .0) (forms .0)) (words-ascend ws (forms .1) (parts .1))
   where
-    first : (ws : List (List ℕ)) → all isCurrency ws ≡ true → all (before w) ws ≡ true → isCurrency w ≡ true
-        → all (ltb (codeOf w)) (map codeOf ws) ≡ true
+    first : (ws : List (List ℕ)) → all isCurrency ws ≡ true → all (letterBefore w) ws ≡ true → isCurrency w ≡ true
+        → all (ltb (currencyCode w)) (map currencyCode ws) ≡ true
     first [] a o f = refl
     first (v ∷ ws) a o f =
         let forms = both-true (isCurrency v) (all isCurrency ws) a in
-        let parts = both-true (before w v) (all (before w) ws) o in
+        let parts = both-true (letterBefore w v) (all (letterBefore w) ws) o in
         both-pass (code-before w v f (forms .0) ∙ parts .0) (first ws (forms .1) (parts .1) f)
 
 words-range : (ws : List (List ℕ)) → all isCurrency ws ≡ true
-    → (all (ltb 0) (map codeOf ws) ≡ true) × (all (λ x. ltb x noCode) (map codeOf ws) ≡ true)
+    → (all (ltb 0) (map currencyCode ws) ≡ true) × (all (λ x. ltb x noCode) (map currencyCode ws) ≡ true)
 unfolding all
 words-range [] a = (refl, refl)
 words-range (w ∷ ws) a =
     let forms = both-true (isCurrency w) (all isCurrency ws) a in
     let rest = words-range ws (forms .1) in
     let range = code-range w (forms .0) in
-    (both-pass (lt-ltb 0 (codeOf w) (range .0)) (rest .0), both-pass (lt-ltb (codeOf w) noCode (range .1)) (rest .1))
+    (both-pass (lt-ltb 0 (currencyCode w) (range .0)) (rest .0), both-pass (lt-ltb (currencyCode w) noCode (range .1)) (rest .1))
 
 among-any : {A : Type 0} (x : ℕ) (f : A → ℕ) (ws : List A) → among x (map f ws) ≡ any (λ w. eqb x (f w)) ws
 unfolding among any
 among-any x f [] = refl
 among-any x f (w ∷ ws) = ap (λ t. eqb x (f w) || t) (among-any x f ws)
 
-among-lines : (x : ℕ) (held : Lines) → among x (map codeIn held) ≡ among x (codesOf held)
-unfolding codesOf codeIn
+among-lines : (x : ℕ) (held : Lines) → among x (map currencyCodeIn held) ≡ among x (codesOf held)
+unfolding codesOf currencyCodeIn
 among-lines x held =
-    among-any x codeIn held ∙ sym (currencies-any (λ w. eqb x (codeOf w)) held) ∙ sym (among-any x codeOf (currencies held))
+    among-any x currencyCodeIn held ∙ sym (currencies-any (λ w. eqb x (currencyCode w)) held) ∙ sym (among-any x currencyCode (currencies held))
 
 -- so the lowest of all lines' codes is the first currency's, and the lowest above a currency's is that of the next
 module _ (held : Lines) (good : all isRecord held ≡ true) where
@@ -300,17 +300,17 @@ module _ (held : Lines) (good : all isRecord held ≡ true) where
   unfolding codesOf
   ranging = words-range (currencies held) (currencies-form held good)
 
-  pub first-code : lowest 0 noCode (map codeIn held) ≡ getD (codesOf held) 0 noCode
+  pub first-code : lowestCode 0 noCode (map currencyCodeIn held) ≡ getD (codesOf held) 0 noCode
   unfolding all among
-  first-code = lowest-next 0 (map codeIn held) [] (codesOf held) (λ x. among-lines x held) refl (ranging .0) (ranging .1) ascending
+  first-code = lowest-next 0 (map currencyCodeIn held) [] (codesOf held) (λ x. among-lines x held) refl (ranging .0) (ranging .1) ascending
 
   pub next-code : (j : ℕ) → j < length (codesOf held)
-      → lowest (getD (codesOf held) j noCode) noCode (map codeIn held) ≡ getD (codesOf held) (j + 1) noCode
+      → lowestCode (getD (codesOf held) j noCode) noCode (map currencyCodeIn held) ≡ getD (codesOf held) (j + 1) noCode
   next-code j h =
       let cs = codesOf held in
       let later = behind noCode cs ascending j h in
       let place : suc j + 0 ≡ j + 1 = omega arith in
-      lowest-next (getD cs j noCode) (map codeIn held) (take (suc j) cs) (drop (suc j) cs)
+      lowest-next (getD cs j noCode) (map currencyCodeIn held) (take (suc j) cs) (drop (suc j) cs)
       (λ x. among-lines x held ∙ among-parted x (suc j) cs) (up-to noCode cs ascending j h) (later .0)
       (all-drop (λ x. ltb x noCode) (suc j) cs (ranging .1)) (later .1)
       ∙ getD-drop (suc j) cs 0 noCode
@@ -318,12 +318,12 @@ module _ (held : Lines) (good : all isRecord held ≡ true) where
 
 -- The sums of a code are those of its currency's lines.
 module _ (c : List ℕ) (form : isCurrency c ≡ true) where
-  of-currency : (line : List ℕ) → isRecord line ≡ true → eqb (codeIn line) (codeOf c) ≡ same (currencyOf line) c
-  unfolding codeIn
+  of-currency : (line : List ℕ) → isRecord line ≡ true → eqb (currencyCodeIn line) (currencyCode c) ≡ same (currencyOf line) c
+  unfolding currencyCodeIn
   of-currency line e = code-same (currencyOf line) c (record-currency line e) form
 
   pub sum-lines : (f : List ℕ → ℕ) (held : Lines) → all isRecord held ≡ true
-      → sumOf (codeOf c) (map codeIn held) (map f held) ≡ total f (linesOf c held)
+      → sumOf (currencyCode c) (map currencyCodeIn held) (map f held) ≡ total f (linesOf c held)
   unfolding sumOf linesOf keep total all
   sum-lines f [] good = refl
   sum-lines f (line ∷ held) good =
@@ -334,8 +334,8 @@ module _ (c : List ℕ) (form : isCurrency c ≡ true) where
       ∙ test-cases (λ t. cond t (f line) 0 + total f kept ≡ total f (elim t [ true ↦ line ∷ kept | false ↦ kept ])) (same (currencyOf line) c)
       (λ _. refl) (λ _. zero-add (total f kept))
 
-  pub count-lines : (held : Lines) → all isRecord held ≡ true → countOf (codeOf c) (map codeIn held) ≡ length (linesOf c held)
-  unfolding countOf linesOf keep total all
+  pub count-lines : (held : Lines) → all isRecord held ≡ true → codeCount (currencyCode c) (map currencyCodeIn held) ≡ length (linesOf c held)
+  unfolding codeCount linesOf keep total all
   count-lines [] good = refl
   count-lines (line ∷ held) good =
       let parts = both-true (isRecord line) (all isRecord held) good in
@@ -356,17 +356,17 @@ sum-small code most (c ∷ codes) (x ∷ xs) a =
     let small = leb-true x most (parts .0) in
     cond-cases (λ n. n + sumOf code codes xs ≤ most * suc (length codes)) (eqb c code) (λ _. omega arith) (λ _. omega arith)
 
-pub count-small : (code : ℕ) (codes : List ℕ) → countOf code codes ≤ length codes
-unfolding countOf total
+pub count-small : (code : ℕ) (codes : List ℕ) → codeCount code codes ≤ length codes
+unfolding codeCount total
 count-small code [] = omega arith
 count-small code (c ∷ codes) =
     let rest = count-small code codes in
-    cond-cases (λ n. n + countOf code codes ≤ suc (length codes)) (eqb c code) (λ _. omega arith) (λ _. omega arith)
+    cond-cases (λ n. n + codeCount code codes ≤ suc (length codes)) (eqb c code) (λ _. omega arith) (λ _. omega arith)
 
 module _ (code : ℕ) (codes : List ℕ) (k : ℕ) (h : k < length codes) (t : Bool) (e : eqb (getD codes k 0) code ≡ t) where
-  pub count-next : countOf code (drop k codes) ≡ cond t 1 0 + countOf code (drop (k + 1) codes)
-  unfolding countOf total
-  count-next = ap (countOf code) (drop-next codes k 0 h) ∙ ap (λ u. cond u 1 0 + countOf code (drop (k + 1) codes)) e
+  pub count-next : codeCount code (drop k codes) ≡ cond t 1 0 + codeCount code (drop (k + 1) codes)
+  unfolding codeCount total
+  count-next = ap (codeCount code) (drop-next codes k 0 h) ∙ ap (λ u. cond u 1 0 + codeCount code (drop (k + 1) codes)) e
 
   pub sum-next : (xs : List ℕ) → length xs ≡ length codes
       → sumOf code (drop k codes) (drop k xs) ≡ cond t (getD xs k 0) 0 + sumOf code (drop (k + 1) codes) (drop (k + 1) xs)
@@ -378,17 +378,17 @@ module _ (code : ℕ) (codes : List ℕ) (k : ℕ) (h : k < length codes) (t : B
 -- The lowest number is found place by place.
 module _ (last next : ℕ) (codes : List ℕ) (k : ℕ) where
   pub lowest-again : k < length codes → (t : Bool) → (ltb last (getD codes k 0) && ltb (getD codes k 0) next) ≡ t → (new : ℕ)
-      → new ≡ cond t (getD codes k 0) next → lowest last new (drop (k + 1) codes) ≡ lowest last next (drop k codes)
-  unfolding lowest
+      → new ≡ cond t (getD codes k 0) next → lowestCode last new (drop (k + 1) codes) ≡ lowestCode last next (drop k codes)
+  unfolding lowestCode
   lowest-again h t e new is =
       let code = getD codes k 0 in
-      ap (λ n. lowest last n (drop (k + 1) codes)) is
-      ∙ ap (λ u. lowest last (cond u code next) (drop (k + 1) codes)) (sym e)
-      ∙ ap (lowest last next) (sym (drop-next codes k 0 h))
+      ap (λ n. lowestCode last n (drop (k + 1) codes)) is
+      ∙ ap (λ u. lowestCode last (cond u code next) (drop (k + 1) codes)) (sym e)
+      ∙ ap (lowestCode last next) (sym (drop-next codes k 0 h))
 
-  pub lowest-end : length codes ≤ k → lowest last next (drop k codes) ≡ next
-  unfolding lowest
-  lowest-end h = ap (lowest last next) (drop-of-length-le codes h)
+  pub lowest-end : length codes ≤ k → lowestCode last next (drop k codes) ≡ next
+  unfolding lowestCode
+  lowest-end h = ap (lowestCode last next) (drop-of-length-le codes h)
 
-pub lowest-within : (last next : ℕ) (codes : List ℕ) → lowest last next codes ≤ next
+pub lowest-within : (last next : ℕ) (codes : List ℕ) → lowestCode last next codes ≤ next
 lowest-within last next codes = lowest-found last next codes .within

@@ -11,11 +11,11 @@ unfoldable pub codeFrom : (v : ℕ) → List ℕ → ℕ
 codeFrom v [] = v
 codeFrom v (b ∷ bs) = codeFrom (v * 256 + b) bs
 
-unfoldable pub codeOf : (currency : List ℕ) → ℕ
-codeOf currency = codeFrom 0 currency
+unfoldable pub currencyCode : (currency : List ℕ) → ℕ
+currencyCode currency = codeFrom 0 currency
 
-unfoldable pub codeIn : (line : List ℕ) → ℕ
-codeIn line = codeOf (currencyOf line)
+unfoldable pub currencyCodeIn : (line : List ℕ) → ℕ
+currencyCodeIn line = currencyCode (currencyOf line)
 
 -- the three bytes of a code
 unfoldable pub wordOf : (code : ℕ) → List ℕ
@@ -29,13 +29,13 @@ noCode = 16_777_216
 abbrev pub lower : (last next code : ℕ) → ℕ
 lower last next code = cond (ltb last code && ltb code next) code next
 
-unfoldable pub lowest : (last next : ℕ) → (codes : List ℕ) → ℕ
-lowest last next [] = next
-lowest last next (code ∷ codes) = lowest last (lower last next code) codes
+unfoldable pub lowestCode : (last next : ℕ) → (codes : List ℕ) → ℕ
+lowestCode last next [] = next
+lowestCode last next (code ∷ codes) = lowestCode last (lower last next code) codes
 
 -- how many places have a code, and the sum of the numbers in these places
-unfoldable pub countOf : (code : ℕ) → (codes : List ℕ) → ℕ
-countOf code = total (λ c. cond (eqb c code) 1 0)
+unfoldable pub codeCount : (code : ℕ) → (codes : List ℕ) → ℕ
+codeCount code = total (λ c. cond (eqb c code) 1 0)
 
 unfoldable pub sumOf : (code : ℕ) → (codes numbers : List ℕ) → ℕ
 sumOf code [] numbers = 0

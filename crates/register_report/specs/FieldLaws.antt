@@ -11,19 +11,19 @@ use borrow.Author.Tests.{eq-eqb, eqb-true, ne-eqb}
 use Rattle.base.specs.Choice.{both-true, test-cases}
 use Rattle.base.specs.ListLaws.{drop-next}
 use Rattle.base.specs.Lists.{all}
-use Rattle.cards.specs.ByteLaws.{digit}
+use Rattle.cards.specs.ByteLaws.{digit-range}
 use Rattle.cards.specs.Bytes.{comma, isDigit}
 use Rattle.cards.specs.Cards.{onFirst}
 use Rattle.search.specs.NextLaws.{next-until}
 use Rattle.search.specs.Passing.{NextByte, until}
 use Rattle.values.specs.Conversion.{decimal}
 use Rattle.register.specs.Line.{contractOf, fields, isGrain, isPrice, isRecord, isTonnes}
-use Rattle.register.specs.LineLaws.{Recorded, currency-is, currency-size, decimal-least, digit-value}
+use Rattle.register.specs.LineLaws.{RecordFormed, currency-is, currency-size, decimal-least, digit-value}
 use Rattle.register.specs.LineLaws.{firstField, next-fields, number-bytes, put-first, recorded}
 use Rattle.register.specs.LineLaws.{field-alone}
 use Rattle.register.specs.Report.{numberIn, priceOf, tonnesOf, valueOf}
 use Rattle.register.specs.ReportLaws.{number-small}
-use Rattle.register_report.specs.Codes.{codeFrom, codeIn, codeOf}
+use Rattle.register_report.specs.Codes.{codeFrom, currencyCodeIn, currencyCode}
 use Rattle.register_report.specs.Sums.{Numeric, fieldAt}
 
 -- The field at a place: it is empty where the line ends or a comma stands, else the byte there is its first.
@@ -44,16 +44,16 @@ module _ (line : List ℕ) (end : ℕ) where
         ∙ rw (fields, ne-eqb (getD line end 0) 44 n) (put-first (getD line end 0) (fields (drop (end + 1) line)))
 
 -- A number read up to a place: its value so far, and the digits that are left.
-pub record ReadTo (line : List ℕ) (at value end : ℕ) : Type 0 where
+pub record NumberReadTo (line : List ℕ) (at value end : ℕ) : Type 0 where
   pub inside : end ≤ length line
   pub left : decimal value (fieldAt line end) ≡ decimal 0 (fieldAt line at)
   pub rest : all isDigit (fieldAt line end) ≡ true
   pub place : end + length (fieldAt line end) ≡ at + length (fieldAt line at)
 
-pub read-none : (line : List ℕ) (at : ℕ) → Numeric line at → ReadTo line at 0 at
+pub read-none : (line : List ℕ) (at : ℕ) → Numeric line at → NumberReadTo line at 0 at
 read-none line at n = record { inside = n .inside; left = refl; rest = n .digits; place = refl }
 
-module _ (line : List ℕ) (at value end : ℕ) (r : ReadTo line at value end) where
+module _ (line : List ℕ) (at value end : ℕ) (r : NumberReadTo line at value end) where
   -- no digit is left
   pub read-all : fieldAt line end ≡ [] → (value ≡ decimal 0 (fieldAt line at)) × (end ≡ at + length (fieldAt line at))
   unfolding decimal
@@ -70,9 +70,9 @@ module _ (line : List ℕ) (at value end : ℕ) (r : ReadTo line at value end) w
     one-more = both-true (isDigit byte) (all isDigit (fieldAt line (end + 1))) (ap (all isDigit) (sym (field-more line end h n)) ∙ r .rest)
 
     pub digit-here : (48 ≤ byte) × (byte ≤ 57)
-    digit-here = digit byte (one-more .0)
+    digit-here = digit-range byte (one-more .0)
 
-    pub read-more : ReadTo line at (value * 10 + (byte - 48)) (end + 1)
+    pub read-more : NumberReadTo line at (value * 10 + (byte - 48)) (end + 1)
     unfolding decimal
     read-more =
         let next = field-more line end h n in
@@ -87,7 +87,7 @@ module _ (line : List ℕ) (at value end : ℕ) (r : ReadTo line at value end) w
         }
 
 -- what is read so far is no more than the number
-pub read-small : (line : List ℕ) (at value end : ℕ) → Numeric line at → ReadTo line at value end → value ≤ 999_999
+pub read-small : (line : List ℕ) (at value end : ℕ) → Numeric line at → NumberReadTo line at value end → value ≤ 999_999
 read-small line at value end n r = omega (arith, decimal-least value (fieldAt line end), r .left, n .small)
 
 -- the contract ends at the first comma
@@ -110,7 +110,7 @@ line-alone l f e = sym (field-alone l (ap (drop 1) e)) ∙ ap (λ fs. getD fs 0 
 
 -- The fields of a record, by their places.
 module _ (line : List ℕ) (form : isRecord line ≡ true) (contract : ℕ) (size : contract ≡ length (contractOf line)) where
-  abbrev f : Recorded line
+  abbrev f : RecordFormed line
   f = recorded line form
 
   tonnes-fields : (fields (drop (contract + 4) line) ≡ f .tonnes ∷ f .price ∷ f .currency ∷ []) × (contract + 4 ≤ length line)
@@ -180,16 +180,16 @@ module _ (line : List ℕ) (form : isRecord line ≡ true) (contract : ℕ) (siz
       pub currency-inside : last + 1 + 3 ≤ length line
       currency-inside = omega (arith, currency-at .1, ap length (currency-at .0), length-drop (last + 1) line, three)
 
-      pub code-is : codeOf (take 3 (drop (last + 1) line)) ≡ codeIn line
-      unfolding codeIn
+      pub code-is : currencyCode (take 3 (drop (last + 1) line)) ≡ currencyCodeIn line
+      unfolding currencyCodeIn
       code-is =
-          ap (λ l. codeOf (take 3 l)) (currency-at .0)
-          ∙ ap codeOf (take-all 3 (f .currency) (omega (arith, three)) ∙ sym (currency-is f))
+          ap (λ l. currencyCode (take 3 l)) (currency-at .0)
+          ∙ ap currencyCode (take-all 3 (f .currency) (omega (arith, three)) ∙ sym (currency-is f))
 
 -- the code of three bytes
 pub code-three : (line : List ℕ) (at : ℕ) → at + 3 ≤ length line
-    → (getD line at 0 * 256 + getD line (at + 1) 0) * 256 + getD line (at + 2) 0 ≡ codeOf (take 3 (drop at line))
-unfolding codeOf codeFrom
+    → (getD line at 0 * 256 + getD line (at + 1) 0) * 256 + getD line (at + 2) 0 ≡ currencyCode (take 3 (drop at line))
+unfolding currencyCode codeFrom
 code-three line at h =
     let first = drop-next line at 0 (omega arith) in
     let second = drop-next line (at + 1) 0 (omega arith) in
@@ -202,4 +202,4 @@ code-three line at h =
     ap (take 3) first ∙ ap (λ (l : List ℕ). x ∷ take 2 l) second
     ∙ ap (λ n. x ∷ y ∷ take 1 (drop n line)) two ∙ ap (λ (l : List ℕ). x ∷ y ∷ take 1 l) third in
     let whole : (x * 256 + y) * 256 + z ≡ ((0 * 256 + x) * 256 + y) * 256 + z = omega arith in
-    whole ∙ ap codeOf (sym bytes)
+    whole ∙ ap currencyCode (sym bytes)

@@ -13,24 +13,24 @@ use borrow.Author.Tests.{le-leb}
 use Rattle.base.specs.Choice.{both-pass, both-true}
 use Rattle.base.specs.ListLaws.{all-inside, drop-next}
 use Rattle.base.specs.Lists.{all}
-use Rattle.calls.specs.Splices.{splice, length-splice, splice-behind, splice-nil}
+use Rattle.encoding.specs.Splices.{splice, length-splice, splice-behind, splice-nil}
 use Rattle.cards.specs.Bytes.{newline}
 use Rattle.register.specs.Buffer.{registerIn}
 use Rattle.register.specs.BufferLaws.{read-sound}
 use Rattle.register.specs.CallLaws.{open-keeps, put-fits, put-full, report-put, report-refused}
-use Rattle.register.specs.Calls.{ReportCalled, bufferOpen, putting, puttingNothing, reportCall}
+use Rattle.register.specs.Calls.{ReportCalled, bufferOpen, putReport, puttingNothing, reportCall}
 use Rattle.register.specs.Claims.{reportBack}
 use Rattle.register.specs.Line.{isRecord}
 use Rattle.register.specs.Register.{Lines, lineAt, mostLines}
 use Rattle.register.specs.RegisterLaws.{open-records}
-use Rattle.register.specs.Report.{printed, report, tonnesOf, totalLines, valueOf}
+use Rattle.register.specs.Report.{printedRecords, report, tonnesOf, totalLines, valueOf}
 use Rattle.register.specs.ReportLaws.{mostReport, mostValue, printed-append, record-small, report-size, value-small}
 use Rattle.register_reading.specs.ReadLaws.{here-size}
-use Rattle.register_reading.specs.Reading.{Counted, Placed, Stands, slotAt}
-use Rattle.register_report.specs.Codes.{codeIn}
+use Rattle.register_reading.specs.Reading.{LinesCounted, Placed, LineStands, slotAt}
+use Rattle.register_report.specs.Codes.{currencyCodeIn}
 use Rattle.register_report.specs.declared.Sizes.{Sizes}
 use Rattle.register_report.specs.declared.Worth.{Worth}
-use Rattle.register_report.specs.Sums.{Columns, Filled, Fits, LinesPut, RecordPut, Roomy, TotalsMade, Weighed}
+use Rattle.register_report.specs.Sums.{Columns, ColumnsFilled, ColumnsFit, LinesPut, RecordPut, ColumnsRoomy, TotalsMade, Weighed}
 
 -- The columns of lines are small enough for their sums.
 column-small : (f : List ℕ → ℕ) (most : ℕ) → ((line : List ℕ) → isRecord line ≡ true → f line ≤ most) → (lines : Lines) → all isRecord lines ≡ true
@@ -41,9 +41,9 @@ column-small f most small (line ∷ lines) a =
     let parts = both-true (isRecord line) (all isRecord lines) a in
     both-pass (le-leb (f line) most (small line (parts .0))) (column-small f most small lines (parts .1))
 
-pub columns-fit : (lines : Lines) (codes tonnes values : List ℕ) → Columns lines codes tonnes values → Fits codes tonnes values
+pub columns-fit : (lines : Lines) (codes tonnes values : List ℕ) → Columns lines codes tonnes values → ColumnsFit codes tonnes values
 columns-fit lines codes tonnes values c =
-    let size = ap length (c .currency) ∙ length-map lines codeIn in
+    let size = ap length (c .currency) ∙ length-map lines currencyCodeIn in
     record {
       few = omega (arith, c .few, size);
       weights = ap length (c .weight) ∙ length-map lines tonnesOf ∙ sym size;
@@ -68,25 +68,25 @@ module _ (lines : Lines) (k : ℕ) (h : k < length lines) where
   unfolding lineAt
   parts = sym (take-append-drop k lines) ∙ ap (λ l. before ++ l) (drop-next lines k [] h)
 
-  size-within : length (printed before) + length line + 1 ≤ length (printed lines)
-  unfolding printed
+  size-within : length (printedRecords before) + length line + 1 ≤ length (printedRecords lines)
+  unfolding printedRecords
   size-within =
       let rest = drop (k + 1) lines in
       omega (
         arith,
-        ap (λ l. length (printed l)) parts,
+        ap (λ l. length (printedRecords l)) parts,
         ap length (printed-append before (line ∷ rest)),
-        length-append (printed before) (printed (line ∷ rest)),
-        length-append line (newline ∷ printed rest),
+        length-append (printedRecords before) (printedRecords (line ∷ rest)),
+        length-append line (newline ∷ printedRecords rest),
       )
 
-  printed-more : printed before ++ (line ++ (10 ∷ [])) ≡ printed (take (k + 1) lines)
-  unfolding printed newline
-  printed-more = sym (ap printed next-lines ∙ printed-append before (line ∷ []))
+  printed-more : printedRecords before ++ (line ++ (10 ∷ [])) ≡ printedRecords (take (k + 1) lines)
+  unfolding printedRecords newline
+  printed-more = sym (ap printedRecords next-lines ∙ printed-append before (line ∷ []))
 
-  size-more : (b size : ℕ) → b ≡ length (printed before) → size ≡ length line → b + size + 1 ≡ length (printed (take (k + 1) lines))
+  size-more : (b size : ℕ) → b ≡ length (printedRecords before) → size ≡ length line → b + size + 1 ≡ length (printedRecords (take (k + 1) lines))
   size-more b size e f =
-      omega (arith, ap length printed-more, length-append (printed before) (line ++ (10 ∷ [])), length-append line (10 ∷ []))
+      omega (arith, ap length printed-more, length-append (printedRecords before) (line ++ (10 ∷ [])), length-append line (10 ∷ []))
 
   -- one more number in a column
   column-more : (f : List ℕ → ℕ) (xs : List ℕ) (x : ℕ) → k < length xs → take k xs ≡ map f before → x ≡ f line
@@ -101,18 +101,18 @@ module _ (lines : Lines) (k : ℕ) (h : k < length lines) where
   lines-more : (output middle after : List ℕ) (put-to end : ℕ) → LinesPut before output middle put-to → RecordPut middle after put-to line end
       → LinesPut (take (k + 1) lines) output after end
   lines-more output middle after put-to end p r =
-      let at : put-to ≡ 0 + length (printed before) = omega (arith, p .ends) in
+      let at : put-to ≡ 0 + length (printedRecords before) = omega (arith, p .ends) in
       record {
         ends = r .ends ∙ size-more put-to (length line) (p .ends) refl;
         bytes =
             r .bytes
             ∙ ap₂ {C = List ℕ} (λ l n. splice l n (line ++ (10 ∷ []))) (p .bytes) at
-            ∙ splice-behind output 0 (printed before) (line ++ (10 ∷ [])) (omega arith)
+            ∙ splice-behind output 0 (printedRecords before) (line ++ (10 ∷ [])) (omega arith)
             ∙ ap (splice output 0) printed-more;
       }
 
 pub lines-none : (output : List ℕ) → LinesPut [] output output 0
-unfolding printed
+unfolding printedRecords
 lines-none output = record { ends = refl; bytes = sym (splice-nil output 0) }
 
 pub all-lines : (lines : Lines) (k : ℕ) → k ≡ length lines → take k lines ≡ lines
@@ -120,17 +120,17 @@ all-lines lines k e = take-all k lines (omega arith)
 
 -- the columns of the first lines, and the bytes that they are printed in
 pub record FilledTo (lines : Lines) (codes tonnes values : List ℕ) (bytes k : ℕ) : Type 0 where
-  pub currency-to : take k codes ≡ map codeIn (take k lines)
+  pub currency-to : take k codes ≡ map currencyCodeIn (take k lines)
   pub weight-to : take k tonnes ≡ map tonnesOf (take k lines)
   pub cents-to : take k values ≡ map valueOf (take k lines)
-  pub size-to : bytes ≡ length (printed (take k lines))
+  pub size-to : bytes ≡ length (printedRecords (take k lines))
 
 pub filled-none : (lines : Lines) (codes tonnes values : List ℕ) → FilledTo lines codes tonnes values 0 0
-unfolding printed
+unfolding printedRecords
 filled-none lines codes tonnes values = record { currency-to = refl; weight-to = refl; cents-to = refl; size-to = refl }
 
-pub room-kept : (codes tonnes values : List ℕ) (k code t v : ℕ) → Roomy codes tonnes values
-    → Roomy (set codes k code) (set tonnes k t) (set values k v)
+pub room-kept : (codes tonnes values : List ℕ) (k code t v : ℕ) → ColumnsRoomy codes tonnes values
+    → ColumnsRoomy (set codes k code) (set tonnes k t) (set values k v)
 room-kept codes tonnes values k code t v room =
     record {
       code-room = length-set codes k code ∙ room .code-room;
@@ -139,7 +139,7 @@ room-kept codes tonnes values k code t v room =
     }
 
 -- A register of n lines, and its line of a place.
-module _ (buffer : List ℕ) (n : ℕ) (c : Counted buffer n) where
+module _ (buffer : List ℕ) (n : ℕ) (c : LinesCounted buffer n) where
   abbrev held : Lines
   held = registerIn buffer .lines
 
@@ -157,27 +157,27 @@ module _ (buffer : List ℕ) (n : ℕ) (c : Counted buffer n) where
   report-small = report-size held few good
 
   -- the report is the lines, and the TOTAL lines
-  report-is : report held ≡ printed held ++ printed (totalLines held)
+  report-is : report held ≡ printedRecords held ++ printedRecords (totalLines held)
   unfolding report
   report-is = printed-append held (totalLines held)
 
-  lines-small : length (printed held) ≤ mostReport
-  lines-small = omega (arith, report-small, ap length report-is, length-append (printed held) (printed (totalLines held)))
+  lines-small : length (printedRecords held) ≤ mostReport
+  lines-small = omega (arith, report-small, ap length report-is, length-append (printedRecords held) (printedRecords (totalLines held)))
 
   -- all lines are in the columns
   pub filled-all : (codes tonnes values : List ℕ) (bytes k : ℕ) → k ≡ n → FilledTo held codes tonnes values bytes k
-      → Filled held n codes tonnes values bytes
+      → ColumnsFilled held n codes tonnes values bytes
   filled-all codes tonnes values bytes k e f =
       let whole = all-lines held k (e ∙ c .count) in
       record {
         columns = record {
           few = few;
           good = good;
-          currency = ap (λ i. take i codes) (sym e) ∙ f .currency-to ∙ ap (map codeIn) whole;
+          currency = ap (λ i. take i codes) (sym e) ∙ f .currency-to ∙ ap (map currencyCodeIn) whole;
           weight = ap (λ i. take i tonnes) (sym e) ∙ f .weight-to ∙ ap (map tonnesOf) whole;
           cents = ap (λ i. take i values) (sym e) ∙ f .cents-to ∙ ap (map valueOf) whole;
         };
-        size = f .size-to ∙ ap (λ l. length (printed l)) whole;
+        size = f .size-to ∙ ap (λ l. length (printedRecords l)) whole;
       }
 
   -- and the first n of each column are these
@@ -191,7 +191,7 @@ module _ (buffer : List ℕ) (n : ℕ) (c : Counted buffer n) where
     pub placed : Placed buffer k
     placed = record { keeps = c .keeps; inside = inside }
 
-    module _ (end : ℕ) (s : Stands buffer k end) where
+    module _ (end : ℕ) (s : LineStands buffer k end) where
       abbrev slice : List ℕ
       slice = take (end - slotAt k) (drop (slotAt k) buffer)
 
@@ -207,13 +207,13 @@ module _ (buffer : List ℕ) (n : ℕ) (c : Counted buffer n) where
         pub bytes-fit : bytes + (end - slotAt k) + 1 ≤ mostReport
         bytes-fit = omega (arith, line-size, f .size-to, size-within held k inside, lines-small)
 
-        pub line-filled : Roomy codes tonnes values → (w : Worth) → Weighed slice w
+        pub line-filled : ColumnsRoomy codes tonnes values → (w : Worth) → Weighed slice w
             → FilledTo held (set codes k (w .code)) (set tonnes k (w .tonnes)) (set values k (w .value)) (bytes + (end - slotAt k) + 1) (k + 1)
         line-filled room w m =
             record {
               currency-to =
-                  column-more held k inside codeIn codes (w .code) (omega (arith, count-few, room .code-room)) (f .currency-to)
-                  (m .currency ∙ ap codeIn (s .bytes));
+                  column-more held k inside currencyCodeIn codes (w .code) (omega (arith, count-few, room .code-room)) (f .currency-to)
+                  (m .currency ∙ ap currencyCodeIn (s .bytes));
               weight-to =
                   column-more held k inside tonnesOf tonnes (w .tonnes) (omega (arith, count-few, room .tonnes-room)) (f .weight-to)
                   (m .weight ∙ ap tonnesOf (s .bytes));
@@ -225,7 +225,7 @@ module _ (buffer : List ℕ) (n : ℕ) (c : Counted buffer n) where
 
       -- the line put behind those before it: there is room
       module _ (output middle : List ℕ) (put-to : ℕ) (p : LinesPut (take k held) output middle put-to)
-          (room : length (printed held) ≤ length output) where
+          (room : length (printedRecords held) ≤ length output) where
         pub line-room : put-to + length slice < length middle
         line-room =
             let within = size-within held k inside in
@@ -234,7 +234,7 @@ module _ (buffer : List ℕ) (n : ℕ) (c : Counted buffer n) where
               p .ends,
               ap length (s .bytes),
               ap length (p .bytes),
-              length-splice output 0 (printed (take k held)) (omega arith),
+              length-splice output 0 (printedRecords (take k held)) (omega arith),
             )
 
         pub line-put : (after : List ℕ) (to : ℕ) → RecordPut middle after put-to slice to → LinesPut (take (k + 1) held) output after to
@@ -254,10 +254,10 @@ module _ (buffer : List ℕ) (n : ℕ) (c : Counted buffer n) where
           m .size,
           ap length (m .put .bytes),
           ap length report-is,
-          length-append (printed held) (printed (totalLines held)),
+          length-append (printedRecords held) (printedRecords (totalLines held)),
         )
 
-    open-is : (output : List ℕ) → reportCall buffer output ≡ putting (report held) output
+    open-is : (output : List ℕ) → reportCall buffer output ≡ putReport (report held) output
     open-is output = report-put buffer output (open-keeps buffer (c .keeps) ∙ c .is-open)
 
     module _ (output : List ℕ) where
@@ -274,20 +274,20 @@ module _ (buffer : List ℕ) (n : ℕ) (c : Counted buffer n) where
               l .ends,
               m .size,
               ap length (l .bytes),
-              length-splice output 0 (printed held) (omega (arith, m .size)),
+              length-splice output 0 (printedRecords held) (omega (arith, m .size)),
             )
 
         pub report-done : (after : List ℕ) → after ≡ splice middle at (take (r .totals) totals)
             → reportBack 0 after (r .lines + r .totals) ≡ reportCall buffer output
         unfolding splice
         report-done after put =
-            let place : at ≡ 0 + length (printed held) = omega (arith, l .ends) in
-            let below = printed (totalLines held) in
+            let place : at ≡ 0 + length (printedRecords held) = omega (arith, l .ends) in
+            let below = printedRecords (totalLines held) in
             let whole : after ≡ splice output 0 (report held) =
             put
             ∙ ap₂ {C = List ℕ} (λ o x. splice o at x) (l .bytes) (m .put .bytes)
-            ∙ ap (λ k. splice (splice output 0 (printed held)) k below) place
-            ∙ splice-behind output 0 (printed held) below (omega arith)
+            ∙ ap (λ k. splice (splice output 0 (printedRecords held)) k below) place
+            ∙ splice-behind output 0 (printedRecords held) below (omega arith)
             ∙ ap (splice output 0) (sym report-is) in
             let front : splice output 0 (report held) ≡ report held ++ drop (length (report held)) output =
             ap (λ k. report held ++ drop k output) (zero-add (length (report held))) in

@@ -14,7 +14,7 @@ use Rattle.base.specs.Choice.{test-cases}
 use Rattle.base.specs.ListLaws.{all-inside}
 use Rattle.base.specs.Lists.{total}
 use Rattle.base.specs.Text.{bytes}
-use Rattle.calls.specs.Splices.{splice, length-splice, set-splice, splice-behind}
+use Rattle.encoding.specs.Splices.{splice, length-splice, set-splice, splice-behind}
 use Rattle.cards.specs.Bytes.{newline}
 use Rattle.printing.specs.Printing.{Put, numbersText}
 use Rattle.printing.specs.PrintLaws.{put-behind}
@@ -22,18 +22,18 @@ use Rattle.values.specs.Laws.{digits-length}
 use Rattle.register.specs.Line.{isCurrency}
 use Rattle.register.specs.OrderLaws.{currencies-few}
 use Rattle.register.specs.Register.{Lines, mostLines}
-use Rattle.register.specs.Report.{currencies, linesOf, printed, tonnesOf, totalLine, totalLines, totalsOf, valueOf}
+use Rattle.register.specs.Report.{currencies, linesOf, printedRecords, tonnesOf, totalLine, totalLines, totalsOf, valueOf}
 use Rattle.register.specs.ReportLaws.{currencies-form, mostValue, printed-append, totalOf}
 use Rattle.register_report.specs.CodeLaws.{code-range, code-word, codesOf, count-lines, count-next, count-small}
 use Rattle.register_report.specs.CodeLaws.{first-code, lowest-within, next-code, sum-lines, sum-next, sum-small}
-use Rattle.register_report.specs.Codes.{codeIn, codeOf, countOf, lowest, noCode, sumOf, wordOf}
+use Rattle.register_report.specs.Codes.{currencyCodeIn, currencyCode, codeCount, lowestCode, noCode, sumOf, wordOf}
 use Rattle.register_report.specs.declared.Sums.{Sums}
-use Rattle.register_report.specs.Sums.{Columns, Fits, RecordPut, Summed, TotalsPut, mostTotal, totalText, totalsFrom}
+use Rattle.register_report.specs.Sums.{Columns, ColumnsFit, RecordPut, Summed, TotalsPut, mostTotal, totalText, totalsFrom}
 
 -- The sums of a code over the first places: with those of the places left they are the sums of all.
 pub record SummedTo (code : ℕ) (codes tonnes values : List ℕ) (count weight value k : ℕ) : Type 0 where
   pub inside : k ≤ length codes
-  pub number-left : count + countOf code (drop k codes) ≡ countOf code codes
+  pub number-left : count + codeCount code (drop k codes) ≡ codeCount code codes
   pub weight-left : weight + sumOf code (drop k codes) (drop k tonnes) ≡ sumOf code codes tonnes
   pub cents-left : value + sumOf code (drop k codes) (drop k values) ≡ sumOf code codes values
 
@@ -42,8 +42,8 @@ summed-none code codes tonnes values =
     record { inside = omega arith; number-left = zero-add _; weight-left = zero-add _; cents-left = zero-add _ }
 
 -- no sum of a code is large
-module _ (code : ℕ) (codes tonnes values : List ℕ) (f : Fits codes tonnes values) where
-  pub number-bound : countOf code codes ≤ mostLines
+module _ (code : ℕ) (codes tonnes values : List ℕ) (f : ColumnsFit codes tonnes values) where
+  pub number-bound : codeCount code codes ≤ mostLines
   number-bound = omega (arith, count-small code codes, f .few)
 
   pub weight-bound : sumOf code codes tonnes ≤ 99_999 * mostLines
@@ -55,11 +55,11 @@ module _ (code : ℕ) (codes tonnes values : List ℕ) (f : Fits codes tonnes va
   module _ (count weight value k : ℕ) (s : SummedTo code codes tonnes values count weight value k) where
     -- no place is left
     pub summed-all : length codes ≤ k → Summed code codes tonnes values (record { count = count; tonnes = weight; value = value })
-    unfolding countOf sumOf total
+    unfolding codeCount sumOf total
     summed-all h =
         let none : drop k codes ≡ [] = drop-of-length-le codes h in
         record {
-          number = omega (arith, s .number-left, ap (countOf code) none);
+          number = omega (arith, s .number-left, ap (codeCount code) none);
           weight = omega (arith, s .weight-left, ap (λ l. sumOf code l (drop k tonnes)) none);
           cents = omega (arith, s .cents-left, ap (λ l. sumOf code l (drop k values)) none);
         }
@@ -67,7 +67,7 @@ module _ (code : ℕ) (codes tonnes values : List ℕ) (f : Fits codes tonnes va
     -- one more place: it has the code, or another
     module _ (h : k < length codes) where
       module _ (is : getD codes k 0 ≡ code) where
-        number-here : countOf code (drop k codes) ≡ 1 + countOf code (drop (k + 1) codes)
+        number-here : codeCount code (drop k codes) ≡ 1 + codeCount code (drop (k + 1) codes)
         number-here = count-next code codes k h true (eq-eqb (getD codes k 0) code is)
 
         sum-here : (xs : List ℕ) → length xs ≡ length codes
@@ -117,15 +117,15 @@ record-put output at v h =
 pub total-put : (code : ℕ) (s : Sums) (before after : List ℕ) (at end : ℕ)
     → Put before after at ((bytes "TOTAL," ++ wordOf code) ++ numbersText (s .count) (s .tonnes) (s .value)) end
     → Put before after at (totalText code s) end
-unfolding numbersText totalText printed totalLine newline
+unfolding numbersText totalText printedRecords totalLine newline
 total-put code s before after at end p =
     let same : (bytes "TOTAL," ++ wordOf code) ++ numbersText (s .count) (s .tonnes) (s .value) ≡ totalText code s = simp append-assoc in
     subst (λ l. Put before after at l end) same p
 
 -- it is short, as the sums of columns are
-total-short : (code : ℕ) (codes tonnes values : List ℕ) → Fits codes tonnes values → (s : Sums) → Summed code codes tonnes values s
+total-short : (code : ℕ) (codes tonnes values : List ℕ) → ColumnsFit codes tonnes values → (s : Sums) → Summed code codes tonnes values s
     → length (totalText code s) ≤ mostTotal
-unfolding totalText printed totalLine bytes wordOf
+unfolding totalText printedRecords totalLine bytes wordOf
 total-short code codes tonnes values f s m =
     let count = digits-length 2 (s .count) (omega (arith, m .number, number-bound code codes tonnes values f)) in
     let weight = digits-length 7 (s .tonnes) (omega (arith, m .weight, weight-bound code codes tonnes values f)) in
@@ -139,13 +139,13 @@ pub record RoomTo (codes before after : List ℕ) (code at j : ℕ) : Type 0 whe
   pub short : at ≤ mostTotal * j
   pub range : code ≤ noCode
 
-pub going-none : (codes out : List ℕ) (code : ℕ) → code ≡ lowest 0 noCode codes → RoomTo codes out out code 0 0
+pub going-none : (codes out : List ℕ) (code : ℕ) → code ≡ lowestCode 0 noCode codes → RoomTo codes out out code 0 0
 going-none codes out code e =
     record { inside = omega arith; size = refl; short = omega arith; range = omega (arith, e, lowest-within 0 noCode codes) }
 
-pub going-more : (codes tonnes values before middle after : List ℕ) (code at j : ℕ) → Fits codes tonnes values → RoomTo codes before middle code at j
+pub going-more : (codes tonnes values before middle after : List ℕ) (code at j : ℕ) → ColumnsFit codes tonnes values → RoomTo codes before middle code at j
     → j < length codes → (s : Sums) → Summed code codes tonnes values s → (end : ℕ) → Put middle after at (totalText code s) end
-    → (new : ℕ) → new ≡ lowest code noCode codes → RoomTo codes before after new end (j + 1)
+    → (new : ℕ) → new ≡ lowestCode code noCode codes → RoomTo codes before after new end (j + 1)
 going-more codes tonnes values before middle after code at j f g h s m end p new e =
     record {
       inside = omega arith;
@@ -157,17 +157,17 @@ going-more codes tonnes values before middle after code at j f g h s m end p new
 -- Of lines: what was put is the TOTAL lines of the first j currencies, and the code is the next one's.
 pub record TotalsTo (lines : Lines) (before after : List ℕ) (code at j : ℕ) : Type 0 where
   pub next : code ≡ getD (codesOf lines) j noCode
-  pub put : Put before after 0 (printed (map (totalOf lines) (take j (currencies lines)))) at
+  pub put : Put before after 0 (printedRecords (map (totalOf lines) (take j (currencies lines)))) at
 
 module _ (lines : Lines) (codes tonnes values : List ℕ) (c : Columns lines codes tonnes values) where
   abbrev words : List (List ℕ)
   words = currencies lines
 
-  lowest-is : (last : ℕ) → lowest last noCode codes ≡ lowest last noCode (map codeIn lines)
-  lowest-is last = ap (lowest last noCode) (c .currency)
+  lowest-is : (last : ℕ) → lowestCode last noCode codes ≡ lowestCode last noCode (map currencyCodeIn lines)
+  lowest-is last = ap (lowestCode last noCode) (c .currency)
 
-  pub listed-none : (out : List ℕ) (code : ℕ) → code ≡ lowest 0 noCode codes → TotalsTo lines out out code 0 0
-  unfolding printed
+  pub listed-none : (out : List ℕ) (code : ℕ) → code ≡ lowestCode 0 noCode codes → TotalsTo lines out out code 0 0
+  unfolding printedRecords
   listed-none out code e =
       record {
         next = e ∙ lowest-is 0 ∙ first-code lines (c .good);
@@ -181,12 +181,12 @@ module _ (lines : Lines) (codes tonnes values : List ℕ) (c : Columns lines cod
     listed-all h =
         record {
           within = t .put .within;
-          bytes = t .put .holds ∙ ap (λ ws. printed (map (totalOf lines) ws)) (take-all j words h);
+          bytes = t .put .holds ∙ ap (λ ws. printedRecords (map (totalOf lines) ws)) (take-all j words h);
         }
 
     pub listed-end : length codes ≤ j → TotalsPut lines middle at
     listed-end h =
-        listed-all (omega (arith, currencies-few lines, ap length (c .currency), length-map lines codeIn))
+        listed-all (omega (arith, currencies-few lines, ap length (c .currency), length-map lines currencyCodeIn))
 
     -- one is
     module _ (h : j < length words) where
@@ -196,11 +196,11 @@ module _ (lines : Lines) (codes tonnes values : List ℕ) (c : Columns lines cod
       word-form : isCurrency word ≡ true
       word-form = all-inside isCurrency words [] (currencies-form lines (c .good)) j h
 
-      code-here : code ≡ codeOf word
+      code-here : code ≡ currencyCode word
       unfolding codesOf
       code-here = t .next ∙ mapped words j h
         where
-          mapped : (ws : List (List ℕ)) (j : ℕ) → j < length ws → getD (map codeOf ws) j noCode ≡ codeOf (getD ws j [])
+          mapped : (ws : List (List ℕ)) (j : ℕ) → j < length ws → getD (map currencyCode ws) j noCode ≡ currencyCode (getD ws j [])
           mapped [] j h = absurd (omega arith)
           mapped (w ∷ ws) zero h = refl
           mapped (w ∷ ws) (suc j) h = mapped ws j (omega arith)
@@ -215,7 +215,7 @@ module _ (lines : Lines) (codes tonnes values : List ℕ) (c : Columns lines cod
     unfolding codesOf
     some-left small =
         test-cases (λ _. j < length words) (leb (length words) j)
-        (λ f. let none = List·getD-eq-default (codesOf lines) noCode {n = j} (omega (arith, leb-true (length words) j f, length-map words codeOf)) in
+        (λ f. let none = List·getD-eq-default (codesOf lines) noCode {n = j} (omega (arith, leb-true (length words) j f, length-map words currencyCode)) in
         absurd (omega (arith, t .next, none)))
         (λ f. leb-false (length words) j f)
 
@@ -231,35 +231,35 @@ module _ (lines : Lines) (codes tonnes values : List ℕ) (c : Columns lines cod
       unfolding totalsOf
       sums-are =
           let number : s .count ≡ length its =
-          m .number ∙ ap₂ {C = ℕ} countOf (code-here here) (c .currency) ∙ count-lines (word here) (word-form here) lines (c .good) in
+          m .number ∙ ap₂ {C = ℕ} codeCount (code-here here) (c .currency) ∙ count-lines (word here) (word-form here) lines (c .good) in
           let weight : s .tonnes ≡ total tonnesOf its =
           m .weight ∙ ap₂ {C = ℕ} (λ k l. sumOf k l tonnes) (code-here here) (c .currency)
-          ∙ ap (sumOf (codeOf (word here)) (map codeIn lines)) (c .weight) ∙ sum-lines (word here) (word-form here) tonnesOf lines (c .good) in
+          ∙ ap (sumOf (currencyCode (word here)) (map currencyCodeIn lines)) (c .weight) ∙ sum-lines (word here) (word-form here) tonnesOf lines (c .good) in
           let value : s .value ≡ total valueOf its =
           m .cents ∙ ap₂ {C = ℕ} (λ k l. sumOf k l values) (code-here here) (c .currency)
-          ∙ ap (sumOf (codeOf (word here)) (map codeIn lines)) (c .cents) ∙ sum-lines (word here) (word-form here) valueOf lines (c .good) in
+          ∙ ap (sumOf (currencyCode (word here)) (map currencyCodeIn lines)) (c .cents) ∙ sum-lines (word here) (word-form here) valueOf lines (c .good) in
           λ i. record { count = number i; tonnes = weight i; value = value i }
 
-      text-is : totalText code s ≡ printed (totalOf lines (word here) ∷ [])
+      text-is : totalText code s ≡ printedRecords (totalOf lines (word here) ∷ [])
       unfolding totalText
       text-is =
-          ap₂ {C = List ℕ} (λ w u. printed (totalLine w u ∷ [])) (ap wordOf (code-here here) ∙ code-word (word here) (word-form here)) sums-are
+          ap₂ {C = List ℕ} (λ w u. printedRecords (totalLine w u ∷ [])) (ap wordOf (code-here here) ∙ code-word (word here) (word-form here)) sums-are
 
-      more-text : printed (map (totalOf lines) (take j words)) ++ totalText code s ≡ printed (map (totalOf lines) (take (j + 1) words))
+      more-text : printedRecords (map (totalOf lines) (take j words)) ++ totalText code s ≡ printedRecords (map (totalOf lines) (take (j + 1) words))
       more-text =
           let f = totalOf lines in
-          ap (λ l. printed (map f (take j words)) ++ l) text-is
+          ap (λ l. printedRecords (map f (take j words)) ++ l) text-is
           ∙ sym (printed-append (map f (take j words)) (f (word here) ∷ []))
-          ∙ ap printed (sym (map-append f (take j words) (word here ∷ [])))
-          ∙ ap (λ ws. printed (map f ws)) (sym (ap (λ n. take n words) (add-one j) ∙ take-suc words j [] here))
+          ∙ ap printedRecords (sym (map-append f (take j words) (word here ∷ [])))
+          ∙ ap (λ ws. printedRecords (map f ws)) (sym (ap (λ n. take n words) (add-one j) ∙ take-suc words j [] here))
 
-      pub listed-more : (after : List ℕ) (end : ℕ) → Put middle after at (totalText code s) end → (new : ℕ) → new ≡ lowest code noCode codes
+      pub listed-more : (after : List ℕ) (end : ℕ) → Put middle after at (totalText code s) end → (new : ℕ) → new ≡ lowestCode code noCode codes
           → TotalsTo lines before after new end (j + 1)
       unfolding codesOf
       listed-more after end p new e =
-          let size = length-map words codeOf in
+          let size = length-map words currencyCode in
           record {
             next =
-                e ∙ lowest-is code ∙ ap (λ k. lowest k noCode (map codeIn lines)) (t .next) ∙ next-code lines (c .good) j (omega (arith, here, size));
+                e ∙ lowest-is code ∙ ap (λ k. lowestCode k noCode (map currencyCodeIn lines)) (t .next) ∙ next-code lines (c .good) j (omega (arith, here, size));
             put = subst (λ l. Put before after 0 l end) more-text (put-behind (t .put) p);
           }

@@ -6,15 +6,15 @@ use Prim.Native.Nat.{ℕ, _+_, _*_, _≤_}
 use lib.Dec.{leb}
 use lib.ListN.{length, take, drop}
 use Rattle.base.specs.Lists.{all}
-use Rattle.calls.specs.Splices.{splice}
+use Rattle.encoding.specs.Splices.{splice}
 use Rattle.cards.specs.Bytes.{isDigit}
 use Rattle.values.specs.Conversion.{decimal}
 use Rattle.register.specs.Line.{isRecord}
 use Rattle.register.specs.LineLaws.{firstField}
 use Rattle.register.specs.Register.{Lines, mostLines}
-use Rattle.register.specs.Report.{Totals, tonnesOf, valueOf, totalLine, totalLines, printed}
+use Rattle.register.specs.Report.{Totals, tonnesOf, valueOf, totalLine, totalLines, printedRecords}
 use Rattle.register.specs.ReportLaws.{mostValue}
-use Rattle.register_report.specs.Codes.{codeIn, countOf, sumOf, wordOf}
+use Rattle.register_report.specs.Codes.{currencyCodeIn, codeCount, sumOf, wordOf}
 use Rattle.register_report.specs.declared.Field.{Field}
 use Rattle.register_report.specs.declared.Sizes.{Sizes}
 use Rattle.register_report.specs.declared.Sums.{Sums}
@@ -31,18 +31,18 @@ pub record Numeric (line : List ℕ) (at : ℕ) : Type 0 where
   pub small : decimal 0 (fieldAt line at) ≤ 999_999
 
 -- its value, and where it ends
-pub record Shows (line : List ℕ) (at : ℕ) (r : Field) : Type 0 where
+pub record FieldShows (line : List ℕ) (at : ℕ) (r : Field) : Type 0 where
   pub number : r .value ≡ decimal 0 (fieldAt line at)
   pub ends : r .end ≡ at + length (fieldAt line at)
 
 -- what a line adds to its currency's sums
 pub record Weighed (line : List ℕ) (r : Worth) : Type 0 where
-  pub currency : r .code ≡ codeIn line
+  pub currency : r .code ≡ currencyCodeIn line
   pub weight : r .tonnes ≡ tonnesOf line
   pub cents : r .value ≡ valueOf line
 
 -- Columns of numbers: as many of each as there are lines, and small enough for sums in 64 bits.
-pub record Fits (codes tonnes values : List ℕ) : Type 0 where
+pub record ColumnsFit (codes tonnes values : List ℕ) : Type 0 where
   pub few : length codes ≤ mostLines
   pub weights : length tonnes ≡ length codes
   pub cents : length values ≡ length codes
@@ -53,24 +53,24 @@ pub record Fits (codes tonnes values : List ℕ) : Type 0 where
 pub record Columns (lines : Lines) (codes tonnes values : List ℕ) : Type 0 where
   pub few : length lines ≤ mostLines
   pub good : all isRecord lines ≡ true
-  pub currency : codes ≡ map codeIn lines
+  pub currency : codes ≡ map currencyCodeIn lines
   pub weight : tonnes ≡ map tonnesOf lines
   pub cents : values ≡ map valueOf lines
 
 -- columns with room for 256 lines
-pub record Roomy (codes tonnes values : List ℕ) : Type 0 where
+pub record ColumnsRoomy (codes tonnes values : List ℕ) : Type 0 where
   pub code-room : length codes ≡ mostLines
   pub tonnes-room : length tonnes ≡ mostLines
   pub value-room : length values ≡ mostLines
 
 -- the columns of n lines, and the bytes that they are printed in
-pub record Filled (lines : Lines) (n : ℕ) (codes tonnes values : List ℕ) (bytes : ℕ) : Type 0 where
+pub record ColumnsFilled (lines : Lines) (n : ℕ) (codes tonnes values : List ℕ) (bytes : ℕ) : Type 0 where
   pub columns : Columns lines (take n codes) (take n tonnes) (take n values)
-  pub size : bytes ≡ length (printed lines)
+  pub size : bytes ≡ length (printedRecords lines)
 
 -- the sums of a code
 pub record Summed (code : ℕ) (codes tonnes values : List ℕ) (r : Sums) : Type 0 where
-  pub number : r .count ≡ countOf code codes
+  pub number : r .count ≡ codeCount code codes
   pub weight : r .tonnes ≡ sumOf code codes tonnes
   pub cents : r .value ≡ sumOf code codes values
 
@@ -83,7 +83,7 @@ longestTotal = 73
 
 -- a code's TOTAL line with its byte 10
 unfoldable pub totalText : (code : ℕ) → Sums → List ℕ
-totalText code s = printed (totalLine (wordOf code) (totalsFrom s) ∷ [])
+totalText code s = printedRecords (totalLine (wordOf code) (totalsFrom s) ∷ [])
 
 -- the most bytes of a TOTAL line of a register with its byte 10; room for all of them, and for one more of any numbers
 abbrev pub mostTotal : ℕ
@@ -95,7 +95,7 @@ totalsRoom = mostTotal * mostLines + longestTotal
 -- the TOTAL lines of some lines stand at the start
 pub record TotalsPut (lines : Lines) (out : List ℕ) (end : ℕ) : Type 0 where
   pub within : end ≤ length out
-  pub bytes : take end out ≡ printed (totalLines lines)
+  pub bytes : take end out ≡ printedRecords (totalLines lines)
 
 -- whatever lines have these columns
 abbrev pub TotalsFor : (codes tonnes values out : List ℕ) (end : ℕ) → Type 0
@@ -103,7 +103,7 @@ TotalsFor codes tonnes values out end = (lines : Lines) → Columns lines codes 
 
 -- and the bytes that the lines and they are printed in
 pub record TotalsMade (lines : Lines) (out : List ℕ) (r : Sizes) : Type 0 where
-  pub size : r .lines ≡ length (printed lines)
+  pub size : r .lines ≡ length (printedRecords lines)
   pub put : TotalsPut lines out (r .totals)
 
 -- a record with its byte 10 was put from a place on
@@ -113,5 +113,5 @@ pub record RecordPut (before after : List ℕ) (at : ℕ) (line : List ℕ) (end
 
 -- lines were printed at the start
 pub record LinesPut (lines : Lines) (before after : List ℕ) (end : ℕ) : Type 0 where
-  pub ends : end ≡ length (printed lines)
-  pub bytes : after ≡ splice before 0 (printed lines)
+  pub ends : end ≡ length (printedRecords lines)
+  pub bytes : after ≡ splice before 0 (printedRecords lines)

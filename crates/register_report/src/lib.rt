@@ -10,12 +10,11 @@ ghost use Rattle.register.specs.Buffer.{registerIn};
 ghost use Rattle.register.specs.Calls.{reportCall};
 ghost use Rattle.register.specs.Claims.{ReportPromise, reportBack};
 ghost use Rattle.register.specs.Line.{isRecord};
-ghost use Rattle.register.specs.Report.{printed};
-ghost use Rattle.register_reading.specs.Reading.{Counted};
-ghost use Rattle.register_report.specs.Codes.{codeOf, lowest, noCode};
-ghost use Rattle.register_report.specs.Sums.{Filled, Fits, LinesPut, Numeric, RecordPut, Roomy, Shows, Summed};
+ghost use Rattle.register.specs.Report.{printedRecords};
+ghost use Rattle.register_reading.specs.Reading.{LinesCounted};
+ghost use Rattle.register_report.specs.Codes.{currencyCode, lowestCode, noCode};
+ghost use Rattle.register_report.specs.Sums.{ColumnsFilled, ColumnsFit, LinesPut, Numeric, RecordPut, ColumnsRoomy, FieldShows, Summed};
 ghost use Rattle.register_report.specs.Sums.{TotalsFor, TotalsMade, Weighed, longestTotal, totalText, totalsRoom};
-use cells::spans;
 use printing::LONGEST_NUMBERS;
 use printing::put;
 use printing::put_numbers;
@@ -27,6 +26,7 @@ use register::SLOT;
 use register_reading::State;
 use register_reading::line_end;
 use register_reading::read_register;
+use store::spans;
 
 // the bytes from the end of a contract to the tonnes: two commas and the grain
 const TO_TONNES: usize = 4;
@@ -71,7 +71,7 @@ struct Sizes {
 // the number in the field that begins at a place: digits alone, up to the largest price
 fn number_at(line: &[u8], at: usize) -> Field
     requires { ⌜ Numeric (now line) at ⌝ }
-    ensures { λ r. ⌜ Shows (now (line .entry)) at r ⌝ }
+    ensures { λ r. ⌜ FieldShows (now (line .entry)) at r ⌝ }
 {
     let mut value: u64 = 0;
     let mut end = at;
@@ -89,7 +89,7 @@ fn number_at(line: &[u8], at: usize) -> Field
 // the code of the three bytes at a place: one number, the first byte the highest, so that codes are in letter order
 fn code_at(line: &[u8], at: usize) -> u64
     requires { ⌜ at + 3 ≤ length (now line) ⌝ }
-    ensures { λ r. ⌜ r ≡ codeOf (take 3 (drop at (now (line .entry)))) ⌝ }
+    ensures { λ r. ⌜ r ≡ currencyCode (take 3 (drop at (now (line .entry)))) ⌝ }
 {
     (line[at] as u64 * 256 + line[at + 1] as u64) * 256 + line[at + 2] as u64
 }
@@ -118,8 +118,8 @@ fn fill_columns(
     tonnes: &mut [u64],
     values: &mut [u64],
 ) -> usize
-    requires { ⌜ Counted (now buffer) n × Roomy (now codes) (now tonnes) (now values) ⌝ }
-    ensures { λ r. ⌜ Filled (registerIn (now (buffer .entry)) .lines) n (now (codes .exit)) (now (tonnes .exit)) (now (values .exit)) r ⌝ }
+    requires { ⌜ LinesCounted (now buffer) n × ColumnsRoomy (now codes) (now tonnes) (now values) ⌝ }
+    ensures { λ r. ⌜ ColumnsFilled (registerIn (now (buffer .entry)) .lines) n (now (codes .exit)) (now (tonnes .exit)) (now (values .exit)) r ⌝ }
 {
     let mut bytes = 0;
     let mut k = 0;
@@ -138,7 +138,7 @@ fn fill_columns(
 
 // the lowest code above the last one, or NO_CODE
 fn next_code(codes: &[u64], last: u64) -> u64
-    ensures { λ r. ⌜ r ≡ lowest last noCode (now (codes .entry)) ⌝ }
+    ensures { λ r. ⌜ r ≡ lowestCode last noCode (now (codes .entry)) ⌝ }
 {
     let mut next = NO_CODE;
     let mut k = 0;
@@ -154,7 +154,7 @@ fn next_code(codes: &[u64], last: u64) -> u64
 
 // what the lines with a code add up to
 fn sums_of(codes: &[u64], tonnes: &[u64], values: &[u64], code: u64) -> Sums
-    requires { ⌜ Fits (now codes) (now tonnes) (now values) ⌝ }
+    requires { ⌜ ColumnsFit (now codes) (now tonnes) (now values) ⌝ }
     ensures { λ r. ⌜ Summed code (now (codes .entry)) (now (tonnes .entry)) (now (values .entry)) r ⌝ }
 {
     let mut count: u64 = 0;
@@ -193,7 +193,7 @@ fn put_total(code: u64, sums: Sums, at: usize, out: &mut [u8]) -> usize
 
 // the TOTAL lines of all codes in their order, each with its byte 10, at the start of out; where they end. There are no more codes than lines
 fn put_totals(codes: &[u64], tonnes: &[u64], values: &[u64], out: &mut [u8]) -> usize
-    requires { ⌜ Fits (now codes) (now tonnes) (now values) × (totalsRoom ≤ length (now out)) ⌝ }
+    requires { ⌜ ColumnsFit (now codes) (now tonnes) (now values) × (totalsRoom ≤ length (now out)) ⌝ }
     ensures { λ r. ⌜ TotalsFor (now (codes .entry)) (now (tonnes .entry)) (now (values .entry)) (now (out .exit)) r ⌝ }
 {
     let mut code = next_code(codes, 0);
@@ -213,7 +213,7 @@ fn put_totals(codes: &[u64], tonnes: &[u64], values: &[u64], out: &mut [u8]) -> 
 
 // the TOTAL lines of a register of n lines, at the start of out; the bytes of its lines and theirs
 fn make_totals(buffer: &[u8], n: usize, out: &mut [u8]) -> Sizes
-    requires { ⌜ Counted (now buffer) n × (totalsRoom ≤ length (now out)) ⌝ }
+    requires { ⌜ LinesCounted (now buffer) n × (totalsRoom ≤ length (now out)) ⌝ }
     ensures { λ r. ⌜ TotalsMade (registerIn (now (buffer .entry)) .lines) (now (out .exit)) r ⌝ }
 {
     let mut codes = [0; LINES];
@@ -237,7 +237,7 @@ fn put_record(output: &mut [u8], at: usize, v: &[u8]) -> usize
 
 // the n lines of a register, each with byte 10, at the start of the output; where they end
 fn put_lines(buffer: &[u8], n: usize, output: &mut [u8]) -> usize
-    requires { ⌜ Counted (now buffer) n × (length (printed (registerIn (now buffer) .lines)) ≤ length (now output)) ⌝ }
+    requires { ⌜ LinesCounted (now buffer) n × (length (printedRecords (registerIn (now buffer) .lines)) ≤ length (now output)) ⌝ }
     ensures { λ r. ⌜ LinesPut (registerIn (now (buffer .entry)) .lines) (now (output .entry)) (now (output .exit)) r ⌝ }
 {
     let mut put_to = 0;
@@ -253,7 +253,7 @@ fn put_lines(buffer: &[u8], n: usize, output: &mut [u8]) -> usize
 
 // Puts the report of a register of n lines and sets its length: 0; or 21, and nothing is put. The length is 0 before.
 fn put_report(buffer: &[u8], n: usize, output: &mut [u8], length: &mut u32) -> u32
-    requires { ⌜ Counted (now buffer) n × (now length ≡ 0) ⌝ }
+    requires { ⌜ LinesCounted (now buffer) n × (now length ≡ 0) ⌝ }
     ensures { λ r. ⌜ reportBack r (now (output .exit)) (now (length .exit)) ≡ reportCall (now (buffer .entry)) (now (output .entry)) ⌝ }
 {
     let mut totals = [0; TOTALS_ROOM];
@@ -271,8 +271,7 @@ fn put_report(buffer: &[u8], n: usize, output: &mut [u8], length: &mut u32) -> u
 }
 
 // Puts the closing report of the register.
-#[no_mangle]
-pub extern "C" fn strigol_register_report(buffer: &[u8], output: &mut [u8], length: &mut u32) -> u32
+pub fn strigol_register_report(buffer: &[u8], output: &mut [u8], length: &mut u32) -> u32
     ensures { λ r. ⌜ ReportPromise (now (buffer .entry)) (now (output .entry)) (reportBack r (now (output .exit)) (now (length .exit))) ⌝ }
 {
     let mut keys = [0; LINES];

@@ -34,7 +34,7 @@ unfolding
     Rattle.cards.specs.Cards.isBlankLine
     Rattle.cards.specs.Cards.column9
     Rattle.cards.specs.Cards.labelOf
-    Rattle.cards.specs.Cards.textOf
+    Rattle.cards.specs.Cards.statementText
     Rattle.cards.specs.Cards.joined
     Rattle.cards.specs.Cards.unpackedFrom
     Rattle.cards.specs.Entries.packedEntry
@@ -68,22 +68,22 @@ unfolding
     Rattle.values.specs.Numbers.difference
     Rattle.values.specs.Numbers.product
     Rattle.values.specs.Numbers.quotient
-    Rattle.values.specs.Work.stopsStep
-    Rattle.values.specs.Work.noting
-    Rattle.values.specs.Work.quietly
-    Rattle.values.specs.Work._>>=_
+    Rattle.values.specs.Result.stopsStep
+    Rattle.values.specs.Result.withNotes
+    Rattle.values.specs.Result.pure
+    Rattle.values.specs.Result._>>=_
     Rattle.register.specs.Buffer.cellOf
     Rattle.register.specs.Buffer.slotsOf
-    Rattle.register.specs.Buffer.image
+    Rattle.register.specs.Buffer.registerImage
     Rattle.register.specs.Buffer.textIn
     Rattle.register.specs.Buffer.linesIn
     Rattle.register.specs.Buffer.registerIn
-    Rattle.register.specs.Buffer.cellKeeps
+    Rattle.register.specs.Buffer.slotCellKeeps
     Rattle.register.specs.Buffer.slotsKeep
-    Rattle.register.specs.Buffer.keepsRules
+    Rattle.register.specs.Buffer.registerKeepsRules
     Rattle.register.specs.Buffer.bufferKeeps
     Rattle.register.specs.CallLaws.acts
-    Rattle.register.specs.Calls.turnedDown
+    Rattle.register.specs.Calls.registerTurnedDown
     Rattle.register.specs.Calls.withRegister
     Rattle.register.specs.Calls.openCall
     Rattle.register.specs.Calls.bufferOpen
@@ -91,7 +91,7 @@ unfolding
     Rattle.register.specs.Calls.handing
     Rattle.register.specs.Calls.lineCall
     Rattle.register.specs.Calls.puttingNothing
-    Rattle.register.specs.Calls.putting
+    Rattle.register.specs.Calls.putReport
     Rattle.register.specs.Calls.reportCall
     Rattle.register.specs.Claims.Linked
     Rattle.register.specs.Claims.madeByOpening
@@ -112,23 +112,23 @@ unfolding
     Rattle.register.specs.Line.hasForm
     Rattle.register.specs.Line.contractOf
     Rattle.register.specs.Line.currencyOf
-    Rattle.register.specs.Line.written
+    Rattle.register.specs.Line.withCurrency
     Rattle.register.specs.Line.stored
     Rattle.register.specs.LineLaws.isText
-    Rattle.register.specs.LineLaws.isPlain
+    Rattle.register.specs.LineLaws.aboveComma
     Rattle.register.specs.Register.isOpen
-    Rattle.register.specs.Register.holds
+    Rattle.register.specs.Register.isHeld
     Rattle.register.specs.Register.lowestOf
     Rattle.register.specs.Register.offerNumber
     Rattle.register.specs.Register.offered
     Rattle.register.specs.Register.oldOffered
     Rattle.register.specs.Register.oldLines
-    Rattle.register.specs.Register.opened
-    Rattle.register.specs.Register.after
+    Rattle.register.specs.Register.openedWith
+    Rattle.register.specs.Register.registerAfter
     Rattle.register.specs.Register.fold
     Rattle.register.specs.Register.lineAt
     Rattle.register.specs.Register.differ
-    Rattle.register.specs.Register.formOf
+    Rattle.register.specs.Register.heldForm
     Rattle.register.specs.Register.isHouse
     Rattle.register.specs.Register.isRegister
     Rattle.register.specs.Report.numberIn
@@ -136,13 +136,13 @@ unfolding
     Rattle.register.specs.Report.priceOf
     Rattle.register.specs.Report.valueOf
     Rattle.register.specs.Report.totalsOf
-    Rattle.register.specs.Report.before
-    Rattle.register.specs.Report.entered
+    Rattle.register.specs.Report.letterBefore
+    Rattle.register.specs.Report.inLetterOrder
     Rattle.register.specs.Report.currencies
     Rattle.register.specs.Report.linesOf
     Rattle.register.specs.Report.totalLine
     Rattle.register.specs.Report.totalLines
-    Rattle.register.specs.Report.printed
+    Rattle.register.specs.Report.printedRecords
     Rattle.register.specs.Report.report
     Rattle.register.specs.Report.recordsIn
     Rattle.register.specs.Report.totalLinesIn
@@ -150,6 +150,6 @@ unfolding
     Rattle.register.specs.Report.isTotalLine
     Rattle.register.specs.Report.currencyShown
     Rattle.register.specs.Report.totalsShown
-    Rattle.register.specs.Report.isAmong
+    Rattle.register.specs.Report.isOneWord
     Rattle.register.specs.Report.inOrder
 everything = tt

@@ -6,7 +6,7 @@ use lib.ListN.{length}
 use Rattle.base.specs.Lists.{all, any}
 use Rattle.base.specs.Text.{bytes}
 use Rattle.register.specs.Line.{fields, isContract, isGrain, isTonnes, isPrice, isLine, isCurrency, isRecord, hasForm}
-use Rattle.register.specs.Line.{contractOf, currencyOf, written, stored}
+use Rattle.register.specs.Line.{contractOf, currencyOf, withCurrency, stored}
 use Rattle.register_vectors.specs.Everything.{everything}
 
 -- W2.2 "parted by commas": no field is lost where nothing stands between commas, before the first or behind the last
@@ -164,7 +164,7 @@ unfolding everything
 forms-fail = refl
 
 -- W10.3 "a line of four fields is stored with it written out"; one of five as it came, also where its currency is the house's
-line-written : written (bytes "EUR") (bytes "A,WH,1,1") ≡ bytes "A,WH,1,1,EUR"
+line-written : withCurrency (bytes "EUR") (bytes "A,WH,1,1") ≡ bytes "A,WH,1,1,EUR"
 unfolding everything
 line-written = refl
 

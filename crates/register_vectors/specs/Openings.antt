@@ -8,9 +8,9 @@ use Prim.Native.String.{String}
 use lib.ListN.{replicate}
 use Rattle.base.specs.Lists.{all, any}
 use Rattle.base.specs.Text.{bytes}
-use Rattle.register.specs.Buffer.{image, registerIn, bufferKeeps}
+use Rattle.register.specs.Buffer.{registerImage, registerIn, bufferKeeps}
 use Rattle.register.specs.Calls.{openCall, offerCall, handing, lineCall}
-use Rattle.register.specs.Register.{Register, nothing, opened, after, opening, offering, fold, isOpen, isRegister}
+use Rattle.register.specs.Register.{Register, emptyRegister, openedWith, registerAfter, opening, offering, fold, isOpen, isRegister}
 use Rattle.register_vectors.specs.Everything.{everything}
 
 -- so many zeros
@@ -29,38 +29,38 @@ abbrev two : Register
 two = register "EUR" ("Z,WH,120,2150,EUR" ∷ "A,BA,35,1875,EUR" ∷ [])
 
 -- W10.3 "a held register of old lines is rewritten so, with order and other fields kept"
-old-opened : opened old-two (bytes "EUR") ≡ two
+old-opened : openedWith old-two (bytes "EUR") ≡ two
 unfolding everything
 old-opened = refl
 
 -- "opening again changes only the house currency"
-opened-again : opened two (bytes "USD") ≡ register "USD" ("Z,WH,120,2150,EUR" ∷ "A,BA,35,1875,EUR" ∷ [])
+opened-again : openedWith two (bytes "USD") ≡ register "USD" ("Z,WH,120,2150,EUR" ∷ "A,BA,35,1875,EUR" ∷ [])
 unfolding everything
 opened-again = refl
 
-nothing-opened : opened nothing (bytes "EUR") ≡ register "EUR" []
+nothing-opened : openedWith emptyRegister (bytes "EUR") ≡ register "EUR" []
 unfolding everything
 nothing-opened = refl
 
-open-or-not : map isOpen (nothing ∷ old-two ∷ two ∷ register "EUR" [] ∷ []) ≡ false ∷ false ∷ true ∷ true ∷ []
+open-or-not : map isOpen (emptyRegister ∷ old-two ∷ two ∷ register "EUR" [] ∷ []) ≡ false ∷ false ∷ true ∷ true ∷ []
 unfolding everything
 open-or-not = refl
 
 -- W10.6 what isn't a currency changes nothing, opened or not
 bad-openings :
-    map (λ given. after given (opening (bytes "EU"))) (nothing ∷ old-two ∷ two ∷ []) ≡ nothing ∷ old-two ∷ two ∷ []
+    map (λ given. registerAfter given (opening (bytes "EU"))) (emptyRegister ∷ old-two ∷ two ∷ []) ≡ emptyRegister ∷ old-two ∷ two ∷ []
 unfolding everything
 bad-openings = refl
 
 -- "until it is opened, every other call on a register gets 14"
 offers-not-opened :
-    map (λ given. after given (offering (bytes "C,WH,1,1,USD"))) (nothing ∷ old-two ∷ []) ≡ nothing ∷ old-two ∷ []
+    map (λ given. registerAfter given (offering (bytes "C,WH,1,1,USD"))) (emptyRegister ∷ old-two ∷ []) ≡ emptyRegister ∷ old-two ∷ []
 unfolding everything
 offers-not-opened = refl
 
 -- each line of four fields gets the house currency of then; one of five keeps its own
 all-done :
-    fold nothing
+    fold emptyRegister
     (offering (bytes "N,WH,1,1")
     ∷ opening (bytes "EUR") ∷ offering (bytes "A,WH,1,1") ∷ offering (bytes "B,WH,1,1,CHF")
     ∷ opening (bytes "USD") ∷ offering (bytes "C,WH,1,1") ∷ offering (bytes "A,WH,2,2,USD") ∷ offering (bytes "D,WH,1,1,EUR")
@@ -70,7 +70,7 @@ unfolding everything
 all-done = refl
 
 -- registers; and what none is: five fields in one that isn't opened, four in one that is, one contract twice, a house of bad form
-registers : all isRegister (nothing ∷ old-two ∷ two ∷ register "USD" [] ∷ []) ≡ true
+registers : all isRegister (emptyRegister ∷ old-two ∷ two ∷ register "USD" [] ∷ []) ≡ true
 unfolding everything
 registers = refl
 
@@ -83,16 +83,16 @@ unfolding everything
 no-registers = refl
 
 -- The same as bytes: those of a register keep the rules, and are read back; others don't.
-images-kept : all (λ given. bufferKeeps (image given)) (nothing ∷ old-two ∷ two ∷ []) ≡ true
+images-kept : all (λ given. bufferKeeps (registerImage given)) (emptyRegister ∷ old-two ∷ two ∷ []) ≡ true
 unfolding everything
 images-kept = refl
 
-images-read : map (λ given. registerIn (image given)) (nothing ∷ old-two ∷ two ∷ []) ≡ nothing ∷ old-two ∷ two ∷ []
+images-read : map (λ given. registerIn (registerImage given)) (emptyRegister ∷ old-two ∷ two ∷ []) ≡ emptyRegister ∷ old-two ∷ two ∷ []
 unfolding everything
 images-read = refl
 
 images-against-rules :
-    any (λ given. bufferKeeps (image given))
+    any (λ given. bufferKeeps (registerImage given))
     (register "" ("A,WH,1,1,EUR" ∷ []) ∷ register "EUR" ("A,WH,1,1" ∷ []) ∷ register "EUR" ("A,WH,1,1,EUR" ∷ "A,WH,1,1,USD" ∷ [])
     ∷ register "EU" [] ∷ register "eur" [] ∷ [])
     ≡ false
@@ -100,7 +100,7 @@ unfolding everything
 images-against-rules = refl
 
 -- all zeros is the empty register, not opened
-zeros-empty : image nothing ≡ zeros 8192
+zeros-empty : registerImage emptyRegister ≡ zeros 8192
 unfolding everything
 zeros-empty = refl
 
@@ -109,12 +109,12 @@ zeros-opened : openCall (zeros 8192) (bytes "EUR") ≡ record { number = 0; left
 unfolding everything
 zeros-opened = refl
 
-old-bytes-opened : openCall (image old-two ++ (1 ∷ 2 ∷ [])) (bytes "EUR") ≡ record { number = 0; left = image two ++ (1 ∷ 2 ∷ []) }
+old-bytes-opened : openCall (registerImage old-two ++ (1 ∷ 2 ∷ [])) (bytes "EUR") ≡ record { number = 0; left = registerImage two ++ (1 ∷ 2 ∷ []) }
 unfolding everything
 old-bytes-opened = refl
 
 -- W10.6 29 is "checked before all else on opening": also where the buffer is short, or against the rules; then 14
-bad-currency : openCall (image two) (bytes "EURO") ≡ record { number = 29; left = image two }
+bad-currency : openCall (registerImage two) (bytes "EURO") ≡ record { number = 29; left = registerImage two }
 unfolding everything
 bad-currency = refl
 
@@ -137,19 +137,19 @@ zeros-offered :
 unfolding everything
 zeros-offered = refl
 
-not-opened-handed-out : map (λ buffer. lineCall buffer 0) (zeros 8192 ∷ image old-two ∷ []) ≡ replicate 2 (handing 14 [])
+not-opened-handed-out : map (λ buffer. lineCall buffer 0) (zeros 8192 ∷ registerImage old-two ∷ []) ≡ replicate 2 (handing 14 [])
 unfolding everything
 not-opened-handed-out = refl
 
 -- W10.5 "Handing out gives five fields"
 opened-handed-out :
-    map (lineCall (image two)) (0 ∷ 1 ∷ 2 ∷ []) ≡ map (λ line. handing 0 (bytes line)) ("Z,WH,120,2150,EUR" ∷ "A,BA,35,1875,EUR" ∷ "" ∷ [])
+    map (lineCall (registerImage two)) (0 ∷ 1 ∷ 2 ∷ []) ≡ map (λ line. handing 0 (bytes line)) ("Z,WH,120,2150,EUR" ∷ "A,BA,35,1875,EUR" ∷ "" ∷ [])
 unfolding everything
 opened-handed-out = refl
 
 opened-offered :
-    offerCall (image (register "EUR" []) ++ (7 ∷ [])) (bytes "A,WH,1,1")
-    ≡ record { number = 0; left = image (register "EUR" ("A,WH,1,1,EUR" ∷ [])) ++ (7 ∷ []) }
+    offerCall (registerImage (register "EUR" []) ++ (7 ∷ [])) (bytes "A,WH,1,1")
+    ≡ record { number = 0; left = registerImage (register "EUR" ("A,WH,1,1,EUR" ∷ [])) ++ (7 ∷ []) }
 unfolding everything
 opened-offered = refl
 

@@ -4,10 +4,10 @@ use mathlib.Core.List.{List, [], _∷_, _++_, map}
 use mathlib.Core.Path.{_≡_}
 use Prim.Native.Nat.{ℕ, zero, suc}
 use lib.ListN.{take, replicate}
-use Rattle.register.specs.Calls.{ReportCalled, putting, puttingNothing}
+use Rattle.register.specs.Calls.{ReportCalled, putReport, puttingNothing}
 use Rattle.register.specs.Claims.{bufferBack, madeByOffer, madeByOpening}
 use Rattle.register.specs.Line.{isCurrency}
-use Rattle.register.specs.Register.{Register, nothing, isOpen, lineAt, oldLines, offerNumber}
+use Rattle.register.specs.Register.{Register, emptyRegister, isOpen, lineAt, oldLines, offerNumber}
 use Rattle.register.specs.Report as Report
 
 -- the register opened with a currency, a line offered, a line asked for by its place, a report asked for with so many bytes of output; and two new
@@ -43,14 +43,14 @@ answers register (offer line ∷ rest) =
 answers register (get place ∷ rest) = cond (isOpen register) (handed 0 (lineAt (register .lines) place)) (handed 14 []) ∷ answers register rest
 answers register (report size ∷ rest) =
     reportedBy
-    (cond (isOpen register) (putting (Report.report (register .lines)) (replicate size 0)) (puttingNothing 14 (replicate size 0)))
+    (cond (isOpen register) (putReport (Report.report (register .lines)) (replicate size 0)) (puttingNothing 14 (replicate size 0)))
     ∷ answers register rest
 answers register (old offers ∷ rest) = number 0 ∷ answers (record { house = []; lines = oldLines [] offers }) rest
-answers register (reset ∷ rest) = number 0 ∷ answers nothing rest
+answers register (reset ∷ rest) = number 0 ∷ answers emptyRegister rest
 
 -- Commands with answers: from the empty register the commands answer just those.
 abbrev pub Answered : List (Command × Answer) → Type 0
-Answered script = answers nothing (map (λ entry. entry .0) script) ≡ map (λ entry. entry .1) script
+Answered script = answers emptyRegister (map (λ entry. entry .0) script) ≡ map (λ entry. entry .1) script
 
 -- so many times the same bytes
 unfoldable pub times : (count : ℕ) → List ℕ → List ℕ

@@ -6,10 +6,10 @@ use Prim.Native.Nat.{ℕ}
 use lib.ListN.{replicate}
 use Rattle.base.specs.Lists.{all, any}
 use Rattle.base.specs.Text.{bytes}
-use Rattle.register.specs.Buffer.{slotSize, headerSize, cellOf, slotsOf, textIn, linesIn, cellKeeps, slotsKeep}
+use Rattle.register.specs.Buffer.{slotSize, headerSize, cellOf, slotsOf, textIn, linesIn, slotCellKeeps, slotsKeep}
 use Rattle.register.specs.Calls.{handing}
 use Rattle.register.specs.Line.{isLine, isRecord}
-use Rattle.register.specs.Register.{differ, formOf, isHouse}
+use Rattle.register.specs.Register.{differ, heldForm, isHouse}
 use Rattle.register_vectors.specs.Everything.{everything}
 
 -- so many zeros
@@ -52,13 +52,13 @@ unfolding everything
 lines-read = refl
 
 -- Rule 1: a house currency or none, and zeros behind it.
-headers-kept : all (cellKeeps isHouse) (zeros 1024 ∷ headerOf (bytes "EUR") ∷ headerOf (bytes "AAA") ∷ headerOf (bytes "ZZZ") ∷ []) ≡ true
+headers-kept : all (slotCellKeeps isHouse) (zeros 1024 ∷ headerOf (bytes "EUR") ∷ headerOf (bytes "AAA") ∷ headerOf (bytes "ZZZ") ∷ []) ≡ true
 unfolding everything
 headers-kept = refl
 
 -- no currency
 headers-of-bad-houses :
-    any (cellKeeps isHouse)
+    any (slotCellKeeps isHouse)
     (map (λ house. headerOf (bytes house)) ("E" ∷ "EU" ∷ "EURO" ∷ "EUREUR" ∷ "eur" ∷ "E1R" ∷ "EU " ∷ "A,WH,1,1" ∷ "\u{1}" ∷ []))
     ≡ false
 unfolding everything
@@ -66,7 +66,7 @@ headers-of-bad-houses = refl
 
 -- another byte than zero: behind the currency, at the end of the header, behind a zero; a currency that stands further behind
 headers-damaged :
-    any (cellKeeps isHouse)
+    any (slotCellKeeps isHouse)
     ((bytes "EUR" ++ (0 ∷ (1 ∷ zeros 1019)))
     ∷ (bytes "EUR" ++ (zeros 1020 ++ (1 ∷ [])))
     ∷ (bytes "EU\0R" ++ zeros 1020)
@@ -83,28 +83,28 @@ houses-read = refl
 
 -- Rule 2: a line of good form, and zeros behind it; four fields in a register that isn't opened, five in one that is.
 slots-kept :
-    all (cellKeeps (formOf [])) (map (λ line. slotOf (bytes line)) ("A,WH,1,1" ∷ "W7,WH,120,2150" ∷ "ZZZZZZZZ,ZZ,99999,999999" ∷ [])) ≡ true
+    all (slotCellKeeps (heldForm [])) (map (λ line. slotOf (bytes line)) ("A,WH,1,1" ∷ "W7,WH,120,2150" ∷ "ZZZZZZZZ,ZZ,99999,999999" ∷ [])) ≡ true
 unfolding everything
 slots-kept = refl
 
 slots-kept-opened :
-    all (cellKeeps (formOf (bytes "EUR")))
+    all (slotCellKeeps (heldForm (bytes "EUR")))
     (map (λ line. slotOf (bytes line)) ("A,WH,1,1,EUR" ∷ "W7,WH,120,2150,USD" ∷ "ZZZZZZZZ,ZZ,99999,999999,ZZZ" ∷ []))
     ≡ true
 unfolding everything
 slots-kept-opened = refl
 
-five-fields-not-opened : any (cellKeeps (formOf [])) (map (λ line. slotOf (bytes line)) ("A,WH,1,1,EUR" ∷ "B2,BA,35,1875,USD" ∷ [])) ≡ false
+five-fields-not-opened : any (slotCellKeeps (heldForm [])) (map (λ line. slotOf (bytes line)) ("A,WH,1,1,EUR" ∷ "B2,BA,35,1875,USD" ∷ [])) ≡ false
 unfolding everything
 five-fields-not-opened = refl
 
-four-fields-opened : any (cellKeeps (formOf (bytes "EUR"))) (map (λ line. slotOf (bytes line)) ("A,WH,1,1" ∷ "B2,BA,35,1875" ∷ [])) ≡ false
+four-fields-opened : any (slotCellKeeps (heldForm (bytes "EUR"))) (map (λ line. slotOf (bytes line)) ("A,WH,1,1" ∷ "B2,BA,35,1875" ∷ [])) ≡ false
 unfolding everything
 four-fields-opened = refl
 
 -- lines of bad form; 28 bytes and no zero; no line
 slots-of-bad-lines :
-    any (cellKeeps isLine)
+    any (slotCellKeeps isLine)
     (map (λ line. slotOf (bytes line))
     ("a,WH,1,1" ∷ "A,WH,0,1" ∷ "A,WH,1" ∷ "A,WH,1,1 " ∷ "A,WH,1,1\u{1}" ∷ "A,WH,1,0000000000000000000001" ∷ "A,WH,1,1111111111111111111111" ∷ "" ∷
     []))
@@ -113,7 +113,7 @@ unfolding everything
 slots-of-bad-lines = refl
 
 slots-of-bad-records :
-    any (cellKeeps isRecord)
+    any (slotCellKeeps isRecord)
     (map (λ line. slotOf (bytes line))
     ("A,WH,1,1," ∷ "A,WH,1,1,EU" ∷ "A,WH,1,1,EURO" ∷ "A,WH,1,1,eur" ∷ "A,WH,1,1,EUR," ∷ "A,WH,0,1,EUR" ∷ "ZZZZZZZZ,ZZ,99999,999999,ZZz" ∷ "" ∷ []))
     ≡ false
@@ -122,7 +122,7 @@ slots-of-bad-records = refl
 
 -- another byte than zero behind the line: its last one, the one after a zero, a second line; a zero in the line
 slots-damaged :
-    any (cellKeeps isRecord)
+    any (slotCellKeeps isRecord)
     ((bytes "A,WH,1,1,EUR" ++ (zeros 15 ++ (1 ∷ [])))
     ∷ (bytes "A,WH,1,1,EUR" ++ (0 ∷ (255 ∷ zeros 14)))
     ∷ (bytes "A,WH,1,1,EUR" ++ (0 ∷ (bytes "B,WH,1,1,EUR" ++ zeros 3)))

@@ -8,11 +8,11 @@ use Prim.Native.String.{String}
 use lib.ListN.{replicate}
 use Rattle.base.specs.Lists.{all, any}
 use Rattle.base.specs.Text.{bytes}
-use Rattle.register.specs.Buffer.{image}
-use Rattle.register.specs.Calls.{putting, reportCall}
+use Rattle.register.specs.Buffer.{registerImage}
+use Rattle.register.specs.Calls.{putReport, reportCall}
 use Rattle.register.specs.Register.{Lines, Register}
-use Rattle.register.specs.Report.{tonnesOf, priceOf, valueOf, totalsOf, before, entered, currencies, linesOf, totalLine, printed, report}
-use Rattle.register.specs.Report.{recordsIn, totalLinesIn, currencyShown, totalsShown, isAmong, inOrder}
+use Rattle.register.specs.Report.{tonnesOf, priceOf, valueOf, totalsOf, letterBefore, inLetterOrder, currencies, linesOf, totalLine, printedRecords, report}
+use Rattle.register.specs.Report.{recordsIn, totalLinesIn, currencyShown, totalsShown, isOneWord, inOrder}
 use Rattle.register_vectors.specs.Everything.{everything}
 
 -- four lines of three currencies, and their report
@@ -41,7 +41,7 @@ four-report : report four ≡ four-put
 unfolding everything
 four-report = refl
 
-records-printed : printed (map bytes ("B" ∷ "" ∷ "A" ∷ [])) ≡ 66 ∷ 10 ∷ 10 ∷ 65 ∷ 10 ∷ []
+records-printed : printedRecords (map bytes ("B" ∷ "" ∷ "A" ∷ [])) ≡ 66 ∷ 10 ∷ 10 ∷ 65 ∷ 10 ∷ []
 unfolding everything
 records-printed = refl
 
@@ -52,14 +52,14 @@ total-held = refl
 
 -- W10.4 "in letter order": the first differing letter, wherever it is; a proper beginning first; no word before itself
 words-before :
-    map (λ (pair : String × String). before (bytes (pair .0)) (bytes (pair .1)))
+    map (λ (pair : String × String). letterBefore (bytes (pair .0)) (bytes (pair .1)))
     (("AUR", "BAA") ∷ ("EUR", "EVA") ∷ ("EUR", "EUS") ∷ ("EU", "EUR") ∷ ("", "A") ∷ ("Z", "a") ∷ [])
     ≡ replicate 6 true
 unfolding everything
 words-before = refl
 
 words-not-before :
-    map (λ (pair : String × String). before (bytes (pair .0)) (bytes (pair .1)))
+    map (λ (pair : String × String). letterBefore (bytes (pair .0)) (bytes (pair .1)))
     (("BAA", "AUR") ∷ ("EVA", "EUR") ∷ ("EUS", "EUR") ∷ ("EUR", "EU") ∷ ("A", "") ∷ ("EUR", "EUR") ∷ ("", "") ∷ [])
     ≡ replicate 7 false
 unfolding everything
@@ -67,7 +67,7 @@ words-not-before = refl
 
 -- before the first, between two, behind the last, and one that is there
 words-entered :
-    map (λ word. entered (bytes word) (map bytes ("CHF" ∷ "EUR" ∷ []))) ("AAA" ∷ "CHG" ∷ "USD" ∷ "EUR" ∷ [])
+    map (λ word. inLetterOrder (bytes word) (map bytes ("CHF" ∷ "EUR" ∷ []))) ("AAA" ∷ "CHG" ∷ "USD" ∷ "EUR" ∷ [])
     ≡ map bytes ("AAA" ∷ "CHF" ∷ "EUR" ∷ []) ∷ map bytes ("CHF" ∷ "CHG" ∷ "EUR" ∷ []) ∷ map bytes ("CHF" ∷ "EUR" ∷ "USD" ∷ [])
     ∷ map bytes ("CHF" ∷ "EUR" ∷ []) ∷ []
 unfolding everything
@@ -149,24 +149,24 @@ words-out-of-order : any inOrder (map (map bytes) (("EUR" ∷ "EUR" ∷ []) ∷ 
 unfolding everything
 words-out-of-order = refl
 
-words-among : map (λ word. isAmong (bytes word) (map bytes ("CHF" ∷ "EUR" ∷ []))) ("CHF" ∷ "EUR" ∷ "EU" ∷ "" ∷ []) ≡ true ∷ true ∷ false ∷ false ∷ []
+words-among : map (λ word. isOneWord (bytes word) (map bytes ("CHF" ∷ "EUR" ∷ []))) ("CHF" ∷ "EUR" ∷ "EU" ∷ "" ∷ []) ≡ true ∷ true ∷ false ∷ false ∷ []
 unfolding everything
 words-among = refl
 
 -- W4.5 "21 if the output can't hold it all": an exact fit, one byte short, the bytes behind, which stay; the empty report needs no output
-exact-fit : putting (report four) (sevens 127) ≡ record { number = 0; left = four-put; size = 127 }
+exact-fit : putReport (report four) (sevens 127) ≡ record { number = 0; left = four-put; size = 127 }
 unfolding everything
 exact-fit = refl
 
-one-short : putting (report four) (sevens 126) ≡ record { number = 21; left = sevens 126; size = 0 }
+one-short : putReport (report four) (sevens 126) ≡ record { number = 21; left = sevens 126; size = 0 }
 unfolding everything
 one-short = refl
 
-three-behind : putting (report four) (sevens 130) ≡ record { number = 0; left = four-put ++ (7 ∷ 7 ∷ 7 ∷ []); size = 127 }
+three-behind : putReport (report four) (sevens 130) ≡ record { number = 0; left = four-put ++ (7 ∷ 7 ∷ 7 ∷ []); size = 127 }
 unfolding everything
 three-behind = refl
 
-no-output : map (putting (report [])) ([] ∷ sevens 2 ∷ [])
+no-output : map (putReport (report [])) ([] ∷ sevens 2 ∷ [])
     ≡ record { number = 0; left = []; size = 0 } ∷ record { number = 0; left = sevens 2; size = 0 } ∷ []
 unfolding everything
 no-output = refl
@@ -176,11 +176,11 @@ nothing-reported : reportCall (bytes "EUR" ++ replicate 8189 0) (sevens 3) ≡ r
 unfolding everything
 nothing-reported = refl
 
-four-reported : reportCall (image opened-four ++ (1 ∷ 2 ∷ [])) (sevens 127) ≡ record { number = 0; left = four-put; size = 127 }
+four-reported : reportCall (registerImage opened-four ++ (1 ∷ 2 ∷ [])) (sevens 127) ≡ record { number = 0; left = four-put; size = 127 }
 unfolding everything
 four-reported = refl
 
-four-one-short : reportCall (image opened-four) (sevens 126) ≡ record { number = 21; left = sevens 126; size = 0 }
+four-one-short : reportCall (registerImage opened-four) (sevens 126) ≡ record { number = 21; left = sevens 126; size = 0 }
 unfolding everything
 four-one-short = refl
 
@@ -191,7 +191,7 @@ not-reported :
 unfolding everything
 not-reported = refl
 
-not-reported-without-output : reportCall (image (record { house = []; lines = map bytes ("A,WH,1,1" ∷ []) })) []
+not-reported-without-output : reportCall (registerImage (record { house = []; lines = map bytes ("A,WH,1,1" ∷ []) })) []
     ≡ record { number = 14; left = []; size = 0 }
 unfolding everything
 not-reported-without-output = refl

@@ -8,7 +8,7 @@ use lib.ListN.{length, set, getD, replicate}
 use lib.Seq.{set-at}
 use Rattle.scanning.specs.Trials.{Tried, found, few, settled, slide, match, answered, scan}
 use Rattle.scanning.specs.Call.{mostElements, splitNumbers, answerNumbers}
-use Rattle.scan.specs.Rows.{rowElement, elementsAt, patternOf, sizeOf, sizesAt}
+use Rattle.scan.specs.Rows.{rowElement, scanElements, patternOf, sizeOf, sizesAt}
 use Rattle.scan.specs.Rows.{rowAnswer}
 use Rattle.scan.specs.Steps.{outcome, RunFound, RunFailed}
 use Rattle.scan.specs.declared.Element.the-variants.{Free}
@@ -91,7 +91,7 @@ module _ (reference values rows : List ℕ) (count : ℕ) where
 
 -- a pattern of no elements is found at place 0
 none-found : (reference values rows : List ℕ) → outcome reference values rows 0 ≡ found (0 ∷ []) 0
-unfolding patternOf elementsAt match slide settled
+unfolding patternOf scanElements match slide settled
 none-found [] values rows = refl
 none-found (b ∷ rest) values rows = refl
 

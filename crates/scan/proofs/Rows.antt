@@ -11,16 +11,16 @@ use borrow.Author.Tests.{leb-true}
 use Rattle.base.specs.Lists.{begins}
 use Rattle.scanning.specs.Splits as Splits
 use Rattle.scanning.specs.Splits.{string, fixed, free}
-use Rattle.scanning.specs.Trials.{Tried, found, other, few, passed, tested, match}
-use Rattle.scan.specs.Rows.{rowElement, elementOf, elementsAt, sizeOf, sizesAt, Sized, Good}
-use Rattle.scan.specs.Steps.{judged, testOf, behind, groupAt, Reached}
+use Rattle.scanning.specs.Trials.{Tried, found, other, few, elementPassed, tested, match}
+use Rattle.scan.specs.Rows.{rowElement, scanElement, scanElements, sizeOf, sizesAt, RowSized, RowGood}
+use Rattle.scan.specs.Steps.{judged, testOf, passedBehind, groupAt, Reached}
 use Rattle.scan.specs.declared.Element.{Element}
 use Rattle.scan.specs.declared.Element.the-variants.{Part, Fixed, Free}
 use Rattle.scan.specs.declared.Test.the-variants.{Piece, Other, Few, Filler}
 
 -- a good element's length can be told
-pub good-sized : (values : List ℕ) (e : Element) → Good values e → Sized e
-unfolding Good Sized
+pub good-sized : (values : List ℕ) (e : Element) → RowGood values e → RowSized e
+unfolding RowGood RowSized
 good-sized values (Part from to) h = record { order = h .order; small = h .small }
 good-sized values (Fixed n) h = h
 good-sized values Free h = h
@@ -28,16 +28,16 @@ good-sized values Free h = h
 module _ (values rows : List ℕ) where
   -- the elements from row i on begin with that of row i
   pub elements-cons : (count i : ℕ) → i < count
-      → elementsAt values rows (count - i) i ≡ elementOf values (rowElement rows i) ∷ elementsAt values rows (count - (i + 1)) (i + 1)
-  unfolding elementsAt
+      → scanElements values rows (count - i) i ≡ scanElement values (rowElement rows i) ∷ scanElements values rows (count - (i + 1)) (i + 1)
+  unfolding scanElements
   elements-cons count i h =
       let e : count - i ≡ suc (count - (i + 1)) = omega arith in
-      ap (λ (n : ℕ). elementsAt values rows n i) e
+      ap (λ (n : ℕ). scanElements values rows n i) e
 
   -- behind the last row there is none
-  pub elements-none : (count i : ℕ) → count ≤ i → elementsAt values rows (count - i) i ≡ []
-  unfolding elementsAt
-  elements-none count i h = let e : count - i ≡ 0 = omega arith in ap (λ (n : ℕ). elementsAt values rows n i) e
+  pub elements-none : (count i : ℕ) → count ≤ i → scanElements values rows (count - i) i ≡ []
+  unfolding scanElements
+  elements-none count i h = let e : count - i ≡ 0 = omega arith in ap (λ (n : ℕ). scanElements values rows n i) e
 
 module _ (rows : List ℕ) where
   -- the lengths of m rows and of n rows behind them
@@ -109,7 +109,7 @@ judged-few true true l e = let z : _≡_ {A = ℕ} 0 1 = cc in absurd (omega ari
 
 module _ (p : List Splits.Element) (s : List ℕ) where
   -- an element that takes n bytes passes, and the row goes on behind them
-  pub match-piece : (e : Splits.Element) (n : ℕ) → testOf e s ≡ Piece n → match (e ∷ p) s ≡ passed n (match p (drop n s))
+  pub match-piece : (e : Splits.Element) (n : ℕ) → testOf e s ≡ Piece n → match (e ∷ p) s ≡ elementPassed n (match p (drop n s))
   unfolding match testOf tested
   match-piece (string w) n h =
       let t = judged-piece (leb (length w) (length s)) (begins w s) (length w) n h in
@@ -134,9 +134,9 @@ module _ (p : List Splits.Element) (s : List ℕ) where
   match-few free h = let z : _≡_ {A = ℕ} 0 1 = cc in absurd (omega arith)
 
 -- the piece that a good element takes has its length, and ends inside
-pub piece-size : (values s : List ℕ) (e : Element) (n : ℕ) → Good values e → testOf (elementOf values e) s ≡ Piece n
+pub piece-size : (values s : List ℕ) (e : Element) (n : ℕ) → RowGood values e → testOf (scanElement values e) s ≡ Piece n
     → (n ≡ sizeOf e) × (n ≤ length s)
-unfolding Good testOf elementOf sizeOf
+unfolding RowGood testOf scanElement sizeOf
 piece-size values s (Part from to) n good h =
     let w : List ℕ = take (to - from) (drop from values) in
     let t = judged-piece (leb (length w) (length s)) (begins w s) (length w) n h in
@@ -155,8 +155,8 @@ judged-filler true false l e = let z : _≡_ {A = ℕ} 0 1 = cc in omega arith
 judged-filler true true l e = let z : _≡_ {A = ℕ} 0 1 = cc in omega arith
 
 -- only a free filler is not tested
-pub filler-free : (values s : List ℕ) (e : Element) → testOf (elementOf values e) s ≡ Filler → e ≡ Free
-unfolding testOf elementOf
+pub filler-free : (values s : List ℕ) (e : Element) → testOf (scanElement values e) s ≡ Filler → e ≡ Free
+unfolding testOf scanElement
 filler-free values s (Part from to) h =
     let w : List ℕ = take (to - from) (drop from values) in
     absurd (judged-filler (leb (length w) (length s)) (begins w s) (length w) h)
@@ -164,15 +164,15 @@ filler-free values s (Fixed m) h = absurd (judged-filler (leb m (length s)) true
 filler-free values s Free h = refl
 
 -- no element passed leaves the row as it is
-behind-nil : (t : Tried) → behind [] t ≡ t
-unfolding behind
+behind-nil : (t : Tried) → passedBehind [] t ≡ t
+unfolding passedBehind
 behind-nil (found ms n) = ap (found ms) (omega arith)
 behind-nil (other n) = ap other (omega arith)
 behind-nil (few n) = ap few (omega arith)
 
 -- one element more passed
-behind-passed : (ls : List ℕ) (l : ℕ) (t : Tried) → behind ls (passed l t) ≡ behind (ls ++ (l ∷ [])) t
-unfolding behind passed
+behind-passed : (ls : List ℕ) (l : ℕ) (t : Tried) → passedBehind ls (elementPassed l t) ≡ passedBehind (ls ++ (l ∷ [])) t
+unfolding passedBehind elementPassed
 behind-passed ls l (found ms n) =
     let e : length ls + suc n ≡ length (ls ++ (l ∷ [])) + n = omega (arith, length-append ls (l ∷ [])) in
     rw (e, append-assoc)
@@ -193,25 +193,25 @@ module _ {reference values rows : List ℕ} {count g place : ℕ} where
         forth = omega arith;
         inside = inside;
         same =
-            sym (ap (λ (n : ℕ). behind (sizesAt rows n g) (groupAt values rows count g (drop place reference))) e
+            sym (ap (λ (n : ℕ). passedBehind (sizesAt rows n g) (groupAt values rows count g (drop place reference))) e
             ∙ behind-nil (groupAt values rows count g (drop place reference)));
       }
 
   module _ {i at : ℕ} (r : Reached reference values rows count g place i at) (more : i < count) where
     abbrev here : Splits.Element
-    here = elementOf values (rowElement rows i)
+    here = scanElement values (rowElement rows i)
 
     abbrev rest : List Splits.Element
-    rest = elementsAt values rows (count - (i + 1)) (i + 1)
+    rest = scanElements values rows (count - (i + 1)) (i + 1)
 
     reach : (t : Tried) → match (here ∷ rest) (drop at reference) ≡ t
-        → groupAt values rows count g (drop place reference) ≡ behind (sizesAt rows (i - g) g) t
+        → groupAt values rows count g (drop place reference) ≡ passedBehind (sizesAt rows (i - g) g) t
     reach t e =
         r .same
-        ∙ ap (λ (p : List Splits.Element). behind (sizesAt rows (i - g) g) (match p (drop at reference))) (elements-cons values rows count i more)
-        ∙ ap (behind (sizesAt rows (i - g) g)) e
+        ∙ ap (λ (p : List Splits.Element). passedBehind (sizesAt rows (i - g) g) (match p (drop at reference))) (elements-cons values rows count i more)
+        ∙ ap (passedBehind (sizesAt rows (i - g) g)) e
 
-    pub group-piece : {n : ℕ} → Good values (rowElement rows i) → testOf here (drop at reference) ≡ Piece n
+    pub group-piece : {n : ℕ} → RowGood values (rowElement rows i) → testOf here (drop at reference) ≡ Piece n
         → Reached reference values rows count g place (i + 1) (at + n)
     group-piece {n} good h =
         let size = piece-size values (drop at reference) (rowElement rows i) n good h in
@@ -222,26 +222,26 @@ module _ {reference values rows : List ℕ} {count g place : ℕ} where
           forth = omega (arith, r .forth);
           inside = omega (arith, size .1, length-drop at reference, r .inside);
           same =
-              reach (passed n (match rest (drop n (drop at reference)))) (match-piece rest (drop at reference) here n h)
-              ∙ ap (λ (s : List ℕ). behind (sizesAt rows (i - g) g) (passed n (match rest s))) (drop-drop n at reference)
+              reach (elementPassed n (match rest (drop n (drop at reference)))) (match-piece rest (drop at reference) here n h)
+              ∙ ap (λ (s : List ℕ). passedBehind (sizesAt rows (i - g) g) (elementPassed n (match rest s))) (drop-drop n at reference)
               ∙ behind-passed (sizesAt rows (i - g) g) n t
-              ∙ ap (λ (m : ℕ). behind (sizesAt rows (i - g) g ++ (m ∷ [])) t) (size .0)
-              ∙ ap (λ (ls : List ℕ). behind ls t) (sym (sizes-more rows g i (r .low)));
+              ∙ ap (λ (m : ℕ). passedBehind (sizesAt rows (i - g) g ++ (m ∷ [])) t) (size .0)
+              ∙ ap (λ (ls : List ℕ). passedBehind ls t) (sym (sizes-more rows g i (r .low)));
         }
 
     pub group-other : testOf here (drop at reference) ≡ Other → groupAt values rows count g (drop place reference) ≡ other (i - g + 1)
-    unfolding behind
+    unfolding passedBehind
     group-other h =
         reach (other 1) (match-other rest (drop at reference) here h) ∙ ap (λ (n : ℕ). other (n + 1)) (sizes-length rows (i - g) g)
 
     pub group-few : testOf here (drop at reference) ≡ Few → groupAt values rows count g (drop place reference) ≡ few (i - g + 1)
-    unfolding behind
+    unfolding passedBehind
     group-few h =
         reach (few 1) (match-few rest (drop at reference) here h) ∙ ap (λ (n : ℕ). few (n + 1)) (sizes-length rows (i - g) g)
 
 -- the first element may be known to pass with a byte
 pub group-known : (reference values rows : List ℕ) (count g place known : ℕ) → g < count → place ≤ length reference
-    → Good values (rowElement rows g) → known ≤ 1 → (known ≡ 1 → testOf (elementOf values (rowElement rows g)) (drop place reference) ≡ Piece 1)
+    → RowGood values (rowElement rows g) → known ≤ 1 → (known ≡ 1 → testOf (scanElement values (rowElement rows g)) (drop place reference) ≡ Piece 1)
     → Reached reference values rows count g place (g + known) (place + known)
 group-known reference values rows count g place zero more inside good most passes =
     let e : g ≡ g + 0 = omega arith in

@@ -8,9 +8,9 @@ use lib.Seq.{drop-drop}
 use Rattle.scanning.specs.Splits as Splits
 use Rattle.scanning.specs.Splits.{free}
 use Rattle.scanning.specs.Trials.{Tried, found, other, few, match, slide}
-use Rattle.scan.specs.Rows.{rowElement, elementOf, elementsAt, patternOf, sizesAt}
+use Rattle.scan.specs.Rows.{rowElement, scanElement, scanElements, patternOf, sizesAt}
 use Rattle.scan.specs.Rows.{rowAnswer}
-use Rattle.scan.specs.Steps.{testOf, behind, resumed, groupAt, WholeGroup, FailedGroup, outcome, RunFound, RunFailed, SkipSays}
+use Rattle.scan.specs.Steps.{testOf, passedBehind, resumedTrial, groupAt, WholeGroup, FailedGroup, outcome, RunFound, RunFailed, SkipSays}
 use Rattle.scan.specs.declared.Element.{Element}
 use Rattle.scan.proofs.Answers.{row-set, row-settled}
 use Rattle.scan.proofs.Rows.{elements-cons, elements-none, sizes-length, match-other}
@@ -22,7 +22,7 @@ pub record Running (reference values rows : List ℕ) (count : ℕ) (answer : Li
   pub size : length pre ≡ g
   pub left : answer ≡ rowAnswer count (pre ++ (0 ∷ sizesAt rows (count - g) g))
   pub same : outcome reference values rows count
-      ≡ resumed pre (place - from) trials (slide (groupAt values rows count g) (drop place reference))
+      ≡ resumedTrial pre (place - from) trials (slide (groupAt values rows count g) (drop place reference))
   pub more : g < count
   pub low : from ≤ place
   pub inside : place ≤ length reference
@@ -46,7 +46,7 @@ module _ {reference values rows : List ℕ} {count : ℕ} where
         size = refl;
         left = e ∙ ap (λ (n : ℕ). rowAnswer count (0 ∷ sizesAt rows n 0)) z;
         same =
-            ap (λ (n : ℕ). slide (match (elementsAt values rows n 0)) reference) z
+            ap (λ (n : ℕ). slide (match (scanElements values rows n 0)) reference) z
             ∙ sym (resumed-none (slide (groupAt values rows count 0) reference) (slide-slid (groupAt values rows count 0) reference));
         more = h;
         low = omega arith;
@@ -61,13 +61,13 @@ module _ {reference values rows : List ℕ} {count : ℕ} where
     row = groupAt values rows count g
 
     -- what the slide from this place on is, is what the run is
-    comes : (x : Tried) → resumed (r .pre) (place - from) trials (slide row (drop place reference)) ≡ x
+    comes : (x : Tried) → resumedTrial (r .pre) (place - from) trials (slide row (drop place reference)) ≡ x
         → outcome reference values rows count ≡ x
     comes x e = r .same ∙ e
 
     -- the run at a place further right
     at-place : (place′ trials′ : ℕ) → from ≤ place′ → place′ ≤ length reference → trials′ ≤ 20 * place′ + g
-        → outcome reference values rows count ≡ resumed (r .pre) (place′ - from) trials′ (slide row (drop place′ reference))
+        → outcome reference values rows count ≡ resumedTrial (r .pre) (place′ - from) trials′ (slide row (drop place′ reference))
         → Running reference values rows count answer g from place′ trials′
     at-place place′ trials′ low inside bound same =
         record {
@@ -83,22 +83,22 @@ module _ {reference values rows : List ℕ} {count : ℕ} where
           most = r .most;
         }
 
-    pub run-skips : {e : Element} {k : ℕ} → e ≡ rowElement rows g → SkipSays (drop place reference) (elementOf values e) k
+    pub run-skips : {e : Element} {k : ℕ} → e ≡ rowElement rows g → SkipSays (drop place reference) (scanElement values e) k
         → Running reference values rows count answer g from (place + k) (trials + k)
     run-skips {e} {k} read s =
-        let rest : List Splits.Element = elementsAt values rows (count - (g + 1)) (g + 1) in
+        let rest : List Splits.Element = scanElements values rows (count - (g + 1)) (g + 1) in
         let fails : (j : ℕ) → j < k → row (drop j (drop place reference)) ≡ other 1 =
         λ j h.
         ap (λ (p : List Splits.Element). match p (drop j (drop place reference))) (elements-cons values rows count g (r .more))
-        ∙ match-other rest (drop j (drop place reference)) (elementOf values (rowElement rows g))
-        (ap (λ (x : Element). testOf (elementOf values x) (drop j (drop place reference))) (sym read) ∙ s .fails j h) in
+        ∙ match-other rest (drop j (drop place reference)) (scanElement values (rowElement rows g))
+        (ap (λ (x : Element). testOf (scanElement values x) (drop j (drop place reference))) (sym read) ∙ s .fails j h) in
         let gap : place - from + k ≡ place + k - from = omega (arith, r .low) in
         at-place (place + k) (trials + k) (omega (arith, r .low)) (omega (arith, s .inside, length-drop place reference, r .inside))
         (omega (arith, r .bound))
         (r .same
         ∙ slides-over (r .pre) row k (drop place reference) (place - from) trials (s .inside) fails
-        ∙ ap (λ (l : List ℕ). resumed (r .pre) (place - from + k) (trials + k) (slide row l)) (drop-drop k place reference)
-        ∙ ap (λ (n : ℕ). resumed (r .pre) n (trials + k) (slide row (drop (place + k) reference))) gap)
+        ∙ ap (λ (l : List ℕ). resumedTrial (r .pre) (place - from + k) (trials + k) (slide row l)) (drop-drop k place reference)
+        ∙ ap (λ (n : ℕ). resumedTrial (r .pre) n (trials + k) (slide row (drop (place + k) reference))) gap)
 
     pub run-moves : {n : ℕ} → FailedGroup reference values rows count g place n (other n) → place < length reference
         → Running reference values rows count answer g from (place + 1) (trials + n)
@@ -107,8 +107,8 @@ module _ {reference values rows : List ℕ} {count : ℕ} where
         at-place (place + 1) (trials + n) (omega (arith, r .low)) (omega arith) (omega (arith, r .bound, f .few))
         (r .same
         ∙ slides-on (r .pre) row (drop place reference) (place - from) trials n (f .same) (omega (arith, length-drop place reference))
-        ∙ ap (λ (l : List ℕ). resumed (r .pre) (place - from + 1) (trials + n) (slide row l)) (drop-drop 1 place reference)
-        ∙ ap (λ (m : ℕ). resumed (r .pre) m (trials + n) (slide row (drop (place + 1) reference))) gap)
+        ∙ ap (λ (l : List ℕ). resumedTrial (r .pre) (place - from + 1) (trials + n) (slide row l)) (drop-drop 1 place reference)
+        ∙ ap (λ (m : ℕ). resumedTrial (r .pre) m (trials + n) (slide row (drop (place + 1) reference))) gap)
 
     pub run-stops : {n : ℕ} → FailedGroup reference values rows count g place n (other n) → place ≡ length reference
         → RunFailed reference values rows count (trials + n)
@@ -140,7 +140,7 @@ module _ {reference values rows : List ℕ} {count : ℕ} where
       with-found ms e =
           let n : length sizes + 0 ≡ j - g = omega (arith, sizes-length rows (j - g) g) in
           r .same
-          ∙ slides-found (r .pre) row (drop place reference) sizes ms gap trials 0 (w .reached .same ∙ ap (behind sizes) e)
+          ∙ slides-found (r .pre) row (drop place reference) sizes ms gap trials 0 (w .reached .same ∙ ap (passedBehind sizes) e)
           ∙ ap (λ (m : ℕ). found (r .pre ++ (gap ∷ (sizes ++ ms))) (trials + m)) n
 
       pub run-done : j ≡ count → RunFound reference values rows count (set answer (3 + g) gap) (trials + (j - g))
@@ -176,18 +176,18 @@ module _ {reference values rows : List ℕ} {count : ℕ} where
           ∙ row-settled rows (r .pre) count g j gap (r .size) (w .reached .low) h (w .filler h)
 
       -- behind the group stands a free filler
-      filled : j < count → elementsAt values rows (count - j) j ≡ free ∷ elementsAt values rows (count - (j + 1)) (j + 1)
-      unfolding elementOf
+      filled : j < count → scanElements values rows (count - j) j ≡ free ∷ scanElements values rows (count - (j + 1)) (j + 1)
+      unfolding scanElement
       filled h =
           elements-cons values rows count j h
-          ∙ ap (λ (x : Element). elementOf values x ∷ elementsAt values rows (count - (j + 1)) (j + 1)) (w .filler h)
+          ∙ ap (λ (x : Element). scanElement values x ∷ scanElements values rows (count - (j + 1)) (j + 1)) (w .filler h)
 
       pub run-last : j + 1 ≡ count
           → RunFound reference values rows count (set (set answer (3 + g) gap) (3 + (j + 1)) (length reference - end)) (trials + (j - g))
       unfolding match sizesAt
       run-last e =
           let tail : ℕ = length reference - end in
-          let alone : elementsAt values rows (count - j) j ≡ free ∷ [] =
+          let alone : scanElements values rows (count - j) j ≡ free ∷ [] =
           filled (omega arith) ∙ ap (λ (p : List Splits.Element). free ∷ p) (elements-none values rows count (j + 1) (omega arith)) in
           let last : groupAt values rows count j (drop end reference) ≡ found (tail ∷ []) 0 =
           ap (λ (p : List Splits.Element). match p (drop end reference)) alone
@@ -210,9 +210,9 @@ module _ {reference values rows : List ℕ} {count : ℕ} where
           → Running reference values rows count (set answer (3 + g) gap) (j + 1) end end (trials + (j - g))
       unfolding match
       run-next h =
-          let rest : List Splits.Element = elementsAt values rows (count - (j + 1 + 1)) (j + 1 + 1) in
-          let e : Splits.Element = elementOf values (rowElement rows (j + 1)) in
-          let next : elementsAt values rows (count - (j + 1)) (j + 1) ≡ e ∷ rest = elements-cons values rows count (j + 1) h in
+          let rest : List Splits.Element = scanElements values rows (count - (j + 1 + 1)) (j + 1 + 1) in
+          let e : Splits.Element = scanElement values (rowElement rows (j + 1)) in
+          let next : scanElements values rows (count - (j + 1)) (j + 1) ≡ e ∷ rest = elements-cons values rows count (j + 1) h in
           let s : List ℕ = drop end reference in
           let slides : groupAt values rows count j s ≡ slide (groupAt values rows count (j + 1)) s =
           ap (λ (p : List Splits.Element). match p s) (filled (omega arith) ∙ ap (λ (p : List Splits.Element). free ∷ p) next)
@@ -225,9 +225,9 @@ module _ {reference values rows : List ℕ} {count : ℕ} where
             same =
                 r .same
                 ∙ slides-whole (r .pre) row (drop place reference) sizes s (groupAt values rows count (j + 1)) gap trials
-                (w .reached .same ∙ ap (behind sizes) slides)
-                ∙ ap (λ (n : ℕ). resumed settled 0 (trials + n) (slide (groupAt values rows count (j + 1)) s)) (sizes-length rows (j - g) g)
-                ∙ ap (λ (n : ℕ). resumed settled n (trials + (j - g)) (slide (groupAt values rows count (j + 1)) s)) none;
+                (w .reached .same ∙ ap (passedBehind sizes) slides)
+                ∙ ap (λ (n : ℕ). resumedTrial settled 0 (trials + n) (slide (groupAt values rows count (j + 1)) s)) (sizes-length rows (j - g) g)
+                ∙ ap (λ (n : ℕ). resumedTrial settled n (trials + (j - g)) (slide (groupAt values rows count (j + 1)) s)) none;
             more = h;
             low = omega arith;
             inside = w .reached .inside;

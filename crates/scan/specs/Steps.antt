@@ -10,7 +10,7 @@ use Rattle.scanning.specs.Splits as Splits
 use Rattle.scanning.specs.Splits.{string, fixed, free}
 use Rattle.scanning.specs.Trials.{Tried, found, other, few, match, slide}
 use Rattle.scanning.specs.Call.{Called}
-use Rattle.scan.specs.Rows.{rowElement, elementsAt, patternOf, sizesAt, rowAnswer}
+use Rattle.scan.specs.Rows.{rowElement, scanElements, patternOf, sizesAt, rowAnswer}
 use Rattle.scan.specs.declared.Element.the-variants.{Free}
 use Rattle.scan.specs.declared.Test.{Test}
 use Rattle.scan.specs.declared.Test.the-variants.{Piece, Other, Few, Filler}
@@ -32,21 +32,21 @@ testOf (fixed n) rest = judged (leb n (length rest)) true n
 testOf free rest = Filler
 
 -- elements passed with pieces of these lengths, one trial each, then the rest of the row
-unfoldable pub behind : List ℕ → Tried → Tried
-behind ls (found ms n) = found (ls ++ ms) (length ls + n)
-behind ls (other n) = other (length ls + n)
-behind ls (few n) = few (length ls + n)
+unfoldable pub passedBehind : List ℕ → Tried → Tried
+passedBehind ls (found ms n) = found (ls ++ ms) (length ls + n)
+passedBehind ls (other n) = other (length ls + n)
+passedBehind ls (few n) = few (length ls + n)
 
 -- a row found behind lengths already settled, a gap already passed over and trials already made
-unfoldable pub resumed : List ℕ → ℕ → ℕ → Tried → Tried
-resumed ls gap t (found [] n) = found [] (t + n)
-resumed ls gap t (found (g ∷ ms) n) = found (ls ++ ((gap + g) ∷ ms)) (t + n)
-resumed ls gap t (other n) = other (t + n)
-resumed ls gap t (few n) = few (t + n)
+unfoldable pub resumedTrial : List ℕ → ℕ → ℕ → Tried → Tried
+resumedTrial ls gap t (found [] n) = found [] (t + n)
+resumedTrial ls gap t (found (g ∷ ms) n) = found (ls ++ ((gap + g) ∷ ms)) (t + n)
+resumedTrial ls gap t (other n) = other (t + n)
+resumedTrial ls gap t (few n) = few (t + n)
 
 -- the elements of rows g to count, tested at a place
 abbrev pub groupAt : (values rows : List ℕ) → (count g : ℕ) → List ℕ → Tried
-groupAt values rows count g = match (elementsAt values rows (count - g) g)
+groupAt values rows count g = match (scanElements values rows (count - g) g)
 
 -- the elements up to j passed, and the piece of the last one ends at end
 pub record Reached (reference values rows : List ℕ) (count g place j end : ℕ) : Type 0 where
@@ -55,7 +55,7 @@ pub record Reached (reference values rows : List ℕ) (count g place j end : ℕ
   pub forth : place ≤ end
   pub inside : end ≤ length reference
   pub same : groupAt values rows count g (drop place reference)
-      ≡ behind (sizesAt rows (j - g) g) (groupAt values rows count j (drop end reference))
+      ≡ passedBehind (sizesAt rows (j - g) g) (groupAt values rows count j (drop end reference))
 
 -- all of a group passed: j is a free filler or the end of the pattern
 pub record WholeGroup (reference values rows : List ℕ) (count g place j end : ℕ) : Type 0 where

@@ -7,8 +7,8 @@ ghost use Prim.Native.Nat.{ℕ, _+_, _*_, _≤_, _<_, _^_};
 ghost use lib.ListN.{length, drop, getD, set};
 ghost use Rattle.scanning.specs.Splits.{string};
 ghost use Rattle.scanning.specs.Trials.{scan};
-ghost use Rattle.scanning.specs.Call.{number4 as Call·number4, splitNumbers, answerNumbers, countOf, scanWith, patternIn, ScanPromise};
-ghost use Rattle.scan.specs.Rows.{rowElement, elementOf, patternOf, sizeOf, sizesAt, Sized, Good, GoodRows, RowSays, rowAnswer, RowsSay};
+ghost use Rattle.scanning.specs.Call.{number4 as Call·number4, splitNumbers, answerNumbers, rowCount, scanWith, patternOfRows, ScanPromise};
+ghost use Rattle.scan.specs.Rows.{rowElement, scanElement, patternOf, sizeOf, sizesAt, RowSized, RowGood, GoodRows, RowSays, rowAnswer, RowsSay};
 ghost use Rattle.scan.specs.Steps.{testOf, SkipSays, StandsSays, CallSays, GroupSays, GroupReady, RunSays};
 use base::LONGEST;
 use base::wide;
@@ -105,8 +105,8 @@ fn test_string(rest: &[u8], word: &[u8]) -> Test
 // the test of an element at a place
 fn test_element(reference: &[u8], values: &[u8], e: Element, at: usize) -> Test
     requires { ⌜ at ≤ length (now reference) ⌝ }
-    requires { ⌜ Good (now values) e ⌝ }
-    ensures { λ r. ⌜ r ≡ testOf (elementOf (now (values .entry)) e) (drop at (now (reference .entry))) ⌝ }
+    requires { ⌜ RowGood (now values) e ⌝ }
+    ensures { λ r. ⌜ r ≡ testOf (scanElement (now (values .entry)) e) (drop at (now (reference .entry))) ⌝ }
 {
     match e {
         Element::Part(from, to) => test_string(&reference[at..], &values[from..to]),
@@ -160,10 +160,10 @@ fn test_group(
 }
 
 // how many places from one on a group can pass over because its first element, a string, fails there: each is one trial
-fn skip(reference: &[u8], values: &[u8], e: Element, at: usize) -> usize
+fn pass_places(reference: &[u8], values: &[u8], e: Element, at: usize) -> usize
     requires { ⌜ at ≤ length (now reference) ⌝ }
-    requires { ⌜ Good (now values) e ⌝ }
-    ensures { λ r. ⌜ SkipSays (drop at (now (reference .entry))) (elementOf (now (values .entry)) e) r ⌝ }
+    requires { ⌜ RowGood (now values) e ⌝ }
+    ensures { λ r. ⌜ SkipSays (drop at (now (reference .entry))) (scanElement (now (values .entry)) e) r ⌝ }
 {
     match e {
         Element::Part(from, to) => search::passed(&reference[at..], &values[from..to]),
@@ -175,8 +175,8 @@ fn skip(reference: &[u8], values: &[u8], e: Element, at: usize) -> usize
 // 1 where the element is a string of one byte that stands at the place, else 0: the quick way through the commonest groups
 fn stands(reference: &[u8], values: &[u8], e: Element, at: usize) -> usize
     requires { ⌜ at ≤ length (now reference) ⌝ }
-    requires { ⌜ Good (now values) e ⌝ }
-    ensures { λ r. ⌜ StandsSays (drop at (now (reference .entry))) (elementOf (now (values .entry)) e) r ⌝ }
+    requires { ⌜ RowGood (now values) e ⌝ }
+    ensures { λ r. ⌜ StandsSays (drop at (now (reference .entry))) (scanElement (now (values .entry)) e) r ⌝ }
 {
     match e {
         Element::Part(from, to) => {
@@ -213,7 +213,7 @@ fn run(
     let mut trials: usize = 0;
     loop {
         let e = row_element(rows, g);
-        let k = skip(reference, values, e, place);
+        let k = pass_places(reference, values, e, place);
         place += k;
         trials += k;
         let known = stands(reference, values, e, place);
@@ -248,7 +248,7 @@ fn run(
 
 // the length of an element's piece, a free filler's left 0
 fn length_of(e: Element) -> usize
-    requires { ⌜ Sized e ⌝ }
+    requires { ⌜ RowSized e ⌝ }
     ensures { λ r. ⌜ (r ≡ sizeOf e) × (r < 2 ^ 32) ⌝ }
 {
     match e {
@@ -261,7 +261,7 @@ fn length_of(e: Element) -> usize
 // the answer with the lengths of a pattern's pieces, behind the start's place
 fn fill(rows: &[u8], count: usize, answer: &mut [u32; ANSWER_SIZE])
     requires { ⌜ (count ≤ 20) × (12 * count ≤ length (now rows)) ⌝ }
-    requires { ⌜ ((i : ℕ) → i < count → Sized (rowElement (now rows) i)) ⌝ }
+    requires { ⌜ ((i : ℕ) → i < count → RowSized (rowElement (now rows) i)) ⌝ }
     ensures { λ r. ⌜ now (answer .exit) ≡ rowAnswer count (0 ∷ sizesAt (now (rows .entry)) count 0) ⌝ }
 {
     *answer = [0u32; ANSWER_SIZE];
@@ -358,7 +358,7 @@ fn is_element(values: &[u8], elements: &[u8], at: usize) -> bool
 
 // whether all rows are elements; their lengths stand in the answer then
 fn read_rows(values: &[u8], elements: &[u8], count: usize, answer: &mut [u32; ANSWER_SIZE]) -> bool
-    requires { ⌜ (length (now elements) ≤ 240) × (count ≡ countOf (now elements)) ⌝ }
+    requires { ⌜ (length (now elements) ≤ 240) × (count ≡ rowCount (now elements)) ⌝ }
     ensures { λ r. ⌜ RowsSay (now (values .entry)) (now (elements .entry)) count (now (answer .exit)) r ⌝ }
 {
     *answer = [0u32; ANSWER_SIZE];
@@ -385,8 +385,8 @@ fn scan_rows(
     answer: &mut [u32; ANSWER_SIZE],
 ) -> u32
     requires { ⌜ (length (now reference) ≤ 1024) × (length (now elements) ≤ 240) ⌝ }
-    requires { ⌜ count ≡ countOf (now elements) ⌝ }
-    ensures { λ r. ⌜ CallSays (scanWith (patternIn (now (values .entry)) (now (elements .entry))) (now (reference .entry))) r (now (answer .exit)) ⌝ }
+    requires { ⌜ count ≡ rowCount (now elements) ⌝ }
+    ensures { λ r. ⌜ CallSays (scanWith (patternOfRows (now (values .entry)) (now (elements .entry))) (now (reference .entry))) r (now (answer .exit)) ⌝ }
 {
     if read_rows(values, elements, count, answer) {
         scan_filled(reference, values, elements, count, answer);
@@ -397,8 +397,7 @@ fn scan_rows(
 }
 
 // The scan call: 0 and the scan's answer, or 22, 23 or 24 and no split.
-#[no_mangle]
-pub extern "C" fn strigol_scan(
+pub fn strigol_scan(
     reference: &[u8],
     values: &[u8],
     elements: &[u8],

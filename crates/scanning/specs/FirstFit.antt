@@ -15,9 +15,9 @@ use Rattle.base.specs.Lists.{isNil, begins}
 use Rattle.base.specs.ListLaws.{begins-iff}
 use Rattle.scanning.specs.Splits.{Element, string, fixed, free, Split, Suits, PiecesFit, Fits, Longer, Later, FirstFit}
 use Rattle.scanning.specs.Splits.{AnswersFirstFit}
-use Rattle.scanning.specs.Trials.{Tried, found, other, few, passed, tested, moved, settled, slide, match, answered}
+use Rattle.scanning.specs.Trials.{Tried, found, other, few, elementPassed, tested, placeMoved, settled, slide, match, answered}
 use Rattle.scanning.specs.Trials.{scan}
-use Rattle.scanning.specs.Laws.{row, row-injective, first-fit-unique}
+use Rattle.scanning.specs.Laws.{splitRow, row-injective, first-fit-unique}
 
 -- which rows of lengths fit at a place
 abbrev Fitting : Type 1
@@ -33,10 +33,10 @@ NotBefore ms ls = (ms ≡ ls) ⊎ Longer ms ls
 
 -- What an outcome at a place says of the rows that fit. Found: this row fits, and none that fits comes before it. Other bytes: none
 -- fits here. Too few bytes: none fits here or at any place further right; this is what lets the scan end there.
-Says : Fitting → List ℕ → Tried → Type 0
-Says Fit rest (found ls n) = Fit rest ls × ((ms : List ℕ) → Fit rest ms → NotBefore ms ls)
-Says Fit rest (other n) = NoneFits Fit rest
-Says Fit rest (few n) = (k : ℕ) → NoneFits Fit (drop k rest)
+Correct : Fitting → List ℕ → Tried → Type 0
+Correct Fit rest (found ls n) = Fit rest ls × ((ms : List ℕ) → Fit rest ms → NotBefore ms ls)
+Correct Fit rest (other n) = NoneFits Fit rest
+Correct Fit rest (few n) = (k : ℕ) → NoneFits Fit (drop k rest)
 
 -- the first length is a gap, and the others fit behind it
 Behind : Fitting → Fitting
@@ -45,8 +45,8 @@ Behind Fit rest (gap ∷ ls) = (gap ≤ length rest) × Fit (drop gap rest) ls
 
 -- an outcome says the same of the same rows
 says-iff : (Fit Fit′ : Fitting) → ((rest ls : List ℕ) → Fit rest ls ↔ Fit′ rest ls) → (rest : List ℕ) (t : Tried)
-    → Says Fit rest t → Says Fit′ rest t
-unfolding Says
+    → Correct Fit rest t → Correct Fit′ rest t
+unfolding Correct
 says-iff Fit Fit′ iff rest (found ls n) h = (iff rest ls .0 (h .0), λ ms g. h .1 ms (iff rest ms .1 g))
 says-iff Fit Fit′ iff rest (other n) h = λ ms g. h ms (iff rest ms .1 g)
 says-iff Fit Fit′ iff rest (few n) h = λ k ms g. h k ms (iff (drop k rest) ms .1 g)
@@ -75,9 +75,9 @@ module _ (Fit : Fitting) where
   next-place b rest here P f (suc gap ∷ ls) h = f gap ls (omega arith, h .1)
 
   -- where none fits at this place, what the next place says holds here with a gap of a byte more
-  moved-says : (n b : ℕ) (rest : List ℕ) (next : Tried) → NoneFits Fit (b ∷ rest) → Says (Behind Fit) rest next
-      → Says (Behind Fit) (b ∷ rest) (moved n next)
-  unfolding moved Says Behind
+  moved-says : (n b : ℕ) (rest : List ℕ) (next : Tried) → NoneFits Fit (b ∷ rest) → Correct (Behind Fit) rest next
+      → Correct (Behind Fit) (b ∷ rest) (placeMoved n next)
+  unfolding placeMoved Correct Behind
   moved-says n b rest (found [] m) here h = absurd (h .0)
   moved-says n b rest (found (gap ∷ ls) m) here h = (
     (omega arith, h .0 .1),
@@ -88,9 +88,9 @@ module _ (Fit : Fitting) where
       elim [ zero ↦ next-place b rest here (λ ms. ⊥) (λ gap ls. h 0 (gap ∷ ls)) | suc k ↦ h k ]
 
   -- the outcome at this place or, where none fits here, at the next
-  settled-says : (rest : List ℕ) (t next : Tried) → Says Fit rest t
-      → ((n : ℕ) → NoneFits Fit rest → Says (Behind Fit) rest (moved n next)) → Says (Behind Fit) rest (settled t next)
-  unfolding settled Says Behind NotBefore Longer
+  settled-says : (rest : List ℕ) (t next : Tried) → Correct Fit rest t
+      → ((n : ℕ) → NoneFits Fit rest → Correct (Behind Fit) rest (placeMoved n next)) → Correct (Behind Fit) rest (settled t next)
+  unfolding settled Correct Behind NotBefore Longer
   settled-says rest (found ls n) next h further = ((omega arith, h .0), first)
     where
       first : (ms : List ℕ) → Behind Fit rest ms → NotBefore ms (0 ∷ ls)
@@ -101,9 +101,9 @@ module _ (Fit : Fitting) where
   settled-says rest (few n) next h further = λ k. elim [ [] ↦ λ g. g | gap ∷ ms ↦ λ g. h (k + gap) ms (rw drop-drop at g .1) ]
 
   -- a row whose outcomes say so of what fits, slid to the right, says so of a gap and what fits behind it
-  slide-says : (try : List ℕ → Tried) → ((rest : List ℕ) → Says Fit rest (try rest)) → (rest : List ℕ)
-      → Says (Behind Fit) rest (slide try rest)
-  unfolding slide moved Says Behind
+  slide-says : (try : List ℕ → Tried) → ((rest : List ℕ) → Correct Fit rest (try rest)) → (rest : List ℕ)
+      → Correct (Behind Fit) rest (slide try rest)
+  unfolding slide placeMoved Correct Behind
   slide-says try h [] =
       settled-says [] (try []) (few 0) (h []) (λ n here k. elim [ [] ↦ λ g. g | gap ∷ ls ↦ λ g. here ls (simp drop-nil at g .1) ])
   slide-says try h (b ∷ rest) =
@@ -141,9 +141,9 @@ module _ (e : Element) (p : List Element) (l : ℕ) (long : Long e l) where
       rw same (f ls (rw same at h .0) (rw same at h .1) (rw same at h .2))
 
   -- where e passes, what p says behind its piece holds with l in front
-  passed-says : (rest : List ℕ) (next : Tried) → l ≤ length rest → Suits e (isNil p) rest l → Says (PiecesFit p) (drop l rest) next
-      → Says (PiecesFit (e ∷ p)) rest (passed l next)
-  unfolding passed Says PiecesFit
+  passed-says : (rest : List ℕ) (next : Tried) → l ≤ length rest → Suits e (isNil p) rest l → Correct (PiecesFit p) (drop l rest) next
+      → Correct (PiecesFit (e ∷ p)) rest (elementPassed l next)
+  unfolding elementPassed Correct PiecesFit
   passed-says rest (found ls n) inside suits h =
       ((inside, suits, h .0), first-piece rest (λ ms. NotBefore ms (l ∷ ls)) (λ ms _ _ g. not-before-cons l ls ms (h .1 ms g)))
   passed-says rest (other n) inside suits h = first-piece rest (λ ms. ⊥) (λ ms _ _ g. h ms g)
@@ -151,9 +151,9 @@ module _ (e : Element) (p : List Element) (l : ℕ) (long : Long e l) where
 
   -- the test of e, then p behind its piece
   tested-says : (rest : List ℕ) (enough equal : Bool) (next : Tried) → leb l (length rest) ≡ enough
-      → (equal ≡ true) ↔ Suits e (isNil p) rest l → Says (PiecesFit p) (drop l rest) next
-      → Says (PiecesFit (e ∷ p)) rest (tested enough equal l next)
-  unfolding tested Says
+      → (equal ≡ true) ↔ Suits e (isNil p) rest l → Correct (PiecesFit p) (drop l rest) next
+      → Correct (PiecesFit (e ∷ p)) rest (tested enough equal l next)
+  unfolding tested Correct
   tested-says rest false equal next size bytes h =
       λ k. first-piece (drop k rest) (λ ms. ⊥) (λ ms inside _ _. omega (arith, leb-false l (length rest) size, length-drop k rest))
   tested-says rest true false next size bytes h = first-piece rest (λ ms. ⊥) (λ ms _ suits _. false≢true (bytes .1 suits))
@@ -166,8 +166,8 @@ free-gap e p rest [] = (λ h. h, λ h. h)
 free-gap e p rest (gap ∷ ls) = (λ h. (h .0, tt, h .1), λ h. (h .0, h .2))
 
 -- the outcomes of a row of elements at a place say so of the pieces that fit there
-match-says : (p : List Element) (rest : List ℕ) → Says (PiecesFit p) rest (match p rest)
-unfolding match Says PiecesFit Suits NotBefore isNil
+match-says : (p : List Element) (rest : List ℕ) → Correct (PiecesFit p) rest (match p rest)
+unfolding match Correct PiecesFit Suits NotBefore isNil
 match-says [] rest = (tt, elim [ [] ↦ λ g. inl refl | m ∷ ms ↦ λ g. absurd g ])
 match-says (string w ∷ p) rest =
     let l = length w in
@@ -204,14 +204,14 @@ module _ (p : List Element) (r : List ℕ) where
       }
 
   -- an outcome that says so of a start and the pieces behind it makes the right answer
-  answered-first : (t : Tried) → Says (Behind (PiecesFit p)) r t → AnswersFirstFit p r (answered t .split)
-  unfolding answered Says Behind NotBefore Fits FirstFit Later Longer
+  answered-first : (t : Tried) → Correct (Behind (PiecesFit p)) r t → AnswersFirstFit p r (answered t .split)
+  unfolding answered Correct Behind NotBefore Fits FirstFit Later Longer
   answered-first (found [] n) h = absurd (h .0)
   answered-first (found (start ∷ ls) n) h =
       let a : Split = record { start = start; lengths = ls } in
-      answers-some a (h .0, λ t f differ. ⊎-elim (λ e. absurd (differ (row-injective t a e))) (λ g. g) (h .1 (row t) f))
-  answered-first (other n) h = answers-none (λ s. h (row s))
-  answered-first (few n) h = answers-none (λ s. h 0 (row s))
+      answers-some a (h .0, λ t f differ. ⊎-elim (λ e. absurd (differ (row-injective t a e))) (λ g. g) (h .1 (splitRow t) f))
+  answered-first (other n) h = answers-none (λ s. h (splitRow s))
+  answered-first (few n) h = answers-none (λ s. h 0 (splitRow s))
 
 -- demand 3 of SCAN, and of BACKSCAN with r turned round: it fails exactly when no split fits, and otherwise answers the first fit
 pub scan-first-fit : (p : List Element) (r : List ℕ) → AnswersFirstFit p r (scan p r .split)

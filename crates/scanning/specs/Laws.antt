@@ -49,11 +49,11 @@ longer-total (l ∷ ls) (m ∷ ms) e = heads (number-total l m) (longer-total ls
     heads (inr (inr h)) t = inr (inr (inl h))
 
 -- a split as one row: its start, then its lengths; so a later split is one with a longer row
-abbrev pub row : Split → List ℕ
-row s = s .start ∷ s .lengths
+abbrev pub splitRow : Split → List ℕ
+splitRow s = s .start ∷ s .lengths
 
 -- splits with equal rows are equal
-pub row-injective : (s t : Split) → row s ≡ row t → s ≡ t
+pub row-injective : (s t : Split) → splitRow s ≡ splitRow t → s ≡ t
 row-injective s t e =
     let starts : s .start ≡ t .start = cc in
     let lengths : s .lengths ≡ t .lengths = cc in
@@ -62,17 +62,17 @@ row-injective s t e =
 -- no split comes later than itself
 pub later-irreflexive : (s : Split) → ¬ Later s s
 unfolding Later Longer
-later-irreflexive s h = longer-irreflexive (row s) h
+later-irreflexive s h = longer-irreflexive (splitRow s) h
 
 -- later than a later split is later
 pub later-transitive : (s t u : Split) → Later s t → Later t u → Later s u
 unfolding Later Longer
-later-transitive s t u h g = longer-transitive (row s) (row t) (row u) h g
+later-transitive s t u h g = longer-transitive (splitRow s) (splitRow t) (splitRow u) h g
 
 -- two splits of as many lengths are equal or one comes later
 pub later-total : (s t : Split) → length (s .lengths) ≡ length (t .lengths) → (s ≡ t) ⊎ (Later s t ⊎ Later t s)
 unfolding Later Longer
-later-total s t e = ⊎-map (row-injective s t) (λ h. h) (longer-total (row s) (row t) (ap suc e))
+later-total s t e = ⊎-map (row-injective s t) (λ h. h) (longer-total (splitRow s) (splitRow t) (ap suc e))
 
 -- there is a piece for each element
 pub pieces-count : (p : List Element) (rest ls : List ℕ) → PiecesFit p rest ls → length ls ≡ length p

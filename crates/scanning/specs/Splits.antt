@@ -9,13 +9,14 @@ use Prim.Native.Nat.{ℕ, _≤_, _<_}
 use lib.ListN.{length, take, drop}
 use Rattle.base.specs.Lists.{isNil}
 
--- N1 "An element is a string, a fixed filler with its length, or a free filler."
+-- N1 "An element is a string, a fixed filler with its length, or a free filler.": all document 01's words
 pub data Element : Type 0 where
   string : List ℕ → Element
   fixed : ℕ → Element
   free : Element
 
--- the request: "A split is a start in the reference and a length for each element, so that the pieces lie end to end."
+-- Split is document 01's word (N3). The request: "A split is a start in the reference and a length for each element, so that the pieces lie end to
+-- end."
 pub record Split : Type 0 where
   pub start : ℕ
   pub lengths : List ℕ

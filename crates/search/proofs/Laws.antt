@@ -13,7 +13,7 @@ use borrow.Author.Tests.{eq-eqb, ne-eqb}
 use Rattle.base.specs.Choice.{both-pass, neither-true}
 use Rattle.base.specs.Lists.{begins}
 use Rattle.base.specs.ListLaws.{begins-iff, getD-stretch, stretch-end}
-use Rattle.search.specs.Passing.{Agrees, Both, Without, Next, NextByte, Passes}
+use Rattle.search.specs.Passing.{AgreesUntil, Both, Without, NextPlace, NextByte, WordPasses}
 
 -- a test that can't hold fails
 fails : (b : Bool) → (b ≡ true → ⊥) → b ≡ false
@@ -42,16 +42,16 @@ bytes-begin word text room same =
     (λ i h. getD-take (length word) text i 0 (omega arith) ∙ same i (omega arith)))
 
 -- all bytes agree: the word begins the text
-pub agrees-whole : (rest word : List ℕ) (n : ℕ) → length word ≤ length rest → Agrees rest word n → n ≡ length word
+pub agrees-whole : (rest word : List ℕ) (n : ℕ) → length word ≤ length rest → AgreesUntil rest word n → n ≡ length word
     → begins word rest ≡ true
 agrees-whole rest word n room a e = bytes-begin word rest room (λ i h. a .same i (omega arith))
 
 -- not all agree: it doesn't
-pub agrees-part : (rest word : List ℕ) (n : ℕ) → Agrees rest word n → n < length word → begins word rest ≡ false
+pub agrees-part : (rest word : List ℕ) (n : ℕ) → AgreesUntil rest word n → n < length word → begins word rest ≡ false
 agrees-part rest word n a h = fails (begins word rest) (λ e. a .differ h (begins-byte word rest e n h))
 
 -- how many bytes agree tells whether the word begins the text
-pub agrees-begins : (rest word : List ℕ) (n : ℕ) → length word ≤ length rest → Agrees rest word n → eqb n (length word) ≡ begins word rest
+pub agrees-begins : (rest word : List ℕ) (n : ℕ) → length word ≤ length rest → AgreesUntil rest word n → eqb n (length word) ≡ begins word rest
 agrees-begins rest word n room a =
     ⊎-elim
     (λ (h : n < length word). ne-eqb n (length word) (λ e. omega arith) ∙ sym (agrees-part rest word n a h))
@@ -126,11 +126,11 @@ module _ {text : List ℕ} {first last span places from : ℕ} where
 
 -- the next place behind some that were passed
 pub next-behind : {text : List ℕ} {first last span places from b k : ℕ} → Without text first last span places from b
-    → Next text first last span places b k → Next text first last span places from k
+    → NextPlace text first last span places b k → NextPlace text first last span places from k
 next-behind w n = record { passed = without-join w (n .passed); here = n .here }
 
 -- both bytes the same, and at the same place
-pub next-byte : {text : List ℕ} {byte from at : ℕ} → Next text byte byte 0 (length text) from at → NextByte text byte from at
+pub next-byte : {text : List ℕ} {byte from at : ℕ} → NextPlace text byte byte 0 (length text) from at → NextByte text byte from at
 next-byte {text} n =
     let w = n .passed in
     record {
@@ -145,13 +145,13 @@ next-byte {text} n =
 
 module _ {text word : List ℕ} where
   -- no place is passed
-  pub passes-none : Passes text word 0
+  pub passes-none : WordPasses text word 0
   passes-none =
       record { inside = omega arith; enough = λ j h. absurd (omega arith); differ = λ j h. absurd (omega arith) }
 
   -- where not both bytes of the word stand the word does not
-  pub passes-more : {span places k k′ : ℕ} → span < length word → places + length word ≡ length text + 1 → Passes text word k
-      → Without text (getD word 0 0) (getD word span 0) span places k k′ → Passes text word k′
+  pub passes-more : {span places k k′ : ℕ} → span < length word → places + length word ≡ length text + 1 → WordPasses text word k
+      → Without text (getD word 0 0) (getD word span 0) span places k k′ → WordPasses text word k′
   passes-more {span} {places} {k} {k′} inside size p w =
       record {
         inside = omega (arith, w .high);
@@ -167,14 +167,14 @@ module _ {text word : List ℕ} where
           (sym (getD-drop j text span 0) ∙ begins-byte word (drop j text) e span inside)
 
   -- where the one byte of the word does not stand the word does not
-  pub passes-byte : {k : ℕ} → length word ≡ 1 → NextByte text (getD word 0 0) 0 k → Passes text word k
+  pub passes-byte : {k : ℕ} → length word ≡ 1 → NextByte text (getD word 0 0) 0 k → WordPasses text word k
   passes-byte one n =
       passes-more {span = 0} {places = length text} (omega arith) (omega arith) passes-none
       (record { low = n .low; high = n .high; differ = λ j low high e l. n .none j low high e })
 
   -- one more place, where not all bytes agree
-  pub passes-one : (places : ℕ) {k n m : ℕ} → places + length word ≡ length text + 1 → k < places → Passes text word k
-      → m ≡ length text - k → Agrees (take m (drop k text)) word n → n < length word → Passes text word (k + 1)
+  pub passes-one : (places : ℕ) {k n m : ℕ} → places + length word ≡ length text + 1 → k < places → WordPasses text word k
+      → m ≡ length text - k → AgreesUntil (take m (drop k text)) word n → n < length word → WordPasses text word (k + 1)
   passes-one places {k} {n} {m} size room p e a h =
       record {
         inside = omega arith;

@@ -1,3 +1,3 @@
 -- What the search for a byte or a string promises (Passing), and where a byte stands next, for callers (NextLaws).
-pub mod Passing
 pub mod NextLaws
+pub mod Passing

@@ -8,7 +8,7 @@ use lib.ListN.{length, drop, getD}
 use Rattle.base.specs.Lists.{begins}
 
 -- the first n bytes of a word stand at the start of rest, and the next one doesn't
-pub record Agrees (rest word : List ℕ) (n : ℕ) : Type 0 where
+pub record AgreesUntil (rest word : List ℕ) (n : ℕ) : Type 0 where
   pub inside : n ≤ length word
   pub same : (i : ℕ) → i < n → getD rest i 0 ≡ getD word i 0
   pub differ : n < length word → getD rest n 0 ≡ getD word n 0 → ⊥
@@ -18,7 +18,7 @@ abbrev pub Both : List ℕ → List ℕ → ℕ → ℕ → ℕ → Type 0
 Both fronts backs first last j = (getD fronts j 0 ≡ first) × (getD backs j 0 ≡ last)
 
 -- so many places of a text, each with span bytes behind it, to be searched from a place on
-pub record Searchable (text : List ℕ) (span places from : ℕ) : Type 0 where
+pub record PlacesSearchable (text : List ℕ) (span places from : ℕ) : Type 0 where
   pub room : places + span ≤ length text
   pub start : from ≤ places
 
@@ -29,7 +29,7 @@ pub record Without (text : List ℕ) (first last span places from to : ℕ) : Ty
   pub differ : (j : ℕ) → from ≤ j → j < to → getD text j 0 ≡ first → getD text (j + span) 0 ≡ last → ⊥
 
 -- the next place from one on where first stands and last stands span bytes behind it, or the end of the places
-pub record Next (text : List ℕ) (first last span places from at : ℕ) : Type 0 where
+pub record NextPlace (text : List ℕ) (first last span places from at : ℕ) : Type 0 where
   pub passed : Without text first last span places from at
   pub here : at < places → (getD text at 0 ≡ first) × (getD text (at + span) 0 ≡ last)
 
@@ -46,12 +46,12 @@ until byte [] = 0
 until byte (b ∷ bs) = elim (eqb b byte) [ true ↦ 0 | false ↦ suc (until byte bs) ]
 
 -- a word that a text has room for
-pub record Room (text word : List ℕ) : Type 0 where
+pub record WordRoom (text word : List ℕ) : Type 0 where
   pub some : 0 < length word
   pub fits : length word ≤ length text
 
 -- at each of the first k places there are enough bytes for the word, and other ones
-pub record Passes (text word : List ℕ) (k : ℕ) : Type 0 where
+pub record WordPasses (text word : List ℕ) (k : ℕ) : Type 0 where
   pub inside : k ≤ length text
   pub enough : (j : ℕ) → j < k → length word ≤ length (drop j text)
   pub differ : (j : ℕ) → j < k → begins word (drop j text) ≡ false

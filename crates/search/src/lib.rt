@@ -5,7 +5,7 @@ ghost use mathlib.Core.Path.{_≡_};
 ghost use Prim.Native.Nat.{ℕ, _+_, _≤_, _<_};
 ghost use lib.ListN.{length};
 ghost use Rattle.base.specs.Lists.{begins};
-ghost use Rattle.search.specs.Passing.{Agrees, Both, Searchable, Without, Next, NextByte, Room, Passes};
+ghost use Rattle.search.specs.Passing.{AgreesUntil, Both, PlacesSearchable, Without, NextPlace, NextByte, WordRoom, WordPasses};
 
 // how many places are looked at together: blocks as long as they may be, then shorter ones
 const LONG_BLOCK: usize = 128;
@@ -17,7 +17,7 @@ const SHORT_BLOCK: usize = 8;
 // how many bytes of rest and word are the same, from the first on
 fn same_until(rest: &[u8], word: &[u8]) -> usize
     requires { ⌜ length (now word) ≤ length (now rest) ⌝ }
-    ensures { λ r. ⌜ Agrees (now (rest .entry)) (now (word .entry)) r ⌝ }
+    ensures { λ r. ⌜ AgreesUntil (now (rest .entry)) (now (word .entry)) r ⌝ }
 {
     let mut i = 0;
     while i < word.len() {
@@ -64,7 +64,7 @@ fn pass_blocks(
     from: usize,
     size: usize,
 ) -> usize
-    requires { ⌜ Searchable (now text) span places from × (0 < size) ⌝ }
+    requires { ⌜ PlacesSearchable (now text) span places from × (0 < size) ⌝ }
     ensures { λ r. ⌜ Without (now (text .entry)) first last span places from r ⌝ }
 {
     let mut k: usize = from;
@@ -91,7 +91,7 @@ fn pass_rest(
     from: usize,
     size: usize,
 ) -> usize
-    requires { ⌜ Searchable (now text) span places from × (0 < size) ⌝ }
+    requires { ⌜ PlacesSearchable (now text) span places from × (0 < size) ⌝ }
     ensures { λ r. ⌜ Without (now (text .entry)) first last span places from r ⌝ }
 {
     if places < size {
@@ -107,8 +107,8 @@ fn pass_rest(
 
 // the same one place at a time, up to one where both stand
 fn pass_bytes(text: &[u8], first: u8, last: u8, span: usize, places: usize, from: usize) -> usize
-    requires { ⌜ Searchable (now text) span places from ⌝ }
-    ensures { λ r. ⌜ Next (now (text .entry)) first last span places from r ⌝ }
+    requires { ⌜ PlacesSearchable (now text) span places from ⌝ }
+    ensures { λ r. ⌜ NextPlace (now (text .entry)) first last span places from r ⌝ }
 {
     let mut k = from;
     while k < places {
@@ -124,8 +124,8 @@ fn pass_bytes(text: &[u8], first: u8, last: u8, span: usize, places: usize, from
 
 // the next place from one on at which first stands and last stands span bytes behind it, or the end of the places
 fn next_place(text: &[u8], first: u8, last: u8, span: usize, places: usize, from: usize) -> usize
-    requires { ⌜ Searchable (now text) span places from ⌝ }
-    ensures { λ r. ⌜ Next (now (text .entry)) first last span places from r ⌝ }
+    requires { ⌜ PlacesSearchable (now text) span places from ⌝ }
+    ensures { λ r. ⌜ NextPlace (now (text .entry)) first last span places from r ⌝ }
 {
     let a = pass_blocks(text, first, last, span, places, from, LONG_BLOCK);
     let b = pass_blocks(text, first, last, span, places, a, BLOCK);
@@ -152,8 +152,8 @@ pub fn next_byte(text: &[u8], byte: u8, from: usize) -> usize
 // The places of text from the first on at which word does not stand, though enough bytes do. Its first and its last byte are looked for;
 // where both stand and the word does not, its first byte and the one that differed.
 fn passed_word(text: &[u8], word: &[u8]) -> usize
-    requires { ⌜ Room (now text) (now word) ⌝ }
-    ensures { λ r. ⌜ Passes (now (text .entry)) (now (word .entry)) r ⌝ }
+    requires { ⌜ WordRoom (now text) (now word) ⌝ }
+    ensures { λ r. ⌜ WordPasses (now (text .entry)) (now (word .entry)) r ⌝ }
 {
     let places = text.len() - (word.len() - 1);
     let first = word[0];
@@ -177,7 +177,7 @@ fn passed_word(text: &[u8], word: &[u8]) -> usize
 
 // places of text from the first on at which word does not stand, though enough bytes do
 pub fn passed(text: &[u8], word: &[u8]) -> usize
-    ensures { λ r. ⌜ Passes (now (text .entry)) (now (word .entry)) r ⌝ }
+    ensures { λ r. ⌜ WordPasses (now (text .entry)) (now (word .entry)) r ⌝ }
 {
     let n = word.len();
     if n == 1 {

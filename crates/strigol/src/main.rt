@@ -4,7 +4,7 @@
 ghost use mathlib.Core.Path.{_≡_};
 ghost use lib.ListN.{length};
 ghost use Rattle.calls.specs.Strigol.{keptDeck, keptInput};
-ghost use Rattle.strigol.specs.Keeping.{Holds, Kept};
+ghost use Rattle.strigol.specs.Keeping.{FileKept, KeptWhole};
 use batch::KEPT_DECK;
 use batch::KEPT_INPUT;
 use batch::PRINTED;
@@ -21,7 +21,7 @@ enum Keeping {
 
 // Keeps the first bytes of an open file: as many as there are, and as there is room for.
 fn keep(fd: i32, name: &[u8], to: &mut [u8]) -> Keeping
-    ensures { λ r. ⌜ Holds r (now (to .exit)) ⌝ }
+    ensures { λ r. ⌜ FileKept r (now (to .exit)) ⌝ }
 {
     let mut kept = 0;
     while kept < to.len() {
@@ -41,7 +41,7 @@ fn keep(fd: i32, name: &[u8], to: &mut [u8]) -> Keeping
 // Keeps the deck; a missing file counts as empty.
 fn keep_deck(to: &mut [u8]) -> Keeping
     requires { ⌜ length (now to) ≡ keptDeck ⌝ }
-    ensures { λ r. ⌜ Holds r (now (to .exit)) ⌝ }
+    ensures { λ r. ⌜ FileKept r (now (to .exit)) ⌝ }
 {
     let fd = os::open_read(b"deck");
     if fd < 0 {
@@ -59,14 +59,14 @@ fn keep_deck(to: &mut [u8]) -> Keeping
 // Keeps standard input.
 fn keep_input(to: &mut [u8]) -> Keeping
     requires { ⌜ length (now to) ≡ keptInput ⌝ }
-    ensures { λ r. ⌜ Holds r (now (to .exit)) ⌝ }
+    ensures { λ r. ⌜ FileKept r (now (to .exit)) ⌝ }
 {
     keep(STDIN_FILENO, b"strigol: standard input", to)
 }
 
 // Runs a deck on an input and prints.
 fn run(deck: &[u8], input: &[u8])
-    requires { ⌜ Kept (now deck) (now input) ⌝ }
+    requires { ⌜ KeptWhole (now deck) (now input) ⌝ }
 {
     let mut out = [0u8; PRINTED];
     let n = run_deck(deck, input, &mut out);

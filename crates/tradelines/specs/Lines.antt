@@ -11,7 +11,7 @@ use Rattle.base.specs.Current.{current}
 use Rattle.base.specs.Lists.{same, all}
 use Rattle.base.specs.Text.{bytes}
 use Rattle.computing.specs.{everything}
-use Rattle.language.specs.Program.{
+use Rattle.syntax.specs.Program.{
   constantly,
   whole,
   Element,
@@ -25,11 +25,11 @@ use Rattle.language.specs.Program.{
   forward,
   backward,
 }
-use Rattle.machine.specs.Scanning.{Left, scanningIn}
-use Rattle.machine.specs.State.{Memory, stringAt, withString, freshMemory}
+use Rattle.machine.specs.Scanning.{ScanLeft, scanningIn}
+use Rattle.machine.specs.State.{stringAt, withString, freshMemory}
 use Rattle.scanning.specs.Splits.{Split}
 use Rattle.values.specs.Conversion.{textOf, numberOf}
-use Rattle.values.specs.Work.{Work, done, stop}
+use Rattle.values.specs.Result.{Result, done, stop}
 
 -- A trade line and what is right of it: a SCAN or BACKSCAN of string 0, with the split, the trials where the paper gives them, and what
 -- a string holds after it; STRING(n,m), with its text and notes; NUMBER of a text.
@@ -52,6 +52,7 @@ fillerOf s n = fixedFiller s (constantly (pos n))
 abbrev at : ℕ → List ℕ → Option Split
 at start lengths = some (record { start = start; lengths = lengths })
 
+-- "Trade lines tried", document 01's words: P1 to P12
 pub lines : List Line
 lines =
     -- P1 "ABCDEFGHIJKLMNOP" by (X$5),(Y),"K",(Z): start 0, lengths 5 5 1 5
@@ -96,17 +97,17 @@ agreesIfGiven : Option ℕ → ℕ → Bool
 agreesIfGiven none n = true
 agreesIfGiven (some m) n = eqb m n
 
-leavesRight : Option Split → Option ℕ → ℕ → List ℕ → Work Left → Bool
+leavesRight : Option Split → Option ℕ → ℕ → List ℕ → Result ScanLeft → Bool
 leavesRight split trials s v (done left notes) =
     sameSplit split (left .scanned .split)
     && (agreesIfGiven trials (left .scanned .trials) && same v (stringAt (left .memory) s))
 leavesRight split trials s v (stop n) = false
 
-textRight : List ℕ → ℕ → Work (List ℕ) → Bool
+textRight : List ℕ → ℕ → Result (List ℕ) → Bool
 textRight v notes (done w m) = same v w && eqb notes m
 textRight v notes (stop n) = false
 
-numberRight : ℤ → Work ℤ → Bool
+numberRight : ℤ → Result ℤ → Bool
 numberRight z (done y notes) = sameInteger z y && eqb notes 0
 numberRight z (stop n) = false
 

@@ -1,5 +1,5 @@
 -- Document 01, "Trade lines tried": the deck LOTS as the program prints it, and the edges. Assumes nothing.
-use mathlib.Core.List.{List, _++_}
+use mathlib.Core.List.{List}
 use mathlib.Core.Path.{_≡_, refl}
 use Prim.Native.Nat.{ℕ}
 use Prim.Native.String.{String}

@@ -3,21 +3,21 @@ use mathlib.Core.Bool.{Bool, true, false, cond, not, _&&_, _||_}
 use mathlib.Core.List.{List, [], _∷_, _++_}
 use Prim.Native.Nat.{ℕ, zero, suc, _+_, _*_, _-_, _/_, _%_}
 use lib.Dec.{leb, ltb, eqb}
-use lib.IntN.{ℤ, pos, negsuc, negℤ, natAbs}
+use lib.IntN.{ℤ, pos, negℤ, natAbs}
 use lib.ListN.{length, take, drop, replicate}
 use Rattle.base.specs.Edition.{Edition}
 use Rattle.base.specs.Limits as Limits
 use Rattle.base.specs.Lists.{begins, all, isNil}
 use Rattle.base.specs.Text.{bytes}
 use Rattle.values.specs.Numbers.{isNegative, held}
-use Rattle.values.specs.Work.{Work, done, stop}
+use Rattle.values.specs.Result.{Result, done, stop}
 
 -- V1 "strings hold 0 to 1,024 bytes"
 unfoldable pub longestString : ℕ
-longestString = Limits.bytes
+longestString = Limits.stringBytes
 
 -- V3 "`S$n` is the first n bytes of S, all if shorter."; V4 "Negative n: a note, and null"
-unfoldable pub substring : List ℕ → ℤ → Work (List ℕ)
+unfoldable pub substring : List ℕ → ℤ → Result (List ℕ)
 substring s n = cond (isNegative n) (done [] 1) (done (take (natAbs n) s) 0)
 
 unfoldable pub isDigitOrBlank : ℕ → Bool
@@ -46,7 +46,7 @@ signedBy true n = negℤ (pos n)
 signedBy false n = pos n
 
 -- V8 "a string that isn't numeric gives a note and 0"
-unfoldable pub numberOf : Edition → List ℕ → Work ℤ
+unfoldable pub numberOf : Edition → List ℕ → Result ℤ
 numberOf e s =
     cond (isNumeric s)
     (held e (signedBy (begins (bytes "-") s) (decimal 0 (unsignedPart s))))
@@ -66,7 +66,7 @@ unfoldable pub signOf : ℤ → List ℕ
 signOf m = cond (isNegative m) (bytes "-") []
 
 -- V10 "|n| bytes, zeros, or blanks if n < 0, put between sign and digits; if the text is longer, its first |n| bytes and a note"
-unfoldable pub filled : (size fill : ℕ) (sign digits : List ℕ) → Work (List ℕ)
+unfoldable pub filled : (size fill : ℕ) (sign digits : List ℕ) → Result (List ℕ)
 filled size fill sign digits =
     let longer = length sign + length digits in
     cond (leb longer size)
@@ -74,7 +74,7 @@ filled size fill sign digits =
     (done (take size (sign ++ digits)) 1)
 
 -- V9, V10 STRING(n,m): "n = 0 as before"; Q20 "|n| in STRING(n,m), exceeds 1,024 bytes"
-unfoldable pub textOf : (n m : ℤ) → Work (List ℕ)
+unfoldable pub textOf : (n m : ℤ) → Result (List ℕ)
 textOf n m =
     cond (eqb (natAbs n) 0) (done (signOf m ++ digits (natAbs m)) 0)
     (cond (ltb longestString (natAbs n)) (stop 20)

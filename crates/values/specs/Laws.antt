@@ -18,7 +18,7 @@ use Rattle.base.specs.Text.{bytes}
 use Rattle.values.specs.Conversion.{isDigitOrBlank, isSigned, unsignedPart, isNumeric, digitOf, decimal, signedBy}
 use Rattle.values.specs.Conversion.{numberOf, digitsWith, digits, signOf, filled, textOf, longestString}
 use Rattle.values.specs.Numbers.{isNegative, isInRange, held}
-use Rattle.values.specs.Work.{Work, done, stop}
+use Rattle.values.specs.Result.{Result, done, stop}
 
 -- what holds of one digit, and of one more behind the digits of the quotient by ten, holds of the digits of every number
 module _ (P : ℕ → List ℕ → Type 0) (one : (n : ℕ) → n < 10 → P n ((48 + n) ∷ []))
@@ -96,7 +96,7 @@ digits-digits = digits-induction (λ n s. all isOne s ≡ true) (λ d small. one
     more n s large h = all-append isOne s ((48 + n % 10) ∷ []) h (one (n % 10) (omega arith))
 
 -- digits and blanks, at least one, that read as the number n
-pub record Reads (s : List ℕ) (n : ℕ) : Type 0 where
+pub record ReadsAs (s : List ℕ) (n : ℕ) : Type 0 where
   pub some : isNil s ≡ false
   pub numeric : all isDigitOrBlank s ≡ true
   pub value : decimal 0 s ≡ n
@@ -114,7 +114,7 @@ append-not-nil [] t h = h
 append-not-nil (b ∷ s) t h = refl
 
 -- one digit reads as its value
-digit-reads : (d : ℕ) → d < 10 → Reads ((48 + d) ∷ []) d
+digit-reads : (d : ℕ) → d < 10 → ReadsAs ((48 + d) ∷ []) d
 unfolding isNil all isDigitOrBlank decimal digitOf
 digit-reads d small =
     record {
@@ -124,13 +124,13 @@ digit-reads d small =
     }
 
 -- the digits of a number read as the number
-pub digits-read : (n : ℕ) → Reads (digits n) n
+pub digits-read : (n : ℕ) → ReadsAs (digits n) n
 unfolding decimal
-digits-read = digits-induction (λ n s. Reads s n) digit-reads more
+digits-read = digits-induction (λ n s. ReadsAs s n) digit-reads more
   where
-    more : (n : ℕ) (s : List ℕ) → 10 ≤ n → Reads s (n / 10) → Reads (s ++ ((48 + n % 10) ∷ [])) n
+    more : (n : ℕ) (s : List ℕ) → 10 ≤ n → ReadsAs s (n / 10) → ReadsAs (s ++ ((48 + n % 10) ∷ [])) n
     more n s large h =
-        let last : Reads ((48 + n % 10) ∷ []) (n % 10) = digit-reads (n % 10) (omega arith) in
+        let last : ReadsAs ((48 + n % 10) ∷ []) (n % 10) = digit-reads (n % 10) (omega arith) in
         record {
           some = append-not-nil s ((48 + n % 10) ∷ []) (last .some);
           numeric = all-append isDigitOrBlank s ((48 + n % 10) ∷ []) (h .numeric) (last .numeric);
@@ -142,7 +142,7 @@ abbrev Fills : ℕ → Type 0
 Fills b = (isDigitOrBlank b ≡ true) × (digitOf b ≡ 0)
 
 -- what fills in front of digits changes nothing of what they read as
-fill-reads : (k b : ℕ) (s : List ℕ) (n : ℕ) → Fills b → Reads s n → Reads (replicate k b ++ s) n
+fill-reads : (k b : ℕ) (s : List ℕ) (n : ℕ) → Fills b → ReadsAs s n → ReadsAs (replicate k b ++ s) n
 unfolding isNil all decimal
 fill-reads zero b s n fills h = h
 fill-reads (suc k) b s n fills h =
@@ -154,7 +154,7 @@ fill-reads (suc k) b s n fills h =
     }
 
 -- digits and blanks begin with no other byte
-begins-other : (c : ℕ) (s : List ℕ) (n : ℕ) → isDigitOrBlank c ≡ false → Reads s n → begins (c ∷ []) s ≡ false
+begins-other : (c : ℕ) (s : List ℕ) (n : ℕ) → isDigitOrBlank c ≡ false → ReadsAs s n → begins (c ∷ []) s ≡ false
 unfolding begins same isNil all
 begins-other c [] n other r = absurd (true≢false (r .some))
 begins-other c (b ∷ s) n other r =
@@ -178,19 +178,19 @@ unfolding held isInRange
 held-in-range e m h = rw (le-leb (natAbs m) (e .limit) h)
 
 -- the sign of a number, before digits, is found
-begins-minus : (m : ℤ) (s : List ℕ) (n : ℕ) → Reads s n → begins (bytes "-") (signOf m ++ s) ≡ isNegative m
+begins-minus : (m : ℤ) (s : List ℕ) (n : ℕ) → ReadsAs s n → begins (bytes "-") (signOf m ++ s) ≡ isNegative m
 unfolding begins same bytes isDigitOrBlank isNegative signOf
 begins-minus (pos k) s n r = rw (not-negative k) (begins-other 45 s n refl r)
 begins-minus (negsuc k) s n r = refl
 
 -- behind the sign of a number the digits are left
-unsigned-signed : (m : ℤ) (s : List ℕ) (n : ℕ) → Reads s n → unsignedPart (signOf m ++ s) ≡ s
+unsigned-signed : (m : ℤ) (s : List ℕ) (n : ℕ) → ReadsAs s n → unsignedPart (signOf m ++ s) ≡ s
 unfolding unsignedPart isSigned begins same bytes isDigitOrBlank isNegative signOf
 unsigned-signed (pos k) s n r = rw (not-negative k, begins-other 43 s n refl r, begins-other 45 s n refl r)
 unsigned-signed (negsuc k) s n r = refl
 
 -- the sign of a number, before what reads as its size, makes the number
-pub number-of-signed : (e : Edition) (m : ℤ) (s : List ℕ) → natAbs m ≤ e .limit → Reads s (natAbs m)
+pub number-of-signed : (e : Edition) (m : ℤ) (s : List ℕ) → natAbs m ≤ e .limit → ReadsAs s (natAbs m)
     → numberOf e (signOf m ++ s) ≡ done m 0
 unfolding numberOf isNumeric
 number-of-signed e m s h r =
@@ -216,7 +216,7 @@ abbrev plainLength : ℤ → ℕ
 plainLength m = length (signOf m) + length (digits (natAbs m))
 
 -- the ways STRING(n,m) may go: all digits behind k bytes that fill, stopped, cut off
-data Way (n m : ℤ) : Work (List ℕ) → Type 0 where
+data Way (n m : ℤ) : Result (List ℕ) → Type 0 where
   whole : (k b : ℕ) → Fills b → (¬ (natAbs n ≡ 0) → plainLength m + k ≡ natAbs n)
       → Way n m (done (signOf m ++ (replicate k b ++ digits (natAbs m))) 0)
   stopped : Way n m (stop 20)
@@ -239,7 +239,7 @@ text-way n m =
 pub number-of-filled : (e : Edition) (n m : ℤ) (s : List ℕ) → natAbs m ≤ e .limit → textOf n m ≡ done s 0 → numberOf e s ≡ done m 0
 number-of-filled e n m s h = back (text-way n m)
   where
-    back : {w : Work (List ℕ)} → Way n m w → w ≡ done s 0 → numberOf e s ≡ done m 0
+    back : {w : Result (List ℕ)} → Way n m w → w ≡ done s 0 → numberOf e s ≡ done m 0
     back (whole k b fills size) q =
         let t = replicate k b ++ digits (natAbs m) in
         cc (number-of-signed e m t h (fill-reads k b (digits (natAbs m)) (natAbs m) fills (digits-read (natAbs m))))
@@ -250,7 +250,7 @@ number-of-filled e n m s h = back (text-way n m)
 pub text-length : (n m : ℤ) (s : List ℕ) (k : ℕ) → textOf n m ≡ done s k → ¬ (natAbs n ≡ 0) → length s ≡ natAbs n
 text-length n m s k q nonzero = sized (text-way n m) q
   where
-    sized : {w : Work (List ℕ)} → Way n m w → w ≡ done s k → length s ≡ natAbs n
+    sized : {w : Result (List ℕ)} → Way n m w → w ≡ done s k → length s ≡ natAbs n
     sized (whole j b fills size) q =
         let t = signOf m ++ (replicate j b ++ digits (natAbs m)) in
         let long : length t ≡ natAbs n = simp (length-append, length-replicate) (omega (arith, size nonzero)) in

@@ -14,10 +14,10 @@ use Rattle.calls.specs.Strigol.{printed}
 use Rattle.cards.specs.Cards.{lines}
 use Rattle.cards.specs.Entries.{entries}
 use Rattle.computing.specs.{everything}
-use Rattle.judgement.specs.Deck as Deck
-use Rattle.judgement.specs.Deck.{Judgement, accepted, Judged, passed, judge, judgeFrom}
-use Rattle.judgement.specs.Known.{nothingKnown, strings, numbers}
-use Rattle.language.specs.Program.{Program}
+use Rattle.validation.specs.Deck as Deck
+use Rattle.validation.specs.Deck.{Judgement, accepted, Judged, passed, judge, judgeFrom}
+use Rattle.validation.specs.Environment.{emptyEnvironment, stringsOf, numbersOf}
+use Rattle.syntax.specs.Program.{Program}
 use Rattle.machine.specs.State.{Status, running, finished, stopped, State, fresh}
 use Rattle.machine.specs.Step.{Stepped, step}
 use Rattle.scanning.specs.Splits.{Element, string, fixed, free, Split}
@@ -102,19 +102,19 @@ module _ (stringNames numberNames : List (List ℕ)) (p : Program) (size : ℕ) 
       following stopped rest = []
 
 unfoldable pub stringNames : Judged → List (List ℕ)
-stringNames (passed k) = strings k
-stringNames (Deck.Judged.refused n c) = []
+stringNames (passed k) = stringsOf k
+stringNames (Deck.Judged.failed n c) = []
 
 unfoldable pub numberNames : Judged → List (List ℕ)
-numberNames (passed k) = numbers k
-numberNames (Deck.Judged.refused n c) = []
+numberNames (passed k) = numbersOf k
+numberNames (Deck.Judged.failed n c) = []
 
 unfoldable pub traced : Judged → List ℕ → Judgement → List ℕ
 traced j input (Deck.Judgement.refused n c) = bytes "REFUSED " ++ (digits n ++ (bytes " " ++ (digits c ++ bytes "\n")))
 traced j input (accepted p) = steps (stringNames j) (numberNames j) p (length input) 60 1 (fresh input)
 
 unfoldable pub trace : (deck input : List ℕ) → List ℕ
-trace deck input = traced (judgeFrom current nothingKnown (entries current deck)) input (judge current deck)
+trace deck input = traced (judgeFrom current emptyEnvironment (entries current deck)) input (judge current deck)
 
 -- a deck with its input gives this trace
 unfoldable pub agrees : (deck input expected : String) → Bool

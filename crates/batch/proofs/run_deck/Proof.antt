@@ -7,7 +7,7 @@ use native.Mathlib.Omega.{arith}
 use lib.ListN.{length, take, drop, replicate, length-replicate}
 use lib.Seq.{length-take-le, length-front}
 use Rattle.base.specs.Current.{current, tableSize}
-use Rattle.calls.specs.Buffers.{storeSize}
+use Rattle.encoding.specs.Buffers.{storeSize}
 use Rattle.calls.specs.Promises.{readBack, runBack}
 use Rattle.calls.specs.Strigol.{lentOutput, mostSteps}
 use Rattle.batch.specs.Printing.{outcomeOf, lineOf}

@@ -7,7 +7,7 @@ use Prim.Native.Nat.{_+_}
 use native.Mathlib.Omega.{arith}
 use lib.ListN.{length, take}
 use lib.Seq.{length-take-le}
-use Rattle.calls.specs.Splices.{splice}
+use Rattle.encoding.specs.Splices.{splice}
 use Rattle.register_calls.specs.PutLaws.{front-room, house-copied, put-four, put-other, room-any, room-four}
 use Rattle.register_calls.proofs.put_stored.Statement.{statement}
 use Rattle.register_calls.proofs.put_stored.Tie as tie

@@ -6,7 +6,7 @@ use mathlib.Core.Path.{ap, _∙_}
 use Prim.Native.Nat.{_+_}
 use native.Mathlib.Omega.{arith}
 use lib.ListN.{length-set}
-use Rattle.calls.specs.Splices.{set-splice, splice, splice-behind}
+use Rattle.encoding.specs.Splices.{set-splice, splice, splice-behind}
 use Rattle.register_calls.proofs.write_currency.Statement.{statement}
 use Rattle.register_calls.proofs.write_currency.Tie as tie
 

@@ -9,14 +9,14 @@ use Rattle.base.specs.Lists.{among}
 use native.Mathlib.Omega.{arith}
 use Rattle.base.specs.ListLaws.{stretch-cut}
 use Rattle.register.specs.Buffer.{linesIn}
-use Rattle.register_reading.specs.Reading.{Found, Noted, slotKey, slotsHold}
+use Rattle.register_reading.specs.Reading.{SlotsHold, KeyNoted, slotKey, slotsHold}
 use Rattle.register_reading.specs.declared.Held.the-variants.{Count}
-use Rattle.register_reading.specs.SlotLaws.{ReadTo, read-all, read-bad, read-ends, read-more, read-none, read-twice}
+use Rattle.register_reading.specs.SlotLaws.{SlotsReadTo, read-all, read-bad, read-ends, read-more, read-none, read-twice}
 use Rattle.register_reading.proofs.read_slots.Statement.{statement}
 use Rattle.register_reading.proofs.read_slots.Tie as tie
 
 abbrev Inv-loop : tie.InvT-loop
-Inv-loop slots fields keys₀ marks₀ k₀ keys marks k = (k ≤ 256) × ReadTo fields slots keys marks k
+Inv-loop slots fields keys₀ marks₀ k₀ keys marks k = (k ≤ 256) × SlotsReadTo fields slots keys marks k
 
 abbrev μ-loop : tie.MeasureT-loop
 μ-loop slots fields keys₀ marks₀ k₀ keys marks k = 256 - k
@@ -112,7 +112,7 @@ loop-again c =
     (ne-eqb (getD slots (28 * l .k) 0) 0 (first .if1 .left)) (key .result)
     (key .ensures ∙ ap (slotKey (s .args .fields)) (stretch-cut slots (28 * l .k) 28))
     (judged .if2 .left) (n .last .0) (n .last .1 .0)
-    (subst (λ r. Noted (l .keys) (l .k) (key .result) r (n .last .0) (n .last .1 .0)) (not-false (n .result) (c .if3 .left)) (n .ensures)) in
+    (subst (λ r. KeyNoted (l .keys) (l .k) (key .result) r (n .last .0) (n .last .1 .0)) (not-false (n .result) (c .if3 .left)) (n .ensures)) in
     (omega arith, more)
 
 returns-4 : tie.Need-returns-4 Inv-loop μ-loop
@@ -121,7 +121,7 @@ returns-4 c =
     let slots = s .args .slots .now in
     let l = c .before .loop in
     let all : l .k ≡ 256 = omega (arith, l .inv .0) in
-    subst (λ k. Found (slotsHold (s .args .fields) slots) (linesIn 256 slots) (l .keys) (Count k)) all
+    subst (λ k. SlotsHold (slotsHold (s .args .fields) slots) (linesIn 256 slots) (l .keys) (Count k)) all
     (read-all (s .args .fields) (s .pre .1) slots (l .keys) (l .marks) (l .k) (l .inv .1) all)
 
 pub read-slots-spec : {M : Type 1} → statement M

@@ -6,13 +6,13 @@ use Prim.Native.Nat.{_-_, _≤_}
 use Rattle.register.specs.Buffer.{registerIn}
 use Rattle.register_reading.specs.ReadLaws.{slot-room}
 use Rattle.register_report.specs.PutLaws.{FilledTo, bytes-fit, count-few, filled-all, filled-none, line-filled, line-good, placed, room-kept}
-use Rattle.register_report.specs.Sums.{Roomy}
+use Rattle.register_report.specs.Sums.{ColumnsRoomy}
 use Rattle.register_report.proofs.fill_columns.Statement.{statement}
 use Rattle.register_report.proofs.fill_columns.Tie as tie
 
 abbrev Inv-loop : tie.InvT-loop
 Inv-loop buffer n codes₀ tonnes₀ values₀ bytes₀ k₀ codes tonnes values bytes k =
-    (k ≤ n) × Roomy codes tonnes values × FilledTo (registerIn buffer .lines) codes tonnes values bytes k
+    (k ≤ n) × ColumnsRoomy codes tonnes values × FilledTo (registerIn buffer .lines) codes tonnes values bytes k
 
 abbrev μ-loop : tie.MeasureT-loop
 μ-loop buffer n codes₀ tonnes₀ values₀ bytes₀ k₀ codes tonnes values bytes k = n - k

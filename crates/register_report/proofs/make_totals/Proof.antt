@@ -3,7 +3,7 @@
 use borrow.Author.Needs.{needs}
 use Rattle.register.specs.Buffer.{registerIn}
 use Rattle.register.specs.Report.{tonnesOf, valueOf}
-use Rattle.register_report.specs.Codes.{codeIn}
+use Rattle.register_report.specs.Codes.{currencyCodeIn}
 use Rattle.register_report.specs.PutLaws.{column-size, columns-fit}
 use Rattle.register_report.proofs.make_totals.Statement.{statement}
 use Rattle.register_report.proofs.make_totals.Tie as tie
@@ -27,7 +27,7 @@ slice-aggregate-put-totals : tie.Need-slice-aggregate-put-totals
 slice-aggregate-put-totals c =
     let f = c .before .before .before .before .fill-columns in
     let s = c .before .before .before .before .before .before .before .before .before .before in
-    column-size (s .args .buffer .now) (s .args .n) (s .pre .0) codeIn (f .last .1 .1 .0) (f .ensures .columns .currency)
+    column-size (s .args .buffer .now) (s .args .n) (s .pre .0) currencyCodeIn (f .last .1 .1 .0) (f .ensures .columns .currency)
 
 array-share-prefix-tonnes : tie.Need-array-share-prefix-tonnes
 array-share-prefix-tonnes c = search needs

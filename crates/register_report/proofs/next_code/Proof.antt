@@ -8,12 +8,12 @@ use native.Mathlib.Omega.{arith}
 use Prim.Native.Nat.{_-_, _≤_}
 use lib.ListN.{length, drop}
 use Rattle.register_report.specs.CodeLaws.{lowest-again, lowest-end}
-use Rattle.register_report.specs.Codes.{lowest, noCode}
+use Rattle.register_report.specs.Codes.{lowestCode, noCode}
 use Rattle.register_report.proofs.next_code.Statement.{statement}
 use Rattle.register_report.proofs.next_code.Tie as tie
 
 abbrev Inv-loop : tie.InvT-loop
-Inv-loop codes last next₀ k₀ next k = (k ≤ length codes) × (lowest last next (drop k codes) ≡ lowest last noCode codes)
+Inv-loop codes last next₀ k₀ next k = (k ≤ length codes) × (lowestCode last next (drop k codes) ≡ lowestCode last noCode codes)
 
 abbrev μ-loop : tie.MeasureT-loop
 μ-loop codes last next₀ k₀ next k = length codes - k

@@ -4,12 +4,12 @@ use borrow.Author.Needs.{needs}
 use native.Mathlib.Omega.{arith}
 use Prim.Native.Nat.{_-_}
 use lib.ListN.{length}
-use Rattle.register_report.specs.FieldLaws.{ReadTo, digit-here, field-comma, field-end, read-all, read-more, read-none, read-small}
+use Rattle.register_report.specs.FieldLaws.{NumberReadTo, digit-here, field-comma, field-end, read-all, read-more, read-none, read-small}
 use Rattle.register_report.proofs.number_at.Statement.{statement}
 use Rattle.register_report.proofs.number_at.Tie as tie
 
 abbrev Inv-loop : tie.InvT-loop
-Inv-loop line at value₀ end₀ value end = ReadTo line at value end
+Inv-loop line at value₀ end₀ value end = NumberReadTo line at value end
 
 abbrev μ-loop : tie.MeasureT-loop
 μ-loop line at value₀ end₀ value end = length line - end

@@ -3,7 +3,7 @@
 use mathlib.Core.List.{List}
 use Prim.Native.Nat.{ℕ}
 use lib.ListN.{set}
-use Rattle.scan.specs.Rows.{sizeOf, Sized}
+use Rattle.scan.specs.Rows.{sizeOf, RowSized}
 use mathlib.Core.Path.{refl, sym, _∙_, ap, subst}
 use Rattle.scan.proofs.Answers.{row-filled}
 use Rattle.scan.specs.Rows.{rowAnswer}
@@ -30,7 +30,7 @@ row-element-requires : tie.Need-row-element-requires Inv-loop μ-loop
 row-element-requires c κs = search needs
 
 length-of-requires : tie.Need-length-of-requires Inv-loop μ-loop
-length-of-requires c κs = subst Sized (sym (c .row-element .ensures)) (c .before .before .before .before .before .pre .1 (c .before .before .loop .i) (c .before .loop-test .taken))
+length-of-requires c κs = subst RowSized (sym (c .row-element .ensures)) (c .before .before .before .before .before .pre .1 (c .before .before .loop .i) (c .before .loop-test .taken))
 
 cast-answer : tie.Need-cast-answer Inv-loop μ-loop
 cast-answer c = search needs

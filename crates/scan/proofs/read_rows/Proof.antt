@@ -1,7 +1,7 @@
 -- `scan::read_rows` answers whether all rows are elements. The invariant: the rows read are the first elements of the pattern, and their lengths
 -- stand in the answer. Assumes nothing.
 use Rattle.scan.proofs.Rows.{good-sized}
-use Rattle.scan.specs.Rows.{rowElement, sizeOf, Sized, RowSays, rowAnswer}
+use Rattle.scan.specs.Rows.{rowElement, sizeOf, RowSized, RowSays, rowAnswer}
 use borrow.Author.Tests.{not-true, not-false}
 use mathlib.Core.Bool.{Bool}
 use mathlib.Core.Path.{_≡_, refl, sym, _∙_, ap, subst}
@@ -55,7 +55,7 @@ length-of-requires c κs =
     let a = c .before .before .before .before .before .before .before .before .args in
     let s = c .before .before .before .before .loop in
     let r = row-says (c .before .before) (not-false (c .before .before .is-element .result) (c .before .if1 .left)) in
-    subst Sized (sym (c .row-element .ensures)) (good-sized (a .values .now) (rowElement (a .elements .now) (s .i)) (read-good (c .before .before .before .before .before .before .before .before .pre .1) (s .inv) r))
+    subst RowSized (sym (c .row-element .ensures)) (good-sized (a .values .now) (rowElement (a .elements .now) (s .i)) (read-good (c .before .before .before .before .before .before .before .before .pre .1) (s .inv) r))
 
 cast-answer : tie.Need-cast-answer Inv-loop μ-loop
 cast-answer c = search needs

@@ -2,7 +2,7 @@
 -- Assumes nothing.
 use Rattle.scan.proofs.Tests.{row-part, row-fixed, row-free}
 use Rattle.scan.specs.declared.Element.the-variants.{Part, Fixed}
-use Rattle.scan.specs.Rows.{rowAt, rowElement}
+use Rattle.scan.specs.Rows.{scanRowAt, rowElement}
 use Rattle.scanning.specs.Call.{number4}
 use lib.ListN.{getD}
 use Prim.Native.Nat.{ℕ, _+_, _*_}
@@ -30,7 +30,7 @@ number4-requires-2 : tie.Need-number4-requires-2
 number4-requires-2 c κs = search needs
 
 returns : tie.Need-returns
-unfolding rowElement rowAt
+unfolding rowElement scanRowAt
 returns c =
     let a = c .before .before .before .before .before .args in
     ap (λ (n : ℕ). Part n (c .number42 .result)) (c .before .number4 .ensures .0)
@@ -44,13 +44,13 @@ number4-requires-3 : tie.Need-number4-requires-3
 number4-requires-3 c κs = search needs
 
 returns-2 : tie.Need-returns-2
-unfolding rowElement rowAt
+unfolding rowElement scanRowAt
 returns-2 c =
     let a = c .before .before .before .before .before .args in
     ap Fixed (c .number43 .ensures .0) ∙ row-fixed (number4 (a .rows .now) (12 * a .i + 4)) (number4 (a .rows .now) (12 * a .i + 8)) (getD (a .rows .now) (12 * a .i) 0) (c .before .before .if1 .left) (c .before .if2 .taken)
 
 returns-3 : tie.Need-returns-3
-unfolding rowElement rowAt
+unfolding rowElement scanRowAt
 returns-3 c =
     let a = c .before .before .before .before .args in
     row-free (number4 (a .rows .now) (12 * a .i + 4)) (number4 (a .rows .now) (12 * a .i + 8)) (getD (a .rows .now) (12 * a .i) 0) (c .before .if1 .left) (c .if2 .left)

@@ -3,11 +3,11 @@
 use Rattle.scan.proofs.Running.{run-begins, run-skips, run-moves, run-stops, run-ends, run-done, run-last, run-next, run-less}
 use Rattle.scan.specs.Steps.{WholeGroup, GroupSays, RunSays}
 use Rattle.scan.specs.declared.Group.{Group}
-use Rattle.scan.specs.Rows.{Good}
+use Rattle.scan.specs.Rows.{RowGood}
 use Rattle.scan.proofs.Rows.{group-known}
 use Rattle.scan.specs.declared.Element.{Element}
 use Rattle.scan.specs.Steps.{testOf}
-use Rattle.scan.specs.Rows.{elementOf}
+use Rattle.scan.specs.Rows.{scanElement}
 use lib.ListN.{drop}
 use mathlib.Core.Path.{_≡_, sym, _∙_, ap, subst}
 use Rattle.scan.proofs.Running.{Running}
@@ -25,26 +25,26 @@ abbrev μ-loop : tie.MeasureT-loop
 μ-loop reference values rows count answer₀ g₀ from₀ place₀ trials₀ answer g from place trials = 21 * (length reference - place) + (count - g)
 
 -- the run after the places passed over
-skipped : (c : tie.After-skip Inv-loop μ-loop)
+skipped : (c : tie.After-pass-places Inv-loop μ-loop)
     → Running (c .before .before .before .before .before .before .args .reference .now) (c .before .before .before .before .before .before .args .values .now)
     (c .before .before .before .before .before .before .args .rows .now) (c .before .before .before .before .before .before .args .count)
     (c .before .before .loop .answer) (c .before .before .loop .g) (c .before .before .loop .from)
-    (c .before .before .loop .place + c .skip .result) (c .before .before .loop .trials + c .skip .result)
+    (c .before .before .loop .place + c .pass-places .result) (c .before .before .loop .trials + c .pass-places .result)
 skipped c =
-    run-skips (c .before .before .loop .inv) (c .before .row-element .ensures) (c .skip .ensures)
+    run-skips (c .before .before .loop .inv) (c .before .row-element .ensures) (c .pass-places .ensures)
 
 -- what the group came to
 grouped : (c : tie.After-test-group Inv-loop μ-loop) {r : Group} → c .test-group .result ≡ r
     → GroupSays (c .before .before .before .before .before .before .before .before .args .reference .now) (c .before .before .before .before .before .before .before .before .args .values .now)
     (c .before .before .before .before .before .before .before .before .args .rows .now) (c .before .before .before .before .before .before .before .before .args .count)
-    (c .before .before .before .before .loop .g) (c .before .before .before .before .loop .place + c .before .before .skip .result) r
+    (c .before .before .before .before .loop .g) (c .before .before .before .before .loop .place + c .before .before .pass-places .result) r
 grouped c told = rw told at (c .test-group .ensures)
 
 -- the whole group passed
 whole : (c : tie.After-known-told3 Inv-loop μ-loop)
     → WholeGroup (c .before .before .before .before .before .before .before .before .before .before .before .args .reference .now) (c .before .before .before .before .before .before .before .before .before .before .before .args .values .now)
     (c .before .before .before .before .before .before .before .before .before .before .before .args .rows .now) (c .before .before .before .before .before .before .before .before .before .before .before .args .count)
-    (c .before .before .before .before .before .before .before .loop .g) (c .before .before .before .before .before .before .before .loop .place + c .before .before .before .before .before .skip .result)
+    (c .before .before .before .before .before .before .before .loop .g) (c .before .before .before .before .before .before .before .loop .place + c .before .before .before .before .before .pass-places .result)
     (c .before .j .given .0 .0) (c .before .j .given .0 .1 .0)
 unfolding GroupSays
 whole c = grouped (c .before .before .before) (c .before .j .given .1)
@@ -60,12 +60,12 @@ row-element-requires c κs =
     let p = c .before .before .before .before .pre .0 in
     omega arith
 
-skip-requires : tie.Need-skip-requires Inv-loop μ-loop
-skip-requires c κs =
+pass-places-requires : tie.Need-pass-places-requires Inv-loop μ-loop
+pass-places-requires c κs =
     let a = c .before .before .before .before .before .args in
     let p = c .before .before .before .before .before .pre in
     let s = c .before .loop in
-    (s .inv .inside, subst (Good (a .values .now)) (sym (c .row-element .ensures)) (p .0 .good (s .g) (s .inv .more)))
+    (s .inv .inside, subst (RowGood (a .values .now)) (sym (c .row-element .ensures)) (p .0 .good (s .g) (s .inv .more)))
 
 add-place : tie.Need-add-place Inv-loop μ-loop
 add-place c =
@@ -83,13 +83,13 @@ stands-requires c κs =
     let s = c .before .before .loop in
     let p = c .before .before .before .before .before .before .pre in
     let r = skipped c in
-    (r .inside, subst (Good (a .values .now)) (sym (c .before .row-element .ensures)) (p .0 .good (s .g) (r .more)))
+    (r .inside, subst (RowGood (a .values .now)) (sym (c .before .row-element .ensures)) (p .0 .good (s .g) (r .more)))
 
 test-group-requires : tie.Need-test-group-requires Inv-loop μ-loop
 test-group-requires c κs =
     let a = c .before .before .before .before .before .before .before .args in
     let s = c .before .before .before .loop in
-    let k = c .before .skip .result in
+    let k = c .before .pass-places .result in
     let p = c .before .before .before .before .before .before .before .pre in
     let r = skipped (c .before) in
     let st = c .stands .ensures in (
@@ -100,7 +100,7 @@ test-group-requires c κs =
         reached =
             group-known (a .reference .now) (a .values .now) (a .rows .now) (a .count) (s .g) (s .place + k) (c .stands .result) (r .more) (r .inside)
             (p .0 .good (s .g) (r .more)) (st .few)
-            (λ h. ap (λ (x : Element). testOf (elementOf (a .values .now) x) (drop (s .place + k) (a .reference .now))) (sym (c .before .before .row-element .ensures)) ∙ st .passes h);
+            (λ h. ap (λ (x : Element). testOf (scanElement (a .values .now) x) (drop (s .place + k) (a .reference .now))) (sym (c .before .before .row-element .ensures)) ∙ st .passes h);
       },
     )
 
@@ -269,7 +269,7 @@ run-spec =
     μ-loop
     loop-holds
     row-element-requires
-    skip-requires
+    pass-places-requires
     add-place
     add-trials
     stands-requires

@@ -1,7 +1,7 @@
 -- `scan::strigol_scan` keeps the scan call's promise.
 -- Assumes nothing.
 use Rattle.scan.proofs.Calls.{count-most, promise-long, promise-many, promise-kept}
-use Rattle.scanning.specs.Call.{longestReference, mostElements, rowBytes, countOf}
+use Rattle.scanning.specs.Call.{longestReference, mostElements, scanRowSize, rowCount}
 use mathlib.Core.Path.{refl}
 use native.Mathlib.Omega.{arith}
 use borrow.Author.Needs.{needs}
@@ -21,7 +21,7 @@ fail-requires-2 : tie.Need-fail-requires-2
 fail-requires-2 c κs = search needs
 
 returns-2 : tie.Need-returns-2
-unfolding longestReference mostElements countOf rowBytes
+unfolding longestReference mostElements rowCount scanRowSize
 returns-2 c =
     let a = c .before .before .before .before .before .before .before .args in
     promise-many (a .reference .now) (a .values .now) (a .elements .now) 23 (c .fail2 .last .1 .0) (c .before .before .before .if1 .left) (omega arith) refl (c .fail2 .ensures)
@@ -30,7 +30,7 @@ add-scan-rows : tie.Need-add-scan-rows
 add-scan-rows c = search needs
 
 scan-rows-requires : tie.Need-scan-rows-requires
-unfolding countOf rowBytes
+unfolding rowCount scanRowSize
 scan-rows-requires c κs = ((c .before .before .if1 .left, c .before .if2 .left), refl)
 
 returns-3 : tie.Need-returns-3

@@ -4,7 +4,7 @@ use Rattle.scan.proofs.Rows.{group-piece, group-other, group-few, fille
 use Rattle.scan.specs.declared.Element.{Element}
 use Rattle.scan.specs.declared.Test.{Test}
 use Rattle.scan.specs.Steps.{testOf, Reached, GroupSays}
-use Rattle.scan.specs.Rows.{rowElement, elementOf, Good}
+use Rattle.scan.specs.Rows.{rowElement, scanElement, RowGood}
 use lib.ListN.{drop, length-drop}
 use Prim.Native.Nat.{_-_}
 use mathlib.Core.Path.{_≡_, sym, _∙_, ap, subst}
@@ -21,11 +21,11 @@ abbrev μ-loop : tie.MeasureT-loop
 
 -- the test of the element read
 test-told : (c : tie.After-test-element Inv-loop μ-loop) {t : Test} → c .test-element .result ≡ t
-    → testOf (elementOf (c .before .before .before .before .before .before .before .args .values .now) (rowElement (c .before .before .before .before .before .before .before .args .rows .now) (c .before .before .before .loop .i)))
+    → testOf (scanElement (c .before .before .before .before .before .before .before .args .values .now) (rowElement (c .before .before .before .before .before .before .before .args .rows .now) (c .before .before .before .loop .i)))
     (drop (c .before .before .before .loop .at) (c .before .before .before .before .before .before .before .args .reference .now)) ≡ t
 test-told c told =
     let a = c .before .before .before .before .before .before .before .args in
-    ap (λ (x : Element). testOf (elementOf (a .values .now) x) (drop (c .before .before .before .loop .at) (a .reference .now))) (sym (c .before .row-element .ensures))
+    ap (λ (x : Element). testOf (scanElement (a .values .now) x) (drop (c .before .before .before .loop .at) (a .reference .now))) (sym (c .before .row-element .ensures))
     ∙ sym (c .test-element .ensures)
     ∙ told
 
@@ -45,7 +45,7 @@ test-element-requires : tie.Need-test-element-requires Inv-loop μ-loop
 test-element-requires c κs =
     let a = c .before .before .before .before .before .before .args in (
       c .before .before .loop .inv .inside,
-      subst (Good (a .values .now)) (sym (c .row-element .ensures)) (c .before .before .before .before .before .before .pre .0 .good (c .before .before .loop .i) (c .before .loop-test .taken)),
+      subst (RowGood (a .values .now)) (sym (c .row-element .ensures)) (c .before .before .before .before .before .before .pre .0 .good (c .before .before .loop .i) (c .before .loop-test .taken)),
     )
 
 enum-known-n : tie.Need-enum-known-n Inv-loop μ-loop

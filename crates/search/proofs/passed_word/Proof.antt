@@ -2,7 +2,7 @@
 -- passed has the word. Assumes nothing.
 use Rattle.base.specs.ListLaws.{length-stretch}
 use Rattle.search.proofs.Laws.{passes-none, passes-more, passes-one}
-use Rattle.search.specs.Passing.{Passes}
+use Rattle.search.specs.Passing.{WordPasses}
 use lib.ListN.{length}
 use Prim.Native.Nat.{_-_, _≤_, _<_}
 use mathlib.Core.Path.{refl}
@@ -11,13 +11,13 @@ use Rattle.search.proofs.passed_word.Statement.{statement}
 use Rattle.search.proofs.passed_word.Tie as tie
 
 abbrev Inv-loop : tie.InvT-loop
-Inv-loop text word places first span₀ k₀ span k = (span < length word) × (k ≤ places) × Passes text word k
+Inv-loop text word places first span₀ k₀ span k = (span < length word) × (k ≤ places) × WordPasses text word k
 
 abbrev μ-loop : tie.MeasureT-loop
 μ-loop text word places first span₀ k₀ span k = places - k
 
 -- the next place that the word may stand at
-gone : (c : tie.After-next-place Inv-loop μ-loop) → Passes (c .before .before .before .before .before .before .before .args .text .now) (c .before .before .before .before .before .before .before .args .word .now) (c .next-place .result)
+gone : (c : tie.After-next-place Inv-loop μ-loop) → WordPasses (c .before .before .before .before .before .before .before .args .text .now) (c .before .before .before .before .before .before .before .args .word .now) (c .next-place .result)
 gone c =
     let p = c .before .before .before .before .before .before .before .pre in
     let s = c .before .before .before .loop in

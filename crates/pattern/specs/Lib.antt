@@ -1,2 +1,0 @@
--- What writing a row of a pattern promises.
-pub mod Putting

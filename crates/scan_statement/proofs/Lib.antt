@@ -1,0 +1,2 @@
+-- The laws that several proofs share.
+mod Bytes

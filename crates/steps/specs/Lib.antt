@@ -1,5 +1,0 @@
--- What the functions of a step ask for and leave (Contracts), and the laws that the proofs cite.
-pub mod Contracts
-pub mod Laws
-pub mod PromiseLaws
-pub mod RunLaws
