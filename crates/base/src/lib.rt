@@ -1,5 +1,7 @@
 // Definitions: what every other crate's specs lean on. For code: the counts of specs/Limits, bytes and numbers as numbers that index, and the
 // smaller of two.
+#![tactic(auto)]
+
 ghost use Rattle.std.specs.Prelude.{◌≡◌, ◌<◌, min};
 
 // how many steps, strings, numbers, labels and routines a program may have

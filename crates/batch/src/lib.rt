@@ -1,5 +1,7 @@
 // A whole run: a deck and an input in, all that the program prints out.
 // Assumes nothing.
+#![tactic(auto)]
+
 ghost use Rattle.std.specs.Prelude.{◌+◌, ◌≤◌, length};
 ghost use Rattle.calls.specs.Strigol.{outcome_word, closing_line};
 ghost use Rattle.printing.specs.Printing.{Put, PutWithin};

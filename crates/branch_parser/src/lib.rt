@@ -1,5 +1,7 @@
 // Names that lead to steps, branch fields and the tests of IF, each read into what the row of a statement has of them.
 // Assumes nothing.
+#![tactic(auto)]
+
 pub mod places;
 pub mod tests;
 
@@ -14,7 +16,7 @@ use symbols::tags::LABEL;
 use symbols::{Cursor, KNOWN, NAMES};
 
 // a row of the table but for its card: kind, flag, the steps of the branch field, two cells
-#[derive(Drop)]
+#[derive(Clone, Copy)]
 pub struct Row {
     pub kind: u8,
     pub flag: u8,
@@ -25,27 +27,27 @@ pub struct Row {
 }
 
 // a name by the step it leads to
-#[derive(Drop)]
+#[derive(Clone, Copy)]
 pub enum Target {
     Broken,
     Got(usize, Cursor),
 }
 
 // the steps of a branch field
-#[derive(Drop)]
+#[derive(Clone, Copy)]
 pub struct Branch {
     pub success: usize,
     pub failure: usize,
 }
 
-#[derive(Drop)]
+#[derive(Clone, Copy)]
 pub enum Branching {
     Broken,
     Got(Branch, Cursor),
 }
 
 // the row so far with the cursor behind what is read, or the form is broken
-#[derive(Drop)]
+#[derive(Clone, Copy)]
 pub enum Draft {
     Broken,
     Got(Row, Cursor),

@@ -15,7 +15,7 @@ use symbols::tags::STRING;
 use symbols::{Cursor, KNOWN, NAMES, with_bias};
 
 // the sign of a comparison at a place: its number, 0 for none, and how many bytes it has
-#[derive(Drop)]
+#[derive(Clone, Copy)]
 struct Sign {
     number: u8,
     size: usize,

@@ -1,5 +1,7 @@
 // From a deck's bytes to its statements, one after the other: a comment or blank line, or a statement packed from all its lines.
 // Assumes nothing.
+#![tactic(auto)]
+
 pub mod keys;
 pub mod line;
 pub mod packed;
@@ -15,7 +17,7 @@ use packed::{Packing, Place};
 
 // a statement while its lines are joined: whether they are sound, whether the last one joins the next, what is packed, how many
 // lines were taken and where the next one starts
-#[derive(Drop)]
+#[derive(Clone, Copy)]
 pub struct Joining {
     pub sound: bool,
     pub more: bool,
@@ -26,7 +28,7 @@ pub struct Joining {
 
 // an entry of the deck: a skipped line or a statement, whether it is sound, the key of its label, the length of its packed text, whether
 // its literals are whole, how many lines it has and where the next entry starts
-#[derive(Drop)]
+#[derive(Clone, Copy)]
 pub struct Gathered {
     pub skipped: bool,
     pub sound: bool,

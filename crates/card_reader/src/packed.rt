@@ -9,7 +9,7 @@ use base::DECK;
 use classes::is_blank;
 
 // where a byte stands: outside a literal, right behind the quote that opens one, right behind two quotes, further inside
-#[derive(Drop)]
+#[derive(Clone, Copy)]
 pub enum Place {
     Outside,
     Opened,
@@ -18,7 +18,7 @@ pub enum Place {
 }
 
 // what is packed so far: the place of the next byte, whether no literal was broken, and how many bytes there are
-#[derive(Drop)]
+#[derive(Clone, Copy)]
 pub struct Packing {
     pub place: Place,
     pub whole: bool,

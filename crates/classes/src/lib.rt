@@ -1,5 +1,7 @@
 // The class of a byte, by a table of 256 entries, and each question about it that code asks.
 // Assumes nothing.
+#![tactic(auto)]
+
 ghost use Rattle.std.specs.Prelude.{◌≡◌};
 ghost use Rattle.cards.specs.Bytes.{class_of, is_blank, is_digit, is_letter, is_name_byte, is_refused};
 ghost use Rattle.classes.specs.Numbers.{class_number};

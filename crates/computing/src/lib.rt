@@ -1,1 +1,2 @@
 // One definition that unfolds all others, for facts that are proved by computing.
+#![tactic(auto)]

@@ -22,7 +22,7 @@ use symbols::{Cursor, KNOWN, NAMES, PURPOSES, SYMBOLS};
 const SCOPES: usize = 2 * NAMES;
 
 // a number with its card, 0 if the deck passes
-#[derive(Drop)]
+#[derive(Clone, Copy)]
 pub struct Verdict {
     pub number: u32,
     pub card: usize,

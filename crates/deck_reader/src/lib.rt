@@ -1,5 +1,7 @@
 // The deck call: any bytes in, a table or a number and a card out.
 // Assumes nothing.
+#![tactic(auto)]
+
 pub mod judge;
 pub mod steps;
 pub mod table;

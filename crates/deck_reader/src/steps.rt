@@ -19,7 +19,7 @@ use symbols::places::NEXT;
 use symbols::{Cursor, KNOWN, NAMES};
 
 // where the second pass is: the next line and its card; how many steps, elements, items and literal bytes are written
-#[derive(Drop)]
+#[derive(Clone, Copy)]
 pub struct Progress {
     pub from: usize,
     pub card: usize,

@@ -1,5 +1,7 @@
 // The statements that a table's rows hold, as enums. The contracts cite the table's reading in crate encoding.
 // Assumes nothing.
+#![tactic(auto)]
+
 ghost use Rattle.std.specs.Prelude.{List, ◌≡◌, ℕ, ◌+◌, ◌*◌, ◌≤◌, ◌<◌, ◌^◌, length};
 ghost use Rattle.base.specs.Current.{table_size};
 ghost use Rattle.encoding.specs.Kinds.{both_steps};
@@ -29,7 +31,7 @@ const TEXT_BY_NUMBER: u8 = cell_kinds::TEXT + 1;
 const FIXED_BY_NUMBER: u8 = cell_kinds::FIXED + 1;
 
 // a cell: its kind, the place of a string or number, a value of 6 bytes
-#[derive(Drop)]
+#[derive(Clone, Copy)]
 pub struct Cell {
     pub kind: usize,
     pub place: usize,
@@ -37,7 +39,7 @@ pub struct Cell {
 }
 
 // a row of the steps, without its card
-#[derive(Drop)]
+#[derive(Clone, Copy)]
 pub struct Row {
     pub kind: usize,
     pub flag: usize,
@@ -48,7 +50,7 @@ pub struct Row {
 }
 
 // the counts of a table's header
-#[derive(Drop)]
+#[derive(Clone, Copy)]
 pub struct Counts {
     pub steps: usize,
     pub strings: usize,
@@ -59,21 +61,21 @@ pub struct Counts {
 }
 
 // the n of S$n or STRING(n,m): a constant, or the number of this place
-#[derive(Drop)]
+#[derive(Clone, Copy)]
 pub enum Length {
     Constant(Int),
     Number(usize),
 }
 
 // a string, or its first n bytes
-#[derive(Drop)]
+#[derive(Clone, Copy)]
 pub enum Part {
     Whole(usize),
     First(usize, Length),
 }
 
 // a number by its place, which a byte holds
-#[derive(Drop)]
+#[derive(Clone, Copy)]
 pub enum Operand {
     Constant(Int),
     Number(u8),
@@ -81,7 +83,7 @@ pub enum Operand {
     NumberOf(Part),
 }
 
-#[derive(Drop)]
+#[derive(Clone, Copy)]
 pub enum Operator {
     Plus,
     Minus,
@@ -89,14 +91,14 @@ pub enum Operator {
     Over,
 }
 
-#[derive(Drop)]
+#[derive(Clone, Copy)]
 pub enum Sign {
     Positive,
     Negative,
 }
 
 // an item of a numeric expression, which is in postfix order
-#[derive(Drop)]
+#[derive(Clone, Copy)]
 pub enum Item {
     Operand(Operand),
     Operator(Operator),
@@ -104,14 +106,14 @@ pub enum Item {
 }
 
 // an element of a string expression: a literal by its ends in the table, a part of a string, STRING(n,m)
-#[derive(Drop)]
+#[derive(Clone, Copy)]
 pub enum Element {
     Literal(usize, usize),
     Part(Part),
     Text(Length, usize),
 }
 
-#[derive(Drop)]
+#[derive(Clone, Copy)]
 pub enum PatternElement {
     Value(Element),
     Free(usize),
@@ -119,41 +121,41 @@ pub enum PatternElement {
 }
 
 // the steps of a branch field
-#[derive(Drop)]
+#[derive(Clone, Copy)]
 pub struct Branch {
     pub success: usize,
     pub failure: usize,
 }
 
 // so many items or elements, from a place among all of them on
-#[derive(Drop)]
+#[derive(Clone, Copy)]
 pub struct Stretch {
     pub from: usize,
     pub count: usize,
 }
 
 // IF with two operands and a sign; if the sign stood between them, the compiled run would tell a step's kind twice
-#[derive(Drop)]
+#[derive(Clone, Copy)]
 pub struct If {
     pub left: Operand,
     pub right: Operand,
     pub sign: Comparison,
 }
 
-#[derive(Drop)]
+#[derive(Clone, Copy)]
 pub enum Direction {
     Forward,
     Backward,
 }
 
-#[derive(Drop)]
+#[derive(Clone, Copy)]
 pub enum Replacement {
     Nothing,
     By(Stretch),
 }
 
 // SCAN or BACKSCAN
-#[derive(Drop)]
+#[derive(Clone, Copy)]
 pub struct Scan {
     pub direction: Direction,
     pub part: Part,
@@ -162,7 +164,7 @@ pub struct Scan {
     pub branch: Branch,
 }
 
-#[derive(Drop)]
+#[derive(Clone, Copy)]
 pub enum Statement {
     SetNumber(usize, Stretch),
     SetString(Part, Stretch),

@@ -1,5 +1,7 @@
 // What statements leave in the buffers once their values are known: a record read or written, a stretch of a string set.
 // Each contract is an equation with the definitions of the crate machine. What stops a statement is found before anything is written.
+#![tactic(auto)]
+
 pub mod fillers;
 pub mod reading;
 pub mod reference;
@@ -12,21 +14,21 @@ ghost use Rattle.effects.specs.Leaving.{Taking, RecordTaken, RecordPuts, Setting
 use base::{LONGEST, least};
 
 // what a statement's work comes to: done, with so many notes, or stopped by a number
-#[derive(Drop)]
+#[derive(Clone, Copy)]
 pub enum Completion {
     Done(u32),
     Stops(u32),
 }
 
 // how long the output is behind a record put into it, or what stops the run
-#[derive(Drop)]
+#[derive(Clone, Copy)]
 pub enum Output {
     Reaches(usize),
     Stops(u32),
 }
 
 // how a statement with a branch field goes: to its success or its failure, or what stops it
-#[derive(Drop)]
+#[derive(Clone, Copy)]
 pub enum ReadOutcome {
     Succeeds,
     Fails,
@@ -34,7 +36,7 @@ pub enum ReadOutcome {
 }
 
 // the bytes from..to of the string with this place
-#[derive(Drop)]
+#[derive(Clone, Copy)]
 pub struct Span {
     pub place: usize,
     pub from: usize,

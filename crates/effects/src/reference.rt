@@ -16,7 +16,7 @@ use decoder::{Direction, Part};
 use encoding::STATE_SIZE;
 
 // the bytes from..to of the string with this place, or what stops the run
-#[derive(Drop)]
+#[derive(Clone, Copy)]
 pub enum Reference {
     At {
         place: usize,

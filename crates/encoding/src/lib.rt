@@ -1,5 +1,7 @@
 // Definitions: table, store and state as bytes and numbers. For code: the layouts of specs/Table and specs/Buffers, and the kinds of a table's
 // cells and steps.
+#![tactic(auto)]
+
 pub mod cell_kinds;
 pub mod step_kinds;
 

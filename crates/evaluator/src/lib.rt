@@ -1,5 +1,7 @@
 // The values of operands, numeric and string expressions and tests in the interpreter's memory: a store of cells for the strings, a state
 // that keeps the numbers with a bias added. Each contract is an equation with the definitions of the crate machine.
+#![tactic(auto)]
+
 ghost use Rattle.std.specs.Prelude.{List, ◌≡◌, ℕ, ◌+◌, ◌-◌, ◌≤◌, ◌<◌, ℤ, pos, length, get_or};
 ghost use Rattle.base.specs.Current.{current};
 ghost use Rattle.encoding.specs.BufferLaws.{StoreGood};
@@ -27,7 +29,7 @@ use encoding::{NUMBERS_AT, STATE_SIZE, WAITING, cell_kinds};
 use numbers::{Int, Number, Text};
 
 // where bytes of the store lie, with the notes made on the way
-#[derive(Drop)]
+#[derive(Clone, Copy)]
 pub struct Ends {
     pub from: usize,
     pub to: usize,
@@ -35,14 +37,14 @@ pub struct Ends {
 }
 
 // how many numbers wait after an item, with the notes made, or what stops the run
-#[derive(Drop)]
+#[derive(Clone, Copy)]
 enum StackDepth {
     Is { count: usize, notes: u32 },
     Stops(u32),
 }
 
 // whether a test holds, with the notes made, or what stops the run
-#[derive(Drop)]
+#[derive(Clone, Copy)]
 pub enum Truth {
     Is { holds: bool, notes: u32 },
     Stops(u32),

@@ -1,5 +1,7 @@
 // Each kind of statement carried out on the buffers, the state moved on with it; a scan is not among them.
 // Each contract says what the machine's work on the statement comes to (machine/Step: execution) and what that leaves in the buffers.
+#![tactic(auto)]
+
 ghost use Rattle.std.specs.Prelude.{List, ◌≡◌, ℕ, ◌+◌, ◌≤◌, ◌<◌, length, get_or};
 ghost use Rattle.calls.specs.Calls.{buffers};
 ghost use Rattle.encoding.specs.BufferLaws.{StoreGood};

@@ -1,5 +1,7 @@
 // A step and a run on the buffers: the calls `strigol_step` and `strigol_run`. What is refused is found first, the lowest number first.
 // The two calls promise what calls/Promises says: an equation with step_call or run_call, what a refused or stopped step keeps, and demand 3.
+#![tactic(auto)]
+
 pub mod run;
 pub mod scans;
 

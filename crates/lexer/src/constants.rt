@@ -8,14 +8,14 @@ use crate::stands_at;
 use numbers::{Int, LIMIT};
 
 // a constant with the place behind it
-#[derive(Drop)]
+#[derive(Clone, Copy)]
 pub enum Constant {
     Is { value: u64, next: usize },
     Broken,
 }
 
 // a constant that may have a sign
-#[derive(Drop)]
+#[derive(Clone, Copy)]
 pub enum SignedConstant {
     Is { value: Int, next: usize },
     Broken,

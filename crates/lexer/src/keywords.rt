@@ -7,7 +7,7 @@ ghost use Rattle.lexer.specs.Kinds.{kind_of, leads};
 use crate::names::{bound_length, name_length};
 use crate::{begins_at, stands_at};
 
-#[derive(Drop)]
+#[derive(Clone, Copy)]
 pub enum Kind {
     Replacement,
     Number,
@@ -29,7 +29,7 @@ pub enum Kind {
 }
 
 // a kind with how many bytes its keyword has
-#[derive(Drop)]
+#[derive(Clone, Copy)]
 pub struct Keyword {
     pub kind: Kind,
     pub size: usize,

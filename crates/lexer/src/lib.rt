@@ -1,5 +1,7 @@
 // Names, constants and keywords of a packed statement, read at a place of it; a place behind the end has no bytes.
 // Assumes nothing.
+#![tactic(auto)]
+
 pub mod constants;
 pub mod keywords;
 pub mod names;

@@ -1,5 +1,7 @@
 // The calls open to C, each with its promise: all that the library exports, on one page. Each is the call of the same name of the crate that does
 // its work.
+#![tactic(auto)]
+
 ghost use Rattle.base.specs.Current.{current};
 ghost use Rattle.calls.specs.Calls.{buffers};
 ghost use Rattle.calls.specs.Promises.{ReadPromise, StartPromise, StepPromise, RunPromise, read_back, start_back, step_back, run_back};

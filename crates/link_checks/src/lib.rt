@@ -1,5 +1,7 @@
 // 11 and 12 of a deck whose statements passed: whether labels and routines used are defined, and whether a routine executes itself.
 // Assumes nothing.
+#![tactic(auto)]
+
 pub mod defined;
 pub mod executed;
 pub mod rounds;

@@ -1,5 +1,7 @@
 // 6, 7 and 8 of a statement: the names it mentions, beside those known before.
 // Assumes nothing.
+#![tactic(auto)]
+
 pub mod declaring;
 pub mod names;
 pub mod roles;
@@ -17,7 +19,7 @@ use symbols::places::NAME_COUNT;
 use symbols::{KNOWN, NAMES};
 
 // what the names mentioned make of a statement: 6, 7, 8 or 0, and how many names are known then
-#[derive(Drop)]
+#[derive(Clone, Copy)]
 pub struct Verdict {
     pub number: u32,
     pub count: usize,

@@ -10,7 +10,7 @@ use symbols::NAMES;
 use symbols::tags::STRING;
 
 // how many names are known, and whether one mentioned has another purpose
-#[derive(Drop)]
+#[derive(Clone, Copy)]
 pub struct Names {
     pub count: usize,
     pub clash: bool,

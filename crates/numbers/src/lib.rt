@@ -1,5 +1,7 @@
 // Numbers and their text: the operators on numbers, comparisons, NUMERIC, NUMBER and STRING. A number is an i64 from -LIMIT to LIMIT.
 // Assumes nothing.
+#![tactic(auto)]
+
 ghost use Rattle.std.specs.Prelude.{◌≡◌, ◌+◌, ◌≤◌, ◌<◌, ◌^◌, cond, pos, neg_ℤ, nat_abs, length, drop, replicate};
 ghost use Rattle.base.specs.Current.{current, limit};
 ghost use Rattle.machine.specs.Expressions.{compared};
@@ -16,27 +18,27 @@ use classes::is_digit_or_blank;
 pub const LIMIT: u64 = 8_388_607;
 
 // a number of the language
-#[derive(Drop)]
+#[derive(Clone, Copy)]
 pub struct Int {
     pub value: i64,
 }
 
 // what work on numbers gives: a value with the notes made on the way, or what stops the run
-#[derive(Drop)]
+#[derive(Clone, Copy)]
 pub enum Number {
     Is { value: Int, notes: u32 },
     Stops(u32),
 }
 
 // what STRING gives: the length of the text written with the notes made, or what stops the run
-#[derive(Drop)]
+#[derive(Clone, Copy)]
 pub enum Text {
     Is { length: usize, notes: u32 },
     Stops(u32),
 }
 
 // the comparisons of IF
-#[derive(Drop)]
+#[derive(Clone, Copy)]
 pub enum Comparison {
     Equal,
     Unequal,

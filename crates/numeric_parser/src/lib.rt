@@ -1,5 +1,7 @@
 // The parsers of numeric expressions: what they read goes to the item rows of the table, the names mentioned to their arrays.
 // Assumes nothing.
+#![tactic(auto)]
+
 pub mod operands;
 
 ghost use Rattle.std.specs.Prelude.{◌≡◌, ◌≤◌, ◌<◌, length};
@@ -18,7 +20,7 @@ use operands::{Operand, plain, skip};
 use symbols::{Cursor, KNOWN, NAMES, put_item};
 
 // the form is broken, or read up to this cursor
-#[derive(Drop)]
+#[derive(Clone, Copy)]
 pub enum Outcome {
     Broken,
     Got(Cursor),

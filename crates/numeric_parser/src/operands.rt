@@ -16,28 +16,28 @@ use symbols::tags::{NUMBER, STRING};
 use symbols::{BIAS, Cursor, KNOWN, NAMES, note_name, number_place, string_place};
 
 // a name by its key, with the cursor behind it
-#[derive(Drop)]
+#[derive(Clone, Copy)]
 pub enum Name {
     Broken,
     Got(u64, Cursor),
 }
 
 // a name by its place
-#[derive(Drop)]
+#[derive(Clone, Copy)]
 pub enum Place {
     Broken,
     Got(u8, Cursor),
 }
 
 // a cell of the table
-#[derive(Drop)]
+#[derive(Clone, Copy)]
 pub struct Cell {
     pub kind: u8,
     pub place: u8,
     pub value: usize,
 }
 
-#[derive(Drop)]
+#[derive(Clone, Copy)]
 pub enum Operand {
     Broken,
     Got(Cell, Cursor),

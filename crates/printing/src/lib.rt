@@ -1,5 +1,7 @@
 // Bytes put one behind the other, numbers among them in decimal, as the program's closing line and the register's TOTAL line have them.
 // Assumes nothing.
+#![tactic(auto)]
+
 ghost use Rattle.std.specs.Prelude.{◌++◌, ◌+◌, ◌≤◌, length};
 ghost use Rattle.base.specs.Text.{bytes};
 ghost use Rattle.values.specs.Conversion.{digits};

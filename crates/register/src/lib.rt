@@ -1,4 +1,5 @@
 // Definitions: the register of contracts of document 02. For code: the layout of specs/Buffer, and the numbers that a call gives.
+#![tactic(auto)]
 
 // the most lines, and the bytes of a register, of its header and of a line's slot
 pub const LINES: usize = 256;

@@ -1,6 +1,8 @@
 // Three calls of the register: opening it, a line offered, and a line handed out by its place. Each reads the register whole before it does anything;
 // opening judges the currency before that.
 // Assumes nothing.
+#![tactic(auto)]
+
 ghost use Rattle.std.specs.Prelude.{true, ◌∷◌, ◌≡◌, ◌+◌, ◌≤◌, length, replicate, take};
 ghost use Rattle.encoding.specs.Splices.{splice};
 ghost use Rattle.cards.specs.Bytes.{is_name_byte};

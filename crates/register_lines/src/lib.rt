@@ -1,6 +1,8 @@
 // A contract line, field by field: whether it has its form, without or with a currency, and how long its contract is. Its bytes are compared,
 // not looked up in the class table: a register's check asks of each byte of 256 lines.
 // Assumes nothing.
+#![tactic(auto)]
+
 ghost use Rattle.std.specs.Prelude.{[], ◌∷◌, ◌≡◌, ◌+◌, ◌≤◌, eqb, length, get_or};
 ghost use Rattle.cards.specs.Bytes.{is_digit, is_letter, is_name_byte};
 ghost use Rattle.register.specs.Line.{is_currency, is_grain, is_tonnes, is_price};
@@ -19,7 +21,7 @@ const TONNES: usize = 5;
 const PRICE: usize = 6;
 
 // the bytes that a field may have: letters and digits, letters, digits
-#[derive(Drop)]
+#[derive(Clone, Copy)]
 enum Class {
     Names,
     Letters,

@@ -1,6 +1,8 @@
 // The register in a buffer: whether it keeps its rules and is opened, how many lines it holds, and the contracts of these lines as keys, numbers of
 // 64 bits.
 // Assumes nothing.
+#![tactic(auto)]
+
 ghost use Rattle.std.specs.Prelude.{◌≡◌, ◌*◌, ◌<◌, ◌≤◌, length, take};
 ghost use Rattle.base.specs.Lists.{among};
 ghost use Rattle.register.specs.Buffer.{header_size, lines_in, slot_size};
@@ -17,14 +19,14 @@ use store::spans;
 const MARKS: usize = 4093;
 
 // how many lines the slots hold, or that they are against their rules
-#[derive(Drop)]
+#[derive(Clone, Copy)]
 enum Held {
     Count(usize),
     Bad,
 }
 
 // how many lines a register holds, one that is opened or one that isn't; or that its buffer is too small or against its rules
-#[derive(Drop)]
+#[derive(Clone, Copy)]
 pub enum State {
     Opened(usize),
     Old(usize),

@@ -1,6 +1,8 @@
 // The register's closing report: its lines, and for each currency of theirs the TOTAL line with what its lines add up to. Once the register is read,
 // its lines are gone through twice: for codes, tonnes, values and size, and to put them. So nothing is put unless all of it has room.
 // Assumes nothing.
+#![tactic(auto)]
+
 ghost use Rattle.std.specs.Prelude.{true, ◌≡◌, ◌+◌, ◌<◌, ◌≤◌, length, take, drop};
 ghost use Rattle.printing.specs.Printing.{Put};
 ghost use Rattle.register.specs.Buffer.{register_in};
@@ -33,14 +35,14 @@ const MOST_TOTAL: usize = 38;
 const TOTALS_ROOM: usize = MOST_TOTAL * LINES + LONGEST_TOTAL;
 
 // a number in a line, and where it ends
-#[derive(Drop)]
+#[derive(Clone, Copy)]
 struct Field {
     value: u64,
     end: usize,
 }
 
 // a line's currency as a code, and what the line adds to that currency's sums: tonnes, and cents
-#[derive(Drop)]
+#[derive(Clone, Copy)]
 struct Worth {
     code: u64,
     tonnes: u64,
@@ -48,7 +50,7 @@ struct Worth {
 }
 
 // what the lines of a currency add up to
-#[derive(Drop)]
+#[derive(Clone, Copy)]
 struct Sums {
     count: u64,
     tonnes: u64,
@@ -56,7 +58,7 @@ struct Sums {
 }
 
 // the bytes that the lines of a register are printed in, and those of its TOTAL lines
-#[derive(Drop)]
+#[derive(Clone, Copy)]
 struct Sizes {
     lines: usize,
     totals: usize,

@@ -1,1 +1,2 @@
 // Computed facts only: the definitions answer the register's scripts.
+#![tactic(auto)]

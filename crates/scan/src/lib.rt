@@ -1,5 +1,7 @@
 // The scan of document 01 over a pattern of rows, and the scan call. A pattern is rows of 12 bytes, as the call lends them; an element is made
 // of a row where it is matched. The contracts cite the definitions of crate scanning. Assumes nothing.
+#![tactic(auto)]
+
 ghost use Rattle.std.specs.Prelude.{◌≡◌, ◌∷◌, ℕ, ◌+◌, ◌*◌, ◌≤◌, ◌<◌, ◌^◌, length, drop, get_or, set};
 ghost use Rattle.std.proofs.Math.Option.{none};
 ghost use Rattle.scanning.specs.Splits.{string};
@@ -25,7 +27,7 @@ const SHORT_ROW: usize = ROW_SIZE - 1;
 const GAP_AT: usize = LENGTHS_AT - 1;
 
 // An element of a pattern: a string, as the ends of its part of the values; a fixed filler with its length; a free filler.
-#[derive(Drop)]
+#[derive(Clone, Copy)]
 pub enum Element {
     Part(usize, usize),
     Fixed(usize),
@@ -33,7 +35,7 @@ pub enum Element {
 }
 
 // How one element fared at a place: its piece has this length; other bytes; too few bytes; a free filler, which is not tested.
-#[derive(Drop)]
+#[derive(Clone, Copy)]
 pub enum Test {
     Piece(usize),
     Other,
@@ -43,7 +45,7 @@ pub enum Test {
 
 // How a group fared at a place: all of it passed, up to this row, its last piece ending here; other bytes after so many trials, so it moves on;
 // too few bytes after so many trials, so the scan ends.
-#[derive(Drop)]
+#[derive(Clone, Copy)]
 pub enum Group {
     Whole(usize, usize),
     Moves(usize),
@@ -51,7 +53,7 @@ pub enum Group {
 }
 
 // How the scan went, with its trials.
-#[derive(Drop)]
+#[derive(Clone, Copy)]
 pub enum Ran {
     Found(usize),
     Fails(usize),

@@ -1,5 +1,7 @@
 // SCAN and BACKSCAN on the buffers, in the machine's order of work: reference, pattern values, fillers made null, scan, naming,
 // replacement. The contract is an equation with scanning_in of the crate machine.
+#![tactic(auto)]
+
 pub mod finding;
 pub mod putting;
 pub mod replacing;
@@ -28,7 +30,7 @@ const ROWS_SIZE: usize = ROW_SIZE * ROW;
 const NAMES_SIZE: usize = ROW;
 
 // how a scan went: with a split or without one, each with so many notes, or what stops it
-#[derive(Drop)]
+#[derive(Clone, Copy)]
 pub enum Scanned {
     Splits(u32),
     Fails(u32),

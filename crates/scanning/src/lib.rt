@@ -1,4 +1,5 @@
 // Definitions: the scan of document 01, what it must answer and how many trials it makes. For code: the layouts of specs/Call.
+#![tactic(auto)]
 
 // the bytes of an element's row
 pub const ROW_SIZE: usize = 12;

@@ -1,5 +1,7 @@
 // Looking for a byte or a word in a text: where a byte stands next, whether a word stands at a place, and how many places from the first on
 // it can't stand at. Whole blocks of places are passed by comparing two of the word's bytes at once. Assumes nothing.
+#![tactic(auto)]
+
 ghost use Rattle.std.specs.Prelude.{false, ◌≡◌, ℕ, ◌+◌, ◌≤◌, ◌<◌, length};
 ghost use Rattle.base.specs.Lists.{begins};
 ghost use Rattle.search.specs.Passing.{AgreesUntil, Both, PlacesSearchable, Without, NextPlace, NextByte, WordRoom, WordPasses};

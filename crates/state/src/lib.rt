@@ -1,5 +1,7 @@
 // The state's 64 numbers: whether they are in range, what they say, the writes of a step, and the state before the first step.
 // Each contract is an equation with the definitions of the crates encoding and calls, or with the numbers before, one of them set.
+#![tactic(auto)]
+
 ghost use Rattle.std.specs.Prelude.{◌≡◌, ◌+◌, ◌-◌, ◌<◌, ◌≤◌, eqb, ltb, length, get_or, set};
 ghost use Rattle.base.specs.Current.{current};
 ghost use Rattle.base.specs.Lists.{all};

@@ -1,5 +1,7 @@
 // 4, and 6 to 10, of a statement whose form holds, and the environment extended by it.
 // Assumes nothing.
+#![tactic(auto)]
+
 pub mod counts;
 pub mod kinds;
 pub mod labels;

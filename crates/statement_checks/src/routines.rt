@@ -12,7 +12,7 @@ use symbols::tags::ROUTINE_DECLARED;
 use symbols::{KNOWN, NAMES};
 
 // the routine that a statement declares, if any
-#[derive(Drop)]
+#[derive(Clone, Copy)]
 pub struct Opened {
     pub found: bool,
     pub key: u64,

@@ -1,5 +1,7 @@
 // Every form of a statement, read into a row of the table; a statement with its label.
 // Assumes nothing.
+#![tactic(auto)]
+
 pub mod stages;
 pub mod steps;
 
@@ -22,7 +24,7 @@ use symbols::tags::{LABEL, LABEL_DECLARED, ROUTINE, ROUTINE_DECLARED};
 use symbols::{Cursor, KNOWN, NAMES, note_name};
 
 // the form is broken; or the statement is no step, or a step with its row, read up to this cursor
-#[derive(Drop)]
+#[derive(Clone, Copy)]
 pub enum Form {
     Broken,
     NoStep(Cursor),

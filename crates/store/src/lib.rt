@@ -1,5 +1,7 @@
 // The store's cells: whether they keep their rules, where their strings lie, and how a string is set or a stretch of it replaced.
 // Each contract is an equation with the definitions of the crates encoding and calls.
+#![tactic(auto)]
+
 pub mod spans;
 
 ghost use Rattle.std.specs.Prelude.{◌++◌, ◌≡◌, ◌+◌, ◌*◌, ◌-◌, ◌<◌, ◌≤◌, length, drop, replicate};

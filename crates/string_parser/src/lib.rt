@@ -1,6 +1,8 @@
 // The parsers of string expressions and patterns: what they read goes to the element rows and literal bytes of the table, the names mentioned
 // to their arrays.
 // Assumes nothing.
+#![tactic(auto)]
+
 pub mod cells;
 pub mod literals;
 

@@ -1,6 +1,8 @@
 // What parsers leave behind while they parse a statement: the names mentioned, the rows of items and elements with their literal bytes; and the
 // places of names known.
 // Assumes nothing.
+#![tactic(auto)]
+
 pub mod places;
 pub mod tags;
 
@@ -38,7 +40,7 @@ pub const KNOWN: usize = 326;
 pub const BIAS: usize = encoding::BIAS as usize;
 
 // where a reader is in the text; how many names, items, elements and literal bytes are written; the longest row of elements so far
-#[derive(Drop)]
+#[derive(Clone, Copy)]
 pub struct Cursor {
     pub at: usize,
     pub names: usize,

@@ -1,1 +1,2 @@
 // Definitions only: the statements of a program and how they are read from packed statements.
+#![tactic(auto)]

@@ -1,1 +1,2 @@
 // Definitions only: numbers and their range, substrings, conversion between numbers and strings.
+#![tactic(auto)]

@@ -1,6 +1,8 @@
 // Whether a table keeps its rules (docs/TABLE.md). Each cell and row is judged by its kind, in one pass; the running places of elements,
 // items and literals say what a range has to be. The contracts cite tests that mirror the code, and the rules themselves at the end.
 // Assumes nothing.
+#![tactic(auto)]
+
 mod kinds;
 mod steps;
 

@@ -15,7 +15,7 @@ use decoder::{Cell, Counts, Row};
 use encoding::{RANGE_MORE, RANGE_STEP, STEP_ROW, step_kinds};
 
 // the places among all elements, items and literal bytes where the next ones stand; broken in literals if a rule is
-#[derive(Drop)]
+#[derive(Clone, Copy)]
 pub struct Places {
     pub elements: usize,
     pub items: usize,
@@ -23,7 +23,7 @@ pub struct Places {
 }
 
 // how many elements stand first, how many more behind them, and how many items
-#[derive(Drop)]
+#[derive(Clone, Copy)]
 pub struct Stretches {
     pub first: usize,
     pub more: usize,
