@@ -1,91 +1,118 @@
 // The program `strigol` of document 01. It keeps the file `deck` of the folder it is run in, and standard input; runs the deck; and prints the
 // records and a line: outcome, number or 0, steps done (of a refused deck its card), notes. What can't be read or written is said on standard
-// error; then the line is missing. Assumes what the kit's libc and os assume of C functions.
+// error; then the line is missing. No contract says which bytes a file or a stream gives or takes.
+#![tactic(auto)]
+
 ghost use Rattle.std.specs.Prelude.{◌≡◌, length};
 ghost use Rattle.calls.specs.Strigol.{kept_deck, kept_input};
 ghost use Rattle.strigol.specs.Keeping.{FileKept, KeptWhole};
 
 use batch::{KEPT_DECK, KEPT_INPUT, PRINTED, run_deck};
-use libc::{STDERR_FILENO, STDIN_FILENO, STDOUT_FILENO};
+use std::env::{Env, FillError};
+use std::fs::File;
+use std::io;
+use std::io::{ErrorKind, Read, Write};
 
 // what became of keeping a file: so many bytes, or it could not be read, and why has been said
-#[derive(Drop)]
+#[derive(Clone, Copy)]
 enum Keeping {
     Bytes(usize),
     Failed,
 }
 
-// Keeps the first bytes of an open file: as many as there are, and as there is room for.
-fn keep(fd: i32, name: &[u8], to: &mut [u8]) -> Keeping
+// what the system says of an error, without the number that stands behind it
+fn reason(said: &str) -> &str {
+    match said.split_once(" (os error ") {
+        Some((words, _)) => words,
+        None => said,
+    }
+}
+
+// Says on standard error what could not be read or written, and why.
+fn fail(rt: &HostRuntime, name: &str, error: io::Error) {
+    let _ = match format!(in rt.alloc(); "{error}") {
+        Ok(said) => {
+            let words = reason(said.as_str());
+            eprintln!(rt; "{name}: {words}")
+        }
+        Err(_) => eprintln!(rt; "{name}"),
+    };
+}
+
+// Keeps the first bytes that a reader gives: as many as there are, and as there is room for.
+fn keep<R: Read>(rt: &HostRuntime, from: &mut R, name: &str, to: &mut [u8]) -> Keeping
     ensures { FileKept result to.new }
 {
     let mut kept = 0;
     while kept < to.len() {
-        let got = libc::read(fd, &mut to[kept..]);
-        if got < 0 {
-            os::fail(name);
-            return Keeping::Failed;
+        match from.read(&mut to[kept..]) {
+            Ok(0) => return Keeping::Bytes(kept),
+            Ok(got) => kept += got,
+            Err(error) => {
+                fail(rt, name, error);
+                return Keeping::Failed;
+            }
         }
-        if got == 0 {
-            return Keeping::Bytes(kept);
-        }
-        kept += got as usize;
     }
     Keeping::Bytes(kept)
 }
 
 // Keeps the deck; a missing file counts as empty.
-fn keep_deck(to: &mut [u8]) -> Keeping
+fn keep_deck(rt: &HostRuntime, to: &mut [u8]) -> Keeping
     requires { length to.old ≡ kept_deck }
     ensures { FileKept result to.new }
 {
-    let fd = os::open_read(b"deck");
-    if fd < 0 {
-        if os::errno() == libc::ENOENT {
-            return Keeping::Bytes(0);
+    match File::open(rt, "deck") {
+        Ok(mut file) => keep(rt, &mut file, "strigol: deck", to),
+        Err(error) => {
+            if error.kind() == ErrorKind::NotFound {
+                return Keeping::Bytes(0);
+            }
+            fail(rt, "strigol: deck", error);
+            Keeping::Failed
         }
-        os::fail(b"strigol: deck");
-        return Keeping::Failed;
     }
-    let kept = keep(fd, b"strigol: deck", to);
-    libc::close(fd);
-    kept
 }
 
 // Keeps standard input.
-fn keep_input(to: &mut [u8]) -> Keeping
+fn keep_input(rt: &HostRuntime, to: &mut [u8]) -> Keeping
     requires { length to.old ≡ kept_input }
     ensures { FileKept result to.new }
 {
-    keep(STDIN_FILENO, b"strigol: standard input", to)
+    keep(rt, &mut rt.stdin(), "strigol: standard input", to)
 }
 
 // Runs a deck on an input and prints.
-fn run(deck: &[u8], input: &[u8])
+fn run(rt: &HostRuntime, deck: &[u8], input: &[u8])
     requires { KeptWhole deck.now input.now }
 {
     let mut out = [0u8; PRINTED];
     let n = run_deck(deck, input, &mut out);
-    if !io::write_all(STDOUT_FILENO, &out[..n]) {
-        os::fail(b"strigol: standard output");
+    if let Err(error) = rt.stdout().write_all(&out[..n]) {
+        fail(rt, "strigol: standard output", error);
     }
 }
 
-fn main() {
-    if 1 < os::arg_count() {
-        io::write_all(
-            STDERR_FILENO,
-            b"usage: strigol <INPUT\nruns the file `deck` of this folder on standard input\n",
+// whether a word stands behind the program's name
+fn is_given_words(rt: &HostRuntime) -> bool {
+    let mut first = [0u8; 1];
+    !matches!(rt.arg(1, &mut first), Err(FillError::NotPresent))
+}
+
+fn main(rt: HostRuntime) {
+    if is_given_words(&rt) {
+        let _ = eprintln!(&rt;
+            "usage: strigol <INPUT\nruns the file `deck` of this folder on standard input"
         );
         return;
     }
     let mut deck = [0u8; KEPT_DECK];
-    let Keeping::Bytes(deck_length) = keep_deck(&mut deck) else {
+    let Keeping::Bytes(deck_length) = keep_deck(&rt, &mut deck) else {
         return;
     };
     let mut input = [0u8; KEPT_INPUT];
-    let Keeping::Bytes(input_length) = keep_input(&mut input) else {
+    let Keeping::Bytes(input_length) = keep_input(&rt, &mut input) else {
         return;
     };
-    run(&deck[..deck_length], &input[..input_length]);
+    run(&rt, &deck[..deck_length], &input[..input_length]);
 }
