@@ -80,7 +80,7 @@ entries-whole e deck = each (unpacked_from e 1 (lines deck))
 -- outside a literal a byte that is no quote may go
 whole_tail : (b : ℕ) (bs : List ℕ) → eqb b quote ≡ false → LiteralsWhole (b ∷ bs) → LiteralsWhole bs
 unfolding literals_from place_after
-whole_tail b bs h whole = rw (h, place_after) at whole
+whole_tail b bs h whole = subst (λ t. literals_from (elim t [ true ↦ opened | false ↦ outside ]) bs ≡ true) h whole
 
 -- bytes at the front, none of them a quote, may go
 pub whole-behind : (w bs : List ℕ) → all is_unquoted w ≡ true → begins w bs ≡ true → LiteralsWhole bs → LiteralsWhole (drop (length w) bs)
@@ -198,7 +198,8 @@ unfolding begins same bytes literals_from place_after literal_at is_nil quote
 literal_read_lem [] h whole = absurd (false≢true h)
 literal_read_lem (b ∷ bs) h whole =
     let opens : eqb b 34 ≡ true = ((and-eq-true_iff (eqb b 34) true).0 h).0 in
-    let inner : literals_from opened bs ≡ true = rw (opens, place_after) at whole in
+    let inner : literals_from opened bs ≡ true =
+    subst (λ t. literals_from (elim t [ true ↦ opened | false ↦ outside ]) bs ≡ true) opens whole in
     test_cases
     (λ t. begins (34 ∷ (34 ∷ [])) bs ≡ t
     → LiteralParsed

@@ -144,7 +144,7 @@ module _ (buffer : List ℕ) (n : ℕ) (c : LinesCounted buffer n) where
   few = (read_sound buffer c.keeps).few
 
   good : all is_record held ≡ true
-  good = open_records (register_in buffer) (read_sound buffer c.keeps) c.is_open
+  good = open_records (register_in buffer) (read_sound buffer c.keeps) c.is_open_lem
 
   pub count_few : n ≤ most_lines
   count_few = omega (arith, c.count, few)
@@ -255,7 +255,7 @@ module _ (buffer : List ℕ) (n : ℕ) (c : LinesCounted buffer n) where
         )
 
     open_is : (output : List ℕ) → report_call buffer output ≡ put_report (report held) output
-    open_is output = report-put buffer output (open_keeps buffer c.keeps ∙ c.is_open)
+    open_is output = report-put buffer output (open_keeps buffer c.keeps ∙ c.is_open_lem)
 
     module _ (output : List ℕ) where
       pub report_full : length output < r.lines + r.totals → report_back 21 output 0 ≡ report_call buffer output

@@ -17,6 +17,8 @@ moved_slid : (n : ℕ) (t : Tried) → Slid t → Slid (place_moved n t)
 unfolding place_moved
 moved_slid n (found (gap ∷ ls) m) (slid_found _ _ _) = slid_found (suc gap) ls (n + m)
 moved_slid n (few m) (slid_few _) = slid_few (n + m)
+moved_slid n (found [] m) h = elim h [ ]
+moved_slid n (other _) h = elim h [ ]
 
 settled_slid : (t next : Tried) → Slid next → Slid (settled t next)
 unfolding settled
@@ -115,6 +117,8 @@ module _ (pre : List ℕ) where
         ∙ ap (found ((pre ++ (gap ∷ ls)) ++ (g ∷ ms))) f
         ∙ ap (λ (k : ℕ). found ((pre ++ (gap ∷ ls)) ++ (k ∷ ms)) (t + length ls + n)) (sym y)
     whole ls (few n) next gap t (slid_few _) = ap few (omega arith)
+    whole ls (found [] n) next gap t h = elim h [ ]
+    whole ls (other _) next gap t h = elim h [ ]
 
     -- a group that passed whole before a free filler: the next group slides from its end
     pub slides_whole : (s ls s' : List ℕ) (row' : List ℕ → Tried) (gap t : ℕ) → row s ≡ passed_behind ls (slide row' s')
@@ -131,3 +135,5 @@ resumed_none (found (g ∷ ms) n) (slid_found _ _ _) =
     let z : 0 + n ≡ n = omega arith in
     ap (λ (k : ℕ). found (k ∷ ms) (0 + n)) y ∙ ap (found (g ∷ ms)) z
 resumed_none (few n) (slid_few _) = ap few (omega arith)
+resumed_none (found [] n) h = elim h [ ]
+resumed_none (other _) h = elim h [ ]

@@ -4,7 +4,6 @@ use Rattle.std.specs.Prelude.{true, List, [], ◌∷◌, ◌++◌, ◌≡◌, re
 use Rattle.std.proofs.Common.{sym, ◌∙◌, ap, ap₂, arith}
 use Rattle.base.specs.Current.{current, table_size}
 use Rattle.base.specs.ListLaws.{same_refl, length_stretch}
-use Rattle.base.specs.Lists.{same}
 use Rattle.encoding.specs.NumeralLaws.{BytesStand, stands_back, byte-read, number_behind}
 use Rattle.encoding.specs.Numerals.{in_bytes, numeral_at}
 use Rattle.encoding.specs.Rules.{is_program, keeps_rules}

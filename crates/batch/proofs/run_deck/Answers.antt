@@ -1,0 +1,84 @@
+-- `batch::run_deck` meets its contract. A refused deck has its line; behind an accepted one's run stand the records, and the line behind them.
+use mathlib.Core.List.{List, ◌++◌}
+use mathlib.Core.Path.{◌≡◌, sym, ap, ◌∙◌}
+use Prim.Native.Nat.{ℕ, ◌+◌, ◌≤◌}
+use native.Mathlib.Omega.{arith}
+use lib.ListN.{length, take, drop, replicate, length-replicate}
+use lib.Seq.{length-take-le, length_front}
+use Rattle.base.specs.Current.{current, table_size}
+use Rattle.encoding.specs.Buffers.{store_size}
+use Rattle.calls.specs.Promises.{read_back, run_back}
+use Rattle.calls.specs.Strigol.{lent_output, most_steps}
+use Rattle.batch.specs.Printing.{outcome_of, line_of, longest_line}
+use Rattle.batch.specs.PrintLaws.{refused_printed, RunPrints, run-printed, run-prints}
+use Rattle.batch.proofs.run_deck.Goals.{After-strigol_run}
+use Rattle.batch.proofs.run_deck.Goals as goal
+
+-- the output lent is a part of what is lent
+room : (out : List ℕ) → length out ≡ lent_output + longest_line → 16384 ≤ length out
+unfolding lent_output
+room out e = omega arith
+
+-- behind the run, as many bytes as before
+lent_back : (c : After-strigol_run)
+    → length (c.strigol_run.new.output ++ drop 16384 c.args.out.now) ≡ length c.args.out.now
+lent_back c = length_front c.args.out.now c.strigol_run.new.output 16384 c.strigol_run.auto.output
+
+-- and the run leaves as much output as it was lent
+output-back : (c : After-strigol_run) → length c.strigol_run.new.output ≡ 16384
+output-back c = c.strigol_run.auto.output ∙ length-take-le 16384 c.args.out.now (room c.args.out.now c.requires.room)
+
+-- the run leaves what is printed
+printing : (c : After-strigol_run) →
+    let run = c.strigol_run in
+    RunPrints c.args.deck.now c.args.input.now
+    (run_back run.result run.new.res
+    (record { store = run.new.store; state = run.new.state; output = run.new.output }))
+unfolding lent_output most_steps
+printing c =
+    let read = c.strigol_read-number in
+    run-printed (replicate table_size 0) (replicate store_size 0) (take 16384 c.args.out.now) read.new.card
+    (ap (λ (n : ℕ). read_back n read.new.card read.new.table) (sym c.if-number-ne0.false) ∙ read.ensures.does)
+    c.strigol_start.ensures.does
+    c.strigol_run.ensures
+    (omega (arith, length-replicate {A = ℕ} store_size 0))
+    (length-take-le 16384 c.args.out.now (room c.args.out.now c.requires.room))
+    c.requires.kept_input_lem
+
+pub returns-then-number-ne0 : goal.returns-then-number-ne0
+unfolding current outcome_of
+returns-then-number-ne0 c =
+    let read = c.strigol_read-number in
+    let put = c.put_line.ensures in
+    record {
+      within = put.within;
+      bytes = put.holds
+          ∙ sym
+          (refused_printed c.args.deck.now c.args.input.now (replicate table_size 0) c.requires.kept_deck_lem
+          (read_back read.result read.new.card read.new.table) read.ensures.does (omega (arith, length-replicate {A = ℕ} table_size 0))
+          c.if-number-ne0.true);
+    }
+
+pub slice_bounds-strigol_run-end-3 : goal.slice_bounds-strigol_run-end-3
+slice_bounds-strigol_run-end-3 c = room c.args.out.now c.requires.room
+
+pub slice_bounds-strigol_run-end-4 : goal.slice_bounds-strigol_run-end-4
+slice_bounds-strigol_run-end-4 c =
+    sym (length-take-le 16384 c.args.out.now (room c.args.out.now c.requires.room))
+
+pub put_line-requires-2 : goal.put_line-requires-2
+unfolding lent_output
+put_line-requires-2 c =
+    let ran = (goal.at.put_line-requires-2 c).After-strigol_run in
+    omega (arith, (printing ran).within, output-back ran, lent_back ran, c.requires.room)
+
+pub shape_of-out : goal.shape_of-out
+shape_of-out c =
+    let ran = (goal.at.shape_of-out c).After-strigol_run in
+    c.put_line-2.ensures.size ∙ lent_back ran
+
+pub returns : goal.returns
+unfolding lent_output line_of
+returns c =
+    let ran = (goal.at.returns c).After-strigol_run in
+    run-prints (drop 16384 c.args.out.now) (printing ran) c.put_line-2.ensures

@@ -1,0 +1,72 @@
+-- `branch_parser::read_targets` reads one label or two.
+use mathlib.Core.List.{[], ◌∷◌}
+use mathlib.Core.Logic.{inl}
+use mathlib.Core.Path.{refl, sym, ◌∙◌}
+use lib.ListN.{drop}
+use native.Mathlib.Omega.{arith}
+use Rattle.numeric_parser.specs.OperandLaws.{ready_moved}
+use Rattle.branch_parser.specs.BranchLaws.{target_case, target_none, targets_failing, targets-both, targets_success, targets_broken}
+use Rattle.branch_parser.proofs.read_targets.Goals as goal
+
+pub read_failure-requires : goal.read_failure-requires
+read_failure-requires c =
+    let comma = sym c.stands_at.ensures ∙ c.if-stands_at.true in record {
+      reader_ready = ready_moved (44 ∷ []) c.requires.reader_ready c.skip.ensures comma;
+      counts_in_range = c.requires.counts_in_range;
+    }
+
+pub returns-then-stands_at : goal.returns-then-stands_at
+returns-then-stands_at c =
+    let a = c.args in
+    let f = c.read_failure in
+    let comma = sym c.stands_at.ensures ∙ c.if-stands_at.true in
+    targets_failing a.known.now comma c.next_step-next.ensures f.result
+    c.skip.ensures f.ensures
+
+pub read_target-requires : goal.read_target-requires
+read_target-requires c =
+    record {
+      reader_ready = c.requires.reader_ready;
+      counts_in_range = c.requires.counts_in_range;
+      target_tag = record { is = inl refl };
+    }
+
+pub skip-requires-then-stands_at-2 : goal.skip-requires-then-stands_at-2
+skip-requires-then-stands_at-2 c = omega (arith, (target_case c.read_target.ensures c.in-Got.is).ready)
+
+pub read_failure-requires-then-stands_at-2 : goal.read_failure-requires-then-stands_at-2
+read_failure-requires-then-stands_at-2 c =
+    let g = target_case c.read_target.ensures c.in-Got.is in
+    let comma = sym c.stands_at-in-Got.ensures ∙ c.if-stands_at-2.true in record {
+      reader_ready = ready_moved (44 ∷ []) g.ready c.skip-then-stands_at-2.ensures comma;
+      counts_in_range = c.requires.counts_in_range;
+    }
+
+pub returns-then-stands_at-2 : goal.returns-then-stands_at-2
+returns-then-stands_at-2 c =
+    let a = c.args in
+    let l = c.read_target in
+    let f = c.read_failure-then-stands_at-2 in
+    let none = sym c.stands_at.ensures ∙ c.if-stands_at.false in
+    let comma = sym c.stands_at-in-Got.ensures ∙ c.if-stands_at-2.true in
+    targets-both a.known.now none (target_case l.ensures c.in-Got.is) c.requires.reader_ready comma f.result
+    c.skip-then-stands_at-2.ensures f.ensures
+
+pub returns-in-Broken : goal.returns-in-Broken
+returns-in-Broken c =
+    let a = c.args in
+    record {
+      answer =
+          targets_broken a.known.now (drop a.c.at a.text.now) (sym c.stands_at.ensures ∙ c.if-stands_at.false)
+          (target_none c.read_target.ensures c.in-Broken.is);
+    }
+
+pub returns-else-stands_at-2 : goal.returns-else-stands_at-2
+returns-else-stands_at-2 c =
+    let a = c.args in
+    let l = c.read_target in
+    record {
+      answer =
+          targets_success a.known.now (sym c.stands_at.ensures ∙ c.if-stands_at.false) (target_case l.ensures c.in-Got.is)
+          (sym c.stands_at-in-Got.ensures ∙ c.if-stands_at-2.false) c.next_step-next.ensures;
+    }

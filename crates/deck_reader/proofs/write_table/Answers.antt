@@ -1,0 +1,7 @@
+-- `deck_reader::write_table`: the steps, then the header with their counts.
+use Rattle.deck_reader.specs.Reading.{table-written}
+use Rattle.deck_reader.proofs.write_table.Goals as goal
+
+pub returns : goal.returns
+returns c =
+    table-written c.write_steps-p.ensures c.put_header.ensures

@@ -1,0 +1,37 @@
+-- `decoder::item_of` meets its contract.
+use borrow.Author.Rules.{rules}
+use Rattle.encoding.specs.Kinds.{operator_number, sign_number}
+use Rattle.encoding.specs.TableReading.{item_of_cell}
+use Rattle.decoder.specs.Meaning.{cell_meaning}
+use Rattle.decoder.proofs.Cells.{operand_item}
+use Rattle.decoder.proofs.item_of.Goals as goal
+
+pub returns-in-16 : goal.returns-in-16
+unfolding item_of_cell
+returns-in-16 c = rw c.in-16.is
+
+pub returns-in-17 : goal.returns-in-17
+unfolding item_of_cell
+returns-in-17 c = rw c.in-17.is
+
+pub returns-in-18 : goal.returns-in-18
+unfolding item_of_cell
+returns-in-18 c = rw c.in-18.is
+
+pub returns-in-19 : goal.returns-in-19
+unfolding item_of_cell
+returns-in-19 c = rw c.in-19.is
+
+pub returns-in-24 : goal.returns-in-24
+unfolding item_of_cell
+returns-in-24 c = rw c.in-24.is
+
+pub returns-in-25 : goal.returns-in-25
+unfolding item_of_cell
+returns-in-25 c = rw c.in-25.is
+
+pub returns-in_default : goal.returns-in_default
+unfolding operator_number sign_number
+returns-in_default c =
+    operand_item (cell_meaning c.args.c) c.operand_of.result (search rules) (search rules)
+    (search rules) (search rules) (search rules) (search rules) c.operand_of.ensures

@@ -1,0 +1,16 @@
+-- `evaluator::numeric_between` meets its contract. The notes are those made before.
+use mathlib.Core.Bool.{Bool}
+use mathlib.Core.Path.{sym, ap, ◌∙◌}
+use Prim.Native.Nat.{◌-◌}
+use native.Mathlib.Nat.{add-zero}
+use lib.ListN.{take, drop}
+use Rattle.values.specs.Conversion.{is_numeric}
+use Rattle.values.specs.Result.{done, with_notes, pure, ◌>>=◌}
+use Rattle.evaluator.proofs.numeric_between.Goals as goal
+
+pub returns : goal.returns
+unfolding ◌>>=◌ with_notes pure
+returns c =
+    let e = c.args.ends in
+    let string = take (e.to - e.from) (drop e.from c.args.store.now) in
+    ap (λ (t : Bool). done t e.notes) c.is_numeric.ensures ∙ ap (done (is_numeric string)) (sym (add-zero e.notes))

@@ -1,0 +1,7 @@
+-- `register_report::code_at` meets its contract: each byte is below 256.
+use Rattle.register_report.specs.FieldLaws.{code_three}
+use Rattle.register_report.proofs.code_at.Goals as goal
+
+pub returns : goal.returns
+returns c =
+    code_three c.args.line.now c.args.at c.requires

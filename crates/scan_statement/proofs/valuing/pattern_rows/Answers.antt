@@ -1,0 +1,66 @@
+-- `valuing::pattern_rows` meets its contract. The loop's invariant: the whole comes to the values so far and what the elements left come
+use Prim.Native.Nat.{◌+◌}
+use native.Mathlib.Omega.{arith}
+use Rattle.evaluator.specs.Memory.{memory_in}
+use Rattle.scan_statement.specs.ValuingLaws.{valuing_begins, valuing_ends, valuing_more, valuing_noted, valuing_stops}
+use Rattle.scan_statement.proofs.valuing.pattern_rows.Goals.{After-put_element}
+use Rattle.scan_statement.proofs.valuing.pattern_rows.Goals as goal
+
+pub loop-i-init : goal.loop-i-init
+loop-i-init c =
+    let a = c.args in
+    valuing_begins (memory_in a.store.now a.state.now) a.table.now a.pattern.from a.pattern.count a.values.now a.rows.now
+    a.names.now c.requires.buffers
+
+pub overflow_add-from : goal.overflow_add-from
+overflow_add-from c =
+    let l = c.loop-i in
+    record { fits = omega (arith, c.requires.pattern.inside, c.loop-i-test.true) }
+
+pub pattern_at-x-requires : goal.pattern_at-x-requires
+pattern_at-x-requires c =
+    (c.requires.bytes, omega (arith, c.requires.pattern.inside, c.loop-i-test.true))
+
+pub put_element-requires : goal.put_element-requires
+put_element-requires c =
+    let l = c.loop-i in
+    record {
+      bytes = c.requires.bytes;
+      ready = c.requires.ready;
+      searched = c.requires.searched;
+      holds =
+          c.requires.pattern.each (c.args.pattern.from + l.i) c.pattern_at-x.result
+          (record { low = omega arith; high = omega (arith, c.loop-i-test.true) }) c.pattern_at-x.ensures;
+      few = omega (arith, c.loop-i-test.true, c.requires.pattern.few);
+      buffers = l.invariant.buffers;
+    }
+
+pub overflow_add-notes : goal.overflow_add-notes
+overflow_add-notes c =
+    let l = c.loop-i in
+    let more =
+    valuing_noted l.invariant c.loop-i-test.true c.requires.pattern.few c.pattern_at-x.result c.pattern_at-x.ensures
+    c.put_element.ensures c.in-Done.is in
+    omega (arith, more, l.invariant.few, l.invariant.most, c.requires.pattern.few)
+
+pub returns-in-Stops : goal.returns-in-Stops
+returns-in-Stops c =
+    let put = (goal.at.returns-in-Stops c).After-put_element in
+    let l = c.loop-i in
+    record {
+      put =
+          valuing_stops l.invariant c.loop-i-test.true c.requires.pattern.few c.pattern_at-x.result c.pattern_at-x.ensures
+          c.put_element.ensures c.in-Stops.is;
+      buffers = c.put_element.ensures.buffers;
+    }
+
+pub loop-i-preserved : goal.loop-i-preserved
+loop-i-preserved c =
+    let l = c.loop-i in
+    valuing_more l.invariant c.loop-i-test.true c.requires.pattern.few c.pattern_at-x.result c.pattern_at-x.ensures
+    c.put_element.ensures c.in-Done.is
+
+pub returns : goal.returns
+returns c =
+    let l = c.loop-i in
+    record { put = valuing_ends l.invariant c.loop-i-test.false; buffers = l.invariant.buffers }

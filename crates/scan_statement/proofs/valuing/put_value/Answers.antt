@@ -1,0 +1,88 @@
+-- `valuing::put_value` meets its contract: the value is appended to nothing where its row has room for it.
+use mathlib.Core.List.{List}
+use mathlib.Core.Path.{◌≡◌, subst, ◌∙◌}
+use Prim.Native.Nat.{ℕ, ◌+◌, ◌*◌, ◌-◌}
+use native.Mathlib.Omega.{arith}
+use lib.ListN.{take, drop}
+use Rattle.base.specs.Current.{current}
+use Rattle.base.specs.ListLaws.{length_stretch}
+use Rattle.numbers.specs.declared.Text.{Text}
+use Rattle.evaluator.specs.Appending.{AppendedText}
+use Rattle.evaluator.specs.Memory.{memory_in}
+use Rattle.machine.specs.Expressions.{element_in}
+use Rattle.decoder.specs.Meaning.{element_meaning}
+use Rattle.scan_statement.specs.ElementLaws.{added_stands, back-length}
+use Rattle.scan_statement.proofs.valuing.put_value.Goals.{After-append_element}
+use Rattle.scan_statement.proofs.valuing.put_value.Goals as goal
+
+pub slice_bounds-append_element-end : goal.slice_bounds-append_element-end
+slice_bounds-append_element-end c =
+    omega (arith, c.requires.few, c.requires.strings)
+
+pub append_element-requires : goal.append_element-requires
+append_element-requires c =
+    let at = 1024 * c.args.i in
+    let size : at + 1024 - at ≡ 1024 = omega arith in
+    record {
+      bytes = c.requires.bytes;
+      ready = c.requires.ready;
+      holds = c.requires.holds;
+      room = length_stretch c.args.values.now at (at + 1024 - at) (omega (arith, c.requires.few, c.requires.strings)) ∙ size;
+    }
+
+-- what was appended
+abbrev lent : After-append_element → List ℕ
+lent c =
+    let a = c.args in
+    let at = 1024 * a.i in
+    take (at + 1024 - at) (drop at a.values.now)
+
+adds : (c : After-append_element) {r : Text} → c.append_element.result ≡ r
+    → (let a = c.args in
+    AppendedText r (lent c) c.append_element.new.out 0
+    (element_in current (memory_in a.store.now a.state.now) (element_meaning a.table.now a.x)))
+adds c e =
+    let a = c.args in
+    subst (λ (r : Text). AppendedText r (lent c) c.append_element.new.out 0
+    (element_in current (memory_in a.store.now a.state.now) (element_meaning a.table.now a.x)))
+    e c.append_element.ensures.added
+
+pub put_string-requires : goal.put_string-requires
+put_string-requires c =
+    let added = (goal.at.put_string-requires c).After-append_element in
+    record { lines = c.requires.lines; few = c.requires.few; short = (adds added c.in-Is.is).short }
+
+pub returns-in-Is : goal.returns-in-Is
+returns-in-Is c =
+    let added = (goal.at.returns-in-Is c).After-append_element in
+    let a = c.args in
+    let at = 1024 * a.i in
+    let size : at + 1024 - at ≡ 1024 = omega arith in
+    let bytes = c.append_element.new.out in
+    let room = c.append_element.ensures.room in
+    let value = adds added c.in-Is.is in
+    record {
+      put =
+          record {
+            value = value.value;
+            work = value.work;
+            row = c.put_string.ensures.row a.values.now _ value.value
+                (added_stands a.values.now bytes a.i (at + 1024 - at) c.requires.strings room size value);
+          };
+      strings = back-length a.values.now bytes a.i (at + 1024 - at) c.requires.strings room size c.requires.few;
+      lines = c.put_string.ensures.lines;
+    }
+
+pub returns-in-Stops : goal.returns-in-Stops
+returns-in-Stops c =
+    let added = (goal.at.returns-in-Stops c).After-append_element in
+    let a = c.args in
+    let at = 1024 * a.i in
+    let size : at + 1024 - at ≡ 1024 = omega arith in
+    record {
+      put = adds added c.in-Stops.is;
+      strings =
+          back-length a.values.now c.append_element.new.out a.i (at + 1024 - at) c.requires.strings
+          c.append_element.ensures.room size c.requires.few;
+      lines = c.requires.lines;
+    }

@@ -1,0 +1,12 @@
+-- `statement_parser::steps::replacement_form` sets a number or a string.
+use mathlib.Core.Path.{sym, ◌∙◌}
+use lib.ListN.{drop}
+use Rattle.statement_parser.specs.BehindLaws.{replacement_number, replacement-string}
+use Rattle.statement_parser.specs.StageLaws.{form-same}
+use Rattle.statement_parser.proofs.steps.replacement_form.Goals as goal
+
+pub returns-then-sets_number : goal.returns-then-sets_number
+returns-then-sets_number c = form-same (replacement_number c.args.known.now (drop c.args.c.at c.args.text.now) (sym c.sets_number.ensures ∙ c.if-sets_number.true)) c.number_form.ensures
+
+pub returns : goal.returns
+returns c = form-same (replacement-string c.args.known.now (drop c.args.c.at c.args.text.now) (sym c.sets_number.ensures ∙ c.if-sets_number.false)) c.string_form.ensures
