@@ -51,5 +51,6 @@ uninstall:
 	rm -f $(to)/share/man/man1/strigol-register.1 $(to)/share/doc/strigol/TABLE.md $(to)/share/doc/strigol/REGISTER.md
 	rmdir $(to)/share/doc/strigol 2>/dev/null || true
 
+# what tools and tests made; the folders crates/*/out are rt's, and hold what is proved
 clean:
 	rm -rf target

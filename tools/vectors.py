@@ -41,7 +41,7 @@ def unfoldable(crates):
             own = re.findall(r"^ *unfoldable pub (\S+) :", source, re.M)
             for block in re.findall(r"^( *)unfoldable mutual\n((?:\1 +.*\n|\n)*)", source, re.M):
                 own += re.findall(r"^ *pub (\S+) :", block[1], re.M)
-            names += [f"Rattle·{crate}.specs.{module}.{n}" for n in own]
+            names += [f"Rattle.{crate}.specs.{module}.{n}" for n in own]
     return names
 
 
@@ -151,14 +151,14 @@ def entry_of(word, given, number, back):
     if word == "reset":
         return f"(reset, number {number})"
     assert word == "old"
-    return f"(old {given.removesuffix('.register')}, number {number})"
+    return f"(old {given.removesuffix('.register').replace('-', '_')}, number {number})"
 
 
 def old_lines(path):
     """The definitions of a folder's old registers, by the lines that were offered to each."""
     out = []
     for old in sorted(glob.glob(os.path.join(path, "old-*.register"))):
-        name = os.path.basename(old)[:-9]
+        name = os.path.basename(old)[:-9].replace("-", "_")
         offers = [command.partition(b" ") for command in lines_of(open(old, "rb").read())]
         assert all(word in (b"offer", b"offerhex") for word, _, _ in offers)
         lines = [line_of(bytes_of(word, rest)) for word, _, rest in offers] + ["[]"]
@@ -181,18 +181,18 @@ def scripts(module, folder, opened, comment, names, computed):
         if len(said) < len(given):
             facts.append(f"-- commands about buffers, left out: {len(given) - len(said)}")
         entries = [entry_of(*command) for command in (as_opened(said) if opened else said)]
-        facts += [f"{name} : Answered (", "    " + "\n    ∷ ".join(entries + ["[])"]), "unfolding everything " + " ".join(computed), f"{name} = refl"]
+        fact = name.replace("-", "_")
+        facts += [f"{fact} : Answered (", "    " + "\n    ∷ ".join(entries + ["[])"]), "unfolding everything " + " ".join(computed), f"{fact} = refl"]
     comment = (f"The scripts of tests/vectors/{folder} with their answers, on lists. {comment} `size`, and commands while fewer than 8,192 bytes are lent, "
                "are about buffers and left out. Assumes nothing.")
     old = old_lines(path)
     write(module, ["-- " + line for line in textwrap.wrap(comment, 147)] + [
-        "use mathlib.Core.List.{[], _∷_, _++_}",
-        "use mathlib.Core.Path.{refl}",
-        "use Rattle·base.specs.Text.{bytes}",
-    ] + ["use Rattle·register.specs.Register.{Lines}"] * bool(old) + [
-        "use Rattle·register_vectors·specs.specs.Everything.{everything}",
-        f"use Rattle·register_vectors·specs.specs.Script.{{{', '.join(names)}}}",
-        f"use Rattle·register_vectors·specs.specs.Script.{{{', '.join(['Answered'] + computed)}}}",
+        "use Rattle.std.specs.Prelude.{[], ◌∷◌, ◌++◌, refl}",
+        "use Rattle.base.specs.Text.{bytes}",
+    ] + ["use Rattle.register.specs.Register.{Lines}"] * bool(old) + [
+        "use Rattle.register_vectors.specs.Everything.{everything}",
+        f"use Rattle.register_vectors.specs.Script.{{{', '.join(names)}}}",
+        f"use Rattle.register_vectors.specs.Script.{{{', '.join(['Answered'] + computed)}}}",
     ] + old + facts, REGISTER_SPECS)
 
 
@@ -229,22 +229,22 @@ def main():
     for i in range(0, len(decks), PER_FILE):
         module = "Decks%02d" % (i // PER_FILE)
         modules.append(module)
-        lines = ["-- Decks with their inputs and traces. Assumes nothing.", "use mathlib.Core.Bool.{true}",
-                 "use mathlib.Core.Path.{_≡_, refl}", "use Rattle·vectors·specs.specs.Trace.{agrees, agreesWhole}"]
+        lines = ["-- Decks with their inputs and traces. Assumes nothing.", "use Rattle.std.specs.Prelude.{true, ◌≡◌, refl}",
+                 "use Rattle.vectors.specs.Trace.{agrees, agrees_whole}"]
         for deck in decks[i:i + PER_FILE]:
             name = os.path.basename(deck)[:-5]
             whole = os.path.exists(deck[:-5] + ".out")
             data = [open(deck[:-5] + ext, "rb").read() for ext in (".deck", ".in", ".trace") + ((".out",) if whole else ())]
-            test = "agreesWhole" if whole else "agrees"
+            test = "agrees_whole" if whole else "agrees"
             lines += ["", f"{name} : {test} {' '.join(text(d) for d in data)} ≡ true", f"unfolding {test}", f"{name} = refl"]
         write(module, lines)
     scans = open(os.path.join(ROOT, "tests/vectors/scans.txt")).read().splitlines()
-    lines = ["-- Scans with their answers, some hundred a fact. Assumes nothing.", "use mathlib.Core.Bool.{true}",
-             "use mathlib.Core.Path.{_≡_, refl}", "use Rattle·vectors·specs.specs.Trace.{scansAgree}"]
+    lines = ["-- Scans with their answers, some hundred a fact. Assumes nothing.", "use Rattle.std.specs.Prelude.{true, ◌≡◌, refl}",
+             "use Rattle.vectors.specs.Trace.{scans_agree}"]
     for i in range(0, len(scans), 100):
         name = "scans%02d" % (i // 100)
-        lines += ["", f"{name} : scansAgree {text(''.join(l + chr(10) for l in scans[i:i + 100]).encode())} ≡ true",
-                  "unfolding scansAgree", f"{name} = refl"]
+        lines += ["", f"{name} : scans_agree {text(''.join(l + chr(10) for l in scans[i:i + 100]).encode())} ≡ true",
+                  "unfolding scans_agree", f"{name} = refl"]
     write("Scans", lines)
     write("Lib", ["-- The definitions answer the vectors, as computed facts: how an answer is written (Trace), decks (Decks..), scans (Scans)."]
           + ["pub mod " + m for m in sorted(modules)])

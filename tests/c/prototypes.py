@@ -20,6 +20,6 @@ def parameter(name, kind):
 
 print('#include "strigol.h"')
 for text in SOURCES:
-    for name, inner, result in re.findall(r'#\[no_mangle\]\npub extern "C" fn (\w+)\((.*?)\) -> (u32)\n', text, re.S):
+    for name, inner, result in re.findall(r'#\[unsafe\(no_mangle\)\]\npub extern "C" fn (\w+)\((.*?)\) -> (u32)\n', text, re.S):
         pairs = [p.split(":", 1) for p in re.split(r",\s*(?=\w+:)", inner.strip().rstrip(","))]
         print(f"{NUMBERS[result]} {name}({', '.join(parameter(n.strip(), k.strip()) for n, k in pairs)});")
