@@ -1,9 +1,9 @@
--- `card_reader::join_lines` joins lines as long as one joins the next. The invariant: the lines joined make up the same entries.
+-- `card_reader::Joining::join_lines` joins lines as long as one joins the next. The invariant: the lines joined make up the same entries.
 use Rattle.card_reader.proofs.Parts.{chain_done, chain_more, chain_start, less_left}
-use Rattle.card_reader.proofs.join_lines.Goals as goal
+use Rattle.card_reader.proofs.Joining.join_lines.Goals as goal
 
 pub loop-s-init : goal.loop-s-init
-loop-s-init c = let a = c.args in chain_start a.deck.now a.text.now a.first c.requires
+loop-s-init c = let a = c.args in chain_start a.deck.now a.text.now a.self c.requires
 
 pub join_line-s-requires : goal.join_line-s-requires
 join_line-s-requires c = c.loop-s.invariant.room
@@ -18,11 +18,11 @@ pub loop-s-preserved : goal.loop-s-preserved
 loop-s-preserved c =
     let a = c.args in
     let l = c.loop-s in
-    chain_more a.deck.now l.text l.s a.text.now a.first l.invariant c.join_line-s.new.text c.join_line-s.result
+    chain_more a.deck.now l.text l.s a.text.now a.self l.invariant c.join_line-s.new.text c.join_line-s.result
     c.loop-s-test.true c.join_line-s.ensures
 
 pub returns : goal.returns
 returns c =
     let a = c.args in
     let l = c.loop-s in
-    chain_done a.deck.now l.text l.s a.text.now a.first l.invariant c.loop-s-test.false
+    chain_done a.deck.now l.text l.s a.text.now a.self l.invariant c.loop-s-test.false

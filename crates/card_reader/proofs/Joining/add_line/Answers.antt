@@ -1,9 +1,9 @@
--- `card_reader::add_line` adds a line.
+-- `card_reader::Joining::add_line` adds a line.
 use Rattle.card_reader.proofs.Parts.{added, text_fits}
 use Rattle.card_reader.specs.Packs.{longest_text}
 use Rattle.card_reader.specs.Packs.{longest_text}
 use native.Mathlib.Omega.{arith}
-use Rattle.card_reader.proofs.add_line.Goals as goal
+use Rattle.card_reader.proofs.Joining.add_line.Goals as goal
 
 pub pack-packing-requires : goal.pack-packing-requires
 pack-packing-requires c =
@@ -11,13 +11,13 @@ pack-packing-requires c =
     let text = c.text_of in
     record {
       size = c.requires.size;
-      room = text_fits a.line.now text.result.now a.s.packing.length longest_text text.ensures (omega arith);
+      room = text_fits a.line.now text.result.now a.self.packing.length longest_text text.ensures (omega arith);
     }
 
 pub returns : goal.returns
 returns c =
     let a = c.args in
-    added a.line.now a.next a.text.now a.s c.pack-packing.new.text c.pack-packing.result
+    added a.line.now a.next a.text.now a.self c.pack-packing.new.text c.pack-packing.result
     c.sound_line.result c.joins.result c.column9-mark.result c.text_of.result.now
     c.sound_line.ensures c.column9-mark.ensures c.joins.ensures c.text_of.ensures
     c.pack-packing.ensures
