@@ -1,6 +1,6 @@
--- `numeric_parser::mark_kind` tells the kind of one of two marks.
+-- `numeric_parser::mark_at` tells which of two marks stands.
 use mathlib.Core.Path.{sym, ◌∙◌}
-use Rattle.numeric_parser.proofs.mark_kind.Goals as goal
+use Rattle.numeric_parser.proofs.mark_at.Goals as goal
 
 pub returns-then-stands_at : goal.returns-then-stands_at
 returns-then-stands_at c = rw (sym c.stands_at.ensures ∙ c.if-stands_at.true)
