@@ -1,8 +1,5 @@
-// Definitions: what every other crate's specs lean on. For code: the counts of specs/Limits, bytes and numbers as numbers that index, and the
-// smaller of two.
+// Definitions: what every other crate's specs lean on. For code: the counts of specs/Limits.
 #![tactic(auto)]
-
-ghost use Rattle.std.specs.Prelude.{◌≡◌, ◌<◌, min};
 
 // how many steps, strings, numbers, labels and routines a program may have
 pub const STEPS: usize = 256;
@@ -38,22 +35,3 @@ pub const RETURNS: usize = 16;
 pub const DECK: usize = 32_768;
 
 pub const LINE: usize = 80;
-
-pub fn wide(b: u8) -> usize
-    ensures { (result ≡ b) × (result < 256) }
-{
-    b as usize
-}
-
-pub fn number(n: u32) -> usize
-    ensures { result ≡ n }
-{
-    n as usize
-}
-
-// the smaller of two numbers
-pub fn least(a: usize, b: usize) -> usize
-    ensures { result ≡ min a b }
-{
-    if a <= b { a } else { b }
-}

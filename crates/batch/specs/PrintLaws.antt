@@ -2,7 +2,7 @@
 use Rattle.std.specs.Prelude.{Bool, true, false, cond, ◌≡◌, refl, ℕ, ◌≤◌, ltb, take}
 use mathlib.Core.List.{List, [], ◌++◌}
 use Rattle.std.proofs.Math.Path.{sym, ap}
-use Rattle.std.proofs.Common.{ap₂, ◌∙◌, arith, take_all, le-ltb, ne_eqb}
+use Rattle.std.proofs.Common.{ap₂, subst, ◌∙◌, arith, take_all, le-ltb}
 use Rattle.std.proofs.Math.ListN.{length, get_or, length-take}
 use Rattle.std.proofs.lemmas.List.{take-append-le}
 use Rattle.base.specs.Current.{current}
@@ -19,42 +19,22 @@ use Rattle.validation.specs.Deck.{Judgement, accepted, refused, judge}
 use Rattle.syntax.specs.Program.{Program}
 use Rattle.machine.specs.Run.{Outcome, FINISHED, STOPPED, SPENT, REFUSED, Ran, run}
 use Rattle.machine.specs.State.{State, fresh}
-use Rattle.printing.specs.Printing.{Put, PutWithin}
-use Rattle.batch.specs.Printing.{longest_word, outcome_of, line_of, Prints}
+use Rattle.interpreter.specs.Endings.{outcome_meaning, ran_back}
+use Rattle.interpreter.specs.declared.run.Ran as code
+use Rattle.printing.specs.Printing.{Put}
+use Rattle.batch.specs.Printing.{longest_word, outcome_of, line_of, ran_line, Prints}
 
 -- the buffers behind a start, with the output lent
 abbrev pub behind_start : StartCalled → List ℕ → Buffers
 behind_start start output = buffers start.store start.state output
 
--- an outcome by its number
-pub outcome_finished : (n : ℕ) → n ≡ 0 → outcome_of n ≡ FINISHED
-unfolding outcome_of
-outcome_finished n e = rw e
-
-pub outcome_stopped : (n : ℕ) → n ≡ 1 → outcome_of n ≡ STOPPED
-unfolding outcome_of
-outcome_stopped n e = rw e
-
-pub outcome_spent : (n : ℕ) → n ≡ 2 → outcome_of n ≡ SPENT
-unfolding outcome_of
-outcome_spent n e = rw e
-
-pub outcome_refused : (n : ℕ) → ¬ (n ≡ 0) → ¬ (n ≡ 1) → ¬ (n ≡ 2) → outcome_of n ≡ REFUSED
-unfolding outcome_of
-outcome_refused n h0 h1 h2 = rw (ne_eqb n 0 h0, ne_eqb n 1 h1, ne_eqb n 2 h2)
-
 -- no word is longer than that
-word_short : (o : Outcome) → length (outcome_word o) ≤ longest_word
+pub word_short : (o : Outcome) → length (outcome_word o) ≤ longest_word
 unfolding outcome_word bytes
 word_short FINISHED = omega arith
 word_short STOPPED = omega arith
 word_short SPENT = omega arith
 word_short REFUSED = omega arith
-
--- the word for an outcome was put
-pub put_word : {before after : List ℕ} {at end : ℕ} (n : ℕ) (o : Outcome) → outcome_of n ≡ o → Put before after at (outcome_word o) end
-    → PutWithin longest_word before after at (outcome_word (outcome_of n)) end
-put_word n o is p = record { put = rw is p; short = omega (arith, p.ends, word_short o) }
 
 -- an outcome is told by its number
 outcome_of_lem : (o : Outcome) → outcome_of (outcome_number o) ≡ o
@@ -191,3 +171,11 @@ pub run-prints : {deck input after : List ℕ} {back : RunReturned} {r : ℕ} (r
 run-prints {back = back} rest p put =
     let records = take-append-le (get_or back.left.state 4 0) back.left.output rest p.within in
     record { within = put.within; bytes = put.holds ∙ ap (λ (l : List ℕ). l ++ line_of back.result) records ∙ sym p.bytes }
+
+-- so with the closing line that the code has of a run
+pub ran-prints : {deck input after : List ℕ} {r : ℕ} (ran : code.Ran) (left : Buffers) (rest : List ℕ) → RunPrints deck input (ran_back ran left)
+    → Put (left.output ++ rest) after (get_or left.state 4 0) (ran_line ran) r → Prints deck input after r
+ran-prints {after = after} {r = r} ran left rest p put =
+    run-prints rest p
+    (subst (λ (l : List ℕ). Put (left.output ++ rest) after (get_or left.state 4 0) l r)
+    (sym (line_of_lem (outcome_meaning ran.outcome) ran.number ran.steps ran.notes)) put)

@@ -1,5 +1,5 @@
 -- How labels, routines and branch fields are read, part by part. Assumes nothing.
-use Rattle.std.specs.Prelude.{true, false, List, [], ◌∷◌, ◌≡◌, ℕ, drop}
+use Rattle.std.specs.Prelude.{Option, Some, None, true, false, List, [], ◌∷◌, ◌≡◌, ℕ, drop}
 use Rattle.std.proofs.Common.{⊎_elim, sym, ◌∙◌}
 use Rattle.std.proofs.Math.Path.{refl, ap, ap₂, subst}
 use Rattle.base.specs.Current.{current}
@@ -18,30 +18,20 @@ use Rattle.symbols.specs.declared.Cursor.{Cursor}
 use Rattle.numeric_parser.specs.OperandLaws.{gets_succeed, gets_then, gets_skip, skipped, drop-moved, named_by, name_placed, then_broken, name_as_broken, chosen}
 use Rattle.numeric_parser.specs.Operands.{ReaderReady, Gets, NameParsed, Skips, cursor_moved}
 use Rattle.card_reader.specs.Keys.{key_of, is_key_byte}
-use Rattle.branch_parser.specs.Branches.{TargetTag, met_as, target_in, TargetAnswer, TargetRead}
-use Rattle.branch_parser.specs.Branches.{branch_of, BranchAnswer, BranchingRead, label_parser, failing_to, targets}
+use Rattle.branch_parser.specs.Branches.{TargetTag, met_as, target_in, TargetRead}
+use Rattle.branch_parser.specs.Branches.{branch_of, BranchingRead, label_parser, failing_to, targets}
+use Rattle.branch_parser.specs.declared.Branch.{Branch}
 use Rattle.branch_parser.specs.Places.{is_number_known, step_to}
-use Rattle.branch_parser.specs.declared.Branching as BranchingCode
-use Rattle.branch_parser.specs.declared.Branching.{Branching}
-use Rattle.branch_parser.specs.declared.Target as TargetCode
-use Rattle.branch_parser.specs.declared.Target.{Target}
 
--- the answers by their case
-module _ {text known keys tags : List ℕ} {c : Cursor} {tag : ℕ} {r : Target} {k t : List ℕ} (a : TargetRead text known keys tags c tag r k t) where
-  pub target_case : {step : ℕ} {d : Cursor} → r ≡ TargetCode.TheVariants.Got step d
-      → Gets (λ n. n) step text keys tags c (target_in known tag (drop c.at text)) k t d
-  target_case e = subst (λ z. TargetAnswer text keys tags c (target_in known tag (drop c.at text)) z k t) e a.answer
+-- a broken form
+pub target_lost : {text known keys tags : List ℕ} {c : Cursor} {tag : ℕ} {r : Option (ℕ × Cursor)} {k t : List ℕ} → r ≡ None
+    → target_in known tag (drop c.at text) ≡ broken → TargetRead text known keys tags c tag r k t
+target_lost {text} {known} {keys} {tags} {c} {tag} {k = k} {t} e h =
+    subst (λ z. TargetRead text known keys tags c tag z k t) (sym e) (record { answer = h })
 
-  pub target_none : r ≡ TargetCode.TheVariants.Broken → target_in known tag (drop c.at text) ≡ broken
-  target_none e = subst (λ z. TargetAnswer text keys tags c (target_in known tag (drop c.at text)) z k t) e a.answer
-
-module _ {text keys tags : List ℕ} {c : Cursor} {x : Parsed Program.Branch} {r : Branching} {k t : List ℕ}
-    (a : BranchingRead text keys tags c x r k t) where
-  pub branch_case : {b : _} {d : Cursor} → r ≡ BranchingCode.TheVariants.Got b d → Gets (λ z. z) (branch_of b) text keys tags c x k t d
-  branch_case e = subst (λ z. BranchAnswer text keys tags c x z k t) e a.answer
-
-  pub branch_none : r ≡ BranchingCode.TheVariants.Broken → x ≡ broken
-  branch_none e = subst (λ z. BranchAnswer text keys tags c x z k t) e a.answer
+pub branch_lost : {text keys tags : List ℕ} {c : Cursor} {x : Parsed Program.Branch} {r : Option (Branch × Cursor)} {k t : List ℕ} → r ≡ None
+    → x ≡ broken → BranchingRead text keys tags c x r k t
+branch_lost {text} {keys} {tags} {c} {x} {k = k} {t} e h = subst (λ z. BranchingRead text keys tags c x z k t) (sym e) (record { answer = h })
 
 -- a name that leads to a step, by its tag
 target_mentioned : (tag : ℕ) → TargetTag tag → (n : List ℕ) → all is_key_byte n ≡ true → mentions_in (entry (key_of n) tag ∷ []) 0 [] 0 ≡ met_as tag n
@@ -86,20 +76,20 @@ unfolding failing_to
 failure_broken known s bs e = then_broken _ e
 
 -- a branch field behind skipped bytes, and behind another reading
-pub branching_skip : {text keys tags : List ℕ} (n : ℕ) {b c : Cursor} {x : Parsed Program.Branch} {k t : List ℕ} (r : Branching) → Skips b n c
+pub branching_skip : {text keys tags : List ℕ} (n : ℕ) {b c : Cursor} {x : Parsed Program.Branch} {k t : List ℕ} (r : Option (Branch × Cursor)) → Skips b n c
     → BranchingRead text keys tags c x r k t → BranchingRead text keys tags b x r k t
-branching_skip n (BranchingCode.TheVariants.Got v d) s a = record { answer = gets_skip n s a.answer }
-branching_skip n BranchingCode.TheVariants.Broken s a = record { answer = a.answer }
+branching_skip n (Some (v, d)) s a = record { answer = gets_skip n s a.answer }
+branching_skip n None s a = record { answer = a.answer }
 
 pub branching_then : {A C : Type 0} {f : A → C} {v : C} {text keys tags : List ℕ} {c : Cursor} {x : Parsed A} {k t : List ℕ} {d : Cursor}
-    (next : A × List ℕ → Parsed Program.Branch) (r : Branching) {k' t' : List ℕ} → ReaderReady text keys tags c
+    (next : A × List ℕ → Parsed Program.Branch) (r : Option (Branch × Cursor)) {k' t' : List ℕ} → ReaderReady text keys tags c
     → (a : Gets f v text keys tags c x k t d) → BranchingRead text k t d (next (a.value, drop d.at text)) r k' t'
     → BranchingRead text keys tags c (x >>= next) r k' t'
-branching_then next (BranchingCode.TheVariants.Got v e) ready a b = record { answer = gets_then next (λ z. z) (branch_of v) ready a b.answer }
-branching_then next BranchingCode.TheVariants.Broken ready a b = record { answer = got_broken next a.is b.answer }
+branching_then next (Some (v, e)) ready a b = record { answer = gets_then next (λ z. z) (branch_of v) ready a b.answer }
+branching_then next None ready a b = record { answer = got_broken next a.is b.answer }
 
 -- by the same reading
-branching_same : {text keys tags : List ℕ} {c : Cursor} {x y : Parsed Program.Branch} {r : Branching} {k t : List ℕ} → x ≡ y
+branching_same : {text keys tags : List ℕ} {c : Cursor} {x y : Parsed Program.Branch} {r : Option (Branch × Cursor)} {k t : List ℕ} → x ≡ y
     → BranchingRead text keys tags c y r k t → BranchingRead text keys tags c x r k t
 branching_same {text} {keys} {tags} {c} {r = r} {k} {t} e a = subst (λ z. BranchingRead text keys tags c z r k t) (sym e) a
 
@@ -122,7 +112,7 @@ module _ (known bs : List ℕ) where
 
 module _ (known : List ℕ) {text keys tags : List ℕ} {c : Cursor} where
   -- `/,f`
-  pub targets_failing : begins (44 ∷ []) (drop c.at text) ≡ true → {n : ℕ} → n ≡ (places_in known).next → (r : Branching) {b : Cursor}
+  pub targets_failing : begins (44 ∷ []) (drop c.at text) ≡ true → {n : ℕ} → n ≡ (places_in known).next → (r : Option (Branch × Cursor)) {b : Cursor}
       {k t : List ℕ} → b ≡ cursor_moved c 1 → BranchingRead text keys tags b (failing_to known n (drop b.at text)) r k t
       → BranchingRead text keys tags c (targets known (drop c.at text)) r k t
   unfolding targets bytes
@@ -132,7 +122,7 @@ module _ (known : List ℕ) {text keys tags : List ℕ} {c : Cursor} where
   module _ (e : begins (44 ∷ []) (drop c.at text) ≡ false) {s : ℕ} {k t : List ℕ} {d : Cursor}
       (a : Gets (λ n. n) s text keys tags c (label_parser known (drop c.at text)) k t d) where
     -- `/s,f`
-    pub targets-both : ReaderReady text keys tags c → begins (44 ∷ []) (drop d.at text) ≡ true → (r : Branching) {b : Cursor} {k' t' : List ℕ}
+    pub targets-both : ReaderReady text keys tags c → begins (44 ∷ []) (drop d.at text) ≡ true → (r : Option (Branch × Cursor)) {b : Cursor} {k' t' : List ℕ}
         → b ≡ cursor_moved d 1 → BranchingRead text k t b (failing_to known s (drop b.at text)) r k' t'
         → BranchingRead text keys tags c (targets known (drop c.at text)) r k' t'
     unfolding targets bytes
@@ -151,7 +141,7 @@ module _ (known : List ℕ) {text keys tags : List ℕ} {c : Cursor} where
         (gets_succeed _ (λ z. z) _ (record { success = a.value; failure = (places_in known).next }) a (chosen _ _ g)
         (ap₂ {C = Program.Branch} (λ i j. record { success = i; failure = j }) a.made (sym next)))
 
-  pub branch-targets : begins (47 ∷ []) (drop c.at text) ≡ true → (r : Branching) {b : Cursor} {k t : List ℕ} → b ≡ cursor_moved c 1
+  pub branch-targets : begins (47 ∷ []) (drop c.at text) ≡ true → (r : Option (Branch × Cursor)) {b : Cursor} {k t : List ℕ} → b ≡ cursor_moved c 1
       → BranchingRead text keys tags b (targets known (drop b.at text)) r k t
       → BranchingRead text keys tags c (branch current (is_number_known known) (places_in known) (drop c.at text)) r k t
   unfolding bytes

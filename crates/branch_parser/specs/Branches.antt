@@ -1,5 +1,5 @@
 -- What the readers of labels, routines and branch fields do. Assumes nothing.
-use Rattle.std.specs.Prelude.{true, false, cond, List, [], ◌⊎◌, ◌≡◌, ℕ, eqb, drop}
+use Rattle.std.specs.Prelude.{Option, Some, None, true, false, cond, List, [], ◌⊎◌, ◌≡◌, ℕ, eqb, drop}
 use Rattle.base.specs.Current.{current}
 use Rattle.base.specs.Lists.{begins}
 use Rattle.base.specs.Text.{bytes}
@@ -12,10 +12,6 @@ use Rattle.symbols.specs.declared.Cursor.{Cursor}
 use Rattle.numeric_parser.specs.Operands.{Gets}
 use Rattle.branch_parser.specs.Places.{is_number_known, step_to}
 use Rattle.branch_parser.specs.declared.Branch.{Branch}
-use Rattle.branch_parser.specs.declared.Branching as BranchingCode
-use Rattle.branch_parser.specs.declared.Branching.{Branching}
-use Rattle.branch_parser.specs.declared.Target as TargetCode
-use Rattle.branch_parser.specs.declared.Target.{Target}
 
 -- the tag of a name that leads to a step: a label or a routine that is used, a routine that is declared
 pub record TargetTag (tag : ℕ) : Type 0 where
@@ -32,22 +28,22 @@ target_in known tag bs = do
   succeed (step_to known tag n) rest
 
 -- a reading answered by a step
-abbrev pub TargetAnswer : (text keys tags : List ℕ) (c : Cursor) → Parsed ℕ → Target → (keys' tags' : List ℕ) → Type 0
-TargetAnswer text keys tags c x (TargetCode.TheVariants.Got step d) keys' tags' = Gets (λ n. n) step text keys tags c x keys' tags' d
-TargetAnswer text keys tags c x TargetCode.TheVariants.Broken keys' tags' = x ≡ broken
+abbrev pub TargetAnswer : (text keys tags : List ℕ) (c : Cursor) → Parsed ℕ → Option (ℕ × Cursor) → (keys' tags' : List ℕ) → Type 0
+TargetAnswer text keys tags c x (Some (step, d)) keys' tags' = Gets (λ n. n) step text keys tags c x keys' tags' d
+TargetAnswer text keys tags c x None keys' tags' = x ≡ broken
 
-pub record TargetRead (text known keys tags : List ℕ) (c : Cursor) (tag : ℕ) (r : Target) (keys' tags' : List ℕ) : Type 0 where
+pub record TargetRead (text known keys tags : List ℕ) (c : Cursor) (tag : ℕ) (r : Option (ℕ × Cursor)) (keys' tags' : List ℕ) : Type 0 where
   pub answer : TargetAnswer text keys tags c (target_in known tag (drop c.at text)) r keys' tags'
 
 -- the branch that the code's steps are
 abbrev pub branch_of : Branch → Program.Branch
 branch_of b = record { success = b.success; failure = b.failure }
 
-abbrev pub BranchAnswer : (text keys tags : List ℕ) (c : Cursor) → Parsed Program.Branch → Branching → (keys' tags' : List ℕ) → Type 0
-BranchAnswer text keys tags c x (BranchingCode.TheVariants.Got b d) keys' tags' = Gets (λ z. z) (branch_of b) text keys tags c x keys' tags' d
-BranchAnswer text keys tags c x BranchingCode.TheVariants.Broken keys' tags' = x ≡ broken
+abbrev pub BranchAnswer : (text keys tags : List ℕ) (c : Cursor) → Parsed Program.Branch → Option (Branch × Cursor) → (keys' tags' : List ℕ) → Type 0
+BranchAnswer text keys tags c x (Some (b, d)) keys' tags' = Gets (λ z. z) (branch_of b) text keys tags c x keys' tags' d
+BranchAnswer text keys tags c x None keys' tags' = x ≡ broken
 
-pub record BranchingRead (text keys tags : List ℕ) (c : Cursor) (x : Parsed Program.Branch) (r : Branching) (keys' tags' : List ℕ)
+pub record BranchingRead (text keys tags : List ℕ) (c : Cursor) (x : Parsed Program.Branch) (r : Option (Branch × Cursor)) (keys' tags' : List ℕ)
     : Type 0 where
   pub answer : BranchAnswer text keys tags c x r keys' tags'
 
@@ -74,12 +70,12 @@ targets known bs = elim (begins (bytes ",") bs) [
 ]
 
 -- each reader of a branch field at the cursor
-abbrev pub FailureRead : (text known keys tags : List ℕ) (c : Cursor) (success : ℕ) → Branching → (keys' tags' : List ℕ) → Type 0
+abbrev pub FailureRead : (text known keys tags : List ℕ) (c : Cursor) (success : ℕ) → Option (Branch × Cursor) → (keys' tags' : List ℕ) → Type 0
 FailureRead text known keys tags c s = BranchingRead text keys tags c (failing_to known s (drop c.at text))
 
-abbrev pub TargetsRead : (text known keys tags : List ℕ) (c : Cursor) → Branching → (keys' tags' : List ℕ) → Type 0
+abbrev pub TargetsRead : (text known keys tags : List ℕ) (c : Cursor) → Option (Branch × Cursor) → (keys' tags' : List ℕ) → Type 0
 TargetsRead text known keys tags c = BranchingRead text keys tags c (targets known (drop c.at text))
 
-abbrev pub BranchRead : (text known keys tags : List ℕ) (c : Cursor) → Branching → (keys' tags' : List ℕ) → Type 0
+abbrev pub BranchRead : (text known keys tags : List ℕ) (c : Cursor) → Option (Branch × Cursor) → (keys' tags' : List ℕ) → Type 0
 BranchRead text known keys tags c =
     BranchingRead text keys tags c (branch current (is_number_known known) (places_in known) (drop c.at text))

@@ -1,13 +1,14 @@
 -- Labels, routines and numbers found by their keys. Assumes nothing.
-use Rattle.std.specs.Prelude.{Bool, eqb, ltb, length, take, drop}
+use Rattle.std.specs.Prelude.{Option, Some, None, is_some, Bool, eqb, ltb, length, take, drop}
 use Rattle.std.proofs.Math.Bool.{true, false, cond}
 use mathlib.Core.List.{List, map}
 use Rattle.std.proofs.Math.Path.{◌≡◌, refl, sym, ap, ap₂}
 use Rattle.std.proofs.Common.{subst, ◌∙◌, add-zero, drop-cons, eq-eqb, ne_eqb, lt-ltb, le-ltb}
-use Prim.Native.Nat.{ℕ, zero, suc, ◌+◌, ◌-◌, ◌≤◌, ◌<◌}
+use Prim.Native.Nat.{ℕ, zero, suc, ◌+◌, ◌≤◌, ◌<◌}
 use native.Mathlib.Omega.{arith}
 use Rattle.std.proofs.Math.Dec.{leb-suc-suc}
 use Rattle.std.proofs.Math.ListN.{get_or}
+use Rattle.std.proofs.lemmas.Bool.{false≢true}
 use Rattle.base.specs.Choice.{test_cases}
 use Rattle.validation.specs.Deck.{step_of, routine_named}
 use Rattle.validation.specs.Environment.{Routine, is_one_of}
@@ -25,18 +26,22 @@ is_number_known known = is_one_of (map name_of (number_keys known))
 abbrev pub step_to : (known : List ℕ) (tag : ℕ) → List ℕ → ℕ
 step_to known tag = cond (eqb tag 1) (places_in known).label (cond (eqb tag 2) (places_in known).entry (places_in known).exit)
 
--- the routine with a name: the i-th, or none
-abbrev pub routine_at : List ℕ → List ℕ → ℕ → Routine
-routine_at known n zero = record { name = n; entry = 0; exit = 0 }
-routine_at known n (suc i) = routine_in known i
+-- the routine with a name: routine i, or none
+abbrev pub routine_at : List ℕ → List ℕ → Option ℕ → Routine
+routine_at known n None = record { name = n; entry = 0; exit = 0 }
+routine_at known n (Some i) = routine_in known i
 
--- what stands in a column of the routines for the i-th, 0 for none
-abbrev pub column_in : List ℕ → (from i : ℕ) → ℕ
-column_in known from zero = 0
-column_in known from (suc i) = get_or known (from + i) 0
+-- what stands in a column of the routines for routine i, 0 for none
+abbrev pub column_in : List ℕ → (from : ℕ) → Option ℕ → ℕ
+column_in known from None = 0
+column_in known from (Some i) = get_or known (from + i) 0
 
-pub record RoutineFound (known : List ℕ) (key r : ℕ) : Type 0 where
-  pub inside : r ≤ get_or known routine_count_at 0
+-- the column has a place for the routine
+abbrev pub ColumnFits : (from : ℕ) → Option ℕ → Type 0
+ColumnFits from r = (i : ℕ) → r ≡ Some i → from + i < environment_size
+
+pub record RoutineFound (known : List ℕ) (key : ℕ) (r : Option ℕ) : Type 0 where
+  pub inside : (i : ℕ) → r ≡ Some i → i < get_or known routine_count_at 0
   pub is : routine_named (routines_in known) (name_of key) ≡ routine_at known (name_of key) r
 
 -- the step of a label stands where its key does
@@ -91,6 +96,11 @@ module _ (known : List ℕ) (key : ℕ) where
         ∙ ap (step_found 0 (get_or known label_count_at 0)) (sym e)
         ∙ ap (λ b. cond b (get_or known (label_steps_at + i) 0) 0) (le-ltb i (get_or known label_count_at 0) h))
 
+-- the number of an option, or another
+abbrev option_or : ℕ → Option ℕ → ℕ
+option_or n (Some i) = i
+option_or n None = n
+
 -- routines one by one, the latest first
 module _ (known : List ℕ) (key : ℕ) where
   -- the routines from i on are others
@@ -110,44 +120,39 @@ module _ (known : List ℕ) (key : ℕ) where
       ap {B = Routine} (λ (t : Bool). elim t [ true ↦ routine_in known i | false ↦ routine_named (routines_down known i) (name_of key) ])
       (name-same key (get_or known (routine_keys_at + i) 0) ∙ e)
 
-  routines_here' : (i : ℕ) → RoutinesPassed (suc i) → get_or known (routine_keys_at + i) 0 ≡ key → RoutineFound known key (suc i)
-  routines_here' i p e =
-      record { inside = p.inside; is = p.is ∙ turned i true (eq-eqb key (get_or known (routine_keys_at + i) 0) (sym e)) }
-
-  routines_more' : (i : ℕ) → RoutinesPassed (suc i) → (get_or known (routine_keys_at + i) 0 ≡ key → ⊥) → RoutinesPassed i
-  routines_more' i p f =
+  -- routine i has the name, or another
+  pub routines-here : {i n : ℕ} → n ≡ suc i → RoutinesPassed n → get_or known (routine_keys_at + i) 0 ≡ key → RoutineFound known key (Some i)
+  routines-here {i} {n} at p e =
+      let q = subst RoutinesPassed at p in
       record {
-        inside = omega (arith, p.inside);
-        is = p.is ∙ turned i false (ne_eqb key (get_or known (routine_keys_at + i) 0) (λ e. f (sym e)));
+        inside = λ j same. omega (arith, q.inside, ap (option_or i) same);
+        is = q.is ∙ turned i true (eq-eqb key (get_or known (routine_keys_at + i) 0) (sym e));
       }
 
-  pub routines-here : (i : ℕ) → 0 < i → RoutinesPassed i → get_or known (routine_keys_at + (i - 1)) 0 ≡ key → RoutineFound known key i
-  routines-here zero h p e = absurd (omega arith)
-  routines-here (suc i) h p e =
-      let same' : suc i - 1 ≡ i = omega arith in
-      routines_here' i p (ap (λ j. get_or known (routine_keys_at + j) 0) (sym same') ∙ e)
+  pub routines-more : {i n : ℕ} → n ≡ suc i → RoutinesPassed n → (get_or known (routine_keys_at + i) 0 ≡ key → ⊥) → RoutinesPassed i
+  routines-more {i} {n} at p f =
+      let q = subst RoutinesPassed at p in
+      record {
+        inside = omega (arith, q.inside);
+        is = q.is ∙ turned i false (ne_eqb key (get_or known (routine_keys_at + i) 0) (λ e. f (sym e)));
+      }
 
-  pub routines-more : (i : ℕ) → 0 < i → RoutinesPassed i → (get_or known (routine_keys_at + (i - 1)) 0 ≡ key → ⊥) → RoutinesPassed (i - 1)
-  routines-more zero h p f = absurd (omega arith)
-  routines-more (suc i) h p f =
-      let same' : suc i - 1 ≡ i = omega arith in
-      rw same' (routines_more' i p (λ e. f (ap (λ j. get_or known (routine_keys_at + j) 0) same' ∙ e)))
-
-  pub routines-all : (i : ℕ) → i ≤ 0 → RoutinesPassed i → RoutineFound known key 0
+  pub routines-all : {n : ℕ} → n ≡ 0 → RoutinesPassed n → RoutineFound known key None
   unfolding routine_named routines_down
-  routines-all zero h p = record { inside = omega arith; is = p.is }
-  routines-all (suc i) h p = absurd (omega arith)
+  routines-all at p =
+      let q = subst RoutinesPassed at p in
+      record { inside = λ j same. absurd (false≢true (ap is_some same)); is = q.is }
 
-  -- what is found, by its number
-  pub entry_found : (r : ℕ) → RoutineFound known key r → column_in known 292 r ≡ (places_in known).entry (name_of key)
+  -- what is found, by its place
+  pub entry_found : (r : Option ℕ) → RoutineFound known key r → column_in known 292 r ≡ (places_in known).entry (name_of key)
   unfolding places_in routine_in
-  entry_found zero f = sym (ap (λ (x : Routine). x.entry) f.is)
-  entry_found (suc i) f = sym (ap (λ (x : Routine). x.entry) f.is)
+  entry_found None f = sym (ap (λ (x : Routine). x.entry) f.is)
+  entry_found (Some i) f = sym (ap (λ (x : Routine). x.entry) f.is)
 
-  pub exit_found : (r : ℕ) → RoutineFound known key r → column_in known 309 r ≡ (places_in known).exit (name_of key)
+  pub exit_found : (r : Option ℕ) → RoutineFound known key r → column_in known 309 r ≡ (places_in known).exit (name_of key)
   unfolding places_in routine_in
-  exit_found zero f = sym (ap (λ (x : Routine). x.exit) f.is)
-  exit_found (suc i) f = sym (ap (λ (x : Routine). x.exit) f.is)
+  exit_found None f = sym (ap (λ (x : Routine). x.exit) f.is)
+  exit_found (Some i) f = sym (ap (λ (x : Routine). x.exit) f.is)
 
 -- the step by its tag
 module _ (known : List ℕ) {tag step : ℕ} (n : List ℕ) where
@@ -156,11 +161,3 @@ module _ (known : List ℕ) {tag step : ℕ} (n : List ℕ) where
 
   pub step_exit : (tag ≡ 1 → ⊥) → (tag ≡ 2 → ⊥) → step ≡ (places_in known).exit n → step ≡ step_to known tag n
   step_exit f g h = rw (ne_eqb tag 1 f, ne_eqb tag 2 g) h
-
--- a column of the routines at a place that is one of theirs, and at none
-pub column_none : (known : List ℕ) (from : ℕ) {i : ℕ} → i ≡ 0 → 0 ≡ column_in known from i
-column_none known from e = sym (ap (column_in known from) e)
-
-pub column_at : (known : List ℕ) (from i : ℕ) → (i ≡ 0 → ⊥) → get_or known (from + (i - 1)) 0 ≡ column_in known from i
-column_at known from zero h = absurd (h refl)
-column_at known from (suc i) h = let same' : suc i - 1 ≡ i = omega arith in ap (λ j. get_or known (from + j) 0) same'

@@ -1,5 +1,5 @@
 -- How the tests of IF are read, part by part. Assumes nothing.
-use Rattle.std.specs.Prelude.{Bool, ◌||◌, ◌≡◌, length, get_or}
+use Rattle.std.specs.Prelude.{Option, Some, None, Bool, ◌||◌, ◌≡◌, length, get_or}
 use Rattle.std.proofs.Math.Bool.{true, false}
 use mathlib.Core.List.{List, [], ◌∷◌}
 use Rattle.std.proofs.Math.Path.{refl, ap, ap₂, subst}
@@ -26,23 +26,19 @@ use Rattle.numeric_parser.specs.OperandLaws.{gets_succeed, gets_then, gets_skip,
 use Rattle.numeric_parser.specs.OperandLaws.{cell_same, cell-made, place-cell, cell_skip, gets_closed, gets_open}
 use Rattle.numeric_parser.specs.Operands.{ReaderReady, Gets, cursor_moved, meaning, OperandRead, PlaceRead, placed_in}
 use Rattle.numeric_parser.specs.declared.operands.Cell.{Cell}
-use Rattle.numeric_parser.specs.declared.operands.Operand as OperandCode
-use Rattle.numeric_parser.specs.declared.operands.Operand.{Operand}
-use Rattle.numeric_parser.specs.declared.operands.Place.{Place}
+use Rattle.branch_parser.specs.declared.Row.{Row}
 use Rattle.branch_parser.specs.Rows.{draft_meaning, DraftRead, draft_same}
-use Rattle.branch_parser.specs.Tests.{SignStands, ComparisonAt, SignedRead, test_alone, tested_by, compared_to, comparing_at}
-use Rattle.branch_parser.specs.declared.Draft as DraftCode
-use Rattle.branch_parser.specs.declared.Draft.{Draft}
+use Rattle.branch_parser.specs.Tests.{SignStands, ComparisonAt, SignedRead, test_alone, one_cell, rowed_at, tested_by, compared_to, comparing_at}
 use Rattle.branch_parser.specs.declared.tests.Sign.{Sign}
 
 -- an operand of IF
 module _ (p : Resolution) {text keys tags : List ℕ} {c : Cursor} where
-  pub if_signed : {r : Operand} → (is_digit (get_or (drop c.at text) 0 0) || is_sign (drop c.at text)) ≡ true → SignedRead text keys tags c r
+  pub if_signed : {r : Option (Cell × Cursor)} → (is_digit (get_or (drop c.at text) 0 0) || is_sign (drop c.at text)) ≡ true → SignedRead text keys tags c r
       → OperandRead operand_cell text keys tags c (if_operand current p (drop c.at text)) r keys tags
   unfolding if_operand operand_cell
   if_signed {r} e a = cell_same (chosen _ _ e) (cell-made Program.constant operand_cell r (λ _. refl) a)
 
-  pub if_called : {r : Operand} {k t : List ℕ} → (is_digit (get_or (drop c.at text) 0 0) || is_sign (drop c.at text)) ≡ false
+  pub if_called : {r : Option (Cell × Cursor)} {k t : List ℕ} → (is_digit (get_or (drop c.at text) 0 0) || is_sign (drop c.at text)) ≡ false
       → OperandRead operand_cell text keys tags c (called_or_number current p (drop c.at text)) r k t
       → OperandRead operand_cell text keys tags c (if_operand current p (drop c.at text)) r k t
   unfolding if_operand
@@ -52,12 +48,10 @@ module _ (p : Resolution) {text keys tags : List ℕ} {c : Cursor} where
 module _ (text : List ℕ) (at : ℕ) where
   stands : (w : List ℕ) (which : Comparison) (n k : ℕ) → begins w (drop at text) ≡ true → length w ≡ n → 0 < n
       → comparison (drop at text) ≡ succeed which (drop n (drop at text)) → comparison_number which ≡ suc k
-      → ComparisonAt text at (record { number = suc k; size = n })
+      → ComparisonAt text at (Some (record { number = suc k; size = n }))
   stands w which n k e size some is made =
       record {
-        none = λ z. absurd (omega arith);
-        stands =
-            λ _.
+        answer =
             record {
               which = which;
               is = is ∙ ap (succeed which) (drop-drop n at text);
@@ -66,45 +60,42 @@ module _ (text : List ℕ) (at : ℕ) where
             };
       }
 
-  pub comparison_unequal : begins (60 ∷ (62 ∷ [])) (drop at text) ≡ true → ComparisonAt text at (record { number = 2; size = 2 })
+  pub comparison_unequal : begins (60 ∷ (62 ∷ [])) (drop at text) ≡ true → ComparisonAt text at (Some (record { number = 2; size = 2 }))
   unfolding comparison bytes comparison_number
   comparison_unequal e = stands (60 ∷ (62 ∷ [])) unequal 2 1 e refl (omega arith) (chosen _ _ e) refl
 
   module _ (e₁ : begins (60 ∷ (62 ∷ [])) (drop at text) ≡ false) where
-    pub comparison-most : begins (60 ∷ (61 ∷ [])) (drop at text) ≡ true → ComparisonAt text at (record { number = 5; size = 2 })
+    pub comparison-most : begins (60 ∷ (61 ∷ [])) (drop at text) ≡ true → ComparisonAt text at (Some (record { number = 5; size = 2 }))
     unfolding comparison bytes comparison_number
     comparison-most e = stands (60 ∷ (61 ∷ [])) at_most 2 4 e refl (omega arith) (chosen _ _ e₁ ∙ chosen _ _ e) refl
 
     module _ (e₂ : begins (60 ∷ (61 ∷ [])) (drop at text) ≡ false) where
-      pub comparison-least : begins (62 ∷ (61 ∷ [])) (drop at text) ≡ true → ComparisonAt text at (record { number = 6; size = 2 })
+      pub comparison-least : begins (62 ∷ (61 ∷ [])) (drop at text) ≡ true → ComparisonAt text at (Some (record { number = 6; size = 2 }))
       unfolding comparison bytes comparison_number
       comparison-least e = stands (62 ∷ (61 ∷ [])) at_least 2 5 e refl (omega arith) (chosen _ _ e₁ ∙ chosen _ _ e₂ ∙ chosen _ _ e) refl
 
       module _ (e₃ : begins (62 ∷ (61 ∷ [])) (drop at text) ≡ false) where
-        pub comparison_equal : begins (61 ∷ []) (drop at text) ≡ true → ComparisonAt text at (record { number = 1; size = 1 })
+        pub comparison_equal : begins (61 ∷ []) (drop at text) ≡ true → ComparisonAt text at (Some (record { number = 1; size = 1 }))
         unfolding comparison bytes comparison_number
         comparison_equal e = stands (61 ∷ []) equal 1 0 e refl (omega arith) (chosen _ _ e₁ ∙ chosen _ _ e₂ ∙ chosen _ _ e₃ ∙ chosen _ _ e) refl
 
         module _ (e₄ : begins (61 ∷ []) (drop at text) ≡ false) where
-          pub comparison_less : begins (60 ∷ []) (drop at text) ≡ true → ComparisonAt text at (record { number = 3; size = 1 })
+          pub comparison_less : begins (60 ∷ []) (drop at text) ≡ true → ComparisonAt text at (Some (record { number = 3; size = 1 }))
           unfolding comparison bytes comparison_number
           comparison_less e =
               stands (60 ∷ []) less 1 2 e refl (omega arith) (chosen _ _ e₁ ∙ chosen _ _ e₂ ∙ chosen _ _ e₃ ∙ chosen _ _ e₄ ∙ chosen _ _ e) refl
 
           module _ (e₅ : begins (60 ∷ []) (drop at text) ≡ false) where
-            pub comparison_greater : begins (62 ∷ []) (drop at text) ≡ true → ComparisonAt text at (record { number = 4; size = 1 })
+            pub comparison_greater : begins (62 ∷ []) (drop at text) ≡ true → ComparisonAt text at (Some (record { number = 4; size = 1 }))
             unfolding comparison bytes comparison_number
             comparison_greater e =
                 stands (62 ∷ []) greater 1 3 e refl (omega arith)
                 (chosen _ _ e₁ ∙ chosen _ _ e₂ ∙ chosen _ _ e₃ ∙ chosen _ _ e₄ ∙ chosen _ _ e₅ ∙ chosen _ _ e) refl
 
-            pub comparison_none : begins (62 ∷ []) (drop at text) ≡ false → ComparisonAt text at (record { number = 0; size = 0 })
+            pub comparison_none : begins (62 ∷ []) (drop at text) ≡ false → ComparisonAt text at None
             unfolding comparison bytes
             comparison_none e =
-                record {
-                  none = λ _. chosen _ _ e₁ ∙ chosen _ _ e₂ ∙ chosen _ _ e₃ ∙ chosen _ _ e₄ ∙ chosen _ _ e₅ ∙ chosen _ _ e;
-                  stands = λ h. absurd (h refl);
-                }
+                record { answer = chosen _ _ e₁ ∙ chosen _ _ e₂ ∙ chosen _ _ e₃ ∙ chosen _ _ e₄ ∙ chosen _ _ e₅ ∙ chosen _ _ e }
 
 -- behind the left operand
 module _ (p : Resolution) (a : Program.Operand) where
@@ -141,15 +132,15 @@ module _ (p : Resolution) (a : Program.Operand) where
 
 -- a draft behind another reading
 pub draft_then : {A B C : Type 0} {f : A → C} {v : C} (h : B → Table.Row) {text keys tags : List ℕ} {c : Cursor} {x : Parsed A} {k t : List ℕ}
-    {d : Cursor} (next : A × List ℕ → Parsed B) (r : Draft) {k' t' : List ℕ} → ReaderReady text keys tags c → (a : Gets f v text keys tags c x k t d)
+    {d : Cursor} (next : A × List ℕ → Parsed B) (r : Option (Row × Cursor)) {k' t' : List ℕ} → ReaderReady text keys tags c → (a : Gets f v text keys tags c x k t d)
     → DraftRead h text k t d (next (a.value, drop d.at text)) r k' t' → DraftRead h text keys tags c (x >>= next) r k' t'
-draft_then h next (DraftCode.TheVariants.Got v e) ready a b = record { answer = gets_then next h (draft_meaning v) ready a b.answer }
-draft_then h next DraftCode.TheVariants.Broken ready a b = record { answer = got_broken next a.is b.answer }
+draft_then h next (Some (v, e)) ready a b = record { answer = gets_then next h (draft_meaning v) ready a b.answer }
+draft_then h next None ready a b = record { answer = got_broken next a.is b.answer }
 
 -- two operands and a sign
 module _ (p : Resolution) {text keys tags : List ℕ} {c : Cursor} where
   pub comparing_then : (left : Cell) {k t : List ℕ} {d : Cursor} → ReaderReady text keys tags c
-      → Gets operand_cell (meaning left) text keys tags c (if_operand current p (drop c.at text)) k t d → (r : Draft) {k' t' : List ℕ}
+      → Gets operand_cell (meaning left) text keys tags c (if_operand current p (drop c.at text)) k t d → (r : Option (Row × Cursor)) {k' t' : List ℕ}
       → ((a : Program.Operand) → operand_cell a ≡ meaning left → DraftRead test_alone text k t d (compared_to p a (drop d.at text)) r k' t')
       → DraftRead test_alone text keys tags c (comparing_at p (drop c.at text)) r k' t'
   unfolding comparing_at
@@ -164,26 +155,19 @@ module _ {A : Type 0} {f : A → Table.Cell} (g : A → Test) (kind : ℕ) (same
     {text keys tags : List ℕ} {c : Cursor} {x : Parsed A} {k t : List ℕ} where
   tested_case : (v : Cell) (d : Cursor) (b : Bool) → begins (41 ∷ []) (drop d.at text) ≡ b → Gets f (meaning v) text keys tags c x k t d
       → DraftRead test_alone text keys tags c (x >>= λ (a, rest). expect (bytes ")") rest >>= λ (_, rest). succeed (g a) rest)
-      (elim b [
-        | true ↦
-            DraftCode.TheVariants.Got
-            (record { kind = kind; flag = 0; success = 0; failure = 0; left = v; right = record { kind = 0; place = 0; value = 0 } })
-            (cursor_moved d 1)
-        | false ↦ DraftCode.TheVariants.Broken
-      ])
-      k t
+      (rowed_at (one_cell kind v) (elim b [ true ↦ Some (cursor_moved d 1) | false ↦ None ])) k t
   unfolding no_cell
   tested_case v d true e a =
       record { answer = gets_closed g a test_alone e (same a.value ∙ ap (λ (z : Table.Cell). Table.row_with kind 0 0 0 z no_cell) a.made) }
   tested_case v d false e a = record { answer = gets_open g a e }
 
-  tested-cell : (r : Operand) → OperandRead f text keys tags c x r k t
+  tested-cell : (r : Option (Cell × Cursor)) → OperandRead f text keys tags c x r k t
       → DraftRead test_alone text keys tags c (x >>= λ (a, rest). expect (bytes ")") rest >>= λ (_, rest). succeed (g a) rest) (tested_by text kind r) k t
-  tested-cell (OperandCode.TheVariants.Got v d) a = tested_case v d (begins (41 ∷ []) (drop d.at text)) refl a.answer
-  tested-cell OperandCode.TheVariants.Broken a = record { answer = then_broken _ a.answer }
+  tested-cell (Some (v, d)) a = tested_case v d (begins (41 ∷ []) (drop d.at text)) refl a.answer
+  tested-cell None a = record { answer = then_broken _ a.answer }
 
 module _ (p : Resolution) {text keys tags : List ℕ} {c : Cursor} {k t : List ℕ} where
-  pub test_null : {d : Cursor} → d ≡ cursor_moved c 5 → begins (bytes "NULL(") (drop c.at text) ≡ true → (q : Place)
+  pub test_null : {d : Cursor} → d ≡ cursor_moved c 5 → begins (bytes "NULL(") (drop c.at text) ≡ true → (q : Option (ℕ × Cursor))
       → PlaceRead text keys tags d (string_name current p (role_of 0) (drop d.at text)) q k t
       → DraftRead test_alone text keys tags c (test current p (drop c.at text)) (tested_by text null_kind.number (placed_in parts 0 q)) k t
   unfolding test statement_row part_cell role_of no_role
@@ -195,7 +179,7 @@ module _ (p : Resolution) {text keys tags : List ℕ} {c : Cursor} {k t : List �
       (cell_skip 5 (placed_in parts 0 q) (skipped c 5 s) (place-cell parts 0 q a)))
 
   pub test_numeric : {d : Cursor} → d ≡ cursor_moved c 8 → begins (bytes "NULL(") (drop c.at text) ≡ false
-      → begins (bytes "NUMERIC(") (drop c.at text) ≡ true → (q : Operand)
+      → begins (bytes "NUMERIC(") (drop c.at text) ≡ true → (q : Option (Cell × Cursor))
       → OperandRead (part_cell parts) text keys tags d (part_name current p (role_of 0) (drop d.at text)) q k t
       → DraftRead test_alone text keys tags c (test current p (drop c.at text)) (tested_by text numeric_kind.number q) k t
   unfolding test statement_row role_of no_role
@@ -205,22 +189,8 @@ module _ (p : Resolution) {text keys tags : List ℕ} {c : Cursor} {k t : List �
       draft_same (chosen _ _ e₁ ∙ chosen _ _ e ∙ ap closes (sym (drop-moved text c 8 s)))
       (tested-cell is_numeric numeric_kind.number (λ _. refl) q (cell_skip 8 q (skipped c 8 s) a))
 
-  pub test_compares : begins (bytes "NULL(") (drop c.at text) ≡ false → begins (bytes "NUMERIC(") (drop c.at text) ≡ false → (r : Draft)
+  pub test_compares : begins (bytes "NULL(") (drop c.at text) ≡ false → begins (bytes "NUMERIC(") (drop c.at text) ≡ false → (r : Option (Row × Cursor))
       → DraftRead test_alone text keys tags c (comparing_at p (drop c.at text)) r k t
       → DraftRead test_alone text keys tags c (test current p (drop c.at text)) r k t
   unfolding test comparing_at compared_to
   test_compares e₁ e₂ r a = draft_same (chosen _ _ e₁ ∙ chosen _ _ e₂) a
-
--- the code's answer behind `)`, and where there is none
-module _ (text : List ℕ) (kind : ℕ) {r : Operand} {v : Cell} {d : Cursor} (e : r ≡ OperandCode.TheVariants.Got v d) where
-  abbrev pub tested_row : Cursor → Draft
-  tested_row f =
-      DraftCode.TheVariants.Got
-      (record { kind = kind; flag = 0; success = 0; failure = 0; left = v; right = record { kind = 0; place = 0; value = 0 } })
-      f
-
-  pub tested-here : begins (41 ∷ []) (drop d.at text) ≡ true → {f : Cursor} → f ≡ cursor_moved d 1 → tested_row f ≡ tested_by text kind r
-  tested-here h g = ap tested_row g ∙ sym (chosen _ _ h) ∙ ap (tested_by text kind) (sym e)
-
-  pub tested_not : begins (41 ∷ []) (drop d.at text) ≡ false → DraftCode.TheVariants.Broken ≡ tested_by text kind r
-  tested_not h = sym (chosen _ _ h) ∙ ap (tested_by text kind) (sym e)

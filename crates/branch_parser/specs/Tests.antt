@@ -1,7 +1,6 @@
 -- What the readers of tests do. Assumes nothing.
-use Rattle.std.specs.Prelude.{true, false, List, [], ◌∷◌, ◌≡◌, ℕ, ◌+◌, ◌≤◌, length, drop}
+use Rattle.std.specs.Prelude.{Option, Some, None, List, ◌≡◌, ℕ, ◌+◌, ◌≤◌, length, drop}
 use Rattle.base.specs.Current.{current}
-use Rattle.base.specs.Lists.{begins}
 use Rattle.encoding.specs.Kinds.{constant_kind}
 use Rattle.encoding.specs.Numerals.{biased}
 use Rattle.encoding.specs.Table as Table
@@ -13,13 +12,10 @@ use Rattle.syntax.specs.Parsing.{Parsed, broken, ◌>>=◌, succeed}
 use Rattle.syntax.specs.Lexemes.{Resolution, signed}
 use Rattle.symbols.specs.Environment.{places_in}
 use Rattle.symbols.specs.declared.Cursor.{Cursor}
-use Rattle.numeric_parser.specs.Operands.{OperandRead, meaning, cursor_moved}
+use Rattle.numeric_parser.specs.Operands.{OperandRead, meaning, behind_mark}
 use Rattle.numeric_parser.specs.declared.operands.Cell.{Cell}
-use Rattle.numeric_parser.specs.declared.operands.Operand as OperandCode
-use Rattle.numeric_parser.specs.declared.operands.Operand.{Operand}
 use Rattle.branch_parser.specs.Rows.{DraftRead}
-use Rattle.branch_parser.specs.declared.Draft as DraftCode
-use Rattle.branch_parser.specs.declared.Draft.{Draft}
+use Rattle.branch_parser.specs.declared.Row.{Row}
 use Rattle.branch_parser.specs.declared.tests.Sign.{Sign}
 
 -- a sign stands at a place, and the code's value says which
@@ -29,10 +25,13 @@ pub record SignStands (text : List ℕ) (at : ℕ) (r : Sign) : Type 0 where
   pub made : comparison_number which ≡ r.number
   pub inside : at + r.size ≤ length text
 
--- the sign at a place, 0 for none
-pub record ComparisonAt (text : List ℕ) (at : ℕ) (r : Sign) : Type 0 where
-  pub none : r.number ≡ 0 → comparison (drop at text) ≡ broken
-  pub stands : (r.number ≡ 0 → ⊥) → SignStands text at r
+-- the sign at a place, if one stands there
+abbrev pub SignAnswer : (text : List ℕ) (at : ℕ) → Option Sign → Type 0
+SignAnswer text at (Some r) = SignStands text at r
+SignAnswer text at None = comparison (drop at text) ≡ broken
+
+pub record ComparisonAt (text : List ℕ) (at : ℕ) (r : Option Sign) : Type 0 where
+  pub answer : SignAnswer text at r
 
 -- a test has no steps yet
 abbrev pub nowhere : Program.Branch
@@ -41,16 +40,20 @@ nowhere = record { success = 0; failure = 0 }
 abbrev pub test_alone : Test → Table.Row
 test_alone t = statement_row 0 0 (if_test t nowhere)
 
+-- a row of a kind with one cell
+abbrev pub one_cell : ℕ → Cell → Row
+one_cell kind v =
+    record { kind = kind; flag = 0; success = 0; failure = 0; left = v; right = record { kind = 0; place = 0; value = 0 } }
+
+-- a row with a cursor, if there is one
+abbrev pub rowed_at : Row → Option Cursor → Option (Row × Cursor)
+rowed_at row (Some d) = Some (row, d)
+rowed_at row None = None
+
 -- a test of one cell, its cursor behind `)`
-abbrev pub tested_by : List ℕ → ℕ → Operand → Draft
-tested_by text kind (OperandCode.TheVariants.Got v d) = elim (begins (41 ∷ []) (drop d.at text)) [
-  | true ↦
-      DraftCode.TheVariants.Got
-      (record { kind = kind; flag = 0; success = 0; failure = 0; left = v; right = record { kind = 0; place = 0; value = 0 } })
-      (cursor_moved d 1)
-  | false ↦ DraftCode.TheVariants.Broken
-]
-tested_by text kind OperandCode.TheVariants.Broken = DraftCode.TheVariants.Broken
+abbrev pub tested_by : List ℕ → ℕ → Option (Cell × Cursor) → Option (Row × Cursor)
+tested_by text kind (Some (v, d)) = rowed_at (one_cell kind v) (behind_mark text 41 d)
+tested_by text kind None = None
 
 -- what follows the left operand of a comparison
 unfoldable pub compared_to : (p : Resolution) → Program.Operand → List ℕ → Parsed Test
@@ -65,20 +68,20 @@ comparing_at p bs = do
   compared_to p a rest
 
 -- each reader at the cursor
-abbrev pub SignedRead : (text keys tags : List ℕ) (c : Cursor) → Operand → Type 0
+abbrev pub SignedRead : (text keys tags : List ℕ) (c : Cursor) → Option (Cell × Cursor) → Type 0
 SignedRead text keys tags c r =
     OperandRead (λ z. Table.cell constant_kind.number 0 (biased z)) text keys tags c (signed current (drop c.at text)) r keys tags
 
-abbrev pub IfOperandRead : (text known keys tags : List ℕ) (c : Cursor) → Operand → (keys' tags' : List ℕ) → Type 0
+abbrev pub IfOperandRead : (text known keys tags : List ℕ) (c : Cursor) → Option (Cell × Cursor) → (keys' tags' : List ℕ) → Type 0
 IfOperandRead text known keys tags c = OperandRead operand_cell text keys tags c (if_operand current (places_in known) (drop c.at text))
 
-abbrev pub ComparedRead : (text known keys tags : List ℕ) (c : Cursor) (left : Cell) → Draft → (keys' tags' : List ℕ) → Type 0
+abbrev pub ComparedRead : (text known keys tags : List ℕ) (c : Cursor) (left : Cell) → Option (Row × Cursor) → (keys' tags' : List ℕ) → Type 0
 ComparedRead text known keys tags c left r keys' tags' =
     (a : Program.Operand) → operand_cell a ≡ meaning left
     → DraftRead test_alone text keys tags c (compared_to (places_in known) a (drop c.at text)) r keys' tags'
 
-abbrev pub ComparingRead : (text known keys tags : List ℕ) (c : Cursor) → Draft → (keys' tags' : List ℕ) → Type 0
+abbrev pub ComparingRead : (text known keys tags : List ℕ) (c : Cursor) → Option (Row × Cursor) → (keys' tags' : List ℕ) → Type 0
 ComparingRead text known keys tags c = DraftRead test_alone text keys tags c (comparing_at (places_in known) (drop c.at text))
 
-abbrev pub TestRead : (text known keys tags : List ℕ) (c : Cursor) → Draft → (keys' tags' : List ℕ) → Type 0
+abbrev pub TestRead : (text known keys tags : List ℕ) (c : Cursor) → Option (Row × Cursor) → (keys' tags' : List ℕ) → Type 0
 TestRead text known keys tags c = DraftRead test_alone text keys tags c (test current (places_in known) (drop c.at text))

@@ -9,8 +9,9 @@ ghost use Rattle.branch_parser.specs.Branches.{TargetTag, TargetRead, FailureRea
 ghost use Rattle.symbols.specs.Environment.{CountsInRange};
 ghost use Rattle.numeric_parser.specs.Operands.{ReaderReady};
 
+use encoding::cell_kinds;
 use lexer::stands_at;
-use numeric_parser::operands::{Cell, Name, read_name, skip};
+use numeric_parser::operands::{Cell, marked, read_name, skip};
 use places::{next_step, target_step};
 use symbols::tags::LABEL;
 use symbols::{Cursor, KNOWN, NAMES};
@@ -26,31 +27,28 @@ pub struct Row {
     pub right: Cell,
 }
 
-// a name by the step it leads to
-#[derive(Clone, Copy)]
-pub enum Target {
-    Broken,
-    Got(usize, Cursor),
-}
+// a row of which nothing is known yet
+pub const BLANK: Row = Row {
+    kind: 0,
+    flag: 0,
+    success: 0,
+    failure: 0,
+    left: NOTHING,
+    right: NOTHING,
+};
+
+// a cell that has nothing
+const NOTHING: Cell = Cell {
+    kind: cell_kinds::NOTHING,
+    place: 0,
+    value: 0,
+};
 
 // the steps of a branch field
 #[derive(Clone, Copy)]
 pub struct Branch {
     pub success: usize,
     pub failure: usize,
-}
-
-#[derive(Clone, Copy)]
-pub enum Branching {
-    Broken,
-    Got(Branch, Cursor),
-}
-
-// the row so far with the cursor behind what is read, or the form is broken
-#[derive(Clone, Copy)]
-pub enum Draft {
-    Broken,
-    Got(Row, Cursor),
 }
 
 // a name with a tag that leads to a step
@@ -61,16 +59,14 @@ pub fn read_target(
     tags: &mut [u8; NAMES],
     c: Cursor,
     tag: u8,
-) -> Target
+) -> Option<(usize, Cursor)>
     requires reader_ready { ReaderReady text.now keys.old tags.old c }
     requires counts_in_range { CountsInRange known.now }
     requires target_tag { TargetTag tag }
     ensures { TargetRead text.now known.now keys.old tags.old c tag result keys.new tags.new }
 {
-    match read_name(text, keys, tags, c, tag) {
-        Name::Broken => Target::Broken,
-        Name::Got(key, d) => Target::Got(target_step(known, key, tag), d),
-    }
+    let (key, d) = read_name(text, keys, tags, c, tag)?;
+    Some((target_step(known, key, tag), d))
 }
 
 // the label on failure, beside the step on success
@@ -81,15 +77,13 @@ fn read_failure(
     tags: &mut [u8; NAMES],
     c: Cursor,
     success: usize,
-) -> Branching
+) -> Option<(Branch, Cursor)>
     requires reader_ready { ReaderReady text.now keys.old tags.old c }
     requires counts_in_range { CountsInRange known.now }
     ensures { FailureRead text.now known.now keys.old tags.old c success result keys.new tags.new }
 {
-    match read_target(text, known, keys, tags, c, LABEL) {
-        Target::Broken => Branching::Broken,
-        Target::Got(failure, d) => Branching::Got(Branch { success, failure }, d),
-    }
+    let (failure, d) = read_target(text, known, keys, tags, c, LABEL)?;
+    Some((Branch { success, failure }, d))
 }
 
 // a branch field behind its `/`: one left out is the next step
@@ -99,7 +93,7 @@ fn read_targets(
     keys: &mut [u64; NAMES],
     tags: &mut [u8; NAMES],
     c: Cursor,
-) -> Branching
+) -> Option<(Branch, Cursor)>
     requires reader_ready { ReaderReady text.now keys.old tags.old c }
     requires counts_in_range { CountsInRange known.now }
     ensures { TargetsRead text.now known.now keys.old tags.old c result keys.new tags.new }
@@ -108,21 +102,12 @@ fn read_targets(
     if stands_at(text, c.at, b',') {
         return read_failure(text, known, keys, tags, skip(c, 1), next);
     }
-    match read_target(text, known, keys, tags, c, LABEL) {
-        Target::Broken => Branching::Broken,
-        Target::Got(success, d) => {
-            if stands_at(text, d.at, b',') {
-                return read_failure(text, known, keys, tags, skip(d, 1), success);
-            }
-            Branching::Got(
-                Branch {
-                    success,
-                    failure: next,
-                },
-                d,
-            )
-        }
+    let (success, d) = read_target(text, known, keys, tags, c, LABEL)?;
+    if stands_at(text, d.at, b',') {
+        return read_failure(text, known, keys, tags, skip(d, 1), success);
     }
+    let failure = next;
+    Some((Branch { success, failure }, d))
 }
 
 // a branch field
@@ -132,13 +117,11 @@ pub fn read_branch(
     keys: &mut [u64; NAMES],
     tags: &mut [u8; NAMES],
     c: Cursor,
-) -> Branching
+) -> Option<(Branch, Cursor)>
     requires reader_ready { ReaderReady text.now keys.old tags.old c }
     requires counts_in_range { CountsInRange known.now }
     ensures { BranchRead text.now known.now keys.old tags.old c result keys.new tags.new }
 {
-    if !stands_at(text, c.at, b'/') {
-        return Branching::Broken;
-    }
-    read_targets(text, known, keys, tags, skip(c, 1))
+    let d = marked(text, c, b'/')?;
+    read_targets(text, known, keys, tags, d)
 }

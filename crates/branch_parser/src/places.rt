@@ -1,7 +1,7 @@
 // The steps that labels and routines lead to, and whether a name is a number's, by the names known.
 // Assumes nothing.
 ghost use Rattle.std.specs.Prelude.{◌≡◌, ◌+◌, ◌≤◌, length};
-ghost use Rattle.branch_parser.specs.Places.{is_number_known, step_to, RoutineFound, column_in};
+ghost use Rattle.branch_parser.specs.Places.{is_number_known, step_to, RoutineFound, ColumnFits, column_in};
 ghost use Rattle.symbols.specs.Entries.{name_of};
 ghost use Rattle.symbols.specs.Environment.{CountsInRange, places_in, environment_size};
 
@@ -13,6 +13,7 @@ use symbols::tags::{LABEL, ROUTINE};
 use symbols::{KNOWN, has_key, key_place};
 
 // the step of a label, 0 for none
+// kept: 0 for none in steps, as the rows of the table have it, where the steps go
 fn label_step(known: &[u64; KNOWN], key: u64) -> usize
     requires { CountsInRange known.now }
     ensures { result ≡ (places_in known.now).label (name_of key) }
@@ -25,30 +26,29 @@ fn label_step(known: &[u64; KNOWN], key: u64) -> usize
     0
 }
 
-// which routine has a name, counted from 1, the latest of them; 0 for none
-fn routine_found(known: &[u64; KNOWN], key: u64) -> usize
+// the latest routine that has a name, if one has it
+fn routine_found(known: &[u64; KNOWN], key: u64) -> Option<usize>
     requires { CountsInRange known.now }
     ensures { RoutineFound known.now key result }
 {
-    let mut i = known[ROUTINE_COUNT] as usize;
-    while 0 < i {
-        if known[ROUTINE_KEYS + (i - 1)] == key {
-            return i;
+    let count = known[ROUTINE_COUNT] as usize;
+    for i in (0..count).rev() {
+        if known[ROUTINE_KEYS + i] == key {
+            return Some(i);
         }
-        i -= 1;
     }
-    0
+    None
 }
 
-// what stands in a column of the routines for one of them, counted from 1; 0 for none
-fn column_of(known: &[u64; KNOWN], from: usize, i: usize) -> usize
-    requires { (length known.now ≡ environment_size) × (from + i ≤ environment_size) }
-    ensures { result ≡ column_in known.now from i }
+// what stands in a column of the routines for one of them, 0 for none
+fn column_of(known: &[u64; KNOWN], from: usize, routine: Option<usize>) -> usize
+    requires { (length known.now ≡ environment_size) × ColumnFits from routine }
+    ensures { result ≡ column_in known.now from routine }
 {
-    if i == 0 {
-        return 0;
+    match routine {
+        Some(i) => known[from + i] as usize,
+        None => 0,
     }
-    known[from + (i - 1)] as usize
 }
 
 // the step that a name with a tag leads to, 0 for none
@@ -59,11 +59,11 @@ pub fn target_step(known: &[u64; KNOWN], key: u64, tag: u8) -> usize
     if tag == LABEL {
         return label_step(known, key);
     }
-    let i = routine_found(known, key);
+    let routine = routine_found(known, key);
     if tag == ROUTINE {
-        return column_of(known, ENTRIES, i);
+        return column_of(known, ENTRIES, routine);
     }
-    column_of(known, EXITS, i)
+    column_of(known, EXITS, routine)
 }
 
 // the step behind the statement that is read

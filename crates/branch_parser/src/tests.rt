@@ -1,68 +1,63 @@
 // The tests of IF: NULL, NUMERIC, or two operands and a sign.
 // Assumes nothing.
-ghost use Rattle.std.specs.Prelude.{List, ◌≡◌, ℕ, ◌≤◌, length};
+ghost use Rattle.std.specs.Prelude.{List, Some, ◌≡◌, ℕ, ◌≤◌, length};
 ghost use Rattle.branch_parser.specs.Tests.{ComparisonAt, SignedRead, IfOperandRead, tested_by, ComparedRead, ComparingRead, TestRead};
 ghost use Rattle.symbols.specs.Environment.{CountsInRange};
-ghost use Rattle.numeric_parser.specs.Operands.{ReaderReady, OperandInside};
-ghost use Rattle.card_reader.specs.Packs.{longest_text};
+ghost use Rattle.numeric_parser.specs.Operands.{ReaderReady, InText};
 
-use crate::{Draft, Row};
+use crate::{BLANK, Row};
 use encoding::{cell_kinds, step_kinds};
-use lexer::constants::{SignedConstant, signed};
+use lexer::constants::signed;
 use lexer::{begins_at, constant_at, stands_at};
-use numeric_parser::operands::{Cell, Operand, placed, read_called, read_part, read_string, skip};
+use numeric_parser::operands::{Cell, marked, read_called, read_part, read_string, skip};
 use symbols::tags::STRING;
 use symbols::{Cursor, KNOWN, NAMES, with_bias};
 
-// the sign of a comparison at a place: its number, 0 for none, and how many bytes it has
+// the sign of a comparison: its number, and how many bytes it has
 #[derive(Clone, Copy)]
 struct Sign {
     number: u8,
     size: usize,
 }
 
-// the two-byte signs first
-fn comparison(text: &[u8], at: usize) -> Sign
+// the sign at a place, if one stands there: the two-byte signs first
+fn comparison(text: &[u8], at: usize) -> Option<Sign>
     ensures { ComparisonAt text.now at result }
 {
     if begins_at(text, at, b"<>") {
-        return Sign { number: 2, size: 2 };
+        return Some(Sign { number: 2, size: 2 });
     }
     if begins_at(text, at, b"<=") {
-        return Sign { number: 5, size: 2 };
+        return Some(Sign { number: 5, size: 2 });
     }
     if begins_at(text, at, b">=") {
-        return Sign { number: 6, size: 2 };
+        return Some(Sign { number: 6, size: 2 });
     }
     if stands_at(text, at, b'=') {
-        return Sign { number: 1, size: 1 };
+        return Some(Sign { number: 1, size: 1 });
     }
     if stands_at(text, at, b'<') {
-        return Sign { number: 3, size: 1 };
+        return Some(Sign { number: 3, size: 1 });
     }
     if stands_at(text, at, b'>') {
-        return Sign { number: 4, size: 1 };
+        return Some(Sign { number: 4, size: 1 });
     }
-    Sign { number: 0, size: 0 }
+    None
 }
 
 // a constant that may have a sign
-fn signed_constant(text: &[u8], c: Cursor) -> Operand
-    requires { (c.at ≤ length text.now) × (length text.now ≤ longest_text) }
+fn signed_constant(text: &[u8], c: Cursor) -> Option<(Cell, Cursor)>
+    requires { InText text.now c }
     ensures { (keys tags : List ℕ) → ReaderReady text.now keys tags c → SignedRead text.now keys tags c result }
 {
     let at = c.at;
-    match signed(text, at) {
-        SignedConstant::Broken => Operand::Broken,
-        SignedConstant::Is { value, next } => Operand::Got(
-            Cell {
-                kind: cell_kinds::CONSTANT,
-                place: 0,
-                value: with_bias(value),
-            },
-            skip(c, next - at),
-        ),
-    }
+    let number = signed(text, at)?;
+    let cell = Cell {
+        kind: cell_kinds::CONSTANT,
+        place: 0,
+        value: with_bias(number.value),
+    };
+    Some((cell, skip(c, number.next - at)))
 }
 
 // a signed constant, a number, LENGTH or NUMBER
@@ -72,7 +67,7 @@ fn if_operand(
     keys: &mut [u64; NAMES],
     tags: &mut [u8; NAMES],
     c: Cursor,
-) -> Operand
+) -> Option<(Cell, Cursor)>
     requires reader_ready { ReaderReady text.now keys.old tags.old c }
     requires counts_in_range { CountsInRange known.now }
     ensures { IfOperandRead text.now known.now keys.old tags.old c result keys.new tags.new }
@@ -91,29 +86,21 @@ fn compared(
     tags: &mut [u8; NAMES],
     c: Cursor,
     left: Cell,
-) -> Draft
+) -> Option<(Row, Cursor)>
     requires reader_ready { ReaderReady text.now keys.old tags.old c }
     requires counts_in_range { CountsInRange known.now }
     ensures { ComparedRead text.now known.now keys.old tags.old c left result keys.new tags.new }
 {
-    let sign = comparison(text, c.at);
-    if sign.number == 0 {
-        return Draft::Broken;
-    }
-    match if_operand(text, known, keys, tags, skip(c, sign.size)) {
-        Operand::Broken => Draft::Broken,
-        Operand::Got(right, d) => Draft::Got(
-            Row {
-                kind: step_kinds::COMPARE,
-                flag: sign.number,
-                success: 0,
-                failure: 0,
-                left,
-                right,
-            },
-            d,
-        ),
-    }
+    let sign = comparison(text, c.at)?;
+    let (right, d) = if_operand(text, known, keys, tags, skip(c, sign.size))?;
+    let row = Row {
+        kind: step_kinds::COMPARE,
+        flag: sign.number,
+        left,
+        right,
+        ..BLANK
+    };
+    Some((row, d))
 }
 
 // two operands and a sign
@@ -123,45 +110,29 @@ fn comparing(
     keys: &mut [u64; NAMES],
     tags: &mut [u8; NAMES],
     c: Cursor,
-) -> Draft
+) -> Option<(Row, Cursor)>
     requires reader_ready { ReaderReady text.now keys.old tags.old c }
     requires counts_in_range { CountsInRange known.now }
     ensures { ComparingRead text.now known.now keys.old tags.old c result keys.new tags.new }
 {
-    match if_operand(text, known, keys, tags, c) {
-        Operand::Broken => Draft::Broken,
-        Operand::Got(left, d) => compared(text, known, keys, tags, d, left),
-    }
+    let (left, d) = if_operand(text, known, keys, tags, c)?;
+    compared(text, known, keys, tags, d, left)
 }
 
-// a test of one cell before `)`
-fn tested(text: &[u8], kind: u8, r: Operand) -> Draft
-    requires { OperandInside text.now r }
-    ensures { result ≡ tested_by text.now kind r }
+// a test of one cell, if `)` stands behind it
+fn tested(text: &[u8], kind: u8, left: Cell, c: Cursor) -> Option<(Row, Cursor)>
+    requires { InText text.now c }
+    ensures { result ≡ tested_by text.now kind (Some (left, c)) }
 {
-    match r {
-        Operand::Broken => Draft::Broken,
-        Operand::Got(left, d) => {
-            if stands_at(text, d.at, b')') {
-                return Draft::Got(
-                    Row {
-                        kind,
-                        flag: 0,
-                        success: 0,
-                        failure: 0,
-                        left,
-                        right: Cell {
-                            kind: cell_kinds::NOTHING,
-                            place: 0,
-                            value: 0,
-                        },
-                    },
-                    skip(d, 1),
-                );
-            }
-            Draft::Broken
-        }
-    }
+    let d = marked(text, c, b')')?;
+    Some((
+        Row {
+            kind,
+            left,
+            ..BLANK
+        },
+        d,
+    ))
 }
 
 // the test of an IF, as a row with no steps yet
@@ -171,37 +142,25 @@ pub fn read_test(
     keys: &mut [u64; NAMES],
     tags: &mut [u8; NAMES],
     c: Cursor,
-) -> Draft
+) -> Option<(Row, Cursor)>
     requires reader_ready { ReaderReady text.now keys.old tags.old c }
     requires counts_in_range { CountsInRange known.now }
     ensures { TestRead text.now known.now keys.old tags.old c result keys.new tags.new }
 {
     let at = c.at;
     if begins_at(text, at, b"NULL(") {
-        return tested(
-            text,
-            step_kinds::NULL,
-            placed(
-                cell_kinds::STRING,
-                0,
-                read_string(text, known, keys, tags, skip(c, 5), STRING),
-            ),
-        );
+        let (place, d) = read_string(text, known, keys, tags, skip(c, 5), STRING)?;
+        let cell = Cell {
+            kind: cell_kinds::STRING,
+            place,
+            value: 0,
+        };
+        return tested(text, step_kinds::NULL, cell, d);
     }
     if begins_at(text, at, b"NUMERIC(") {
-        return tested(
-            text,
-            step_kinds::NUMERIC,
-            read_part(
-                text,
-                known,
-                keys,
-                tags,
-                skip(c, 8),
-                cell_kinds::STRING,
-                STRING,
-            ),
-        );
+        let kind = cell_kinds::STRING;
+        let (cell, d) = read_part(text, known, keys, tags, skip(c, 8), kind, STRING)?;
+        return tested(text, step_kinds::NUMERIC, cell, d);
     }
     comparing(text, known, keys, tags, c)
 }

@@ -1,15 +1,15 @@
 -- Laws of a label's bytes and their key, byte by byte from the right.
 -- Assumes nothing.
 use mathlib.Core.Bool.{true, false, not}
-use mathlib.Core.List.{List, [], ◌∷◌}
-use mathlib.Core.Path.{◌≡◌, ap, sym, ◌∙◌}
-use Prim.Native.Nat.{ℕ, suc, ◌+◌, ◌*◌, ◌-◌, ◌^◌, ◌≤◌, ◌<◌}
-use native.Mathlib.Nat.{lt_of_lt_of_le, min-le_left, one-le-pow, pow-le-pow_right, pow-succ'}
+use mathlib.Core.List.{List, [], ◌∷◌, ◌++◌, map, reverse}
+use mathlib.Core.Path.{◌≡◌, refl, ap, sym, ◌∙◌}
+use Prim.Native.Nat.{ℕ, suc, ◌+◌, ◌*◌, ◌^◌, ◌≤◌, ◌<◌}
+use denote.Ref.{Bor}
+use native.Mathlib.Nat.{lt_of_lt_of_le, min-le_left, pow-le-pow_right, pow-succ'}
 use native.Mathlib.Omega.{arith}
-use lib.ListN.{length, take, drop, get_or, length-take}
-use lib.Seq.{drop-length}
+use lib.ListN.{length, take, length-take}
+use Rattle.std.proofs.lemmas.List.{length-append, length-map, length-reverse, reverse-append}
 use Rattle.base.specs.Choice.{test_cases}
-use Rattle.base.specs.ListLaws.{drop-next}
 use Rattle.base.specs.Lists.{keep}
 use Rattle.cards.specs.Bytes.{is_blank}
 use Rattle.cards.specs.Cards.{without_blanks}
@@ -24,13 +24,6 @@ key_without : (b : ℕ) (bs : List ℕ) → is_blank b ≡ true → key_of (with
 unfolding key_of without_blanks keep
 key_without b bs blank = ap (λ t. key_of (elim (not t) [ true ↦ b ∷ without_blanks bs | false ↦ without_blanks bs ])) blank
 
-module _ (xs : List ℕ) (i : ℕ) (h : i < length xs) where
-  pub key-kept : is_blank (get_or xs i 0) ≡ false → key_of (without_blanks (drop i xs)) ≡ 256 * key_of (without_blanks (drop (i + 1) xs)) + get_or xs i 0
-  key-kept other = rw (drop-next xs i 0 h) (key-with _ _ other)
-
-  pub key_dropped : is_blank (get_or xs i 0) ≡ true → key_of (without_blanks (drop i xs)) ≡ key_of (without_blanks (drop (i + 1) xs))
-  key_dropped blank = rw (drop-next xs i 0 h) (key_without _ _ blank)
-
 -- no byte is added where blanks are dropped
 pub blanks_less : (xs : List ℕ) → length (without_blanks xs) ≤ length xs
 unfolding without_blanks keep
@@ -44,58 +37,48 @@ blanks_less (x ∷ xs) =
 pub front_short : (n : ℕ) (xs ys : List ℕ) → ys ≡ take n xs → length ys ≤ n
 front_short n xs ys e = rw (e, length-take) (min-le_left n (length xs))
 
--- the key of the bytes from i on, of at most 8
-pub record Keyed (bytes : List ℕ) (i key : ℕ) : Type 0 where
-  pub inside : i ≤ length bytes
-  pub short : length bytes ≤ 8
-  pub is : key ≡ key_of (without_blanks (drop i bytes))
-  pub fits : key < 256 ^ (8 - i)
+power-small : (n : ℕ) → n < 8 → 256 ^ n ≤ 256 ^ 7
+power-small n few = let le : n ≤ 7 = omega arith in pow-le-pow_right (omega arith) le
 
-module _ (bytes : List ℕ) where
-  pub keyed-start : length bytes ≤ 8 → Keyed bytes (length bytes) 0
-  unfolding key_of without_blanks keep
-  keyed-start h =
-      record {
-        inside = omega arith;
-        short = h;
-        is = rw (drop-length bytes);
-        fits = one-le-pow (8 - length bytes) 256 (omega arith);
-      }
+-- of at most 8 bytes some are gone through before the last one
+pub seen_few : (name bytes : List ℕ) (seen : List (Bor ℕ)) → bytes ≡ take 8 name → length seen < length (reverse bytes) →
+    length (map (λ y. y.now) seen) < 8
+seen_few name bytes seen e h =
+    rw (length-map seen (λ y. y.now)) (omega (arith, front_short 8 name bytes e, length-reverse bytes))
 
-  module _ (i key : ℕ) (k : Keyed bytes i key) (more : 0 < i) where
-    power : 256 ^ (8 - (i - 1)) ≡ 256 * 256 ^ (8 - i)
+-- the key of the bytes gone through from the last one back, with its bound
+pub record Keyed (seen : List ℕ) (key : ℕ) : Type 0 where
+  pub is : key ≡ key_of (without_blanks (reverse seen))
+  pub fits : key < 256 ^ length seen
+
+pub keyed_start : Keyed [] 0
+unfolding key_of without_blanks keep
+keyed_start = record { is = refl; fits = omega arith }
+
+module _ {seen : List ℕ} {key : ℕ} (k : Keyed seen key) where
+  module _ (b : ℕ) where
+    last : reverse (seen ++ b ∷ []) ≡ b ∷ reverse seen
+    last = reverse-append seen (b ∷ [])
+
+    power : 256 ^ length (seen ++ b ∷ []) ≡ 256 * 256 ^ length seen
     power =
-        let one : 8 - (i - 1) ≡ suc (8 - i) = omega arith in
-        rw one (pow-succ' 256 (8 - i))
+        let one : length (seen ++ b ∷ []) ≡ suc (length seen) = rw (length-append seen (b ∷ [])) (omega arith) in
+        rw one (pow-succ' 256 (length seen))
 
-    back : i - 1 + 1 ≡ i
-    back = omega arith
-
-    pub keyed-with : is_blank (get_or bytes (i - 1) 0) ≡ false → get_or bytes (i - 1) 0 < 256 → Keyed bytes (i - 1) (256 * key + get_or bytes (i - 1) 0)
+    pub keyed-with : is_blank b ≡ false → b < 256 → Keyed (seen ++ b ∷ []) (256 * key + b)
     keyed-with other byte =
         record {
-          inside = omega arith;
-          short = k.short;
-          is =
-              ap (λ (n : ℕ). 256 * n + get_or bytes (i - 1) 0) (k.is ∙ ap (λ (n : ℕ). key_of (without_blanks (drop n bytes))) (sym back))
-              ∙ sym (key-kept bytes (i - 1) (omega arith) other);
-          fits = let p = power in omega arith;
+          is = ap (λ (n : ℕ). 256 * n + b) k.is ∙ sym (ap (λ (l : List ℕ). key_of (without_blanks l)) last ∙ key-with b (reverse seen) other);
+          fits = let f = k.fits in omega (arith, power);
         }
 
-    pub keyed_without : is_blank (get_or bytes (i - 1) 0) ≡ true → Keyed bytes (i - 1) key
+    pub keyed_without : is_blank b ≡ true → Keyed (seen ++ b ∷ []) key
     keyed_without blank =
         record {
-          inside = omega arith;
-          short = k.short;
-          is =
-              k.is
-              ∙ ap (λ (n : ℕ). key_of (without_blanks (drop n bytes))) (sym back)
-              ∙ sym (key_dropped bytes (i - 1) (omega arith) blank);
-          fits = let p = power in omega arith;
+          is = k.is ∙ sym (ap (λ (l : List ℕ). key_of (without_blanks l)) last ∙ key_without b (reverse seen) blank);
+          fits = let f = k.fits in omega (arith, power);
         }
 
-    pub keyed_small : key < 72057594037927936
-    keyed_small =
-        let few : 8 - i ≤ 7 = omega arith in
-        let most : 256 ^ (8 - i) ≤ 256 ^ 7 = pow-le-pow_right (omega arith) few in
-        lt_of_lt_of_le k.fits most
+  pub keyed_small : length seen < 8 → key < 72057594037927936
+  keyed_small few =
+      let most : 256 ^ length seen ≤ 256 ^ 7 = power-small (length seen) few in lt_of_lt_of_le k.fits most

@@ -1,19 +1,22 @@
 -- Laws of lines: where the first one ends, and what holds of all bytes of one.
 -- Assumes nothing.
-use mathlib.Core.Bool.{Bool, true, false, ◌&&◌}
-use mathlib.Core.List.{List, [], ◌∷◌}
+use mathlib.Core.Bool.{Bool, true, false, not, ◌&&◌, and_assoc, and-true}
+use mathlib.Core.List.{List, [], ◌∷◌, ◌++◌}
 use mathlib.Core.Path.{◌≡◌, refl, ap, sym, ◌∙◌}
-use Prim.Native.Nat.{ℕ, zero, suc, ◌+◌, ◌-◌, ◌<◌}
-use native.Mathlib.Nat.{not-suc-le-zero}
+use Prim.Native.Nat.{ℕ, suc, ◌+◌, ◌-◌, ◌<◌}
 use native.Mathlib.Omega.{arith}
 use lib.Dec.{eqb}
-use lib.ListN.{length, take, drop, get_or}
+use lib.ListN.{length, take, drop}
 use lib.Seq.{drop-cons, drop-drop}
-use Rattle.base.specs.Choice.{test_cases}
-use Rattle.base.specs.ListLaws.{all-next}
+use Rattle.std.proofs.lemmas.Bool.{eq-eqb, eqb-true}
+use Rattle.std.specs.Cmp.Lexicographic.{pointwise}
+use Rattle.std.specs.List.{list_all}
+use Rattle.base.specs.Choice.{test_cases, same_truth}
 use Rattle.base.specs.Lists.{all}
-use Rattle.cards.specs.Bytes.{newline}
-use Rattle.cards.specs.Cards.{on_first, lines}
+use Rattle.cards.specs.Bytes.{newline, star, between, class_of, is_refused}
+use Rattle.cards.specs.Cards.{on_first, lines, is_comment}
+use Rattle.card_reader.specs.KeyLaws.{data_only}
+use Rattle.classes.specs.Laws.{data_range}
 use Rattle.card_reader.specs.Lines.{LineEnds}
 use Rattle.search.specs.NextLaws.{next-until}
 use Rattle.search.specs.Passing.{NextByte, until}
@@ -45,15 +48,29 @@ line_ends deck from end h n =
     let first : lines rest ≡ take (until 10 rest) rest ∷ lines (drop (suc (until 10 rest)) rest) = rw (drop-cons deck from 0 h) (first-line _ _) in
     record { low = n.low; high = n.high; first = rw (size, next, ← drop-drop) first }
 
--- one byte further, of what holds of all bytes
-pub all_more : (f : ℕ → Bool) (xs : List ℕ) (i : ℕ) → i < length xs → f (get_or xs i 0) ≡ true → all f (drop (i + 1) xs) ≡ all f (drop i xs)
-all_more f xs i h t = sym (all-next f xs i h ∙ ap (λ u. u && all f (drop (i + 1) xs)) t)
+-- a byte that is not refused
+abbrev pub is_kept : ℕ → Bool
+is_kept b = not (is_refused (class_of b))
 
-pub all_false : (f : ℕ → Bool) (xs : List ℕ) (i : ℕ) → i < length xs → f (get_or xs i 0) ≡ false → all f (drop i xs) ≡ false
-all_false f xs i h t = all-next f xs i h ∙ ap (λ u. u && all f (drop (i + 1) xs)) t
+-- one byte more is in the range
+pub kept_more : (xs : List ℕ) (b : ℕ) (within : Bool) → within ≡ all is_kept xs → (within && between 32 126 b) ≡ all is_kept (xs ++ b ∷ [])
+unfolding all
+kept_more [] b within e =
+    ap (λ t. t && between 32 126 b) e ∙ same_truth _ _ (data_range b) (data_only b) ∙ sym (and-true (is_kept b))
+kept_more (x ∷ xs) b within e =
+    ap (λ t. t && between 32 126 b) e
+    ∙ and_assoc (is_kept x) (all is_kept xs) (between 32 126 b)
+    ∙ ap (λ t. is_kept x && t) (kept_more xs b (all is_kept xs) refl)
 
--- the byte at a place, whatever is said to stand behind the end
-pub get_or_within : (xs : List ℕ) (i d e : ℕ) → i < length xs → get_or xs i d ≡ get_or xs i e
-get_or_within [] i d e h = absurd (not-suc-le-zero h)
-get_or_within (x ∷ xs) zero d e h = refl
-get_or_within (x ∷ xs) (suc i) d e h = get_or_within xs i d e (omega arith)
+-- the library's words for what the definitions say of bytes
+pub all-listed : (f : ℕ → Bool) (xs : List ℕ) → list_all f xs ≡ all f xs
+unfolding all
+all-listed f [] = refl
+all-listed f (x ∷ xs) = ap (λ t. f x && t) (all-listed f xs)
+
+pub star_leads : (xs : List ℕ) → pointwise eqb (42 ∷ []) (take 1 xs) ≡ is_comment xs
+unfolding is_comment star
+star_leads [] = refl
+star_leads (x ∷ xs) =
+    and-true (eqb 42 x)
+    ∙ same_truth (eqb 42 x) (eqb x 42) (λ e. eq-eqb x 42 (sym (eqb-true 42 x e))) (λ e. eq-eqb 42 x (sym (eqb-true x 42 e)))

@@ -1,25 +1,27 @@
 -- Laws of packing: one byte more, one part more, and the literals of a whole text.
 -- Assumes nothing.
-use mathlib.Core.Bool.{Bool, true, false, not, ◌&&◌, false≢true, and-eq-true_iff, and_assoc, and-true}
+use mathlib.Core.Bool.{Bool, true, false, not, ◌&&◌, ◌||◌, false≢true, and_assoc, and-true}
 use mathlib.Core.List.{List, [], ◌∷◌, ◌++◌, append-nil}
 use mathlib.Core.Path.{◌≡◌, refl, ap, sym, ◌∙◌}
 use Prim.Native.Nat.{ℕ, ◌+◌, ◌≤◌, ◌<◌}
 use native.Mathlib.Nat.{add-zero}
 use native.Mathlib.Numerals.{add-one}
 use native.Mathlib.Omega.{arith}
+use denote.Enum.Bare.{sameb}
 use mir.Val.{bool_byte}
 use lib.Dec.{eqb}
 use lib.ListN.{length, take, drop, get_or, set, length-set, drop_of_length-le}
 use lib.Seq.{append_snoc, take-suc-set, take-set-le}
-use borrow.Author.Tests.{eqb-true, eqb-false, eq-eqb, ne_eqb, not-false, not-true}
+use borrow.Author.Tests.{eqb-true, eq-eqb, ne_eqb, not-false}
 use Rattle.base.specs.Choice.{test_cases}
 use Rattle.base.specs.ListLaws.{drop-next}
 use Rattle.cards.specs.Bytes.{is_blank, quote}
 use Rattle.cards.specs.Packing.{Place, outside, opened, doubled, inside, place_after, is_dropped, pack_from, literals_from}
 use Rattle.card_reader.specs.declared.packed.Packing.{Packing}
 use Rattle.card_reader.specs.declared.packed.Place as Code
-use Rattle.card_reader.specs.declared.packed.Place.TheVariants.{Outside}
+use Rattle.card_reader.specs.declared.packed.Place.TheVariants.{Outside, Opened, Doubled, Inside}
 use Rattle.card_reader.specs.Packs.{Packs, PackingSteps}
+use Rattle.card_reader.specs.contracts.packed.Place.{the_type}
 use Rattle.card_reader.specs.Places.{is_outside, kept_at, place_behind, place_meaning, stays_whole, unbroken}
 
 -- the place behind a quote, and behind another byte
@@ -53,6 +55,20 @@ pub after_doubled : (b : ℕ) → outside ≡ place_after doubled b
 unfolding place_after
 after_doubled b = refl
 
+-- the code's places compared
+pub outside_told : (p : Code.Place) → sameb the_type p Outside ≡ is_outside (place_meaning p)
+outside_told Outside = refl
+outside_told Opened = refl
+outside_told Doubled = refl
+outside_told Inside = refl
+
+pub whole_told : (p : Code.Place) (b : ℕ) → (not (sameb the_type p Doubled) || eqb b 34) ≡ stays_whole (place_meaning p) b
+unfolding quote
+whole_told Outside b = refl
+whole_told Opened b = refl
+whole_told Doubled b = refl
+whole_told Inside b = refl
+
 -- a byte outside literals counts unless it is a blank; every other byte counts
 kept_outside : (b : ℕ) → bool_byte (not (is_blank b)) ≡ kept_at outside b
 unfolding kept_at is_dropped
@@ -82,13 +98,12 @@ outside_only doubled e = absurd (false≢true e)
 outside_only inside e = absurd (false≢true e)
 
 -- one byte more, outside literals and no quote
-pub steps_outside : (s : Packing) (b : ℕ) (flag blank : Bool) → flag ≡ is_outside (place_meaning s.place) → (flag && not (eqb b 34)) ≡ true →
-    blank ≡ is_blank b → PackingSteps s b (record { place = Outside; whole = s.whole; length = s.length + bool_byte (not blank) })
-steps_outside s b flag blank e taken eb =
-    let parts = (and-eq-true_iff flag (not (eqb b 34))).0 taken in
-    let at : place_meaning s.place ≡ outside = outside_only _ (sym e ∙ parts.0) in
+pub steps_outside : (s : Packing) (b : ℕ) (blank : Bool) → is_outside (place_meaning s.place) ≡ true → (b ≡ 34 → ⊥) → blank ≡ is_blank b →
+    PackingSteps s b (record { place = s.place; whole = s.whole; length = s.length + bool_byte (not blank) })
+steps_outside s b blank out other eb =
+    let at : place_meaning s.place ≡ outside = outside_only _ out in
     record {
-      place = after-other outside b (eqb-false b 34 (not-true (eqb b 34) parts.1)) ∙ ap (λ p. place_after p b) (sym at);
+      place = at ∙ after-other outside b other ∙ ap (λ p. place_after p b) (sym at);
       whole = sym (and-true s.whole) ∙ ap (λ p. s.whole && stays_whole p b) (sym at);
       length =
           ap (λ (n : ℕ). s.length + n)
@@ -96,14 +111,14 @@ steps_outside s b flag blank e taken eb =
     }
 
 -- one byte more, any other
-pub steps-other : (s : Packing) (b : ℕ) (flag whole : Bool) (place : Code.Place) → flag ≡ is_outside (place_meaning s.place) →
-    (flag && not (eqb b 34)) ≡ false → place_meaning place ≡ place_after (place_meaning s.place) b → whole ≡ stays_whole (place_meaning s.place) b →
+pub steps-other : (s : Packing) (b : ℕ) (whole : Bool) (place : Code.Place) → (is_outside (place_meaning s.place) && not (eqb b 34)) ≡ false →
+    place_meaning place ≡ place_after (place_meaning s.place) b → whole ≡ stays_whole (place_meaning s.place) b →
     PackingSteps s b (record { place = place; whole = s.whole && whole; length = s.length + 1 })
-steps-other s b flag whole place e left p w =
+steps-other s b whole place left p w =
     record {
       place = p;
       whole = ap (λ t. s.whole && t) w;
-      length = ap (λ (n : ℕ). s.length + n) (sym (kept-other (place_meaning s.place) b (ap (λ t. t && not (eqb b 34)) (sym e) ∙ left)));
+      length = ap (λ (n : ℕ). s.length + n) (sym (kept-other (place_meaning s.place) b left));
     }
 
 -- a byte stored behind the packed ones, and counted or not

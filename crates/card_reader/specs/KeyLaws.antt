@@ -41,17 +41,21 @@ not_refused k false false false true t₅ f₁ f₂ f₃ f₄ f₅ e = f₄ refl
 not_refused k false false false false true f₁ f₂ f₃ f₄ f₅ e = f₅ refl
 not_refused k false false false false false f₁ f₂ f₃ f₄ f₅ e = absurd (false≢true e)
 
-data_byte : (b : ℕ) → not (is_refused (class_of b)) ≡ true → is_key_byte b ≡ true
-unfolding class_of is_letter is_digit is_blank marks bytes is_key_byte between all
-data_byte b =
-    let ranged : (low high : ℕ) → 1 ≤ low → high ≤ 255 → between low high b ≡ true → is_key_byte b ≡ true =
-    λ low high l h e. let range = within low high b e in key-byte b (omega arith) (omega arith) in
-    not_refused (is_key_byte b) (is_letter b) (is_digit b) (is_blank b) (among b marks) (between 32 126 b)
+-- and from 32 to 126
+pub data_only : (b : ℕ) → not (is_refused (class_of b)) ≡ true → between 32 126 b ≡ true
+unfolding class_of is_letter is_digit is_blank marks bytes between all
+data_only b =
+    let ranged : (low high : ℕ) → 32 ≤ low → high ≤ 126 → between low high b ≡ true → between 32 126 b ≡ true =
+    λ low high l h e. let range = within low high b e in in_between 32 126 b (omega arith) (omega arith) in
+    not_refused (between 32 126 b) (is_letter b) (is_digit b) (is_blank b) (among b marks) (between 32 126 b)
     (ranged 65 90 (omega arith) (omega arith))
     (ranged 48 57 (omega arith) (omega arith))
-    (λ e. let same = eqb-true b 32 e in key-byte b (omega arith) (omega arith))
-    (all_among is_key_byte b marks refl)
-    (ranged 32 126 (omega arith) (omega arith))
+    (λ e. let same = eqb-true b 32 e in in_between 32 126 b (omega arith) (omega arith))
+    (all_among (between 32 126) b marks refl)
+    (λ e. e)
+
+data_byte : (b : ℕ) → not (is_refused (class_of b)) ≡ true → is_key_byte b ≡ true
+data_byte b e = let range = within 32 126 b (data_only b e) in key-byte b (omega arith) (omega arith)
 
 -- the key of a sound line's label shows it
 pub sound_label : (line : List ℕ) → sound_line line ≡ true → all is_key_byte (label_of current line) ≡ true

@@ -43,85 +43,81 @@ pub struct Gathered {
 fn joins(b: u8) -> bool
     ensures { result ≡ joins b }
 {
-    !is_blank(b) & (b != b'/')
+    !is_blank(b) && b != b'/'
 }
 
-// nothing of a statement yet, whose first line starts at from
-fn nothing(from: usize) -> Joining
-    ensures { result ≡ nothing_from from }
-{
-    let packing = Packing {
-        place: Place::Outside,
-        whole: true,
-        length: 0,
-    };
-    Joining {
-        sound: true,
-        more: true,
-        packing,
-        lines: 0,
-        next: from,
+impl Joining {
+    // nothing of a statement yet, whose first line starts at from
+    fn nothing(from: usize) -> Joining
+        ensures { result ≡ nothing_from from }
+    {
+        Joining {
+            sound: true,
+            more: true,
+            packing: Packing {
+                place: Place::Outside,
+                whole: true,
+                length: 0,
+            },
+            lines: 0,
+            next: from,
+        }
     }
-}
 
-// adds a line that is no comment and not blank
-fn add_line(line: &[u8], next: usize, text: &mut [u8; DECK], s: Joining) -> Joining
-    requires { LineAddable line.now next text.old s }
-    ensures { LineAdded line.now next text.old s text.new result }
-{
-    let mark = line::column9(line);
-    let start = s.packing;
-    let packing = packed::pack(line::text_of(line), text, start);
-    Joining {
-        sound: s.sound & (line::sound_line(line) & (mark != b'/')),
-        more: joins(mark),
-        packing,
-        lines: s.lines + 1,
-        next,
+    // adds a line that is no comment and not blank
+    fn add_line(self, line: &[u8], next: usize, text: &mut [u8; DECK]) -> Joining
+        requires { LineAddable line.now next text.old self }
+        ensures { LineAdded line.now next text.old self text.new result }
+    {
+        let mark = line::column9(line);
+        let packing = self.packing.pack(line::text_of(line), text);
+        Joining {
+            sound: self.sound & (line::sound_line(line) & (mark != b'/')),
+            more: joins(mark),
+            packing,
+            lines: self.lines + 1,
+            next,
+        }
     }
-}
 
-// the statement ends with a joined line that is a comment, blank or missing
-fn broken_off(s: Joining) -> Joining
-    ensures { result ≡ broken_off s }
-{
-    let packing = s.packing;
-    Joining {
-        sound: false,
-        more: false,
-        packing,
-        lines: s.lines,
-        next: s.next,
+    // the statement ends with a joined line that is a comment, blank or missing
+    fn broken_off(self) -> Joining
+        ensures { result ≡ broken_off self }
+    {
+        Joining {
+            sound: false,
+            more: false,
+            ..self
+        }
     }
-}
 
-// joins the next line of the deck
-fn join_line(deck: &[u8], text: &mut [u8; DECK], s: Joining) -> Joining
-    requires { DeckRoom deck.now text.old s }
-    ensures { Joined deck.now text.old s text.new result }
-{
-    let from = s.next;
-    if deck.len() <= from {
-        return broken_off(s);
+    // joins the next line of the deck
+    fn join_line(self, deck: &[u8], text: &mut [u8; DECK]) -> Joining
+        requires { DeckRoom deck.now text.old self }
+        ensures { Joined deck.now text.old self text.new result }
+    {
+        if deck.len() <= self.next {
+            return self.broken_off();
+        }
+        let end = line::line_end(deck, self.next);
+        let line = &deck[self.next..end];
+        if line::is_skipped(line) {
+            return self.broken_off();
+        }
+        self.add_line(line, end + 1, text)
     }
-    let end = line::line_end(deck, from);
-    let line = &deck[from..end];
-    if line::is_skipped(line) {
-        return broken_off(s);
-    }
-    add_line(line, end + 1, text, s)
-}
 
-// joins lines as long as column 9 says so
-fn join_lines(deck: &[u8], text: &mut [u8; DECK], first: Joining) -> Joining
-    requires { DeckRoom deck.now text.old first }
-    ensures { JoinedAll deck.now text.old first text.new result }
-{
-    let mut s = first;
-    while s.more {
-        s = join_line(deck, text, s);
+    // joins lines as long as column 9 says so
+    fn join_lines(self, deck: &[u8], text: &mut [u8; DECK]) -> Joining
+        requires { DeckRoom deck.now text.old self }
+        ensures { JoinedAll deck.now text.old self text.new result }
+    {
+        let mut s = self;
+        while s.more {
+            s = s.join_line(deck, text);
+        }
+        s
     }
-    s
 }
 
 // a comment or blank line
@@ -150,16 +146,14 @@ pub fn gather(deck: &[u8], from: usize, text: &mut [u8; DECK]) -> Gathered
         return skipped_entry(line, end + 1);
     }
     let label = keys::key_of(line);
-    let first = add_line(line, end + 1, text, nothing(from));
-    let s = join_lines(deck, text, first);
-    let p = s.packing;
-    let place = p.place;
+    let first = Joining::nothing(from).add_line(line, end + 1, text);
+    let s = first.join_lines(deck, text);
     Gathered {
         skipped: false,
         sound: s.sound,
         label,
-        length: p.length,
-        whole: p.whole & packed::is_outside(place),
+        length: s.packing.length,
+        whole: s.packing.whole & (s.packing.place == Place::Outside),
         lines: s.lines,
         next: s.next,
     }

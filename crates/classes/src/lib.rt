@@ -8,6 +8,7 @@ ghost use Rattle.classes.specs.Numbers.{class_number};
 ghost use Rattle.values.specs.Conversion.{is_digit_or_blank};
 
 // the number of each class
+// kept: numbers, since an enum is no plainer: document 01 (F7) has the table as 256 numbers, which 256 names of classes would only spell out
 const LETTER: u8 = 0;
 
 const DIGIT: u8 = 1;
@@ -77,8 +78,7 @@ const CLASSES: [u8; 256] = [
 pub fn class_of(b: u8) -> u8
     ensures { result ≡ class_number (class_of b) }
 {
-    let i = b as usize;
-    CLASSES[i]
+    CLASSES[b as usize]
 }
 
 pub fn is_letter(b: u8) -> bool

@@ -23,7 +23,7 @@ use Rattle.name_checks.specs.Arrays.{arrays}
 use Rattle.card_reader.specs.LineLaws.{entries-behind}
 use Rattle.card_reader.specs.declared.Gathered.{Gathered}
 use Rattle.deck_reader.specs.Judging.{Held, EntryJudged, Passed, ended_in, link_verdict, ClosableIn, closed_in, StatementsJudged, DeckJudged}
-use Rattle.deck_reader.specs.declared.judge.Verdict.{Verdict}
+use Rattle.deck_reader.specs.Verdicts.{Verdict}
 
 -- the deck is judged as its entries from here on are, from what the arrays hold; so many lines are behind
 pub record DeckJudging (deck : List ℕ) (a : Arrays) (from card : ℕ) : Type 0 where

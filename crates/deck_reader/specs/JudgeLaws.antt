@@ -1,5 +1,6 @@
 -- How a statement's number comes about from what its readers and judges say. Assumes nothing.
-use Rattle.std.specs.Prelude.{Bool, false, List, ◌≡◌, refl, ℕ, ◌+◌, ◌≤◌, ◌<◌, length}
+use Rattle.std.specs.Prelude as std
+use Rattle.std.specs.Prelude.{Some, None, Bool, false, List, ◌≡◌, refl, ℕ, ◌+◌, ◌≤◌, ◌<◌, length}
 use Rattle.std.proofs.Math.Bool.{true, cond}
 use Rattle.std.proofs.Math.Option.{Option, none, some}
 use Rattle.std.proofs.Math.Path.{sym, ap}
@@ -9,8 +10,7 @@ use Rattle.branch_parser.specs.Places.{is_number_known}
 use Rattle.encoding.specs.Table.{all_literals}
 use Rattle.branch_parser.specs.declared.Row.{Row}
 use Rattle.statement_parser.specs.Clauses.{Starts, FormWritten, StepWritten, FormAnswer, FormRead, statement_items, elements_in}
-use Rattle.statement_parser.specs.declared.Form as FormCode
-use Rattle.statement_parser.specs.declared.Form.{Form}
+use Rattle.statement_parser.specs.Drafts.{Form}
 use Rattle.validation.specs.Deck.{mentions_of, unresolved}
 use Rattle.validation.specs.Environment.{Environment, numbers_of, is_one_of, extend}
 use Rattle.validation.specs.Placed.{number_anywhere, mentions_anywhere}
@@ -102,22 +102,18 @@ module _ {most : ℕ} {table keys tags : List ℕ} {c : Cursor} {x : Parsed (Opt
   by_case : {q : Form} → r ≡ q → FormAnswer most table keys tags c x q table' keys' tags'
   by_case e = subst (λ (z : Form). FormAnswer most table keys tags c x z table' keys' tags') e f.answer
 
-  pub broken_case : r ≡ FormCode.TheVariants.Broken → x ≡ broken
+  pub broken_case : r ≡ None → x ≡ broken
   broken_case e = by_case e
 
-  pub no_step_case : {d : Cursor} → r ≡ FormCode.TheVariants.NoStep d → FormWritten none most table keys tags c x table' keys' tags' d
+  pub no_step_case : {d : Cursor} → r ≡ Some (None, d) → FormWritten none most table keys tags c x table' keys' tags' d
   no_step_case e = by_case e
 
-  pub step_case : {row : Row} {d : Cursor} → r ≡ FormCode.TheVariants.Step row d → StepWritten row most table keys tags c x table' keys' tags' d
+  pub step_case : {row : Row} {d : Cursor} → r ≡ Some (Some row, d) → StepWritten row most table keys tags c x table' keys' tags' d
   step_case e = by_case e
 
-  pub no_step_to : {d e : Cursor} → r ≡ FormCode.TheVariants.NoStep e → d ≡ e → FormedTo most table keys tags c x table' keys' tags' d
-  no_step_to h s = record { value = none; formed = no_step_case (h ∙ ap FormCode.TheVariants.NoStep (sym s)) }
-
-  pub step-to : {row : Row} {d e : Cursor} → r ≡ FormCode.TheVariants.Step row e → d ≡ e → FormedTo most table keys tags c x table' keys' tags' d
-  step-to {row} h s =
-      let a = step_case (h ∙ ap (FormCode.TheVariants.Step row) (sym s)) in
-      record { value = some a.statement; formed = a.formed }
+  pub formed_case : {o : std.Option Row} {d : Cursor} → r ≡ Some (o, d) → FormedTo most table keys tags c x table' keys' tags' d
+  formed_case {o = None} e = record { value = none; formed = no_step_case e }
+  formed_case {o = Some row} e = let a = step_case e in record { value = some a.statement; formed = a.formed }
 
 -- a statement can be read
 pub starts : {a : Arrays} {taken : ℕ} {k : Environment} {text keys tags : List ℕ} {c : Cursor} → ArraysHold a taken k → length text ≤ longest_text

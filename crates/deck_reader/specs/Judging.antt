@@ -18,7 +18,7 @@ use Rattle.card_reader.specs.Keys.{LabelKey}
 use Rattle.card_reader.specs.Letters.{letters}
 use Rattle.card_reader.specs.Packs.{longest_text}
 use Rattle.card_reader.specs.declared.Gathered.{Gathered}
-use Rattle.deck_reader.specs.declared.judge.Verdict.{Verdict}
+use Rattle.deck_reader.specs.Verdicts.{Verdict}
 
 -- the arrays hold the environment of a deck of which so many bytes are taken
 pub record Held (a : Arrays) (taken : ℕ) : Type 0 where

@@ -29,7 +29,7 @@ use Rattle.deck_reader.specs.Judging.{Accepted, DeckJudged}
 use Rattle.deck_reader.specs.Steps.{DeckAccepted}
 use Rattle.deck_reader.specs.StepsLaws.{DeckWritten}
 use Rattle.deck_reader.specs.Writing.{with_all_steps, with_header, image-written}
-use Rattle.deck_reader.specs.declared.judge.Verdict.{Verdict}
+use Rattle.deck_reader.specs.Verdicts.{Verdict}
 use Rattle.deck_reader.specs.declared.steps.Progress.{Progress}
 
 -- the steps and the header of an accepted deck's program are written

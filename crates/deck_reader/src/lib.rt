@@ -13,11 +13,12 @@ ghost use Rattle.calls.specs.Promises.{ReadPromise, read_back};
 ghost use Rattle.card_reader.specs.Packs.{longest_text};
 ghost use Rattle.deck_reader.specs.Judging.{ArraysLent};
 ghost use Rattle.deck_reader.specs.Steps.{DeckAccepted};
+ghost use Rattle.deck_reader.specs.Verdicts.{verdict_of};
 ghost use Rattle.deck_reader.specs.Reading.{TableWritten, DeckRead};
 
 use base::DECK;
 use encoding::TABLE_SIZE;
-use judge::{Verdict, judge_deck};
+use judge::{Refused, judge_deck};
 use steps::write_steps;
 use store::spans::blank;
 use symbols::places::{NUMBER_COUNT, STRING_COUNT};
@@ -51,9 +52,9 @@ fn write_table(
 }
 
 // reads a deck of a sound size into a table of a sound size
-fn read_deck(deck: &[u8], table: &mut [u8]) -> Verdict
+fn read_deck(deck: &[u8], table: &mut [u8]) -> Result<(), Refused>
     requires { (length deck.now ≤ longest_deck) × (table_size ≤ length table.old) }
-    ensures { DeckRead deck.now table.old result table.new }
+    ensures { DeckRead deck.now table.old (verdict_of result) table.new }
 {
     let mut known = [0u64; KNOWN];
     let mut symbols = [0u64; SYMBOLS];
@@ -62,7 +63,8 @@ fn read_deck(deck: &[u8], table: &mut [u8]) -> Verdict
     let mut keys = [0u64; NAMES];
     let mut tags = [0u8; NAMES];
     let mut draft = [0u8; TABLE_SIZE];
-    let v = judge_deck(
+    blank(table, 0, TABLE_SIZE);
+    judge_deck(
         deck,
         &mut known,
         &mut symbols,
@@ -71,12 +73,9 @@ fn read_deck(deck: &[u8], table: &mut [u8]) -> Verdict
         &mut keys,
         &mut tags,
         &mut draft,
-    );
-    blank(table, 0, TABLE_SIZE);
-    if v.number == 0 {
-        write_table(deck, &mut known, &mut text, &mut keys, &mut tags, table);
-    }
-    v
+    )?;
+    write_table(deck, &mut known, &mut text, &mut keys, &mut tags, table);
+    Ok(())
 }
 
 // The deck call: 0 with the deck's program in the table; or a number and its card, the table zeroed, by 1 and 2 left as it was.
@@ -90,7 +89,11 @@ pub fn strigol_read(deck: &[u8], table: &mut [u8], card: &mut u32) -> u32
     if table.len() < TABLE_SIZE {
         return 2;
     }
-    let v = read_deck(deck, table);
-    *card = v.card as u32;
-    v.number
+    match read_deck(deck, table) {
+        Ok(()) => 0,
+        Err(refused) => {
+            *card = refused.card as u32;
+            refused.refusal.number()
+        }
+    }
 }

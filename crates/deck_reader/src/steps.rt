@@ -14,7 +14,7 @@ ghost use Rattle.deck_reader.specs.StepsLaws.{DeckWritten};
 use crate::table::put_row;
 use base::DECK;
 use card_reader::{Gathered, gather};
-use statement_parser::{Form, read_statement};
+use statement_parser::read_statement;
 use symbols::places::NEXT;
 use symbols::{Cursor, KNOWN, NAMES};
 
@@ -37,10 +37,7 @@ fn passed(p: Progress, e: Gathered) -> Progress
     Progress {
         from: e.next,
         card: p.card + e.lines,
-        steps: p.steps,
-        elements: p.elements,
-        items: p.items,
-        literals: p.literals,
+        ..p
     }
 }
 
@@ -68,17 +65,16 @@ fn write_packed(
         longest: 0,
     };
     match read_statement(text, e.label, e.whole, known, table, keys, tags, c) {
-        Form::Broken => p,
-        Form::NoStep(_) => passed(p, e),
-        Form::Step(row, d) => {
+        None => p,
+        Some((None, _)) => passed(p, e),
+        Some((Some(row), d)) => {
             put_row(table, p.steps, p.card, row);
             Progress {
-                from: e.next,
-                card: p.card + e.lines,
                 steps: p.steps + 1,
                 elements: d.elements,
                 items: d.items,
                 literals: d.literals,
+                ..passed(p, e)
             }
         }
     }

@@ -14,7 +14,6 @@ ghost use Rattle.decoder.specs.Meaning.{direction_meaning, branch_meaning};
 ghost use Rattle.decoder.specs.Reading.{operator_of_kind, CellSmall, CellDecoded, RowDecoded, SmallRow, StretchRead, BehindRead, ElementDecoded, PatternRead};
 ghost use Rattle.decoder.specs.Reading.{IfDecoded, ScanDecoded, StatementDecoded, CountsRead};
 
-use base::wide;
 use encoding::{
     ELEMENTS_AT, ITEMS_AT, LITERALS_AT, RANGE_MORE, RANGE_STEP, STEP_ROW, STEPS_AT, TABLE_CELL,
     cell_kinds, step_kinds,
@@ -203,8 +202,8 @@ pub fn cell_at(t: &[u8], at: usize) -> Cell
     ensures { CellDecoded t.now at result }
 {
     Cell {
-        kind: wide(t[at]),
-        place: wide(t[at + 1]),
+        kind: t[at] as usize,
+        place: t[at + 1] as usize,
         value: number6(t, at + 2),
     }
 }
@@ -363,15 +362,13 @@ pub fn row_at(t: &[u8], at: usize) -> Row
     requires { at + 24 ≤ length t.now }
     ensures { RowDecoded t.now at result }
 {
-    let left = cell_at(t, at + 8);
-    let right = cell_at(t, at + 16);
     Row {
-        kind: wide(t[at]),
-        flag: wide(t[at + 1]),
+        kind: t[at] as usize,
+        flag: t[at + 1] as usize,
         success: number2(t, at + 4),
         failure: number2(t, at + 6),
-        left,
-        right,
+        left: cell_at(t, at + 8),
+        right: cell_at(t, at + 16),
     }
 }
 
@@ -403,10 +400,9 @@ fn if_of(r: Row) -> If
 fn direction_of(flag: usize) -> Direction
     ensures { direction_meaning result ≡ direction_of flag }
 {
-    if flag == 1 {
-        Direction::Forward
-    } else {
-        Direction::Backward
+    match flag {
+        1 => Direction::Forward,
+        _ => Direction::Backward,
     }
 }
 

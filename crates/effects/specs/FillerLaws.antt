@@ -69,40 +69,45 @@ filler_null store numbers (value x) xs = refl
 filler_null store numbers (free_filler s) xs = ap (without_fillers xs) (null_named store numbers s)
 filler_null store numbers (fixed_filler s n) xs = ap (without_fillers xs) (null_named store numbers s)
 
--- so many elements of a pattern are left whose fillers are to be made null
-pub record Nulls (table : List ℕ) (from count : ℕ) (store : List ℕ) (at left : ℕ) (now : List ℕ) : Type 0 where
+-- the elements of a pattern from a place on are left whose fillers are to be made null
+pub record Nulls (table : List ℕ) (s : Stretch) (store : List ℕ) (at : ℕ) (now : List ℕ) : Type 0 where
   pub stays : StoreStays store now
-  pub inside : at + left ≤ 1024
-  pub work : (numbers : List ℤ) → without_fillers (read_pattern table from count) (memory_of store numbers)
-      ≡ without_fillers (read_pattern table at left) (memory_of now numbers)
+  pub work : (numbers : List ℤ) → without_fillers (read_pattern table s.from s.count) (memory_of store numbers)
+      ≡ without_fillers (read_pattern table at (s.from + s.count - at)) (memory_of now numbers)
 
-pub nulls_none : {table : List ℕ} {s : Stretch} {store : List ℕ} → Patterned table store s → Nulls table s.from s.count store s.from s.count store
-nulls_none {store = store} p = record { stays = stays_same store p.good; inside = p.inside; work = λ numbers. refl }
+pub nulls_none : {table : List ℕ} {s : Stretch} {store : List ℕ} → Patterned table store s → Nulls table s store s.from store
+nulls_none {table} {s} {store} p =
+    let all : s.count ≡ s.from + s.count - s.from = omega arith in
+    record {
+      stays = stays_same store p.good;
+      work = λ numbers. ap (λ (n : ℕ). without_fillers (read_pattern table s.from n) (memory_of store numbers)) all;
+    }
 
-module _ {table : List ℕ} (s : Stretch) {store : List ℕ} {at left : ℕ} {now : List ℕ}
-    (p : Nulls table s.from s.count store at left now) where
-  pub nulls_more : 0 < left → {x : ℕ} → x ≡ filler_of (pattern_of_cell table (cell_at table (elements_at + 8 * at)))
-      → {after : List ℕ} → after ≡ renamed now x [] → Nulls table s.from s.count store (at + 1) (left - 1) after
+module _ {table : List ℕ} {s : Stretch} {store : List ℕ} {at : ℕ} {now : List ℕ} (p : Nulls table s store at now) where
+  pub nulls_more : at < s.from + s.count → {x : ℕ} → x ≡ filler_of (pattern_of_cell table (cell_at table (elements_at + 8 * at)))
+      → {after : List ℕ} → after ≡ renamed now x [] → Nulls table s store (at + 1) after
   nulls_more h {x} e is =
       let cell = pattern_of_cell table (cell_at table (elements_at + 8 * at)) in
-      let rest = read_pattern table (at + 1) (left - 1) in
+      let left = s.from + s.count - at in
+      let rest = read_pattern table (at + 1) (s.from + s.count - (at + 1)) in
+      let fewer : left - 1 ≡ s.from + s.count - (at + 1) = omega arith in
       record {
         stays = stays_on p.stays (subst (StoreStays now) (sym is) (stays_renamed now p.stays.good x [] (omega arith)));
-        inside = omega (arith, p.inside);
         work =
             λ numbers.
             p.work numbers
-            ∙ ap (λ (xs : List PatternElement). without_fillers xs (memory_of now numbers)) (patterns_more table at left h)
+            ∙ ap (λ (xs : List PatternElement). without_fillers xs (memory_of now numbers)) (patterns_more table at left (omega arith))
+            ∙ ap (λ (n : ℕ). without_fillers (cell ∷ read_pattern table (at + 1) n) (memory_of now numbers)) fewer
             ∙ filler_null now numbers cell rest
             ∙ ap (λ (y : ℕ). without_fillers rest (named (named_string y) [] (memory_of now numbers))) (sym e)
             ∙ ap (without_fillers rest)
             (named-renamed now p.stays.good x [] (omega arith) numbers ∙ ap (λ (l : List ℕ). memory_of l numbers) (sym is));
       }
 
-  pub nulls_all : left ≤ 0 → Nulled table s store now
+  pub nulls_all : s.from + s.count ≤ at → Nulled table s store now
   unfolding read_pattern without_fillers
   nulls_all h =
-      let none : left ≡ 0 = omega arith in
+      let none : s.from + s.count - at ≡ 0 = omega arith in
       record {
         stays = p.stays;
         work =
@@ -207,31 +212,34 @@ string-renamed store g s v k i h =
     let out : 32 ≤ s = ltb-false s 32 e in
     rw (ne_eqb i s (λ z. omega arith)))
 
--- so many elements of a pattern are left whose fillers are to be copied
-pub record Copies (table : List ℕ) (from count : ℕ) (source to : List ℕ) (at left : ℕ) (now : List ℕ) : Type 0 where
+-- the elements of a pattern from a place on are left whose fillers are to be copied
+pub record Copies (table : List ℕ) (s : Stretch) (source to : List ℕ) (at : ℕ) (now : List ℕ) : Type 0 where
   pub stays : StoreStays to now
-  pub inside : at + left ≤ 1024
   pub each : (i : ℕ) → i < 32
-      → cond (is_filler i (read_pattern table at left)) (string_of source i) (string_of now i)
-      ≡ cond (is_filler i (read_pattern table from count)) (string_of source i) (string_of to i)
+      → cond (is_filler i (read_pattern table at (s.from + s.count - at))) (string_of source i) (string_of now i)
+      ≡ cond (is_filler i (read_pattern table s.from s.count)) (string_of source i) (string_of to i)
 
-pub copies_none : {table : List ℕ} {s : Stretch} {source to : List ℕ} → Copying table source to s
-    → Copies table s.from s.count source to s.from s.count to
-copies_none {to = to} p = record { stays = stays_same to p.good; inside = p.inside; each = λ i h. refl }
+pub copies_none : {table : List ℕ} {s : Stretch} {source to : List ℕ} → Copying table source to s → Copies table s source to s.from to
+copies_none {table} {s} {source} {to} p =
+    let all : s.from + s.count - s.from ≡ s.count = omega arith in
+    record {
+      stays = stays_same to p.good;
+      each = λ i h. ap (λ (n : ℕ). cond (is_filler i (read_pattern table s.from n)) (string_of source i) (string_of to i)) all;
+    }
 
-module _ {table : List ℕ} (s : Stretch) {source to : List ℕ} {at left : ℕ} {now : List ℕ}
-    (p : Copies table s.from s.count source to at left now) where
-  pub copies_more : StoreGood source → 0 < left → {x : ℕ} → x ≡ filler_of (pattern_of_cell table (cell_at table (elements_at + 8 * at)))
-      → {after : List ℕ} → after ≡ renamed now x (string_of source x)
-      → Copies table s.from s.count source to (at + 1) (left - 1) after
+module _ {table : List ℕ} {s : Stretch} {source to : List ℕ} {at : ℕ} {now : List ℕ} (p : Copies table s source to at now) where
+  pub copies_more : StoreGood source → at < s.from + s.count → {x : ℕ}
+      → x ≡ filler_of (pattern_of_cell table (cell_at table (elements_at + 8 * at)))
+      → {after : List ℕ} → after ≡ renamed now x (string_of source x) → Copies table s source to (at + 1) after
   unfolding is_filler
   copies_more g h {x} e {after} is =
       let cell = pattern_of_cell table (cell_at table (elements_at + 8 * at)) in
-      let rest = read_pattern table (at + 1) (left - 1) in
+      let left = s.from + s.count - at in
+      let rest = read_pattern table (at + 1) (s.from + s.count - (at + 1)) in
+      let fewer : s.from + s.count - (at + 1) ≡ left - 1 = omega arith in
       let short : length (string_of source x) ≤ 1024 = good_short source g x in
       record {
         stays = stays_on p.stays (subst (StoreStays now) (sym is) (stays_renamed now p.stays.good x (string_of source x) short));
-        inside = omega (arith, p.inside);
         each =
             λ i k.
             let other = is_filler i rest in
@@ -240,7 +248,8 @@ module _ {table : List ℕ} (s : Stretch) {source to : List ℕ} {at left : ℕ}
             ap (λ (v : List ℕ). cond other (string_of source i) v) mine
             ∙ either i x other (eqb i x) (string_of now i) refl
             ∙ ap (λ (y : ℕ). cond (eqb i y || other) (string_of source i) (string_of now i)) e
-            ∙ sym (ap (λ (xs : List PatternElement). cond (is_filler i xs) (string_of source i) (string_of now i)) (patterns_more table at left h))
+            ∙ ap (λ (n : ℕ). cond (is_filler i (cell ∷ read_pattern table (at + 1) n)) (string_of source i) (string_of now i)) fewer
+            ∙ sym (ap (λ (xs : List PatternElement). cond (is_filler i xs) (string_of source i) (string_of now i)) (patterns_more table at left (omega arith)))
             ∙ p.each i k;
       }
     where
@@ -251,10 +260,10 @@ module _ {table : List ℕ} (s : Stretch) {source to : List ℕ} {at left : ℕ}
       either i x true false v q = refl
       either i x false false v q = refl
 
-  pub copies_all : left ≤ 0 → Copied table s source to now
+  pub copies_all : s.from + s.count ≤ at → Copied table s source to now
   unfolding read_pattern is_filler
   copies_all h =
-      let none : left ≡ 0 = omega arith in
+      let none : s.from + s.count - at ≡ 0 = omega arith in
       record {
         stays = p.stays;
         each =

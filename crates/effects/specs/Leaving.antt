@@ -1,5 +1,6 @@
 -- What statements ask for and leave in the buffers, as the machine's definitions have it. Assumes nothing.
-use Rattle.std.specs.Prelude.{List, ◌≡◌, ℕ, ◌≤◌, ◌<◌, ltb, ℤ, length, take, drop}
+use Rattle.std.specs.Prelude as std
+use Rattle.std.specs.Prelude.{Option, Some, None, true, false, nat_abs, List, ◌≡◌, ℕ, ◌≤◌, ◌<◌, ltb, ℤ, length, take, drop, Ok, Err}
 use Rattle.encoding.specs.BufferLaws.{StoreGood}
 use Rattle.encoding.specs.Buffers.{strings_in, store_size}
 use Rattle.store.specs.Clauses.{string_of, string_replaced}
@@ -7,11 +8,14 @@ use Rattle.syntax.specs.Program.{Branch}
 use Rattle.machine.specs.Scanning.{storing}
 use Rattle.machine.specs.State.{Memory, State, going_to, with_input, with_output}
 use Rattle.machine.specs.Step.{chosen, take_record, put_record}
+use Rattle.values.specs.Numbers.{is_negative}
 use Rattle.values.specs.Result.{Result, done, stop, with_notes}
-use Rattle.effects.specs.declared.Completion.{Completion}
-use Rattle.effects.specs.declared.Completion.TheVariants as did
-use Rattle.effects.specs.declared.Output.{Output}
-use Rattle.effects.specs.declared.Output.TheVariants as output
+use Rattle.values.specs.Stops.{stop_number}
+use Rattle.values.specs.declared.Stop.{Stop}
+
+-- what a statement's work comes to in code: done, with so many notes, or what stops it
+abbrev pub Completion : Type 0
+Completion = std.Result ℕ Stop
 
 -- the memory of a store's strings and these numbers
 abbrev pub memory_of : List ℕ → List ℤ → Memory
@@ -25,8 +29,13 @@ pub record StoreStays (store left : List ℕ) : Type 0 where
 
 -- what a statement's work on a memory comes to, and the store that it leaves; where it stops, the store is as it was
 abbrev pub LeavesStore : Completion → (store left : List ℕ) → List ℤ → Result Memory → Type 0
-LeavesStore (did.Done notes) store left numbers w = StoreStays store left × (w ≡ done (memory_of left numbers) notes)
-LeavesStore (did.Stops k) store left numbers w = (left ≡ store) × (w ≡ stop k)
+LeavesStore (Ok notes) store left numbers w = StoreStays store left × (w ≡ done (memory_of left numbers) notes)
+LeavesStore (Err s) store left numbers w = (left ≡ store) × (w ≡ stop (stop_number s))
+
+-- how many bytes a length asks for; none if it is negative
+abbrev pub Asks : Option ℕ → ℤ → Type 0
+Asks None z = is_negative z ≡ true
+Asks (Some n) z = (is_negative z ≡ false) × (n ≡ nat_abs z)
 
 -- a record to be read
 pub record Taking (store : List ℕ) (place : ℕ) (input : List ℕ) (from : ℕ) : Type 0 where
@@ -56,9 +65,10 @@ pub record Full (bytes left : List ℕ) (at k : ℕ) (v : List ℕ) : Type 0 whe
   pub same : left ≡ bytes
   pub work : (c : State) → c.output ≡ take at bytes → put_record (length bytes) v c ≡ stop k
 
-abbrev pub RecordPuts : Output → (bytes left : List ℕ) → ℕ → List ℕ → Type 0
-RecordPuts (output.Reaches to) bytes left at v = Wrote bytes left at to v
-RecordPuts (output.Stops k) bytes left at v = Full bytes left at k v
+-- how long the output is behind a record put into it, or what stops the run
+abbrev pub RecordPuts : std.Result ℕ Stop → (bytes left : List ℕ) → ℕ → List ℕ → Type 0
+RecordPuts (Ok to) bytes left at v = Wrote bytes left at to v
+RecordPuts (Err s) bytes left at v = Full bytes left at (stop_number s) v
 
 -- a stretch of a string to be set, from a value's buffer
 pub record Setting (store : List ℕ) (place from to : ℕ) (v : List ℕ) : Type 0 where

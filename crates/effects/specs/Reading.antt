@@ -1,14 +1,15 @@
 -- What READ leaves. Assumes nothing.
-use Rattle.std.specs.Prelude.{Bool, true, false, List, ◌≡◌, ℕ, ◌≤◌, ◌<◌, length, drop, get_or, set}
+use Rattle.std.specs.Prelude as std
+use Rattle.std.specs.Prelude.{Ok, Err, Bool, List, ◌≡◌, ℕ, ◌≤◌, ◌<◌, length, drop, get_or, set}
 use Rattle.encoding.specs.BufferLaws.{StoreGood}
 use Rattle.evaluator.specs.Memory.{memory_in}
 use Rattle.syntax.specs.Program.{Branch, Part}
 use Rattle.machine.specs.State.{State, going_to, with_input}
 use Rattle.machine.specs.Step.{chosen, moving, reading, take_record}
 use Rattle.values.specs.Result.{stop}
+use Rattle.values.specs.Stops.{stop_number}
+use Rattle.values.specs.declared.Stop.{Stop}
 use Rattle.effects.specs.Leaving.{StoreStays}
-use Rattle.effects.specs.declared.ReadOutcome.{ReadOutcome}
-use Rattle.effects.specs.declared.ReadOutcome.TheVariants as went
 
 -- a record to be read, at the place of the input that the state has
 pub record Reading (store state input : List ℕ) (place : ℕ) : Type 0 where
@@ -41,10 +42,9 @@ pub record Halts (store left state state_left input : List ℕ) (k : ℕ) (p : P
   pub state_same : state_left ≡ state
   pub work : (b : Branch) (c : State) → MachineHas store state input c → reading p b c ≡ stop k
 
-abbrev pub NextRecord : ReadOutcome → (store left state state_left input : List ℕ) → (place most : ℕ) → Type 0
-NextRecord went.Succeeds store left state state_left input place most = Goes true store left state state_left input (take_record place most)
-NextRecord went.Fails store left state state_left input place most = Goes false store left state state_left input (take_record place most)
-NextRecord (went.Stops k) store left state state_left input place most = ⊥
+-- whether there was a record
+abbrev pub NextRecord : Bool → (store left state state_left input : List ℕ) → (place most : ℕ) → Type 0
+NextRecord takes store left state state_left input place most = Goes takes store left state state_left input (take_record place most)
 
 -- READ goes as its record does
 pub record Moves (takes : Bool) (store left state state_left input : List ℕ) (p : Part) : Type 0 where
@@ -54,7 +54,7 @@ pub record Moves (takes : Bool) (store left state state_left input : List ℕ) (
   pub inside : to ≤ length input
   pub work : (b : Branch) (c : State) → MachineHas store state input c → reading p b c ≡ moving (onward takes left state_left input b c)
 
-abbrev pub RecordRead : ReadOutcome → (store left state state_left input : List ℕ) → Part → Type 0
-RecordRead went.Succeeds store left state state_left input p = Moves true store left state state_left input p
-RecordRead went.Fails store left state state_left input p = Moves false store left state state_left input p
-RecordRead (went.Stops k) store left state state_left input p = Halts store left state state_left input k p
+-- to its success or its failure, or what stops it
+abbrev pub RecordRead : std.Result Bool Stop → (store left state state_left input : List ℕ) → Part → Type 0
+RecordRead (Ok takes) store left state state_left input p = Moves takes store left state state_left input p
+RecordRead (Err s) store left state state_left input p = Halts store left state state_left input (stop_number s) p

@@ -13,9 +13,7 @@ use Rattle.state.specs.Laws.{numbers_stay}
 use Rattle.values.specs.Conversion.{longest_string}
 use Rattle.values.specs.Numbers.{is_negative}
 use Rattle.effects.specs.Leaving.{memory_of, RecordTaken}
-use Rattle.effects.specs.Reading.{Goes, Halts, Moves, NextRecord, Reading, RecordRead}
-use Rattle.effects.specs.declared.ReadOutcome.{ReadOutcome}
-use Rattle.effects.specs.declared.ReadOutcome.TheVariants as went
+use Rattle.effects.specs.Reading.{Goes, Halts, Moves, Reading}
 
 -- a record taken
 pub goes_on : (store left state input : List ℕ) (place most to : ℕ) (takes : Bool) → Reading store state input place
@@ -40,7 +38,7 @@ goes_on store left state input place most to takes r t e =
 
 module _ (store left state state_left input : List ℕ) (place : ℕ) where
   -- the whole string takes it
-  whole_moves : (takes : Bool) → Goes takes store left state state_left input (take_record place 1024)
+  pub whole_moves : (takes : Bool) → Goes takes store left state state_left input (take_record place 1024)
       → Moves takes store left state state_left input (Program.whole place)
   unfolding reading longest_string
   whole_moves takes g =
@@ -53,7 +51,7 @@ module _ (store left state state_left input : List ℕ) (place : ℕ) where
       }
 
   -- or n bytes of it are asked for
-  first_moves : (takes : Bool) (n : Program.Length) → is_negative (length_in (memory_in store state) n) ≡ false
+  pub first_moves : (takes : Bool) (n : Program.Length) → is_negative (length_in (memory_in store state) n) ≡ false
       → Goes takes store left state state_left input (take_record place (nat_abs (length_in (memory_in store state) n)))
       → Moves takes store left state state_left input (Program.first place n)
   unfolding reading
@@ -70,19 +68,6 @@ module _ (store left state state_left input : List ℕ) (place : ℕ) where
             (ap (λ m. moving (take_record place (nat_abs (length_in m n)) b c)) h.memory
             ∙ ap moving (g.work b c h));
       }
-
-  pub whole_reads : (r : ReadOutcome) → NextRecord r store left state state_left input place 1024
-      → RecordRead r store left state state_left input (Program.whole place)
-  whole_reads went.Succeeds g = whole_moves true g
-  whole_reads went.Fails g = whole_moves false g
-  whole_reads (went.Stops k) g = absurd g
-
-  pub first_reads : (n : Program.Length) → is_negative (length_in (memory_in store state) n) ≡ false → (r : ReadOutcome)
-      → NextRecord r store left state state_left input place (nat_abs (length_in (memory_in store state) n))
-      → RecordRead r store left state state_left input (Program.first place n)
-  first_reads n e went.Succeeds g = first_moves true n e g
-  first_reads n e went.Fails g = first_moves false n e g
-  first_reads n e (went.Stops k) g = absurd g
 
 -- a negative length
 pub first_halts : (store state input : List ℕ) (place : ℕ) (n : Program.Length) → is_negative (length_in (memory_in store state) n) ≡ true

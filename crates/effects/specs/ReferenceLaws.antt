@@ -1,5 +1,5 @@
 -- Laws of what a scan searches. Assumes nothing.
-use Rattle.std.specs.Prelude.{true, false, List, [], ◌≡◌, leb, nat_abs, take, drop}
+use Rattle.std.specs.Prelude.{Ok, true, false, List, [], ◌≡◌, leb, nat_abs, take, drop}
 use Rattle.std.proofs.Common.{sym, ap, ap₂, ◌∙◌, arith, length-drop, take_all, take-take, leb-false, leb-true}
 use Rattle.std.proofs.Math.Path.{subst}
 use Prim.Native.Nat.{ℕ, ◌+◌, ◌*◌, ◌-◌, ◌≤◌, ◌<◌, min}
@@ -30,7 +30,7 @@ take-least-all l n =
 
 -- a string restricted to its first or last n bytes
 found-restricted : (d : Direction) (store : List ℕ) (place n : ℕ) (p : Part) → place < 32 → place ≡ searched_place p
-    → Refers (restricted_by d place (min n (length (string_of store place))) (length (string_of store place))) store p
+    → Refers (Ok (restricted_by d place (min n (length (string_of store place))) (length (string_of store place)))) store p
     (pure (restricted d place n (string_of store place)))
 unfolding pure restricted
 found-restricted forward store place n p h e =
@@ -75,18 +75,18 @@ reference_bytes store place from to g b start e =
 
 -- a statement's reference: the whole string, or its first or last n bytes
 module _ (d : Direction) (store state : List ℕ) (place : ℕ) (p : Part) (h : place < 32) (e : place ≡ searched_place p) where
-  pub whole_refers : Refers (restricted_by d place (length (string_of store place)) (length (string_of store place))) store p
+  pub whole_refers : Refers (Ok (restricted_by d place (length (string_of store place)) (length (string_of store place)))) store p
       (searched_in (memory_in store state) d (Program.whole place))
   unfolding searched_in string_at
   whole_refers =
       let v = string_of store place in
       let same : min (length v) (length v) ≡ length v = min-eq_left (omega arith) in
-      subst (λ (j : ℕ). Refers (restricted_by d place j (length v)) store p (pure (restricted d place (length v) v))) same
+      subst (λ (j : ℕ). Refers (Ok (restricted_by d place j (length v))) store p (pure (restricted d place (length v) v))) same
       (found-restricted d store place (length v) p h e)
 
   pub first_refers : (n : Program.Length) → is_negative (length_in (memory_in store state) n) ≡ false
       → Refers
-      (restricted_by d place (min (nat_abs (length_in (memory_in store state) n)) (length (string_of store place))) (length (string_of store place)))
+      (Ok (restricted_by d place (min (nat_abs (length_in (memory_in store state) n)) (length (string_of store place))) (length (string_of store place))))
       store p (searched_in (memory_in store state) d (Program.first place n))
   unfolding searched_in string_at
   first_refers n q = rw q (found-restricted d store place (nat_abs (length_in (memory_in store state) n)) p h e)

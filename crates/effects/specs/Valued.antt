@@ -1,5 +1,5 @@
 -- What the statements leave that value an expression and keep it. Assumes nothing.
-use Rattle.std.specs.Prelude.{cond, List, ◌≡◌, ℕ, ◌+◌, ◌≤◌, ◌<◌, ltb, ℤ, length, take, drop, get_or, set}
+use Rattle.std.specs.Prelude.{Ok, Err, cond, List, ◌≡◌, ℕ, ◌+◌, ◌≤◌, ◌<◌, ltb, ℤ, length, take, drop, get_or, set}
 use Rattle.base.specs.Current.{current}
 use Rattle.encoding.specs.Buffers.{numbers_in}
 use Rattle.encoding.specs.Numerals.{biased}
@@ -12,9 +12,8 @@ use Rattle.machine.specs.Step.{put_record, shortened}
 use Rattle.decoder.specs.Meaning.{elements_meaning}
 use Rattle.decoder.specs.declared.Stretch.{Stretch}
 use Rattle.values.specs.Result.{Result, done, stop, with_notes, ◌>>=◌}
-use Rattle.effects.specs.Leaving.{LeavesStore, BufferSpells}
-use Rattle.effects.specs.declared.Completion.{Completion}
-use Rattle.effects.specs.declared.Completion.TheVariants as did
+use Rattle.values.specs.Stops.{stop_number}
+use Rattle.effects.specs.Leaving.{Completion, LeavesStore, BufferSpells}
 
 -- a number of the work's value, with its notes
 pub record Assigned (state left : List ℕ) (place notes : ℕ) (w : Result ℤ) : Type 0 where
@@ -23,8 +22,8 @@ pub record Assigned (state left : List ℕ) (place notes : ℕ) (w : Result ℤ)
   pub left_is : left ≡ set state (21 + place) (biased value)
 
 abbrev pub Assigns : Completion → (state left : List ℕ) → ℕ → Result ℤ → Type 0
-Assigns (did.Done notes) state left place w = Assigned state left place notes w
-Assigns (did.Stops k) state left place w = (left ≡ state) × (w ≡ stop k)
+Assigns (Ok notes) state left place w = Assigned state left place notes w
+Assigns (Err s) state left place w = (left ≡ state) × (w ≡ stop (stop_number s))
 
 -- a stretch of a string
 pub record Between (store : List ℕ) (place from to : ℕ) : Type 0 where
@@ -73,8 +72,8 @@ pub record Unput (state state_left output left : List ℕ) (k : ℕ) (w : State 
   pub work : (c : State) → c.output ≡ take (get_or state 4 0) output → w c ≡ stop k
 
 abbrev pub RecordPutBy : Completion → (state state_left output left : List ℕ) → (State → Result State) → Type 0
-RecordPutBy (did.Done notes) state state_left output left w = RecordPut state state_left output left notes w
-RecordPutBy (did.Stops k) state state_left output left w = Unput state state_left output left k w
+RecordPutBy (Ok notes) state state_left output left w = RecordPut state state_left output left notes w
+RecordPutBy (Err s) state state_left output left w = Unput state state_left output left (stop_number s) w
 
 -- the record of whatever value the buffer spells
 abbrev pub ValueRecorded : Completion → (state state_left output left v : List ℕ) → (n notes : ℕ) → Type 0

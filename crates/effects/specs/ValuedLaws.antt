@@ -10,12 +10,7 @@ use Rattle.std.proofs.Math.Seq.{drop-length}
 use Rattle.std.proofs.lemmas.Bool.{lt-leb}
 use Rattle.base.specs.Choice.{test_cases}
 use Rattle.base.specs.Current.{current}
-use Rattle.encoding.specs.Numerals.{biased}
 use Rattle.store.specs.Clauses.{string_of, string_replaced}
-use Rattle.numbers.specs.Numbers.{worked}
-use Rattle.numbers.specs.declared.Int.{Int}
-use Rattle.numbers.specs.declared.Number.{Number}
-use Rattle.numbers.specs.declared.Number.TheVariants as numbers
 use Rattle.evaluator.specs.Memory.{memory_in}
 use Rattle.evaluator.specs.Notes.{few_done, few_elements_spelt}
 use Rattle.evaluator.specs.Values as Values
@@ -30,9 +25,8 @@ use Rattle.values.specs.Conversion.{longest_string}
 use Rattle.values.specs.Numbers.{is_negative}
 use Rattle.values.specs.Result.{Result, done, with_notes, ◌>>=◌}
 use Rattle.effects.specs.Laws.{drop-least}
-use Rattle.effects.specs.Leaving.{memory_of, LeavesStore, Sets, BufferSpells, Wrote, Full}
-use Rattle.effects.specs.Valued.{Assigned, RecordPut, Unput, RecordPutBy, ValueRecorded, ValueStored, stored_between, tail_notes}
-use Rattle.effects.specs.declared.Completion.{Completion}
+use Rattle.effects.specs.Leaving.{Completion, memory_of, LeavesStore, Sets, BufferSpells, Wrote, Full}
+use Rattle.effects.specs.Valued.{RecordPut, Unput, RecordPutBy, ValueRecorded, ValueStored, stored_between, tail_notes}
 
 -- a buffer that spells the value of an expression spells it here
 pub spelt : {n notes : ℕ} {out : List ℕ} {w : Result (List ℕ)} (s : Values.ValueSpells n notes out w) → BufferSpells out n s.value
@@ -47,11 +41,6 @@ unfolding ◌>>=◌
 kept_leaves f r store left place from to after zs s p h =
     subst (λ x. LeavesStore r store left zs (x >>= λ v. storing place (string_replaced (string_of store place) from to (f v)) (memory_of store zs)))
     (sym s.work) (h (f s.value) zs p)
-
--- a number that is valued
-pub assigned : (r : Number) (z : Int) (notes : ℕ) (w : Result ℤ) (state left : List ℕ) (place : ℕ) → r ≡ numbers.Is z notes → worked r ≡ w
-    → left ≡ set state (21 + place) (biased z.value) → Assigned state left place notes w
-assigned r z notes w state left place e h is = record { value = z.value; work = sym h ∙ ap worked e; left_is = is }
 
 module _ (table store state : List ℕ) (place : ℕ) (s : Stretch) where
   -- a whole string replaced

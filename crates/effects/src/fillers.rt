@@ -6,22 +6,23 @@ ghost use Rattle.store.specs.Clauses.{string_of};
 ghost use Rattle.decoder.specs.Meaning.{pattern_meaning};
 ghost use Rattle.effects.specs.Fillers.{filler_of, renamed, Patterned, Nulled, Nameable, PiecesNamed, Copying, Copied};
 
-use base::{STRINGS, number, wide};
+use base::STRINGS;
 use decoder::{PatternElement, Stretch};
 use scanning::{LENGTHS_AT, START_AT};
 
 // the place of a filler, or one behind those of all strings
+// kept: a scan has its names as bytes, where 32 names nothing, and set_named tests that; an Option would be tested once more
 fn filler_of(x: PatternElement) -> usize
     ensures { (t : List ℕ) → result ≡ filler_of (pattern_meaning t x) }
 {
     match x {
         PatternElement::Value(_) => STRINGS,
-        PatternElement::Free(s) => s,
-        PatternElement::Fixed(s, _) => s,
+        PatternElement::Free(s) | PatternElement::Fixed(s, _) => s,
     }
 }
 
 // Sets the string of this place, if it is one.
+#[tactic(auto, unfolding(crate::specs::Fillers::renamed))]
 fn set_named(store: &mut [u8], place: usize, v: &[u8])
     requires store_good { StoreGood store.old }
     requires v_len_bound { length v.now ≤ 1024 }
@@ -37,13 +38,9 @@ pub fn null_fillers(table: &[u8], store: &mut [u8], pattern: Stretch)
     requires { Patterned table.now store.old pattern }
     ensures { Nulled table.now pattern store.old store.new }
 {
-    let mut at = pattern.from;
-    let mut left = pattern.count;
-    while 0 < left {
+    for at in pattern.from..pattern.from + pattern.count {
         let s = filler_of(decoder::pattern_at(table, at));
-        set_named(store, s, &table[..0]);
-        at += 1;
-        left -= 1;
+        set_named(store, s, &[]);
     }
 }
 
@@ -52,17 +49,16 @@ pub fn name_fillers(store: &mut [u8], reference: &[u8], names: &[u8], answer: &[
     requires { Nameable store.old reference.now names.now answer.now count }
     ensures { PiecesNamed store.old store.new reference.now names.now answer.now count }
 {
-    let mut at = number(answer[START_AT]);
-    let mut i = 0;
-    while i < count {
-        let to = at + number(answer[LENGTHS_AT + i]);
-        set_named(store, wide(names[i]), &reference[at..to]);
+    let mut at = answer[START_AT] as usize;
+    for i in 0..count {
+        let to = at + answer[LENGTHS_AT + i] as usize;
+        set_named(store, names[i] as usize, &reference[at..to]);
         at = to;
-        i += 1;
     }
 }
 
 // Copies the string of this place, if it is one, to another store.
+#[tactic(auto, using(encoding::specs::BufferLaws::good_short, encoding::specs::BufferLaws::string_part, base::specs::ListLaws::stretch_cut), unfolding(crate::specs::Fillers::renamed))]
 fn copy_named(from: &[u8], to: &mut [u8], place: usize)
     requires { StoreGood from.now × StoreGood to.old }
     ensures { to.new ≡ renamed to.old place (string_of from.now place) }
@@ -79,12 +75,8 @@ pub fn copy_fillers(table: &[u8], from: &[u8], to: &mut [u8], pattern: Stretch)
     requires { Copying table.now from.now to.old pattern }
     ensures { Copied table.now pattern from.now to.old to.new }
 {
-    let mut at = pattern.from;
-    let mut left = pattern.count;
-    while 0 < left {
+    for at in pattern.from..pattern.from + pattern.count {
         let s = filler_of(decoder::pattern_at(table, at));
         copy_named(from, to, s);
-        at += 1;
-        left -= 1;
     }
 }

@@ -6,51 +6,48 @@ ghost use Rattle.decoder.specs.Holds.{PartHolds};
 ghost use Rattle.decoder.specs.Meaning.{part_meaning};
 ghost use Rattle.effects.specs.Reading.{Reading, NextRecord, RecordRead};
 
-use crate::{ReadOutcome, take_record};
+use crate::{asked, take_record};
 use base::LONGEST;
 use decoder::Part;
 use encoding::{READ_AT, STATE_SIZE};
+use values::Stop;
 
-// takes the next record of the input that the state knows of
+// takes the next record of the input that the state knows of, if there is one
+#[tactic(auto, using(crate::specs::ReadingLaws::goes_on))]
 fn read_next(
     store: &mut [u8],
     state: &mut [u64; STATE_SIZE],
     input: &[u8],
     place: usize,
     most: usize,
-) -> ReadOutcome
+) -> bool
     requires { Reading store.old state.old input.now place }
     ensures { NextRecord result store.old store.new state.old state.new input.now place most }
 {
     let from = state[READ_AT] as usize;
     let to = take_record(store, place, input, from, most);
     state[READ_AT] = to as u64;
-    if from < to {
-        ReadOutcome::Succeeds
-    } else {
-        ReadOutcome::Fails
-    }
+    from < to
 }
 
-// READ
+// READ: whether there was a record
 pub fn read_record(
     store: &mut [u8],
     state: &mut [u64; STATE_SIZE],
     input: &[u8],
     p: Part,
-) -> ReadOutcome
+) -> Result<bool, Stop>
     requires memory_ready { MemoryReady store.old state.old }
     requires part_holds { PartHolds p × (get_or state.old 3 0 ≤ length input.now) }
     ensures { RecordRead result store.old store.new state.old state.new input.now (part_meaning p) }
 {
     match p {
-        Part::Whole(place) => read_next(store, state, input, place, LONGEST),
+        Part::Whole(place) => Ok(read_next(store, state, input, place, LONGEST)),
         Part::First(place, n) => {
-            let z = evaluator::length_value(state, n);
-            if numbers::is_negative(z) {
-                return ReadOutcome::Stops(17);
-            }
-            read_next(store, state, input, place, numbers::size(z) as usize)
+            let Some(most) = asked(state, n) else {
+                return Err(Stop::NegativeLength);
+            };
+            Ok(read_next(store, state, input, place, most))
         }
     }
 }

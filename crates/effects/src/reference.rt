@@ -10,34 +10,24 @@ ghost use Rattle.decoder.specs.Meaning.{direction_meaning, part_meaning};
 ghost use Rattle.effects.specs.References.{Refers, restricted_by, reference_of};
 ghost use Rattle.effects.specs.Valued.{Between};
 
-use crate::Span;
-use base::{LONGEST, least};
+use crate::{Span, asked};
+use base::LONGEST;
 use decoder::{Direction, Part};
 use encoding::STATE_SIZE;
-
-// the bytes from..to of the string with this place, or what stops the run
-#[derive(Clone, Copy)]
-pub enum Reference {
-    At {
-        place: usize,
-        from: usize,
-        to: usize,
-    },
-    Stops(u32),
-}
+use values::Stop;
 
 // the first or the last n of a string's bytes
-fn restrict(d: Direction, place: usize, n: usize, length: usize) -> Reference
+fn restrict(d: Direction, place: usize, n: usize, length: usize) -> Span
     requires { n ≤ length }
     ensures { result ≡ restricted_by (direction_meaning d) place n length }
 {
     match d {
-        Direction::Forward => Reference::At {
+        Direction::Forward => Span {
             place,
             from: 0,
             to: n,
         },
-        Direction::Backward => Reference::At {
+        Direction::Backward => Span {
             place,
             from: length - n,
             to: length,
@@ -46,7 +36,12 @@ fn restrict(d: Direction, place: usize, n: usize, length: usize) -> Reference
 }
 
 // where the reference of a scan lies
-pub fn reference_ends(store: &[u8], state: &[u64; STATE_SIZE], d: Direction, p: Part) -> Reference
+pub fn reference_ends(
+    store: &[u8],
+    state: &[u64; STATE_SIZE],
+    d: Direction,
+    p: Part,
+) -> Result<Span, Stop>
     requires memory_ready { MemoryReady store.now state.now }
     requires part_holds { PartHolds p }
     ensures { Refers result store.now p
@@ -55,20 +50,20 @@ pub fn reference_ends(store: &[u8], state: &[u64; STATE_SIZE], d: Direction, p: 
     match p {
         Part::Whole(place) => {
             let length = store::string_length(store, place);
-            restrict(d, place, length, length)
+            Ok(restrict(d, place, length, length))
         }
         Part::First(place, n) => {
-            let z = evaluator::length_value(state, n);
-            if numbers::is_negative(z) {
-                return Reference::Stops(17);
-            }
+            let Some(most) = asked(state, n) else {
+                return Err(Stop::NegativeLength);
+            };
             let length = store::string_length(store, place);
-            restrict(d, place, least(numbers::size(z) as usize, length), length)
+            Ok(restrict(d, place, most.min(length), length))
         }
     }
 }
 
 // copies the reference to the front of a string's buffer
+#[tactic(auto, using(encoding::specs::BufferLaws::good_short, base::specs::ListLaws::stretch_few))]
 pub fn copy_reference(store: &[u8], at: Span, d: Direction, out: &mut [u8; LONGEST])
     requires store_good { StoreGood store.now }
     requires between { Between store.now at.place at.from at.to }

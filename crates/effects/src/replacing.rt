@@ -9,11 +9,11 @@ ghost use Rattle.effects.specs.Replacing.{stored_turned};
 ghost use Rattle.effects.specs.Valued.{Between, ValueStored};
 
 use crate::valued::set_value;
-use crate::{Completion, Span, set_between};
+use crate::{Span, set_between};
 use base::LONGEST;
 use decoder::{Direction, Stretch};
 use encoding::STATE_SIZE;
-use numbers::Text;
+use values::Stop;
 
 // copies the first n bytes of v, last byte first, to the front of a string's buffer
 fn turn_first(v: &[u8], n: usize, out: &mut [u8; LONGEST])
@@ -31,24 +31,20 @@ fn set_turned(
     at: Span,
     s: Stretch,
     out: &mut [u8],
-) -> Completion
+) -> Result<u32, Stop>
     requires value_spellable { ValueSpellable table.now store.old state.now s }
     requires between { Between store.old at.place at.from at.to }
     requires out_len { length out.old ≡ 1024 }
     ensures { ValueStored result store.old store.new state.now
         (stored_turned table.now store.old state.now backward at.place at.from at.to s) }
 {
-    match evaluator::string_value(table, store, state, s, out) {
-        Text::Is { length, notes } => {
-            if LONGEST < length {
-                return Completion::Stops(20);
-            }
-            let mut turned = [0u8; LONGEST];
-            turn_first(out, length, &mut turned);
-            set_between(store, at, &turned, length, notes)
-        }
-        Text::Stops(k) => Completion::Stops(k),
+    let length = evaluator::string_value(table, store, state, s, out)?;
+    if LONGEST < length.value {
+        return Err(Stop::TooLong);
     }
+    let mut turned = [0u8; LONGEST];
+    turn_first(out, length.value, &mut turned);
+    set_between(store, at, &turned, length)
 }
 
 // the value of a scan's replacement takes the place of the bytes of a span
@@ -60,7 +56,7 @@ pub fn replace_found(
     at: Span,
     s: Stretch,
     out: &mut [u8],
-) -> Completion
+) -> Result<u32, Stop>
     requires value_spellable { ValueSpellable table.now store.old state.now s }
     requires between { Between store.old at.place at.from at.to }
     requires out_len { length out.old ≡ 1024 }

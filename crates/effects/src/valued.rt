@@ -10,11 +10,11 @@ ghost use Rattle.decoder.specs.Holds.{PartHolds};
 ghost use Rattle.decoder.specs.Meaning.{items_meaning, elements_meaning, part_meaning};
 ghost use Rattle.effects.specs.Valued.{Assigns, Between, stored_between, ValueStored, Writing, tail_notes, ValueRecorded, StateWritable, Writes};
 
-use crate::{Completion, Output, Span, put_record, set_between};
-use base::{LONGEST, least};
+use crate::{Span, asked, put_record, set_between};
+use base::LONGEST;
 use decoder::{Part, Stretch};
 use encoding::{STATE_SIZE, WRITTEN_AT};
-use numbers::{Number, Text};
+use values::{Noted, Stop};
 
 // a numeric expression's value becomes the number of this place
 pub fn assign(
@@ -23,19 +23,15 @@ pub fn assign(
     state: &mut [u64; STATE_SIZE],
     place: usize,
     s: Stretch,
-) -> Completion
+) -> Result<u32, Stop>
     requires valuable { Valuable table.now store.now state.old s }
     requires place_bound { place < 32 }
     ensures { Assigns result state.old state.new place
         (numeric_in current (memory_in store.now state.old) (items_meaning table.now s)) }
 {
-    match evaluator::numeric_value(table, store, state, s) {
-        Number::Is { value, notes } => {
-            state::set_number(state, place, value);
-            Completion::Done(notes)
-        }
-        Number::Stops(k) => Completion::Stops(k),
-    }
+    let number = evaluator::numeric_value(table, store, state, s)?;
+    state::set_number(state, place, number.value);
+    Ok(number.notes)
 }
 
 // a string expression's value, kept in out, takes the place of the bytes of a span
@@ -46,17 +42,15 @@ pub fn set_value(
     at: Span,
     s: Stretch,
     out: &mut [u8],
-) -> Completion
+) -> Result<u32, Stop>
     requires value_spellable { ValueSpellable table.now store.old state.now s }
     requires between { Between store.old at.place at.from at.to }
     requires out_len { length out.old ≡ 1024 }
     ensures { ValueStored result store.old store.new state.now
         (stored_between table.now store.old state.now at.place at.from at.to s) }
 {
-    match evaluator::string_value(table, store, state, s, out) {
-        Text::Is { length, notes } => set_between(store, at, out, length, notes),
-        Text::Stops(k) => Completion::Stops(k),
-    }
+    let length = evaluator::string_value(table, store, state, s, out)?;
+    set_between(store, at, out, length)
 }
 
 // a string replacement
@@ -67,7 +61,7 @@ pub fn set_string(
     p: Part,
     s: Stretch,
     out: &mut [u8],
-) -> Completion
+) -> Result<u32, Stop>
     requires value_spellable { ValueSpellable table.now store.old state.now s }
     requires part_holds { PartHolds p }
     requires out_len { length out.old ≡ 1024 }
@@ -81,14 +75,10 @@ pub fn set_string(
             set_value(table, store, state, at, s, out)
         }
         Part::First(place, n) => {
-            let z = evaluator::length_value(state, n);
-            if numbers::is_negative(z) {
-                return Completion::Done(1);
-            }
-            let to = least(
-                numbers::size(z) as usize,
-                store::string_length(store, place),
-            );
+            let Some(most) = asked(state, n) else {
+                return Ok(1);
+            };
+            let to = most.min(store::string_length(store, place));
             let at = Span { place, from: 0, to };
             set_value(table, store, state, at, s, out)
         }
@@ -96,32 +86,27 @@ pub fn set_string(
 }
 
 // a note if a record is so long that its tail is dropped
+#[tactic(auto, unfolding(crate::specs::Valued::tail_notes))]
 fn tail_notes(n: usize) -> u32
     ensures { (result ≡ tail_notes n) × (result ≤ 1) }
 {
     if LONGEST < n { 1 } else { 0 }
 }
 
-// puts a record, of n bytes of which v has the first 1,024, behind the output that the state knows of
+// puts a record, of so many bytes of which v has the first 1,024, behind the output that the state knows of
 fn write_value(
     state: &mut [u64; STATE_SIZE],
     output: &mut [u8],
     v: &[u8],
-    n: usize,
-    notes: u32,
-) -> Completion
-    requires { Writing state.old output.old v.now notes }
-    ensures { ValueRecorded result state.old state.new output.old output.new v.now n notes }
+    length: Noted<usize>,
+) -> Result<u32, Stop>
+    requires { Writing state.old output.old v.now length.notes }
+    ensures { ValueRecorded result state.old state.new output.old output.new v.now length.value length.notes }
 {
-    let kept = least(n, LONGEST);
-    let more = tail_notes(n);
-    match put_record(output, state[WRITTEN_AT] as usize, &v[..kept]) {
-        Output::Reaches(to) => {
-            state[WRITTEN_AT] = to as u64;
-            Completion::Done(notes + more)
-        }
-        Output::Stops(k) => Completion::Stops(k),
-    }
+    let kept = length.value.min(LONGEST);
+    let to = put_record(output, state[WRITTEN_AT] as usize, &v[..kept])?;
+    state[WRITTEN_AT] = to as u64;
+    Ok(length.notes + tail_notes(length.value))
 }
 
 // WRITE and PRINT
@@ -132,14 +117,12 @@ pub fn write_record(
     s: Stretch,
     output: &mut [u8],
     out: &mut [u8],
-) -> Completion
+) -> Result<u32, Stop>
     requires value_spellable { ValueSpellable table.now store.now state.old s }
     requires state_writable { StateWritable state.old output.old }
     requires out_len { length out.old ≡ 1024 }
     ensures { Writes result table.now store.now s state.old state.new output.old output.new }
 {
-    match evaluator::string_value(table, store, state, s, out) {
-        Text::Is { length, notes } => write_value(state, output, out, length, notes),
-        Text::Stops(k) => Completion::Stops(k),
-    }
+    let length = evaluator::string_value(table, store, state, s, out)?;
+    write_value(state, output, out, length)
 }

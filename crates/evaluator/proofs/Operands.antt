@@ -5,7 +5,7 @@ use lib.IntN.{ℤ}
 use Rattle.base.specs.Current.{current}
 use Rattle.numbers.specs.Numbers.{NumberAnswers, GivesInt}
 use Rattle.numbers.specs.declared.Int.{Int}
-use Rattle.numbers.specs.declared.Number.TheVariants as numbers
+use Rattle.std.specs.Prelude.{Ok}
 use Rattle.machine.specs.Expressions.{operand_in}
 use Rattle.machine.specs.State.{Memory, number_at}
 use Rattle.decoder.specs.Holds.{OperandHolds}
@@ -15,11 +15,11 @@ use Rattle.decoder.specs.declared.Operand.TheVariants as operands
 use Rattle.values.specs.Result.{done, pure}
 
 module _ (m : Memory) (a : Operand) where
-  pub constant_answers : (z : Int) → a ≡ operands.Constant z → OperandHolds a → NumberAnswers (numbers.Is z 0) (operand_in current m (operand_meaning a))
+  pub constant_answers : (z : Int) → a ≡ operands.Constant z → OperandHolds a → NumberAnswers (Ok (record { value = z; notes = 0 })) (operand_in current m (operand_meaning a))
   unfolding operand_in pure
   constant_answers z is h = rw is (record { work = refl; range = subst OperandHolds is h })
 
   pub number_answers : (i : ℕ) (z : Int) → a ≡ operands.Number i → GivesInt z (number_at m i)
-      → NumberAnswers (numbers.Is z 0) (operand_in current m (operand_meaning a))
+      → NumberAnswers (Ok (record { value = z; notes = 0 })) (operand_in current m (operand_meaning a))
   unfolding operand_in pure
   number_answers i z is gives = rw is (record { work = ap (λ (n : ℤ). done n 0) gives.value; range = gives.range })

@@ -6,10 +6,11 @@ use native.Mathlib.Nat.{add-zero}
 use lib.IntN.{ℤ}
 use Rattle.base.specs.Current.{current}
 use Rattle.numbers.specs.Laws.{number_is, number_range, number_stops}
-use Rattle.numbers.specs.Numbers.{NumberAnswers}
+use Rattle.numbers.specs.Numbers.{Number, NumberAnswers}
 use Rattle.numbers.specs.declared.Int.{Int}
-use Rattle.numbers.specs.declared.Number.{Number}
-use Rattle.numbers.specs.declared.Number.TheVariants as numbers
+use Rattle.std.specs.Prelude.{Ok, Err}
+use Rattle.values.specs.declared.Noted.{Noted}
+use Rattle.values.specs.declared.Stop.{Stop}
 use Rattle.syntax.specs.Program.{Operand, Item, Element}
 use Rattle.machine.specs.Expressions.{operand_in, item_in, items_in, latest, numeric_in, element_in, string_in}
 use Rattle.machine.specs.State.{Memory}
@@ -19,16 +20,16 @@ use Rattle.evaluator.specs.Notes.{few_done, few_operand}
 
 -- an answer that comes behind notes
 module _ (n : ℕ) {r : Number} {w : Result ℤ} (a : NumberAnswers r w) where
-  pub number_noted : {v : Int} {more : ℕ} → r ≡ numbers.Is v more → NumberAnswers (numbers.Is v (n + more)) (with_notes n w)
+  pub number_noted : {v : Noted Int} → r ≡ Ok v → NumberAnswers (Ok (record { value = v.value; notes = n + v.notes })) (with_notes n w)
   unfolding with_notes
   number_noted e = record { work = ap (with_notes n) (sym (number_is a e)); range = number_range a e }
 
-  pub number_stopped : {k : ℕ} → r ≡ numbers.Stops k → NumberAnswers (numbers.Stops k) (with_notes n w)
+  pub number_stopped : {s : Stop} → r ≡ Err s → NumberAnswers (Err s) (with_notes n w)
   unfolding with_notes
   number_stopped e = record { work = ap (with_notes n) (sym (number_stops a e)); range = tt }
 
 -- the notes of an operand's value
-pub operand_notes : (m : Memory) (a : Operand) {r : Number} {v : Int} {n : ℕ} → NumberAnswers r (operand_in current m a) → r ≡ numbers.Is v n → n ≤ 2
+pub operand_notes : (m : Memory) (a : Operand) {r : Number} {v : Noted Int} → NumberAnswers r (operand_in current m a) → r ≡ Ok v → v.notes ≤ 2
 operand_notes m a x e = few_done (few_operand current m a) (number_is x e)
 
 -- a string put in front of one, and then another in front of both

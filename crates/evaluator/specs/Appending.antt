@@ -1,11 +1,11 @@
 -- Strings appended to what 1,024 bytes keep. Assumes nothing.
-use Rattle.std.specs.Prelude.{List, ◌++◌, ◌≡◌, ℕ, ◌≤◌, length}
+use Rattle.std.specs.Prelude.{List, ◌++◌, ◌≡◌, ℕ, ◌≤◌, length, Ok, Err}
 use Rattle.base.specs.Current.{table_size}
-use Rattle.numbers.specs.declared.Text.{Text}
-use Rattle.numbers.specs.declared.Text.TheVariants as texts
+use Rattle.numbers.specs.Text.{Text}
 use Rattle.decoder.specs.Holds.{ElementHolds}
 use Rattle.decoder.specs.declared.Element.{Element}
 use Rattle.values.specs.Result.{Result, done, stop}
+use Rattle.values.specs.Stops.{stop_number}
 use Rattle.evaluator.specs.Memory.{MemoryReady}
 use Rattle.evaluator.specs.Values.{KeepsValue}
 
@@ -33,8 +33,8 @@ pub record AppendsAll (before after : List ℕ) (at n notes : ℕ) (w : Result (
   pub follows : AppendedBehind before after at value
 
 abbrev pub AppendedText : Text → (before after : List ℕ) → ℕ → Result (List ℕ) → Type 0
-AppendedText (texts.Is n notes) before after at w = AppendsAll before after at n notes w
-AppendedText (texts.Stops k) before after at w = w ≡ stop k
+AppendedText (Ok v) before after at w = AppendsAll before after at v.value v.notes w
+AppendedText (Err s) before after at w = w ≡ stop (stop_number s)
 
 pub record Appends (r : Text) (before after : List ℕ) (at : ℕ) (w : Result (List ℕ)) : Type 0 where
   pub added : AppendedText r before after at w

@@ -1,25 +1,25 @@
 -- What an answer tells once its case is known. Assumes nothing.
-use Rattle.std.specs.Prelude.{Bool, List, ◌≡◌, ℕ}
+use Rattle.std.specs.Prelude.{Bool, List, ◌≡◌, ℕ, Ok, Err}
 use Rattle.std.proofs.Common.{sym, ap, subst, ◌∙◌}
-use Rattle.numbers.specs.declared.Text.{Text}
-use Rattle.numbers.specs.declared.Text.TheVariants as texts
+use Rattle.numbers.specs.Text.{Text}
 use Rattle.values.specs.Result.{Result, done, stop}
-use Rattle.evaluator.specs.Values.{ValueSpells, ValueSpelt, ValueWritten, truth_worked}
-use Rattle.evaluator.specs.declared.Truth.{Truth}
-use Rattle.evaluator.specs.declared.Truth.TheVariants as truths
+use Rattle.values.specs.Stops.{stop_number}
+use Rattle.values.specs.declared.Noted.{Noted}
+use Rattle.values.specs.declared.Stop.{Stop}
+use Rattle.evaluator.specs.Values.{ValueSpells, ValueSpelt, ValueWritten, Truth, truth_worked}
 
 -- a string expression that was valued, and one that stops
 module _ {r : Text} {out : List ℕ} {w : Result (List ℕ)} (a : ValueWritten r out w) where
-  pub string-is : {n notes : ℕ} → r ≡ texts.Is n notes → ValueSpells n notes out w
+  pub string-is : {v : Noted ℕ} → r ≡ Ok v → ValueSpells v.value v.notes out w
   string-is e = subst (λ (x : Text). ValueSpelt x out w) e a.spelt
 
-  pub string_stops : {k : ℕ} → r ≡ texts.Stops k → w ≡ stop k
+  pub string_stops : {s : Stop} → r ≡ Err s → w ≡ stop (stop_number s)
   string_stops e = subst (λ (x : Text). ValueSpelt x out w) e a.spelt
 
 -- a test that was made, and one that stops
 module _ {r : Truth} {w : Result Bool} (a : truth_worked r ≡ w) where
-  pub truth_is : {holds : Bool} {notes : ℕ} → r ≡ truths.Is holds notes → w ≡ done holds notes
+  pub truth_is : {v : Noted Bool} → r ≡ Ok v → w ≡ done v.value v.notes
   truth_is e = sym a ∙ ap truth_worked e
 
-  pub truth_stops : {k : ℕ} → r ≡ truths.Stops k → w ≡ stop k
+  pub truth_stops : {s : Stop} → r ≡ Err s → w ≡ stop (stop_number s)
   truth_stops e = sym a ∙ ap truth_worked e

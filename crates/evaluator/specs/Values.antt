@@ -1,16 +1,17 @@
 -- What the code's answers stand for, and what can be valued. Assumes nothing.
-use Rattle.std.specs.Prelude.{Bool, List, ◌≡◌, ℕ, ◌-◌, ◌≤◌, ℤ, length, take, drop}
+use Rattle.std.specs.Prelude as std
+use Rattle.std.specs.Prelude.{Bool, List, ◌≡◌, ℕ, ◌-◌, ◌≤◌, ℤ, length, take, drop, Ok, Err}
 use Rattle.base.specs.Current.{current, table_size}
-use Rattle.numbers.specs.declared.Text.{Text}
-use Rattle.numbers.specs.declared.Text.TheVariants as texts
+use Rattle.numbers.specs.Text.{Text}
 use Rattle.decoder.specs.Holds.{ItemsHold, ElementsHold}
 use Rattle.decoder.specs.declared.Stretch.{Stretch}
 use Rattle.values.specs.Conversion.{number_of, is_numeric}
 use Rattle.values.specs.Result.{Result, done, stop, pure, ◌>>=◌}
+use Rattle.values.specs.Stops.{stop_number, worked}
+use Rattle.values.specs.declared.Noted.{Noted}
+use Rattle.values.specs.declared.Stop.{Stop}
 use Rattle.evaluator.specs.Memory.{MemoryReady}
 use Rattle.evaluator.specs.declared.Ends.{Ends}
-use Rattle.evaluator.specs.declared.Truth.{Truth}
-use Rattle.evaluator.specs.declared.Truth.TheVariants as truths
 
 -- the bytes between two ends, with the notes made
 abbrev pub spanned : List ℕ → Ends → Result (List ℕ)
@@ -60,15 +61,18 @@ pub record ValueSpells (n notes : ℕ) (out : List ℕ) (w : Result (List ℕ)) 
   pub kept : KeepsValue out value
 
 abbrev pub ValueSpelt : Text → (out : List ℕ) → Result (List ℕ) → Type 0
-ValueSpelt (texts.Is n notes) out w = ValueSpells n notes out w
-ValueSpelt (texts.Stops k) out w = w ≡ stop k
+ValueSpelt (Ok v) out w = ValueSpells v.value v.notes out w
+ValueSpelt (Err s) out w = w ≡ stop (stop_number s)
 
 -- with a buffer as long as before
 pub record ValueWritten (r : Text) (out : List ℕ) (w : Result (List ℕ)) : Type 0 where
   pub spelt : ValueSpelt r out w
   pub room : length out ≡ 1024
 
+-- what a test answers: whether it holds with the notes made, or what stops the step
+abbrev pub Truth : Type 0
+Truth = std.Result (Noted Bool) Stop
+
 -- the work that a test's answer stands for
 abbrev pub truth_worked : Truth → Result Bool
-truth_worked (truths.Is holds notes) = done holds notes
-truth_worked (truths.Stops k) = stop k
+truth_worked r = worked (λ (holds : Bool). holds) r

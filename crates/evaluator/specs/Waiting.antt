@@ -1,41 +1,54 @@
 -- The numbers that wait for an operator, in the first places of 64, and what an item does to them. Assumes nothing.
-use Rattle.std.specs.Prelude.{List, [], ◌∷◌, ◌≡◌, ℕ, zero, suc, ◌+◌, ◌-◌, ◌≤◌, ◌<◌, ℤ, pos, neg_ℤ, nat_abs, length, get_or}
+use Rattle.std.specs.Prelude as std
+use Rattle.std.specs.Prelude.{Ok, Err, List, [], ◌∷◌, ◌≡◌, ℕ, zero, suc, ◌+◌, ◌-◌, ◌≤◌, ◌<◌, ℤ, pos, neg_ℤ, nat_abs, length, get_or}
 use Rattle.base.specs.Current.{limit}
-use Rattle.numbers.specs.Numbers.{NumberWithin}
-use Rattle.numbers.specs.declared.Number.{Number}
+use Rattle.numbers.specs.Numbers.{IntInRange}
+use Rattle.numbers.specs.declared.Int.{Int}
 use Rattle.syntax.specs.Program as Program
 use Rattle.decoder.specs.Holds.{ItemHolds}
 use Rattle.decoder.specs.declared.Item.{Item}
 use Rattle.decoder.specs.declared.Item.TheVariants as items
-use Rattle.values.specs.Result.{Result, done, stop, pure, ◌>>=◌}
+use Rattle.values.specs.Result.{Result, done, stop}
+use Rattle.values.specs.Stops.{stop_number}
+use Rattle.values.specs.declared.Stop.{Stop}
 use Rattle.evaluator.specs.Memory.{MemoryReady}
-use Rattle.evaluator.specs.declared.StackDepth.{StackDepth}
-use Rattle.evaluator.specs.declared.StackDepth.TheVariants as knowns
+use Rattle.evaluator.specs.declared.Stack.{Stack}
 
--- the latest first
-abbrev pub waiting_in : List ℤ → ℕ → List ℤ
-waiting_in waiting zero = []
-waiting_in waiting (suc n) = get_or waiting n (pos 0) ∷ waiting_in waiting n
+-- the first so many of them, the latest first
+abbrev pub latest_first : List ℤ → ℕ → List ℤ
+latest_first numbers zero = []
+latest_first numbers (suc n) = get_or numbers n (pos 0) ∷ latest_first numbers n
 
--- a number put in front of them
-abbrev pub push_waiting : List ℤ → Result ℤ → Result (List ℤ)
-push_waiting known w = w >>= λ z. pure (z ∷ known)
+-- those that wait, the latest first
+abbrev pub waiting_in : Stack → List ℤ
+waiting_in s = latest_first s.numbers s.count
 
 -- a number with a sign
 abbrev pub signed_as : Program.Sign → ℤ → ℤ
 signed_as Program.positive z = z
 signed_as Program.negative z = neg_ℤ z
 
--- 64 numbers in range
-pub record Waits (waiting : List ℤ) : Type 0 where
-  pub size : length waiting ≡ 64
-  pub range : (i : ℕ) → nat_abs (get_or waiting i (pos 0)) ≤ limit
+-- at most 64 numbers wait, all in range
+pub record Waits (s : Stack) : Type 0 where
+  pub size : length s.numbers ≡ 64
+  pub most : s.count ≤ 64
+  pub range : (i : ℕ) → nat_abs (get_or s.numbers i (pos 0)) ≤ limit
 
--- a value that can be put at a place of them
-pub record Keepable (r : Number) (waiting : List ℤ) (at : ℕ) : Type 0 where
-  pub waits : Waits waiting
-  pub place : at < 64
-  pub range : NumberWithin r
+-- there is room for a number in range
+pub record Pushable (s : Stack) (z : Int) : Type 0 where
+  pub waits : Waits s
+  pub room : s.count < 64
+  pub number : IntInRange z
+
+-- a number waits
+pub record Poppable (s : Stack) : Type 0 where
+  pub waits : Waits s
+  pub some : 1 ≤ s.count
+
+-- z and those below wait
+pub record OnTop (z : Int) (below s : Stack) : Type 0 where
+  pub count : s.count ≡ below.count + 1
+  pub numbers : waiting_in s ≡ z.value ∷ waiting_in below
 
 -- an item finds its numbers waiting, and a place for what it makes of them
 abbrev pub FindsWaiting : ℕ → Item → Type 0
@@ -49,24 +62,23 @@ waiting_after known (items.Operand a) = known + 1
 waiting_after known (items.Operator o) = known - 1
 waiting_after known (items.Sign s) = known
 
-pub record Takable (store state : List ℕ) (x : Item) (waiting : List ℤ) (known : ℕ) : Type 0 where
+pub record Takable (store state : List ℕ) (x : Item) (s : Stack) : Type 0 where
   pub ready : MemoryReady store state
   pub holds : ItemHolds x
-  pub waits : Waits waiting
-  pub most : known ≤ 64
-  pub finds : FindsWaiting known x
+  pub waits : Waits s
+  pub finds : FindsWaiting s.count x
 
--- the work that an answer and the waiting numbers stand for
-abbrev pub known_worked : StackDepth → List ℤ → Result (List ℤ)
-known_worked (knowns.Is count notes) waiting = done (waiting_in waiting count) notes
-known_worked (knowns.Stops k) waiting = stop k
+-- what an item answers: the notes made, or what stops the step; and the work that this and those who wait stand for
+abbrev pub known_worked : std.Result ℕ Stop → Stack → Result (List ℤ)
+known_worked (Ok notes) s = done (waiting_in s) notes
+known_worked (Err k) s = stop (stop_number k)
 
 -- so many numbers wait, unless the run stops
-abbrev pub WaitingCounted : StackDepth → ℕ → Type 0
-WaitingCounted (knowns.Is count notes) n = count ≡ n
-WaitingCounted (knowns.Stops k) n = Unit {0}
+abbrev pub WaitingCounted : std.Result ℕ Stop → Stack → ℕ → Type 0
+WaitingCounted (Ok notes) s n = s.count ≡ n
+WaitingCounted (Err k) s n = Unit {0}
 
-pub record ItemTaken (r : StackDepth) (waiting : List ℤ) (count : ℕ) (w : Result (List ℤ)) : Type 0 where
-  pub work : known_worked r waiting ≡ w
-  pub waits : Waits waiting
-  pub counted : WaitingCounted r count
+pub record ItemTaken (r : std.Result ℕ Stop) (s : Stack) (count : ℕ) (w : Result (List ℤ)) : Type 0 where
+  pub work : known_worked r s ≡ w
+  pub waits : Waits s
+  pub counted : WaitingCounted r s count

@@ -1,18 +1,17 @@
 -- What carrying out a statement that doesn't scan leaves in the buffers. Assumes nothing.
-use Rattle.std.specs.Prelude.{true, List, ◌≡◌, ℕ, length, get_or, set}
+use Rattle.std.specs.Prelude.{Ok, Err, true, List, ◌≡◌, ℕ, length, get_or, set}
 use Rattle.base.specs.Current.{current}
 use Rattle.encoding.specs.Buffers.{store_keeps, state_keeps, state_in}
 use Rattle.calls.specs.Calls.{Buffers, left_of, buffers}
 use Rattle.evaluator.specs.Memory.{memory_in}
-use Rattle.evaluator.specs.Values.{truth_worked}
-use Rattle.evaluator.specs.declared.Truth.{Truth}
+use Rattle.evaluator.specs.Values.{Truth, truth_worked}
 use Rattle.syntax.specs.Program.{Program, Statement, Test, Branch, if_test}
 use Rattle.machine.specs.Expressions.{test_in}
 use Rattle.machine.specs.State.{State}
 use Rattle.machine.specs.Step.{Done, no_scan, execution}
-use Rattle.effects.specs.declared.Completion.{Completion}
-use Rattle.effects.specs.declared.Completion.TheVariants as did
+use Rattle.effects.specs.Leaving.{Completion}
 use Rattle.values.specs.Result.{Result, done, stop}
+use Rattle.values.specs.Stops.{stop_number}
 
 -- buffers that a step may be given, of a machine that runs the program p and hasn't ended
 pub record StatementStanding (p : Program) (input : List ℕ) (b : Buffers) : Type 0 where
@@ -37,8 +36,8 @@ pub record Unmoved (b left : Buffers) (k : ℕ) (w : Result Done) : Type 0 where
   pub same : left ≡ b
 
 abbrev pub Executes : Completion → (input : List ℕ) (b left : Buffers) → Result Done → Type 0
-Executes (did.Done notes) input b left w = Moved input b left notes w
-Executes (did.Stops k) input b left w = Unmoved b left k w
+Executes (Ok notes) input b left w = Moved input b left notes w
+Executes (Err s) input b left w = Unmoved b left (stop_number s) w
 
 -- a statement carried out on buffers that a step may be given
 abbrev pub Does : Statement → Completion → (b left : Buffers) → (input : List ℕ) → Type 0
@@ -53,8 +52,8 @@ TakesBranch t f r state left =
 
 -- the state moved on to a step, if a statement's work is done
 abbrev pub moved_on : Completion → List ℕ → ℕ → List ℕ
-moved_on (did.Done notes) state k = set state 1 k
-moved_on (did.Stops n) state k = state
+moved_on (Ok notes) state k = set state 1 k
+moved_on (Err s) state k = state
 
 pub record MovesOn (asked r : Completion) (state left : List ℕ) (k : ℕ) : Type 0 where
   pub same : r ≡ asked

@@ -1,5 +1,5 @@
 -- The law of each kind of statement: its work on the machine that the buffers hold, and what that leaves in them. Assumes nothing.
-use Rattle.std.specs.Prelude.{Bool, ◌≡◌}
+use Rattle.std.specs.Prelude.{Ok, Err, Bool, ◌≡◌}
 use mathlib.Core.List.{List, [], ◌∷◌, ◌++◌}
 use Rattle.std.proofs.Math.Path.{refl, sym, ap, subst}
 use Rattle.std.proofs.Common.{◌∙◌, arith, take-append-drop}
@@ -21,14 +21,13 @@ use Rattle.machine.specs.State as Machine
 use Rattle.machine.specs.State.{State, Memory, finished, is_running, with_number, going_to, with_returns, with_input, with_output, with_status}
 use Rattle.machine.specs.Step.{Done, most_returns, no_scan, moving, chosen, set_string_in, shortened, put_record, returning, execution}
 use Rattle.effects.specs.Laws.{left_is, stays_same}
-use Rattle.effects.specs.Leaving.{StoreStays, memory_of}
+use Rattle.effects.specs.Leaving.{Completion, StoreStays, memory_of}
 use Rattle.effects.specs.Reading.{MachineHas, Moves, Halts, onward}
 use Rattle.effects.specs.Valued.{Assigns, RecordPutBy, ValueStored}
-use Rattle.effects.specs.declared.Completion.{Completion}
-use Rattle.effects.specs.declared.Completion.TheVariants as did
 use Rattle.state.specs.Clauses.{Popped}
 use Rattle.state.specs.Laws.{StateLeaves, leaves_all, holding-leaves, leaves_going, leaves_finished, leaves_stopped, leaves_input, leaves_output, leaves_number, leaves_push, leaves_return, numbers_stay}
 use Rattle.values.specs.Result.{Result, done, stop, pure, ◌>>=◌}
+use Rattle.values.specs.Stops.{stop_number}
 use Rattle.values.specs.ResultLaws.{bound, stopped, bound-twice}
 use Rattle.execution.specs.Executing.{StatementStanding, machine_in, Moved, Unmoved, Executes, moved_on, MovesOn}
 
@@ -110,7 +109,7 @@ module _ (p : Program) (input : List ℕ) (b : Buffers) (s : StatementStanding p
       → Executes r input b (buffers b.store (moved_on r state next) b.output)
       (execution current (length b.output) (Program.set_number place xs) (machine_in input b))
   unfolding execution moving pure going_to with_number state_in
-  sets_number_lem (did.Done notes) state place next xs h e a =
+  sets_number_lem (Ok notes) state place next xs h e a =
       let z = a.value in
       let m = going_to (suc c.next) (with_number c.memory place z) c in
       let step : next ≡ suc c.next = e ∙ add-one (get_or b.state 1 0) in
@@ -121,8 +120,8 @@ module _ (p : Program) (input : List ℕ) (b : Buffers) (s : StatementStanding p
         work = bound _ _ z notes (record { state = m; scanned = no_scan }) a.work refl;
         left_is = stays_parts m _ refl refl moved;
       }
-  sets_number_lem (did.Stops k) state place next xs h e a =
-      record { work = stopped _ _ k a.1; same = ap (λ (l : List ℕ). buffers b.store l b.output) a.0 }
+  sets_number_lem (Err x) state place next xs h e a =
+      record { work = stopped _ _ (stop_number x) a.1; same = ap (λ (l : List ℕ). buffers b.store l b.output) a.0 }
 
   -- a string set
   pub sets_string : (r : Completion) (store : List ℕ) (next : ℕ) (q : Part) (xs : List Program.Element) → next ≡ get_or b.state 1 0 + 1
@@ -130,7 +129,7 @@ module _ (p : Program) (input : List ℕ) (b : Buffers) (s : StatementStanding p
       → Executes r input b (buffers store (moved_on r b.state next) b.output)
       (execution current (length b.output) (Program.set_string q xs) (machine_in input b))
   unfolding execution moving pure going_to state_in
-  sets_string (did.Done notes) store next q xs e a =
+  sets_string (Ok notes) store next q xs e a =
       let left = memory_of store (numbers_in b.state) in
       let m = going_to (suc c.next) left c in
       let step : next ≡ suc c.next = e ∙ add-one (get_or b.state 1 0) in
@@ -140,8 +139,8 @@ module _ (p : Program) (input : List ℕ) (b : Buffers) (s : StatementStanding p
         work = bound _ _ left notes (record { state = m; scanned = no_scan }) a.leaves.1 refl;
         left_is = left-parts m store _ b.output a.leaves.0 refl moved (output_same m refl);
       }
-  sets_string (did.Stops k) store next q xs e a =
-      record { work = stopped _ _ k a.leaves.1; same = ap (λ (l : List ℕ). buffers l b.state b.output) a.leaves.0 }
+  sets_string (Err x) store next q xs e a =
+      record { work = stopped _ _ (stop_number x) a.leaves.1; same = ap (λ (l : List ℕ). buffers l b.state b.output) a.leaves.0 }
 
   -- IF
   pub tests : (holds : Bool) (notes k : ℕ) (t : Program.Test) (f : Branch) → k ≡ chosen holds f
@@ -200,7 +199,7 @@ module _ (p : Program) (input : List ℕ) (b : Buffers) (s : StatementStanding p
       → Executes r input b (buffers b.store (moved_on r state next) output)
       (execution current (length b.output) (Program.write xs) (machine_in input b))
   unfolding execution moving pure going_to with_output state_in output_left
-  writes (did.Done notes) state output next xs e a =
+  writes (Ok notes) state output next xs e a =
       let n = a.reaches in
       let text = string_in current (memory_in b.store b.state) xs in
       let put : State → Result Done = λ d. moving (going_to (suc c.next) c.memory d) in
@@ -221,7 +220,7 @@ module _ (p : Program) (input : List ℕ) (b : Buffers) (s : StatementStanding p
         work = order ∙ bound _ _ d notes (record { state = m; scanned = no_scan }) (a.work c refl) refl;
         left_is = left-parts m b.store _ output (stays_same b.store good) refl moved outputs;
       }
-  writes (did.Stops k) state output next xs e a =
+  writes (Err x) state output next xs e a =
       let text = string_in current (memory_in b.store b.state) xs in
       let put : State → Result Done = λ d. moving (going_to (suc c.next) c.memory d) in
       let order : (text >>= λ v. shortened v >>= λ w. put_record (length b.output) w c >>= put)
@@ -229,7 +228,7 @@ module _ (p : Program) (input : List ℕ) (b : Buffers) (s : StatementStanding p
       ap (λ (f : List ℕ → Result Done). text >>= f) (λ i v. bound-twice (shortened v) (λ w. put_record (length b.output) w c) put i)
       ∙ bound-twice text (λ v. shortened v >>= λ w. put_record (length b.output) w c) put in
       record {
-        work = order ∙ stopped _ _ k (a.work c refl);
+        work = order ∙ stopped _ _ (stop_number x) (a.work c refl);
         same = λ i. record { store = b.store; state = a.state_same i; output = a.same i };
       }
 

@@ -15,11 +15,11 @@ ghost use Rattle.effects.specs.Valued.{StateWritable};
 ghost use Rattle.execution.specs.Executing.{Does, MovesOn, TakesBranch};
 
 use decoder::{Branch, If, Part, Stretch};
-use effects::{Completion, ReadOutcome};
 use encoding::STATE_SIZE;
-use evaluator::Truth;
+use values::{Noted, Stop};
 
 // the step of a branch field
+#[tactic(auto, unfolding(machine::specs::Step::chosen))]
 pub fn choose(success: bool, b: Branch) -> usize
     ensures { result ≡ chosen success (branch_meaning b) }
 {
@@ -27,16 +27,12 @@ pub fn choose(success: bool, b: Branch) -> usize
 }
 
 // moves on to a step where a statement's work is done; what stops it changes nothing
-fn move_on(state: &mut [u64; STATE_SIZE], k: usize, did: Completion) -> Completion
+fn move_on(state: &mut [u64; STATE_SIZE], k: usize, did: Result<u32, Stop>) -> Result<u32, Stop>
     ensures { MovesOn did result state.old state.new k }
 {
-    match did {
-        Completion::Done(notes) => {
-            state::go_to(state, k);
-            Completion::Done(notes)
-        }
-        Completion::Stops(n) => Completion::Stops(n),
-    }
+    let notes = did?;
+    state::go_to(state, k);
+    Ok(notes)
 }
 
 // a number set to an expression's value
@@ -47,7 +43,7 @@ pub fn set_number(
     next: usize,
     place: usize,
     s: Stretch,
-) -> Completion
+) -> Result<u32, Stop>
     requires valuable { Valuable table.now store.now state.old s }
     requires place_bound { (place < 32) × (next ≡ get_or state.old 1 0 + 1) }
     ensures { (input output : List ℕ) → Does (Program.set_number place (items_meaning table.now s)) result
@@ -66,7 +62,7 @@ pub fn set_string(
     p: Part,
     s: Stretch,
     out: &mut [u8],
-) -> Completion
+) -> Result<u32, Stop>
     requires value_spellable { ValueSpellable table.now store.old state.old s }
     requires part_holds { PartHolds p × (next ≡ get_or state.old 1 0 + 1) }
     requires out_len { length out.old ≡ 1024 }
@@ -78,38 +74,43 @@ pub fn set_string(
 }
 
 // GOTO to the step of its label, and ROUTINE to the one behind its ENDROUTINE
-pub fn go_to(state: &mut [u64; STATE_SIZE], k: usize) -> Completion
+pub fn go_to(state: &mut [u64; STATE_SIZE], k: usize) -> Result<u32, Stop>
     ensures { (store input output : List ℕ) → Does (Program.goto k) result
         (buffers store state.old output) (buffers store state.new output) input }
 {
     state::go_to(state, k);
-    Completion::Done(0)
+    Ok(0)
 }
 
 // END and EXIT
-pub fn finish(state: &mut [u64; STATE_SIZE]) -> Completion
+pub fn finish(state: &mut [u64; STATE_SIZE]) -> Result<u32, Stop>
     ensures { (store input output : List ℕ) → Does Program.finish result
         (buffers store state.old output) (buffers store state.new output) input }
 {
     state::finish(state);
-    Completion::Done(0)
+    Ok(0)
 }
 
 // takes the branch that a test asks for; what stops the test changes nothing
-fn take_branch(state: &mut [u64; STATE_SIZE], t: Truth, b: Branch) -> Completion
+fn take_branch(
+    state: &mut [u64; STATE_SIZE],
+    t: Result<Noted<bool>, Stop>,
+    b: Branch,
+) -> Result<u32, Stop>
     ensures { TakesBranch t (branch_meaning b) result state.old state.new }
 {
-    match t {
-        Truth::Is { holds, notes } => {
-            state::go_to(state, choose(holds, b));
-            Completion::Done(notes)
-        }
-        Truth::Stops(k) => Completion::Stops(k),
-    }
+    let test = t?;
+    state::go_to(state, choose(test.value, b));
+    Ok(test.notes)
 }
 
 // IF NULL
-pub fn if_null(store: &[u8], state: &mut [u64; STATE_SIZE], place: usize, b: Branch) -> Completion
+pub fn if_null(
+    store: &[u8],
+    state: &mut [u64; STATE_SIZE],
+    place: usize,
+    b: Branch,
+) -> Result<u32, Stop>
     requires { StoreGood store.now × (place < 32) }
     ensures { (input output : List ℕ) → Does (Program.if_test (Program.is_null place) (branch_meaning b)) result
         (buffers store.now state.old output) (buffers store.now state.new output) input }
@@ -118,7 +119,12 @@ pub fn if_null(store: &[u8], state: &mut [u64; STATE_SIZE], place: usize, b: Bra
 }
 
 // IF NUMERIC
-pub fn if_numeric(store: &[u8], state: &mut [u64; STATE_SIZE], p: Part, b: Branch) -> Completion
+pub fn if_numeric(
+    store: &[u8],
+    state: &mut [u64; STATE_SIZE],
+    p: Part,
+    b: Branch,
+) -> Result<u32, Stop>
     requires memory_ready { MemoryReady store.now state.old }
     requires part_holds { PartHolds p }
     ensures { (input output : List ℕ) → Does (Program.if_test (Program.is_numeric (part_meaning p)) (branch_meaning b)) result
@@ -129,7 +135,12 @@ pub fn if_numeric(store: &[u8], state: &mut [u64; STATE_SIZE], p: Part, b: Branc
 }
 
 // IF with two operands and a sign
-pub fn if_compares(store: &[u8], state: &mut [u64; STATE_SIZE], x: If, b: Branch) -> Completion
+pub fn if_compares(
+    store: &[u8],
+    state: &mut [u64; STATE_SIZE],
+    x: If,
+    b: Branch,
+) -> Result<u32, Stop>
     requires memory_ready { MemoryReady store.now state.old }
     requires if_holds { IfHolds x }
     ensures { (input output : List ℕ) → Does (Program.if_test (if_meaning x) (branch_meaning b)) result
@@ -146,23 +157,15 @@ pub fn read(
     input: &[u8],
     p: Part,
     b: Branch,
-) -> Completion
+) -> Result<u32, Stop>
     requires memory_ready { MemoryReady store.old state.old }
     requires part_holds { PartHolds p × (get_or state.old 3 0 ≤ length input.now) }
     ensures { (output : List ℕ) → Does (Program.read (part_meaning p) (branch_meaning b)) result
         (buffers store.old state.old output) (buffers store.new state.new output) input.now }
 {
-    match effects::reading::read_record(store, state, input, p) {
-        ReadOutcome::Succeeds => {
-            state::go_to(state, b.success);
-            Completion::Done(0)
-        }
-        ReadOutcome::Fails => {
-            state::go_to(state, b.failure);
-            Completion::Done(0)
-        }
-        ReadOutcome::Stops(k) => Completion::Stops(k),
-    }
+    let success = effects::reading::read_record(store, state, input, p)?;
+    state::go_to(state, choose(success, b));
+    Ok(0)
 }
 
 // WRITE and PRINT
@@ -174,7 +177,7 @@ pub fn write(
     next: usize,
     s: Stretch,
     out: &mut [u8],
-) -> Completion
+) -> Result<u32, Stop>
     requires value_spellable { ValueSpellable table.now store.now state.old s }
     requires state_writable { StateWritable state.old output.old × (next ≡ get_or state.old 1 0 + 1) }
     requires out_len { length out.old ≡ 1024 }
@@ -187,23 +190,23 @@ pub fn write(
 }
 
 // EXECUTE: a return held to the step behind it
-pub fn execute(state: &mut [u64; STATE_SIZE], next: usize, k: usize) -> Completion
+pub fn execute(state: &mut [u64; STATE_SIZE], next: usize, k: usize) -> Result<u32, Stop>
     requires { (get_or state.old 2 0 < 16) × (next ≡ get_or state.old 1 0 + 1) }
     ensures { (store input output : List ℕ) → Does (Program.execute k) result
         (buffers store state.old output) (buffers store state.new output) input }
 {
     state::push_return(state, next);
     state::go_to(state, k);
-    Completion::Done(0)
+    Ok(0)
 }
 
 // RETURN and ENDROUTINE: to the step of the latest return
-pub fn return_to(state: &mut [u64; STATE_SIZE]) -> Completion
+pub fn return_to(state: &mut [u64; STATE_SIZE]) -> Result<u32, Stop>
     requires { (0 < get_or state.old 2 0) × (get_or state.old 2 0 ≤ 16) }
     ensures { (store input output : List ℕ) → Does Program.return result
         (buffers store state.old output) (buffers store state.new output) input }
 {
     let k = state::pop_return(state);
     state::go_to(state, k);
-    Completion::Done(0)
+    Ok(0)
 }

@@ -1,8 +1,9 @@
 -- What the functions of a step ask for and leave. Assumes nothing.
-use Rattle.std.specs.Prelude.{true, false, cond, not, List, [], ◌∷◌, reverse, ◌≡◌, ℕ, ◌+◌, ◌≤◌, ◌<◌, ltb, length, get_or, set, replicate}
+use Rattle.std.specs.Prelude as std
+use Rattle.std.specs.Prelude.{true, false, cond, not, List, Ok, Err, reverse, ◌≡◌, ℕ, ◌+◌, ◌≤◌, ◌<◌, ltb, length, get_or, set, replicate}
 use Rattle.base.specs.Current.{current, table_size}
 use Rattle.encoding.specs.Buffers.{returns_in, store_keeps, state_keeps}
-use Rattle.calls.specs.Calls.{Buffers, left_of, StepCalled, RunCalled, outcome_number}
+use Rattle.calls.specs.Calls.{Buffers, left_of, StepCalled, RunCalled}
 use Rattle.encoding.specs.Numerals.{numeral_at}
 use Rattle.encoding.specs.Rules.{keeps_rules}
 use Rattle.encoding.specs.TableReading.{program_in}
@@ -17,9 +18,13 @@ use Rattle.decoder.specs.declared.Statement.{Statement}
 use Rattle.decoder.specs.declared.Statement.TheVariants as statements
 use Rattle.scanning.specs.Call.{answer_numbers}
 use Rattle.scanning.specs.Trials.{Scanned}
-use Rattle.effects.specs.declared.Completion.{Completion}
-use Rattle.effects.specs.declared.Completion.TheVariants as did
+use Rattle.effects.specs.Leaving.{Completion}
 use Rattle.values.specs.Result.{Result, done}
+use Rattle.values.specs.Stops.{stop_number}
+use Rattle.interpreter.specs.Endings.{outcome_meaning, step_number, step_notes}
+use Rattle.interpreter.specs.declared.Halt.{Halt}
+use Rattle.interpreter.specs.declared.Halt.TheVariants as halts
+use Rattle.interpreter.specs.declared.run.Ran.{Ran}
 
 -- a table that keeps its rules, a good store and a state in range: only the machine itself turns the step down
 pub record Given (table input : List ℕ) (b : Buffers) : Type 0 where
@@ -73,8 +78,8 @@ pub record Worked (input : List ℕ) (b left : Buffers) (answer : List ℕ) (not
 
 -- what a statement's work comes to; what stops it changes nothing but the answer
 abbrev pub Works : Completion → (input : List ℕ) (b left : Buffers) (answer : List ℕ) → Result Done → Type 0
-Works (did.Done notes) input b left answer w = Worked input b left answer notes w
-Works (did.Stops k) input b left answer w = Unmoved b left k w
+Works (Ok notes) input b left answer w = Worked input b left answer notes w
+Works (Err s) input b left answer w = Unmoved b left (stop_number s) w
 
 -- the work of a statement on the machine that the buffers hold
 abbrev pub work_of : (input : List ℕ) → Buffers → Program.Statement → Result Done
@@ -88,21 +93,21 @@ abbrev pub DoesScan : Scan → (table : List ℕ) → Completion → (b left : B
 DoesScan s table r b left input answer =
     (p : Program.Program) → StatementStanding p input b → WorksOn r input b left (statement_meaning table (statements.Scan s)) answer
 
--- the number of a statement's work, the state and the answer behind it
-abbrev pub concluded_number : Completion → ℕ
-concluded_number (did.Done notes) = 0
-concluded_number (did.Stops k) = k
+-- what a step gives by its statement's work, the state and the answer behind it
+abbrev pub concluded_result : Completion → std.Result ℕ Halt
+concluded_result (Ok notes) = Ok notes
+concluded_result (Err s) = Err (halts.Stopped s)
 
 abbrev pub concluded_state : Completion → List ℕ → List ℕ
-concluded_state (did.Done notes) state = state
-concluded_state (did.Stops k) state = set state 0 2
+concluded_state (Ok notes) state = state
+concluded_state (Err s) state = set state 0 2
 
 abbrev pub concluded_answer : Completion → List ℕ → List ℕ
-concluded_answer (did.Done notes) answer = set answer 3 notes
-concluded_answer (did.Stops k) answer = replicate 24 0
+concluded_answer (Ok notes) answer = set answer 3 notes
+concluded_answer (Err s) answer = replicate 24 0
 
-pub record Concludes (r : Completion) (number : ℕ) (state state_left answer answer_left : List ℕ) : Type 0 where
-  pub number_is : number ≡ concluded_number r
+pub record Concludes (r : Completion) (given : std.Result ℕ Halt) (state state_left answer answer_left : List ℕ) : Type 0 where
+  pub given_is : given ≡ concluded_result r
   pub state_is : state_left ≡ concluded_state r state
   pub answer_is : answer_left ≡ concluded_answer r answer
 
@@ -112,10 +117,17 @@ pub record StepAnswers (s : StepCalled) (number : ℕ) (answer : List ℕ) (left
   pub answer_is : answer ≡ s.answer
   pub left_is : left ≡ s.left
 
--- number, result and buffers left are those of a run; the result is the outcome's number, the number, the steps done and their notes
-pub record RunAnswers (r : RunCalled) (number : ℕ) (result : List ℕ) (left : Buffers) : Type 0 where
-  pub number_is : number ≡ r.number
-  pub result_is : result ≡ outcome_number r.outcome ∷ (r.number ∷ (r.steps ∷ (r.notes ∷ [])))
+-- a step that was made or not, with its notes
+pub record StepTaken (s : StepCalled) (r : std.Result ℕ Halt) (answer : List ℕ) (left : Buffers) : Type 0 where
+  pub answers : StepAnswers s (step_number r) answer left
+  pub notes_are : get_or answer 3 0 ≡ step_notes r
+
+-- outcome, number, steps done, their notes and buffers left are those of a run
+pub record RunAnswers (r : RunCalled) (ran : Ran) (left : Buffers) : Type 0 where
+  pub outcome_is : outcome_meaning ran.outcome ≡ r.outcome
+  pub number_is : ran.number ≡ r.number
+  pub steps_are : ran.steps ≡ r.steps
+  pub notes_are : ran.notes ≡ r.notes
   pub left_is : left ≡ r.left
 
 -- 2, 13, 14, and 15 where a state is out of range, the lowest first, or 0

@@ -1,7 +1,9 @@
 -- The laws of a step on the buffers: what turns it down, what a statement's work comes to, and how it is concluded. Assumes nothing.
-use Rattle.std.specs.Prelude.{Bool, not, ◌≡◌, ℕ, ◌+◌, ◌*◌, ◌≤◌, ◌<◌, leb, ltb, length, get_or, set, replicate}
+use Rattle.std.specs.Prelude as std
+use Rattle.std.specs.Prelude.{Bool, Ok, Err, not, ◌≡◌, ℕ, ◌+◌, ◌*◌, ◌≤◌, ◌<◌, leb, ltb, length, get_or, set, replicate}
 use Rattle.std.proofs.Math.Bool.{true, false, cond}
 use mathlib.Core.List.{List, [], ◌∷◌, append-nil, reverse}
+use Rattle.std.proofs.Math.Option.{Option, none, some}
 use Rattle.std.proofs.Math.Path.{refl, ap, ap₂}
 use Rattle.std.proofs.Common.{sym, ◌∙◌, subst, arith}
 use Rattle.std.proofs.Math.Dec.{eqb}
@@ -28,7 +30,7 @@ use Rattle.syntax.specs.Program as Program
 use Rattle.syntax.specs.Program.{Program}
 use Rattle.machine.specs.Bounds.{replicate_everywhere}
 use Rattle.machine.specs.State.{State, is_running}
-use Rattle.machine.specs.Step.{Done, execution, concluded, lacks_return, most_returns, no_scan, scanned_to, statement_at, step, turned_down_by}
+use Rattle.machine.specs.Step.{Done, chosen, execution, concluded, lacks_return, most_returns, no_scan, scanned_to, statement_at, step, turned_down_by}
 use Rattle.decoder.specs.Holds.{StatementHolds}
 use Rattle.decoder.specs.Kept.{kept_statement, kept-steps, statement_is, step_count}
 use Rattle.decoder.specs.Meaning.{branch_meaning, statement_meaning}
@@ -37,13 +39,15 @@ use Rattle.decoder.specs.declared.Scan.{Scan}
 use Rattle.decoder.specs.declared.Statement.{Statement}
 use Rattle.decoder.specs.declared.Statement.TheVariants as statements
 use Rattle.scanning.specs.Call.{answer_numbers, most_elements, no_answer, split_numbers}
-use Rattle.scan_statement.specs.Scans.{Ended, ScanLent, scanning_of}
+use Rattle.scanning.specs.Splits.{Split}
+use Rattle.scanning.specs.Trials.{Scanned}
+use Rattle.scan_statement.specs.Scans.{ScanLent, SplitEnds, is_split, scanning_of}
 use Rattle.scan_statement.specs.SearchLaws.{answer_noted}
-use Rattle.effects.specs.declared.Completion.{Completion}
-use Rattle.effects.specs.declared.Completion.TheVariants as did
+use Rattle.effects.specs.Leaving.{Completion}
 use Rattle.values.specs.Result.{Result, stop, pure}
 use Rattle.values.specs.ResultLaws.{bound, stopped}
-use Rattle.interpreter.specs.Clauses.{Given, Allowed, StepGoing, ReturnsEnough, next_statement, Worked, Works, WorksOn, work_of, Concludes, StepAnswers, unfit_number}
+use Rattle.interpreter.specs.Clauses.{Given, Allowed, StepGoing, ReturnsEnough, next_statement, Worked, Works, WorksOn, work_of, Concludes, StepAnswers, StepTaken, unfit_number}
+use Rattle.interpreter.specs.declared.Halt.{Halt}
 
 -- an answer that says nothing is zeros
 pub silent_zeros : replicate 24 0 ≡ no_answer
@@ -55,11 +59,21 @@ stopped_zeros : replicate 24 0 ≡ answer_numbers 0 no_scan
 unfolding answer_numbers no_scan split_numbers most_elements
 stopped_zeros = refl
 
+-- the notes of an answer
+split_notes : (o : Option Split) (trials n : ℕ) → get_or (split_numbers o trials n) 3 0 ≡ n
+unfolding split_numbers
+split_notes none trials n = refl
+split_notes (some s) trials n = refl
+
+answer_notes : (a : Scanned) (n : ℕ) → get_or (answer_numbers n a) 3 0 ≡ n
+unfolding answer_numbers
+answer_notes a n = split_notes a.split a.trials n
+
 -- a statement that doesn't scan: the answer says nothing but its notes
 plain_works : (r : Completion) (input : List ℕ) (b left : Buffers) (answer : List ℕ) (w : Result Done) → Executes r input b left w
     → answer ≡ no_answer → Works r input b left answer w
 unfolding no_answer answer_numbers split_numbers no_scan
-plain_works (did.Done notes) input b left answer w c silent =
+plain_works (Ok notes) input b left answer w c silent =
     record {
       machine = c.machine;
       scanned = no_scan;
@@ -67,7 +81,7 @@ plain_works (did.Done notes) input b left answer w c silent =
       left_is = c.left_is;
       answer_is = ap (λ (l : List ℕ). set l 3 notes) silent;
     }
-plain_works (did.Stops k) input b left answer w c silent = c
+plain_works (Err s) input b left answer w c silent = c
 
 -- buffers that only the machine turns down
 module _ {table input : List ℕ} {b : Buffers} (g : Given table input b) where
@@ -176,26 +190,34 @@ module _ {table input : List ℕ} {b : Buffers} (g : Given table input b) where
       ∙ ap (step_done current table input b) (rw goes)
 
   -- what is concluded of a statement's work
-  pub concluded-answers : get_or b.state 0 0 ≡ 0 → (r : Completion) (left : Buffers) (answer : List ℕ) (w : Result Done) → Works r input b left answer w
-      → {number : ℕ} {state answer_left : List ℕ} → Concludes r number left.state state answer answer_left
-      → StepAnswers (step_done current table input b (concluded (machine_in input b) w)) number answer_left (buffers left.store state left.output)
+  pub concluded-taken : get_or b.state 0 0 ≡ 0 → (r : Completion) (left : Buffers) (answer : List ℕ) (w : Result Done) → Works r input b left answer w
+      → {given : std.Result ℕ Halt} {state answer_left : List ℕ} → Concludes r given left.state state answer answer_left
+      → StepTaken (step_done current table input b (concluded (machine_in input b) w)) given answer_left (buffers left.store state left.output)
   unfolding step_done concluded
-  concluded-answers runs (did.Done notes) left answer w k e =
-      rw k.work
+  concluded-taken runs (Ok notes) left answer w k e =
+      rw (k.work, e.given_is)
       (record {
-        number_is = e.number_is;
-        answer_is = e.answer_is ∙ k.answer_is;
-        left_is = ap (λ (l : List ℕ). buffers left.store l left.output) e.state_is ∙ k.left_is;
+        answers =
+            record {
+              number_is = refl;
+              answer_is = e.answer_is ∙ k.answer_is;
+              left_is = ap (λ (l : List ℕ). buffers left.store l left.output) e.state_is ∙ k.left_is;
+            };
+        notes_are = ap (λ (l : List ℕ). get_or l 3 0) (e.answer_is ∙ k.answer_is) ∙ answer_notes k.scanned notes;
       })
-  concluded-answers runs (did.Stops n) left answer w k e =
-      rw k.work
+  concluded-taken runs (Err s) left answer w k e =
+      rw (k.work, e.given_is)
       (record {
-        number_is = e.number_is;
-        answer_is = e.answer_is ∙ stopped_zeros;
-        left_is =
-            ap (λ (l : List ℕ). buffers left.store l left.output) e.state_is
-            ∙ ap (λ (l : Buffers). buffers l.store (set l.state 0 2) l.output) k.same
-            ∙ stops p input b (given_standing runs);
+        answers =
+            record {
+              number_is = refl;
+              answer_is = e.answer_is ∙ stopped_zeros;
+              left_is =
+                  ap (λ (l : List ℕ). buffers left.store l left.output) e.state_is
+                  ∙ ap (λ (l : Buffers). buffers l.store (set l.state 0 2) l.output) k.same
+                  ∙ stops p input b (given_standing runs);
+            };
+        notes_are = ap (λ (l : List ℕ). get_or l 3 0) e.answer_is;
       })
 
 -- a statement of the table that the machine doesn't turn down, by the name y of it
@@ -302,14 +324,22 @@ allowed_going {table} {b = b} a {x = x} e read =
           (ap (λ y. lacks_return y (reverse (returns_in b.state))) means ∙ a.enough);
     }
 
+-- the step that a scan goes to
+goes_to : (o : Option Split) (b : Program.Branch) → chosen (is_split o) b ≡ scanned_to o b
+unfolding scanned_to chosen
+goes_to (some s) b = refl
+goes_to none b = refl
+
 -- SCAN and BACKSCAN, by the step that they go to
 pub scan_works : {p : Program} {input : List ℕ} {b : Buffers} → StatementStanding p input b → (table : List ℕ) (s : Scan) {store answer : List ℕ} {notes k : ℕ}
-    → (e : Ended b.store store b.state answer notes (scanning_of table b.store b.state s))
-    → k ≡ scanned_to e.scanned.split (branch_meaning s.branch)
+    {is : Bool} → SplitEnds is b.store store b.state answer notes (scanning_of table b.store b.state s)
+    → k ≡ chosen is (branch_meaning s.branch)
     → Worked input b (buffers store (set b.state 1 k) b.output) answer notes (work_of input b (statement_meaning table (statements.Scan s)))
 unfolding execution pure state_in
-scan_works {p} {input} {b} stands table s {store} {notes = notes} e goes =
+scan_works {p} {input} {b} stands table s {store} {notes = notes} f asks =
+    let e = f.ended in
     let to = scanned_to e.scanned.split (branch_meaning s.branch) in
+    let goes = asks ∙ ap (λ t. chosen t (branch_meaning s.branch)) (sym f.found) ∙ goes_to e.scanned.split (branch_meaning s.branch) in
     record {
       machine = _;
       scanned = e.scanned;

@@ -1,20 +1,25 @@
 -- The laws of a run: the buffers that a step leaves may be given to the next, and each step brings the run's result nearer. Assumes nothing.
-use Rattle.std.specs.Prelude.{true, false, not, List, [], ◌∷◌, ◌≡◌, refl, ℕ, suc, ◌+◌, ◌*◌, ◌-◌, ◌≤◌, ◌<◌, ltb, eqb, length, replicate}
+use Rattle.std.specs.Prelude.{true, false, not, Result, Ok, Err, List, ◌≡◌, refl, ℕ, suc, ◌+◌, ◌*◌, ◌-◌, ◌≤◌, ◌<◌, ltb, eqb, length, replicate}
 use Rattle.std.proofs.Common.{sym, ◌∙◌, subst}
-use Rattle.std.proofs.Math.Path.{ap, ap₂}
+use Rattle.std.proofs.Math.Path.{ap}
 use native.Mathlib.Omega.{arith}
 use Rattle.std.proofs.Math.ListN.{get_or}
 use borrow.Author.Tests.{le-ltb, lt-ltb}
 use Rattle.base.specs.Current.{current, table_size}
 use Rattle.encoding.specs.Buffers.{state_keeps, store_keeps}
-use Rattle.calls.specs.Calls.{Buffers, StepCalled, RunCalled, step_call, run_call, run_behind, run_ended, run_with_step, outcome_number}
+use Rattle.calls.specs.Calls.{Buffers, StepCalled, RunCalled, step_call, run_call, run_behind, run_ended, run_with_step}
 use Rattle.encoding.specs.Conditions.{current-limit, current_wide}
 use Rattle.encoding.specs.Rules.{keeps_rules}
 use Rattle.calls.specs.StopLaws.{passed_holds, refusal_unstopped}
 use Rattle.encoding.specs.TableReading.{program_in}
 use Rattle.values.specs.Result.{stops_step}
 use Rattle.values.specs.ResultLaws.{zero_unstopped}
-use Rattle.interpreter.specs.Clauses.{StepAnswers, Given, RunAnswers, unfit_number}
+use Rattle.values.specs.Stops.{stop_number, stop_number_stops}
+use Rattle.interpreter.specs.declared.Halt.{Halt}
+use Rattle.interpreter.specs.declared.Halt.TheVariants as halts
+use Rattle.interpreter.specs.Endings.{halted, refusal_some, refusal_unstops, step_number, step_notes}
+use Rattle.interpreter.specs.declared.run.Outcome.TheVariants.{Finished, Stopped, Spent, Refused}
+use Rattle.interpreter.specs.Clauses.{StepAnswers, StepTaken, Given, RunAnswers, unfit_number}
 use Rattle.interpreter.specs.Laws.{tabled}
 
 -- the buffers that a step leaves may be given to the next
@@ -50,7 +55,7 @@ added_none r =
     let notes : r.notes ≡ 0 + r.notes = omega arith in
     λ i. record { outcome = r.outcome; number = r.number; steps = steps i; notes = notes i; left = r.left }
 
--- a step that was made, and what it gave
+-- a step that was made or not, and what it gave
 module _ (table input : List ℕ) (b : Buffers) {number : ℕ} {answer : List ℕ} {left : Buffers}
     (a : StepAnswers (step_call current table input b) number answer left) (steps notes k : ℕ) where
   -- the run that begins with it
@@ -68,43 +73,33 @@ module _ (table input : List ℕ) (b : Buffers) {number : ℕ} {answer : List �
 
   -- it was stopped
   pub run_stopped : stops_step number ≡ true
-      → RunAnswers (added steps notes (run_call current table input (suc k) b)) number (1 ∷ (number ∷ ((steps + 1) ∷ ((notes + get_or answer 3 0) ∷ [])))) left
-  unfolding run_behind run_with_step run_ended outcome_number
+      → RunAnswers (added steps notes (run_call current table input (suc k) b))
+      (record { outcome = Stopped; number = number; steps = steps + 1; notes = notes + get_or answer 3 0 }) left
+  unfolding run_behind run_with_step run_ended
   run_stopped h =
       let notes-only : notes + get_or answer 3 0 ≡ notes + (get_or answer 3 0 + 0) = omega arith in
-      rw (begun, h)
-      (record {
-        number_is = refl;
-        result_is = ap (λ (n : ℕ). 1 ∷ (number ∷ ((steps + 1) ∷ (n ∷ [])))) notes-only;
-        left_is = refl;
-      })
+      rw (begun, h) (record { outcome_is = refl; number_is = refl; steps_are = refl; notes_are = notes-only; left_is = refl })
 
   -- it was turned down
   pub run_refused : stops_step number ≡ false → 0 < number
-      → RunAnswers (added steps notes (run_call current table input (suc k) b)) number (3 ∷ (number ∷ (steps ∷ (notes ∷ [])))) left
-  unfolding run_behind run_ended outcome_number
+      → RunAnswers (added steps notes (run_call current table input (suc k) b))
+      (record { outcome = Refused; number = number; steps = steps; notes = notes }) left
+  unfolding run_behind run_ended
   run_refused h some =
       let same-steps : steps ≡ steps + 0 = omega arith in
       let same-notes : notes ≡ notes + 0 = omega arith in
       rw (begun, h, lt-ltb 0 number some)
-      (record {
-        number_is = refl;
-        result_is = ap₂ (λ (n m : ℕ). 3 ∷ (number ∷ (n ∷ (m ∷ [])))) same-steps same-notes;
-        left_is = refl;
-      })
+      (record { outcome_is = refl; number_is = refl; steps_are = same-steps; notes_are = same-notes; left_is = refl })
 
   -- it finished
   pub run_finished : number ≡ 0 → eqb (get_or left.state 0 0) 1 ≡ true
-      → RunAnswers (added steps notes (run_call current table input (suc k) b)) 0 (0 ∷ (0 ∷ ((steps + 1) ∷ ((notes + get_or answer 3 0) ∷ [])))) left
-  unfolding run_behind run_with_step run_ended outcome_number
+      → RunAnswers (added steps notes (run_call current table input (suc k) b))
+      (record { outcome = Finished; number = 0; steps = steps + 1; notes = notes + get_or answer 3 0 }) left
+  unfolding run_behind run_with_step run_ended
   run_finished none ends =
       let notes-only : notes + get_or answer 3 0 ≡ notes + (get_or answer 3 0 + 0) = omega arith in
       rw (begun, zero_unstopped none, le-ltb 0 number (omega arith), ends)
-      (record {
-        number_is = refl;
-        result_is = ap (λ (n : ℕ). 0 ∷ (0 ∷ ((steps + 1) ∷ (n ∷ [])))) notes-only;
-        left_is = refl;
-      })
+      (record { outcome_is = refl; number_is = refl; steps_are = refl; notes_are = notes-only; left_is = refl })
 
   -- the run goes on
   pub run_goes : number ≡ 0 → eqb (get_or left.state 0 0) 1 ≡ false
@@ -124,16 +119,12 @@ module _ (table input : List ℕ) (b : Buffers) {number : ℕ} {answer : List �
 
 -- all steps are made
 run_spent : (table input : List ℕ) (b : Buffers) (steps notes : ℕ)
-    → RunAnswers (added steps notes (run_call current table input 0 b)) 0 (2 ∷ (0 ∷ (steps ∷ (notes ∷ [])))) b
-unfolding run_call run_ended outcome_number
+    → RunAnswers (added steps notes (run_call current table input 0 b)) (record { outcome = Spent; number = 0; steps = steps; notes = notes }) b
+unfolding run_call run_ended
 run_spent table input b steps notes =
     let same-steps : steps ≡ steps + 0 = omega arith in
     let same-notes : notes ≡ notes + 0 = omega arith in
-    record {
-      number_is = refl;
-      result_is = ap₂ (λ (n m : ℕ). 2 ∷ (0 ∷ (n ∷ (m ∷ [])))) same-steps same-notes;
-      left_is = refl;
-    }
+    record { outcome_is = refl; number_is = refl; steps_are = same-steps; notes_are = same-notes; left_is = refl }
 
 -- what is left of a run once some steps are made: count steps on the buffers first, and so many made, with notes, up to the buffers b
 pub record Repeats (table input : List ℕ) (first : Buffers) (count steps notes : ℕ) (b : Buffers) : Type 0 where
@@ -151,11 +142,6 @@ repeats_none table input b count g =
       given = g;
       run = added_none (run_call current table input count b) ∙ ap (λ (n : ℕ). added 0 0 (run_call current table input n b)) all_left;
     }
-
--- a promise kept by what `end` says
-pub ended_as : {r : RunCalled} {number n : ℕ} {result given should : List ℕ} {left : Buffers} → given ≡ should
-    → (n ≡ number) × (result ≡ given) → RunAnswers r number should left → RunAnswers r n result left
-ended_as same is p = rw (is.0, is.1, same) p
 
 -- of a run of one step: before it the buffers are those that were given, behind it the answer is the step's
 pub record Alone (table input : List ℕ) (first : Buffers) (steps : ℕ) (answer : List ℕ) (b : Buffers) : Type 0 where
@@ -177,11 +163,11 @@ module _ {table input : List ℕ} {first : Buffers} {steps : ℕ} {answer : List
         → StepAnswers (step_call current table input first) n answer' left
     alone_ends below is one = first-answers (omega (arith, below, one)) is
 
-    pub alone_more : number ≤ 0 → Alone table input first (steps + 1) answer' left
+    pub alone_more : number ≡ 0 → Alone table input first (steps + 1) answer' left
     alone_more zero =
         record {
           none = λ e. absurd (omega (arith, e));
-          one = λ e. first-answers (omega (arith, e)) (omega (arith, zero));
+          one = λ e. first-answers (omega (arith, e)) (sym zero);
         }
 
   -- no step is left
@@ -193,48 +179,73 @@ module _ {table input : List ℕ} {first : Buffers} {steps : ℕ} {answer : List
 
 -- a step more
 module _ {table input : List ℕ} {first : Buffers} {count steps notes : ℕ} {b : Buffers} (r : Repeats table input first count steps notes b)
-    {number : ℕ} {answer : List ℕ} {left : Buffers} (a : StepAnswers (step_call current table input b) number answer left)
+    {given : Result ℕ Halt} {answer : List ℕ} {left : Buffers} (a : StepTaken (step_call current table input b) given answer left)
     (below : steps < count) where
   next-run : run_call current table input count first ≡ added steps notes (run_call current table input (suc (count - (steps + 1))) b)
   next-run =
       let one_less : count - steps ≡ suc (count - (steps + 1)) = omega arith in
       r.run ∙ ap (λ (n : ℕ). added steps notes (run_call current table input n b)) one_less
 
-  pub repeats_stopped : stops_step number ≡ true
-      → RunAnswers (run_call current table input count first) number (1 ∷ (number ∷ ((steps + 1) ∷ ((notes + get_or answer 3 0) ∷ [])))) left
-  repeats_stopped h = rw next-run (run_stopped table input b a steps notes (count - (steps + 1)) h)
+  abbrev whole-run : RunCalled
+  whole-run = added steps notes (run_call current table input (suc (count - (steps + 1))) b)
 
-  pub repeats_refused : stops_step number ≡ false → 0 < number
-      → RunAnswers (run_call current table input count first) number (3 ∷ (number ∷ (steps ∷ (notes ∷ [])))) left
-  repeats_refused h some = rw next-run (run_refused table input b a steps notes (count - (steps + 1)) h some)
+  -- the step, by what it gave
+  numbered : {n : ℕ} → step_number given ≡ n → StepAnswers (step_call current table input b) n answer left
+  numbered e = subst (λ (n : ℕ). StepAnswers (step_call current table input b) n answer left) e a.answers
 
-  pub repeats_finished : number ≤ 0 → eqb (get_or left.state 0 0) 1 ≡ true
-      → RunAnswers (run_call current table input count first) 0 (0 ∷ (0 ∷ ((steps + 1) ∷ ((notes + get_or answer 3 0) ∷ [])))) left
-  repeats_finished h ends =
-      rw next-run (run_finished table input b a steps notes (count - (steps + 1)) (omega arith) ends)
+  pub repeats_halted : (h : Halt) → given ≡ Err h → RunAnswers (run_call current table input count first) (halted h steps notes) left
+  repeats_halted (halts.Stopped s) e =
+      let none : notes + get_or answer 3 0 ≡ notes = omega (arith, a.notes_are ∙ ap step_notes e) in
+      rw next-run
+      (subst (λ (n : ℕ). RunAnswers whole-run (record { outcome = Stopped; number = stop_number s; steps = steps + 1; notes = n }) left) none
+      (run_stopped table input b (numbered (ap step_number e)) steps notes (count - (steps + 1)) (stop_number_stops s)))
+  repeats_halted (halts.Refused refusal) e =
+      rw next-run
+      (run_refused table input b (numbered (ap step_number e)) steps notes (count - (steps + 1)) (refusal_unstops refusal) (refusal_some refusal))
 
-  pub repeats_more : number ≤ 0 → eqb (get_or left.state 0 0) 1 ≡ false → get_or answer 3 0 < 4_294_967_296
-      → Repeats table input first count (steps + 1) (notes + get_or answer 3 0) left
-  repeats_more h more small =
+  pub repeats_finished : {more : ℕ} → given ≡ Ok more → eqb (get_or left.state 0 0) 1 ≡ true
+      → RunAnswers (run_call current table input count first)
+      (record { outcome = Finished; number = 0; steps = steps + 1; notes = notes + more }) left
+  repeats_finished {more} e ends =
+      rw next-run
+      (subst (λ (n : ℕ). RunAnswers whole-run (record { outcome = Finished; number = 0; steps = steps + 1; notes = notes + n }) left)
+      (a.notes_are ∙ ap step_notes e)
+      (run_finished table input b a.answers steps notes (count - (steps + 1)) (ap step_number e) ends))
+
+  pub repeats_more : {more : ℕ} → given ≡ Ok more → eqb (get_or left.state 0 0) 1 ≡ false → more < 4_294_967_296
+      → Repeats table input first count (steps + 1) (notes + more) left
+  repeats_more {more} e goes small =
+      let told : get_or answer 3 0 ≡ more = a.notes_are ∙ ap step_notes e in
       record {
         most = omega arith;
         few = omega (arith, r.few);
-        given = subst (Given table input) (sym a.left_is) (given_next r.given);
-        run = next-run ∙ run_goes table input b a steps notes (count - (steps + 1)) (omega arith) more;
+        given = subst (Given table input) (sym a.answers.left_is) (given_next r.given);
+        run =
+            next-run
+            ∙ run_goes table input b a.answers steps notes (count - (steps + 1)) (ap step_number e) goes
+            ∙ ap (λ (n : ℕ). added (steps + 1) (notes + n) (run_call current table input (count - (steps + 1)) left)) told;
       }
 
 pub repeats_spent : {table input : List ℕ} {first : Buffers} {count steps notes : ℕ} {b : Buffers}
     → Repeats table input first count steps notes b → count ≤ steps
-    → RunAnswers (run_call current table input count first) 0 (2 ∷ (0 ∷ (steps ∷ (notes ∷ [])))) b
+    → RunAnswers (run_call current table input count first) (record { outcome = Spent; number = 0; steps = steps; notes = notes }) b
 repeats_spent {table} {input} {first} {count} {steps} {notes} {b} r h =
     let none_left : count - steps ≡ 0 = omega arith in
     rw (r.run, none_left) (run_spent table input b steps notes)
+
+-- so it has made as many steps as it was asked for
+pub repeats_all : {table input : List ℕ} {first : Buffers} {count steps notes : ℕ} {b : Buffers}
+    → Repeats table input first count steps notes b → steps ≡ count
+    → RunAnswers (run_call current table input count first) (record { outcome = Spent; number = 0; steps = count; notes = notes }) b
+repeats_all {table} {input} {first} {count} {notes = notes} {b = b} r all =
+    subst (λ (n : ℕ). RunAnswers (run_call current table input count first) (record { outcome = Spent; number = 0; steps = n; notes = notes }) b) all
+    (repeats_spent r (omega (arith, all)))
 
 -- the first step is refused before it is made
 pub unfit_run : (table input : List ℕ) (b : Buffers) (n : ℕ)
     → n ≡ unfit_number table b.store b.state (length input) (length b.output) → 0 < n
     → StepAnswers (step_call current table input b) n (replicate 24 0) b → (count : ℕ) → 0 < count
-    → RunAnswers (run_call current table input count b) n (3 ∷ (n ∷ (0 ∷ (0 ∷ [])))) b
+    → RunAnswers (run_call current table input count b) (record { outcome = Refused; number = n; steps = 0; notes = 0 }) b
 unfit_run table input b n e h a count some =
     let one_less : count ≡ suc (count - 1) = omega arith in
     let unstopped : stops_step n ≡ false = rw e (refusal_unstopped (ltb (length table) table_size) (keeps_rules current table) (store_keeps b.store)
@@ -243,5 +254,5 @@ unfit_run table input b n e h a count some =
 
 -- no step is asked for
 pub steps_none : (table input : List ℕ) (b : Buffers) (count : ℕ) → count ≡ 0
-    → RunAnswers (run_call current table input count b) 0 (2 ∷ (0 ∷ (0 ∷ (0 ∷ [])))) b
+    → RunAnswers (run_call current table input count b) (record { outcome = Spent; number = 0; steps = 0; notes = 0 }) b
 steps_none table input b count e = rw (e, added_none (run_call current table input 0 b)) (run_spent table input b 0 0)

@@ -15,13 +15,46 @@ ghost use Rattle.encoding.specs.TableReading.{statement_of_row};
 ghost use Rattle.machine.specs.Step.{lacks_return};
 ghost use Rattle.scanning.specs.Call.{no_answer};
 ghost use Rattle.scan_statement.specs.Scans.{ScanLent};
-ghost use Rattle.interpreter.specs.Clauses.{Given, Allowed, next_statement, WorksOn, Concludes, StepAnswers, unfit_number};
+ghost use Rattle.interpreter.specs.Clauses.{Given, Allowed, next_statement, WorksOn, Concludes, StepTaken, unfit_number};
+ghost use Rattle.interpreter.specs.Endings.{refusal_number, checked_number};
 
 use base::{LONGEST, RETURNS};
 use decoder::Statement;
-use effects::Completion;
 use encoding::{STATE_SIZE, TABLE_SIZE, step_kinds};
 use scanning::{ANSWER_SIZE, NOTES_AT};
+use values::Stop;
+
+// what turns a step or a run down
+#[derive(Clone, Copy, PartialEq, Eq)]
+pub enum Refusal {
+    ShortTable,
+    BadTable,
+    BadStore,
+    BadState,
+    Ended,
+}
+
+impl Refusal {
+    // its number in an answer
+    pub fn number(self) -> u32
+        ensures { result ≡ refusal_number self }
+    {
+        match self {
+            Refusal::ShortTable => 2,
+            Refusal::BadTable => 13,
+            Refusal::BadStore => 14,
+            Refusal::BadState => 15,
+            Refusal::Ended => 16,
+        }
+    }
+}
+
+// why a step isn't made: it is turned down, or stopped
+#[derive(Clone, Copy, PartialEq, Eq)]
+pub enum Halt {
+    Refused(Refusal),
+    Stopped(Stop),
+}
 
 // whether a step of this kind lacks the return that it goes to, or room for the one that it holds
 fn lacks_return(kind: u8, held: usize) -> bool
@@ -45,7 +78,7 @@ fn execute_statement(
     values: &mut [u8],
     kept: &mut [u8],
     answer: &mut [u32; ANSWER_SIZE],
-) -> Completion
+) -> Result<u32, Stop>
     requires allowed { Allowed table.now input.now (buffers store.old state.old output.old) }
     requires answer_value { answer.old ≡ no_answer }
     requires scan_lent { ScanLent values.old kept.old }
@@ -91,24 +124,28 @@ fn execute_statement(
     }
 }
 
-// gives the number of a statement's work: where it is done the answer gets its notes, where it is stopped the state is marked so
-fn conclude(did: Completion, state: &mut [u64; STATE_SIZE], answer: &mut [u32; ANSWER_SIZE]) -> u32
+// Concludes a statement's work: where it is done the answer gets its notes, where it is stopped the state is marked so.
+fn conclude(
+    did: Result<u32, Stop>,
+    state: &mut [u64; STATE_SIZE],
+    answer: &mut [u32; ANSWER_SIZE],
+) -> Result<u32, Halt>
     ensures { Concludes did result state.old state.new answer.old answer.new }
 {
     match did {
-        Completion::Done(notes) => {
+        Ok(notes) => {
             answer[NOTES_AT] = notes;
-            0
+            Ok(notes)
         }
-        Completion::Stops(k) => {
+        Err(stop) => {
             *answer = [0u32; ANSWER_SIZE];
             state::stop(state);
-            k
+            Err(Halt::Stopped(stop))
         }
     }
 }
 
-// A step on buffers that nothing but the machine itself can turn down.
+// A step on buffers that nothing but the machine itself can turn down: its notes.
 pub fn step_on(
     table: &[u8],
     store: &mut [u8],
@@ -118,10 +155,10 @@ pub fn step_on(
     values: &mut [u8],
     kept: &mut [u8],
     answer: &mut [u32; ANSWER_SIZE],
-) -> u32
+) -> Result<u32, Halt>
     requires given { Given table.now input.now (buffers store.old state.old output.old) }
     requires scan_lent { ScanLent values.old kept.old }
-    ensures step_answers { StepAnswers
+    ensures step_taken { StepTaken
         (step_call current table.now input.now (buffers store.old state.old output.old))
         result answer.new (buffers store.new state.new output.new) }
     ensures scan_lent_2 { ScanLent values.new kept.new }
@@ -131,55 +168,48 @@ pub fn step_on(
         decoder::kind_at(table, state::next_step(state)),
         state::returns_held(state),
     ) {
-        return 15;
+        return Err(Halt::Refused(Refusal::BadState));
     }
     if !state::is_running(state) {
-        return 16;
+        return Err(Halt::Refused(Refusal::Ended));
     }
     let did = execute_statement(table, store, state, input, output, values, kept, answer);
     conclude(did, state, answer)
 }
 
 // turns a step down: no split, no trials, no notes
-fn turn_down(number: u32, answer: &mut [u32; ANSWER_SIZE]) -> u32
-    ensures { (result ≡ number) × (answer.new ≡ replicate 24 0) }
+fn turn_down(refusal: Refusal, answer: &mut [u32; ANSWER_SIZE]) -> u32
+    ensures { (result ≡ refusal_number refusal) × (answer.new ≡ replicate 24 0) }
 {
     *answer = [0u32; ANSWER_SIZE];
-    number
+    refusal.number()
 }
 
-// says that a state is 64 numbers, to those who are lent one by its type
-fn sized(state: &[u64])
-    requires { length state.now ≡ state_size }
-    ensures { length state.now ≡ state_size }
-{}
-
-// the number by which buffers that no step may be given are turned down, or 0
-pub fn unfit(
+// Whether buffers may be given to a step, or why not: of several reasons the one of the lowest number.
+pub fn check_fit(
     table: &[u8],
     store: &[u8],
     state: &[u64; STATE_SIZE],
     input: usize,
     output: usize,
-) -> u32
-    ensures { (result ≡ unfit_number table.now store.now state.now input output)
+) -> Result<(), Refusal>
+    ensures { (checked_number result ≡ unfit_number table.now store.now state.now input output)
         × (length state.now ≡ state_size) }
 {
-    sized(state);
     if table.len() < TABLE_SIZE {
-        return 2;
+        return Err(Refusal::ShortTable);
     }
     if !verifier::keeps(table) {
-        return 13;
+        return Err(Refusal::BadTable);
     }
     if !store::keeps(store) {
-        return 14;
+        return Err(Refusal::BadStore);
     }
     let counts = decoder::counts_of(table);
     if !state::keeps(state, counts.steps, input, output) {
-        return 15;
+        return Err(Refusal::BadState);
     }
-    0
+    Ok(())
 }
 
 // The step call: a run of one step.
@@ -194,10 +224,8 @@ pub fn strigol_step(
     ensures { StepPromise current table.now input.now (buffers store.old state.old output.old)
         (step_back result answer.new (buffers store.new state.new output.new)) }
 {
-    let n = unfit(table, store, state, input.len(), output.len());
-    if 0 < n {
-        return turn_down(n, answer);
+    match check_fit(table, store, state, input.len(), output.len()) {
+        Ok(()) => run::repeat(table, store, state, input, output, 1, answer).number,
+        Err(refusal) => turn_down(refusal, answer),
     }
-    let mut result = [0u64; 4];
-    run::repeat(table, store, state, input, output, 1, &mut result, answer)
 }

@@ -1,45 +1,82 @@
 // A run: the table and the store are looked at once, and then a step is repeated until one finishes, stops or is turned down.
-ghost use Rattle.std.specs.Prelude.{[], ◌∷◌, ◌≡◌, get_or};
+ghost use Rattle.std.specs.Prelude.{◌≡◌, ◌+◌, ◌<◌, ◌^◌};
 ghost use Rattle.base.specs.Current.{current};
-ghost use Rattle.calls.specs.Calls.{run_call, step_call, buffers};
+ghost use Rattle.calls.specs.Calls.{run_call, step_call, outcome_number, buffers};
 ghost use Rattle.calls.specs.Promises.{RunPromise, run_back};
-ghost use Rattle.values.specs.Result.{stops_step};
 ghost use Rattle.interpreter.specs.Clauses.{Given, StepAnswers, RunAnswers};
+ghost use Rattle.interpreter.specs.Endings.{halted, outcome_meaning, ran_numbers, ran_back};
 
-use crate::{step_on, unfit};
+use crate::{Halt, check_fit, step_on};
 use encoding::{STATE_SIZE, STORE_SIZE};
 use scan_statement::VALUES_SIZE;
-use scanning::{ANSWER_SIZE, NOTES_AT};
+use scanning::ANSWER_SIZE;
 
-// how a run ends
-pub const RUN_FINISHED: u64 = 0;
-
-pub const RUN_STOPPED: u64 = 1;
-
-pub const RUN_SPENT: u64 = 2;
-
-pub const RUN_REFUSED: u64 = 3;
-
-// whether a step is stopped by this number; by any other but 0 it is turned down
-fn stops(number: u32) -> bool
-    ensures { result ≡ stops_step number }
-{
-    (number == 17) | ((number == 18) | ((number == 19) | ((number == 20) | (number == 21))))
+// how a run ended
+#[derive(Clone, Copy, PartialEq, Eq)]
+pub enum Outcome {
+    Finished,
+    Stopped,
+    Spent,
+    Refused,
 }
 
-// the notes of a step
-fn notes_of(answer: &[u32; ANSWER_SIZE]) -> u32
-    ensures { result ≡ get_or answer.now 3 0 }
-{
-    answer[NOTES_AT]
+impl Outcome {
+    // its number in a result
+    fn number(self) -> u64
+        ensures { result ≡ outcome_number (outcome_meaning self) }
+    {
+        match self {
+            Outcome::Finished => 0,
+            Outcome::Stopped => 1,
+            Outcome::Spent => 2,
+            Outcome::Refused => 3,
+        }
+    }
 }
 
-// says how a run ended, and gives its number
-fn end(res: &mut [u64; 4], outcome: u64, number: u32, steps: u32, notes: u64) -> u32
-    ensures { (result ≡ number) × (res.new ≡ outcome ∷ (number ∷ (steps ∷ (notes ∷ [])))) }
-{
-    *res = [outcome, number as u64, steps as u64, notes];
-    number
+// a run that was made: how it ended, by which number or 0, the steps done and their notes
+#[derive(Clone, Copy)]
+pub struct Ran {
+    pub outcome: Outcome,
+    pub number: u32,
+    pub steps: u32,
+    pub notes: u64,
+}
+
+impl Ran {
+    fn new(outcome: Outcome, number: u32, steps: u32, notes: u64) -> Ran
+        ensures { result ≡ record { outcome = outcome; number = number; steps = steps; notes = notes } }
+    {
+        Ran {
+            outcome,
+            number,
+            steps,
+            notes,
+        }
+    }
+
+    // a run that a step ended: one that is stopped counts as done, one that is turned down doesn't
+    fn halted(halt: Halt, done: u32, notes: u64) -> Ran
+        requires { done + 1 < 2 ^ 32 }
+        ensures { result ≡ halted halt done notes }
+    {
+        match halt {
+            Halt::Stopped(stop) => Ran::new(Outcome::Stopped, stop.number(), done + 1, notes),
+            Halt::Refused(refusal) => Ran::new(Outcome::Refused, refusal.number(), done, notes),
+        }
+    }
+
+    // the run call's result
+    fn numbers(self) -> [u64; 4]
+        ensures { result ≡ ran_numbers self }
+    {
+        [
+            self.outcome.number(),
+            self.number as u64,
+            self.steps as u64,
+            self.notes,
+        ]
+    }
 }
 
 // So many steps on buffers that only the machine itself can turn down, unless one ends the run; the answer is that of the last.
@@ -50,23 +87,21 @@ pub fn repeat(
     input: &[u8],
     output: &mut [u8],
     count: u32,
-    res: &mut [u64; 4],
     answer: &mut [u32; ANSWER_SIZE],
-) -> u32
+) -> Ran
     requires { Given table.now input.now (buffers store.old state.old output.old) }
     ensures run_answers { RunAnswers
         (run_call current table.now input.now count (buffers store.old state.old output.old))
-        result res.new (buffers store.new state.new output.new) }
+        result (buffers store.new state.new output.new) }
     ensures step_answers { count ≡ 1 → StepAnswers
         (step_call current table.now input.now (buffers store.old state.old output.old))
-        result answer.new (buffers store.new state.new output.new) }
+        result.number answer.new (buffers store.new state.new output.new) }
 {
     let mut values = [0u8; VALUES_SIZE];
     let mut kept = [0u8; STORE_SIZE];
-    let mut done: u32 = 0;
     let mut notes: u64 = 0;
-    while done < count {
-        let n = step_on(
+    for done in 0..count {
+        let step = step_on(
             table,
             store,
             state,
@@ -76,20 +111,39 @@ pub fn repeat(
             &mut kept,
             answer,
         );
-        let more = notes + (notes_of(answer) as u64);
-        if stops(n) {
-            return end(res, RUN_STOPPED, n, done + 1, more);
+        match step {
+            Ok(more) => notes += more as u64,
+            Err(halt) => return Ran::halted(halt, done, notes),
         }
-        if 0 < n {
-            return end(res, RUN_REFUSED, n, done, notes);
-        }
-        done += 1;
-        notes = more;
         if state::is_finished(state) {
-            return end(res, RUN_FINISHED, 0, done, notes);
+            return Ran::new(Outcome::Finished, 0, done + 1, notes);
         }
     }
-    end(res, RUN_SPENT, 0, done, notes)
+    Ran::new(Outcome::Spent, 0, count, notes)
+}
+
+// So many steps at most, on any buffers.
+pub fn run(
+    table: &[u8],
+    store: &mut [u8],
+    state: &mut [u64; STATE_SIZE],
+    input: &[u8],
+    output: &mut [u8],
+    count: u32,
+) -> Ran
+    ensures { RunPromise current table.now input.now count (buffers store.old state.old output.old)
+        (ran_back result (buffers store.new state.new output.new)) }
+{
+    if count == 0 {
+        return Ran::new(Outcome::Spent, 0, 0, 0);
+    }
+    match check_fit(table, store, state, input.len(), output.len()) {
+        Ok(()) => {
+            let mut answer = [0u32; ANSWER_SIZE];
+            repeat(table, store, state, input, output, count, &mut answer)
+        }
+        Err(refusal) => Ran::new(Outcome::Refused, refusal.number(), 0, 0),
+    }
 }
 
 // The run call: so many steps at most. A run of more is a run again on what the last one left.
@@ -105,13 +159,7 @@ pub fn strigol_run(
     ensures { RunPromise current table.now input.now count (buffers store.old state.old output.old)
         (run_back result res.new (buffers store.new state.new output.new)) }
 {
-    if count == 0 {
-        return end(res, RUN_SPENT, 0, 0, 0);
-    }
-    let n = unfit(table, store, state, input.len(), output.len());
-    if 0 < n {
-        return end(res, RUN_REFUSED, n, 0, 0);
-    }
-    let mut answer = [0u32; ANSWER_SIZE];
-    repeat(table, store, state, input, output, count, res, &mut answer)
+    let ran = run(table, store, state, input, output, count);
+    *res = ran.numbers();
+    ran.number
 }

@@ -5,10 +5,10 @@ ghost use Rattle.scan_statement.specs.Scans.{Scannable, ScanLent};
 ghost use Rattle.interpreter.specs.Clauses.{DoesScan};
 
 use decoder::Scan;
-use effects::Completion;
 use encoding::STATE_SIZE;
-use scan_statement::Scanned;
+use scan_statement::scan_step;
 use scanning::ANSWER_SIZE;
+use values::Stop;
 
 // a scan, with the large buffers that it works in
 pub fn scan(
@@ -19,23 +19,14 @@ pub fn scan(
     values: &mut [u8],
     kept: &mut [u8],
     answer: &mut [u32; ANSWER_SIZE],
-) -> Completion
+) -> Result<u32, Stop>
     requires scannable { Scannable table.now store.old state.old s }
     requires scan_lent { ScanLent values.old kept.old }
     ensures by_index { (input output : List ℕ) → DoesScan s table.now result
         (buffers store.old state.old output) (buffers store.new state.new output) input answer.new }
     ensures scan_lent_2 { ScanLent values.new kept.new }
 {
-    let branch = s.branch;
-    match scan_statement::scan_step(table, store, state, s, values, kept, answer) {
-        Scanned::Splits(notes) => {
-            state::go_to(state, branch.success);
-            Completion::Done(notes)
-        }
-        Scanned::Fails(notes) => {
-            state::go_to(state, branch.failure);
-            Completion::Done(notes)
-        }
-        Scanned::Stops(k) => Completion::Stops(k),
-    }
+    let split = scan_step(table, store, state, s, values, kept, answer)?;
+    state::go_to(state, execution::choose(split.value, s.branch));
+    Ok(split.notes)
 }

@@ -1,11 +1,14 @@
 -- Names, constants and kinds of statements by the tests that the code makes. Assumes nothing.
-use mathlib.Core.Bool.{true, false}
-use mathlib.Core.List.{List, [], ◌∷◌}
-use mathlib.Core.Path.{◌≡◌, ap, ◌∙◌}
+use mathlib.Core.Bool.{true, false, ◌&&◌}
+use lib.Dec.{ltb}
+use denote.Ref.{Bor}
+use mathlib.Core.List.{List, [], ◌∷◌, ◌++◌, map}
+use mathlib.Core.Path.{◌≡◌, sym, ap, ◌∙◌}
 use Prim.Native.Nat.{ℕ, ◌+◌, ◌≤◌, ◌<◌}
 use lib.ListN.{length, take, drop, get_or}
 use lib.Seq.{drop-drop}
 use borrow.Author.Tests.{le-leb, lt-leb, lt-ltb, le-ltb}
+use Rattle.std.proofs.lemmas.List.{map-append}
 use Rattle.base.specs.Current.{current, limit}
 use Rattle.base.specs.Lists.{begins}
 use Rattle.base.specs.Text.{bytes}
@@ -14,6 +17,9 @@ use Rattle.numbers.specs.Numbers.{Capped}
 use Rattle.syntax.specs.Keywords.{StatementKind, Leading, REPLACEMENT, UNKNOWN, longest, keywords, leading, bound_length, is_replacement}
 use Rattle.syntax.specs.Parsing.{broken, succeed}
 use Rattle.syntax.specs.Lexemes.{run_length, name_length, decimal_from, unsigned}
+use Rattle.lexer.specs.Kinds.{kind_of, leads}
+use Rattle.lexer.specs.declared.keywords.Keyword.{Keyword}
+use Rattle.lexer.specs.declared.keywords.Kind.{Kind}
 
 -- names, constants and replacements in front of the bytes
 module _ (bs : List ℕ) where
@@ -85,6 +91,10 @@ module _ (w : List ℕ) (k : StatementKind) (bs : List ℕ) (best : Leading) whe
   unfolding longest
   longest-other e = rw (longest, e)
 
+  pub longest_kept : (begins w bs && ltb best.size (length w)) ≡ false → best ≡ longest ((w, k) ∷ []) bs best
+  unfolding longest
+  longest_kept e = rw (longest, e)
+
   pub longest_new : begins w bs ≡ true → best.size < length w → record { kind = k; size = length w } ≡ longest ((w, k) ∷ []) bs best
   unfolding longest
   longest_new e h = rw (longest, e, lt-ltb best.size (length w) h)
@@ -93,10 +103,21 @@ module _ (w : List ℕ) (k : StatementKind) (bs : List ℕ) (best : Leading) whe
   unfolding longest
   longest_old e h = rw (longest, e, le-ltb best.size (length w) h)
 
-pub longest_then : (a : List ℕ × StatementKind) (ks : List (List ℕ × StatementKind)) (bs : List ℕ) (r : Leading) {s t : Leading} → s ≡ longest (a ∷ []) bs r
-    → t ≡ longest ks bs s → t ≡ longest (a ∷ ks) bs r
+longest_last : (ks : List (List ℕ × StatementKind)) (a : List ℕ × StatementKind) (bs : List ℕ) (r : Leading) {s t : Leading} → s ≡ longest ks bs r
+    → t ≡ longest (a ∷ []) bs s → t ≡ longest (ks ++ a ∷ []) bs r
 unfolding longest
-longest_then a ks bs r e f = f ∙ ap (longest ks bs) e
+longest_last [] a bs r e f = f ∙ ap (longest (a ∷ []) bs) e
+longest_last (k ∷ ks) a bs r e f = longest_last ks a bs (longest (k ∷ []) bs r) e f
+
+-- an entry of the code's table of keywords
+abbrev pub entry : Bor (List ℕ) × Kind → List ℕ × StatementKind
+entry k = (k.0.now, kind_of k.1)
+
+pub longest_more : (ks : List (Bor (List ℕ) × Kind)) (k : Bor (List ℕ) × Kind) (bs : List ℕ) (r s t : Keyword) → leads s ≡ longest (map entry ks) bs (leads r)
+    → leads t ≡ longest (entry k ∷ []) bs (leads s) → leads t ≡ longest (map entry (ks ++ k ∷ [])) bs (leads r)
+longest_more ks k bs r s t e f =
+    longest_last (map entry ks) (entry k) bs (leads r) e f
+    ∙ ap (λ l. longest l bs (leads r)) (sym (map-append entry ks (k ∷ [])))
 
 pub leading-replacement : (bs : List ℕ) → is_replacement bs ≡ true → record { kind = REPLACEMENT; size = 0 } ≡ leading bs
 unfolding leading

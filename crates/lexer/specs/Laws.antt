@@ -1,6 +1,6 @@
 -- What the answers of the code tell: the name that so many bytes are, names and their keys, and a constant once its case is known.
 -- Assumes nothing.
-use Rattle.std.specs.Prelude.{Bool, true, false, ◌&&◌, List, [], ◌∷◌, ◌≡◌, refl, ℕ, suc, ◌≤◌, ◌<◌, leb, length, take, drop, get_or}
+use Rattle.std.specs.Prelude.{Bool, true, false, ◌&&◌, List, [], ◌∷◌, ◌≡◌, refl, ℕ, suc, ◌≤◌, ◌<◌, leb, Option, Some, None, length, take, drop, get_or}
 use Rattle.std.proofs.Math.Bool.{and-eq-true_iff}
 use Rattle.std.proofs.Common.{sym, ap, subst, ◌∙◌, arith}
 use borrow.Author.Tests.{leb-true, le-leb, lt-leb}
@@ -14,11 +14,8 @@ use Rattle.syntax.specs.Parsing.{broken, succeed}
 use Rattle.syntax.specs.Lexemes.{run_length, name_length, name, unsigned, signed}
 use Rattle.card_reader.specs.KeyLaws.{name-bytes}
 use Rattle.card_reader.specs.Keys.{is_key_byte}
-use Rattle.lexer.specs.Constants.{InLimit, ConstantEnds, constant_read, ConstantRead, SignedInRange, SignedEnds, signed_read, ReadsSigned}
-use Rattle.lexer.specs.declared.constants.Constant as Plain
+use Rattle.lexer.specs.Constants.{InLimit, ConstantEnds, read_as, ConstantRead, SignedInRange, ReadsSigned}
 use Rattle.lexer.specs.declared.constants.Constant.{Constant}
-use Rattle.lexer.specs.declared.constants.SignedConstant as Signed
-use Rattle.lexer.specs.declared.constants.SignedConstant.{SignedConstant}
 
 -- n bytes are the name in front, and 0 are none
 module _ (bs : List ℕ) (n : ℕ) (is : n ≡ name_length bs) where
@@ -64,29 +61,31 @@ pub name_keys_lem : (bs : List ℕ) → all is_key_byte (take (name_length bs) b
 name_keys_lem bs = name-bytes (take (name_length bs) bs) (name-letters bs)
 
 -- the constant at a place
-module _ {text : List ℕ} {at : ℕ} {r : Constant} (a : ConstantRead text at r) where
-  pub constant_is : {v next : ℕ} → r ≡ Plain.TheVariants.Is v next → unsigned current (drop at text) ≡ succeed v (drop next text)
-  constant_is e = sym a.read ∙ ap (constant_read text) e
+module _ {text : List ℕ} {at : ℕ} {r : Option (Constant ℕ)} (a : ConstantRead text at r) where
+  module _ {c : Constant ℕ} (e : r ≡ Some c) where
+    pub constant_is : unsigned current (drop at text) ≡ succeed c.value (drop c.next text)
+    constant_is = sym a.read ∙ ap (read_as (λ (v : ℕ). v) text) e
 
-  pub constant_range : {v next : ℕ} → r ≡ Plain.TheVariants.Is v next → v ≤ limit
-  constant_range e = subst InLimit e a.range
+    pub constant_range : c.value ≤ limit
+    constant_range = subst InLimit e a.range
 
-  pub constant_ends : {v next : ℕ} → r ≡ Plain.TheVariants.Is v next → (at < next) × (next ≤ length text)
-  constant_ends e = subst (ConstantEnds text at) e a.ends
+    pub constant_ends : (at < c.next) × (c.next ≤ length text)
+    constant_ends = subst (ConstantEnds text at) e a.ends
 
-  pub constant_broken : r ≡ Plain.TheVariants.Broken → unsigned current (drop at text) ≡ broken
-  constant_broken e = sym a.read ∙ ap (constant_read text) e
+  pub constant_broken : r ≡ None → unsigned current (drop at text) ≡ broken
+  constant_broken e = sym a.read ∙ ap (read_as (λ (v : ℕ). v) text) e
 
 -- the same of one that may have a sign
-module _ {text : List ℕ} {at : ℕ} {r : SignedConstant} (a : ReadsSigned text at r) where
-  pub signed_is : {z : Int} {next : ℕ} → r ≡ Signed.TheVariants.Is z next → signed current (drop at text) ≡ succeed z.value (drop next text)
-  signed_is e = sym a.read ∙ ap (signed_read text) e
+module _ {text : List ℕ} {at : ℕ} {r : Option (Constant Int)} (a : ReadsSigned text at r) where
+  module _ {c : Constant Int} (e : r ≡ Some c) where
+    pub signed_is : signed current (drop at text) ≡ succeed c.value.value (drop c.next text)
+    signed_is = sym a.read ∙ ap (read_as (λ (z : Int). z.value) text) e
 
-  pub signed_range : {z : Int} {next : ℕ} → r ≡ Signed.TheVariants.Is z next → IntInRange z
-  signed_range e = subst SignedInRange e a.range
+    pub signed_range : IntInRange c.value
+    signed_range = subst SignedInRange e a.range
 
-  pub signed_ends : {z : Int} {next : ℕ} → r ≡ Signed.TheVariants.Is z next → (at < next) × (next ≤ length text)
-  signed_ends e = subst (SignedEnds text at) e a.ends
+    pub signed_ends : (at < c.next) × (c.next ≤ length text)
+    signed_ends = subst (ConstantEnds text at) e a.ends
 
-  pub signed_broken : r ≡ Signed.TheVariants.Broken → signed current (drop at text) ≡ broken
-  signed_broken e = sym a.read ∙ ap (signed_read text) e
+  pub signed_broken : r ≡ None → signed current (drop at text) ≡ broken
+  signed_broken e = sym a.read ∙ ap (read_as (λ (z : Int). z.value) text) e

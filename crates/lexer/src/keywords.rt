@@ -5,7 +5,7 @@ ghost use Rattle.syntax.specs.Keywords.{is_replacement, leading, longest, keywor
 ghost use Rattle.lexer.specs.Kinds.{kind_of, leads};
 
 use crate::names::{bound_length, name_length};
-use crate::{begins_at, stands_at};
+use crate::stands_at;
 
 #[derive(Clone, Copy)]
 pub enum Kind {
@@ -35,6 +35,25 @@ pub struct Keyword {
     pub size: usize,
 }
 
+// the keywords with their kinds
+const KEYWORDS: [(&[u8], Kind); 15] = [
+    (b"NUMBER", Kind::Number),
+    (b"PROGRAM", Kind::Program),
+    (b"END", Kind::End),
+    (b"GOTO", Kind::Goto),
+    (b"EXIT", Kind::Exit),
+    (b"IF", Kind::If),
+    (b"SCAN", Kind::Scan),
+    (b"BACKSCAN", Kind::Backscan),
+    (b"READ", Kind::Read),
+    (b"WRITE", Kind::Write),
+    (b"PRINT", Kind::Print),
+    (b"ROUTINE", Kind::Routine),
+    (b"EXECUTE", Kind::Execute),
+    (b"ENDROUTINE", Kind::EndRoutine),
+    (b"RETURN", Kind::Return),
+];
+
 // whether a name, perhaps with `$` and a length, stands before `=`
 pub fn is_replacement(text: &[u8]) -> bool
     ensures { result ≡ is_replacement text.now }
@@ -56,14 +75,15 @@ pub fn is_replacement(text: &[u8]) -> bool
     stands_at(text, n + 1 + m, b'=')
 }
 
-// a word that begins the statement and is longer than the best one so far, else that one
+// A word that begins the statement and is longer than the best one so far, else that one. The first bytes alone tell most words apart, and
+// sooner.
 fn longer(text: &[u8], word: &[u8], kind: Kind, best: Keyword) -> Keyword
     ensures { leads result ≡ longest ((word.now, kind_of kind) ∷ []) text.now (leads best) }
 {
-    if !begins_at(text, 0, word) {
+    if text.first() != word.first() {
         return best;
     }
-    if best.size < word.len() {
+    if text.starts_with(word) && best.size < word.len() {
         return Keyword {
             kind,
             size: word.len(),
@@ -76,21 +96,9 @@ fn longer(text: &[u8], word: &[u8], kind: Kind, best: Keyword) -> Keyword
 fn longest(text: &[u8], best: Keyword) -> Keyword
     ensures { leads result ≡ longest keywords text.now (leads best) }
 {
-    let number = longer(text, b"NUMBER", Kind::Number, best);
-    let program = longer(text, b"PROGRAM", Kind::Program, number);
-    let end = longer(text, b"END", Kind::End, program);
-    let goto = longer(text, b"GOTO", Kind::Goto, end);
-    let exit = longer(text, b"EXIT", Kind::Exit, goto);
-    let test = longer(text, b"IF", Kind::If, exit);
-    let scan = longer(text, b"SCAN", Kind::Scan, test);
-    let backscan = longer(text, b"BACKSCAN", Kind::Backscan, scan);
-    let read = longer(text, b"READ", Kind::Read, backscan);
-    let write = longer(text, b"WRITE", Kind::Write, read);
-    let print = longer(text, b"PRINT", Kind::Print, write);
-    let routine = longer(text, b"ROUTINE", Kind::Routine, print);
-    let execute = longer(text, b"EXECUTE", Kind::Execute, routine);
-    let end_routine = longer(text, b"ENDROUTINE", Kind::EndRoutine, execute);
-    longer(text, b"RETURN", Kind::Return, end_routine)
+    KEYWORDS
+        .iter()
+        .fold(best, |best, (word, kind)| longer(text, word, *kind, best))
 }
 
 // the kind of a statement, with how many bytes its keyword has

@@ -11,24 +11,21 @@ ghost use Rattle.base.specs.Lists.{begins};
 ghost use Rattle.cards.specs.Bytes.{is_digit};
 ghost use Rattle.syntax.specs.Lexemes.{is_sign};
 
+use card_reader::line::behind;
 use classes::is_digit;
 
 // the byte at a place, 0 behind the end
 pub fn byte_at(text: &[u8], at: usize) -> u8
     ensures { result ≡ get_or (drop at text.now) 0 0 }
 {
-    if at < text.len() { text[at] } else { 0 }
+    text.get(at).copied().unwrap_or(0)
 }
 
 // whether a mark stands at a place
 pub fn stands_at(text: &[u8], at: usize, mark: u8) -> bool
     ensures { result ≡ begins (mark ∷ []) (drop at text.now) }
 {
-    if at < text.len() {
-        text[at] == mark
-    } else {
-        false
-    }
+    text.get(at) == Some(&mark)
 }
 
 // whether a sign stands at a place
@@ -49,11 +46,5 @@ pub fn constant_at(text: &[u8], at: usize) -> bool
 pub fn begins_at(text: &[u8], at: usize, word: &[u8]) -> bool
     ensures { result ≡ begins word.now (drop at text.now) }
 {
-    if text.len() <= at {
-        return word.len() == 0;
-    }
-    if text.len() - at < word.len() {
-        return false;
-    }
-    search::begins_with(&text[at..], word)
+    behind(text, at).starts_with(word)
 }

@@ -21,6 +21,10 @@ below_more f n found test e t = ap₂ {C = Bool} ◌||◌ e t ∙ ap (below f) (
 pub below_all : (f : ℕ → Bool) (i n : ℕ) (found : Bool) → found ≡ below f i → i ≤ n → n ≤ i → found ≡ below f n
 below_all f i n found e low high = let here : i ≡ n = omega arith in e ∙ ap (below f) here
 
+-- a loop that stops at the first: none passed yet, one passes, none has passed
+pub below_passed : (f : ℕ → Bool) (n : ℕ) → false ≡ below f n → false ≡ f n → false ≡ below f (n + 1)
+below_passed f n e t = below_more f n false false e t
+
 -- tests that agree below n
 pub below-same : (f g : ℕ → Bool) (n : ℕ) → ((i : ℕ) → i < n → f i ≡ g i) → below f n ≡ below g n
 unfolding below
@@ -34,7 +38,7 @@ below_either f g zero = refl
 below_either f g (suc n) = or_pairs (below f n) (f n) (below g n) (g n) ∙ ap (λ t. t || (f n || g n)) (below_either f g n)
 
 -- the first number apart
-below-first : (f : ℕ → Bool) (n : ℕ) → (f 0 || below (λ j. f (suc j)) n) ≡ below f (suc n)
+pub below-first : (f : ℕ → Bool) (n : ℕ) → (f 0 || below (λ j. f (suc j)) n) ≡ below f (suc n)
 unfolding below
 below-first f zero = or_comm (f 0) false
 below-first f (suc n) =

@@ -19,11 +19,8 @@ fn note_row(known: &[u64; KNOWN], count: usize, pairs: &mut [bool; PAIRS], i: us
     requires i_lt_count { i < count }
     ensures { Paired count pairs.old pairs.new (in_row known.now i key) }
 {
-    let mut j: usize = 0;
-    while j < count {
-        let p = PLACES * i + j;
-        pairs[p] = pairs[p] | (known[ROUTINE_KEYS + j] == key);
-        j += 1;
+    for j in 0..count {
+        pairs[PLACES * i + j] |= known[ROUTINE_KEYS + j] == key;
     }
 }
 
@@ -32,12 +29,10 @@ fn note_use(known: &[u64; KNOWN], count: usize, pairs: &mut [bool; PAIRS], scope
     requires { Pairing known.now count pairs.old }
     ensures { Paired count pairs.old pairs.new (by_use known.now scope key) }
 {
-    let mut i: usize = 0;
-    while i < count {
+    for i in 0..count {
         if known[ROUTINE_KEYS + i] == scope {
             note_row(known, count, pairs, i, key);
         }
-        i += 1;
     }
 }
 
@@ -55,12 +50,10 @@ pub fn executed_pairs(
 {
     let uses = known[USE_COUNT] as usize;
     let mut pairs = [false; PAIRS];
-    let mut u: usize = 0;
-    while u < uses {
+    for u in 0..uses {
         if use_purposes[u] == ROUTINE {
             note_use(known, count, &mut pairs, use_scopes[u], use_keys[u]);
         }
-        u += 1;
     }
     pairs
 }

@@ -10,7 +10,7 @@ ghost use Rattle.std.specs.Prelude.{false, ◌≡◌};
 ghost use Rattle.link_checks.specs.Held.{Closable, held_in};
 ghost use Rattle.validation.specs.Deck.{is11, is12};
 
-use defined::is_lost;
+use defined::loses_any;
 use executed::executed_pairs;
 use rounds::comes_back;
 use symbols::KNOWN;
@@ -28,13 +28,12 @@ pub fn undefined_or_crossing(
         ≡ is11 (held_in known.now use_keys.now use_scopes.now use_purposes.now) }
 {
     let count = known[USE_COUNT] as usize;
-    let mut found = false;
-    let mut i: usize = 0;
-    while i < count {
-        found = found | is_lost(known, use_keys[i], use_scopes[i], use_purposes[i]);
-        i += 1;
-    }
-    found
+    loses_any(
+        known,
+        &use_keys[..count],
+        &use_scopes[..count],
+        &use_purposes[..count],
+    )
 }
 
 // 12: whether a routine executes itself, directly or through others; of a deck that 11 does not turn down
@@ -51,11 +50,10 @@ pub fn executes_itself(
 {
     let count = known[ROUTINE_COUNT] as usize;
     let executed = executed_pairs(known, count, use_keys, use_scopes, use_purposes);
-    let mut found = false;
-    let mut i: usize = 0;
-    while i < count {
-        found = found | comes_back(&executed, count, i);
-        i += 1;
+    for i in 0..count {
+        if comes_back(&executed, count, i) {
+            return true;
+        }
     }
-    found
+    false
 }

@@ -12,13 +12,13 @@ fn is_next(marks: &[bool; PLACES], pairs: &[bool; PAIRS], count: usize, j: usize
     requires j_lt_count { j < count }
     ensures { result ≡ go_on (pair_in pairs.now) count (mark_at marks.now) j }
 {
-    let mut found = false;
-    let mut i: usize = 0;
-    while i < count {
-        found = found | (marks[i] & pairs[PLACES * i + j]);
-        i += 1;
+    for i in 0..count {
+        let marked = marks[i];
+        if marked && pairs[PLACES * i + j] {
+            return true;
+        }
     }
-    marks[j] | found
+    marks[j]
 }
 
 // the marks behind one round more
@@ -27,10 +27,8 @@ fn next_marks(marks: &[bool; PLACES], pairs: &[bool; PAIRS], count: usize) -> [b
     ensures { MarksRow count result (go_on (pair_in pairs.now) count (mark_at marks.now)) }
 {
     let mut next = [false; PLACES];
-    let mut j: usize = 0;
-    while j < count {
+    for j in 0..count {
         next[j] = is_next(marks, pairs, count, j);
-        j += 1;
     }
     next
 }
@@ -42,11 +40,8 @@ fn row_of(pairs: &[bool; PAIRS], count: usize, i: usize) -> [bool; PLACES]
     ensures { MarksRow count result (pair_in pairs.now i) }
 {
     let mut row = [false; PLACES];
-    let mut j: usize = 0;
-    while j < count {
-        row[j] = pairs[PLACES * i + j];
-        j += 1;
-    }
+    let from = PLACES * i;
+    row[..count].copy_from_slice(&pairs[from..from + count]);
     row
 }
 
@@ -57,10 +52,8 @@ pub fn comes_back(pairs: &[bool; PAIRS], count: usize, i: usize) -> bool
     ensures { result ≡ gone_on count (pair_in pairs.now) count (pair_in pairs.now i) i }
 {
     let mut marks = row_of(pairs, count, i);
-    let mut n: usize = 0;
-    while n < count {
+    for _round in 0..count {
         marks = next_marks(&marks, pairs, count);
-        n += 1;
     }
     marks[i]
 }

@@ -1,9 +1,10 @@
 -- What is declared, by key and purpose's number. Assumes nothing.
-use Rattle.std.specs.Prelude.{Bool, true, false, cond, ◌≡◌, ℕ, zero, suc, ◌+◌, ◌/◌, ◌%◌, ◌≤◌, ◌<◌, ltb, get_or}
+use Rattle.std.specs.Prelude.{Bool, true, false, cond, ◌≡◌, ℕ, zero, suc, ◌+◌, ◌/◌, ◌%◌, ◌≤◌, ◌<◌, ltb, min, get_or}
 use Rattle.std.proofs.Math.Bool.{not, ◌&&◌, ◌||◌, or-false, and_comm}
 use mathlib.Core.List.{List, [], ◌∷◌}
 use Rattle.std.proofs.Math.Path.{refl, ap, ap₂}
 use Rattle.std.proofs.Common.{sym, ◌∙◌, arith, ltb-true, ltb-false, eq-eqb, ne_eqb}
+use Rattle.std.proofs.lemmas.Bool.{eqb-false}
 use Rattle.std.proofs.Math.Dec.{eqb}
 use Rattle.base.specs.Choice.{test_cases}
 use Rattle.base.specs.Lists.{same, any}
@@ -35,6 +36,18 @@ purpose_low (suc (suc (suc (suc p)))) h = absurd (omega arith)
 pub purpose_high : (p : ℕ) → 4 ≤ p → 4 ≡ purpose_number (purpose_of p)
 unfolding purpose_number
 purpose_high p h = sym (ap purpose_number (purpose_string p h))
+
+pub purpose_least : (p : ℕ) → min p 4 ≡ purpose_number (purpose_of p)
+purpose_least p =
+    test_cases (λ t. ltb p 4 ≡ t → min p 4 ≡ purpose_number (purpose_of p)) (ltb p 4)
+    (λ _ e.
+    let low = ltb-true p 4 e in
+    let least : min p 4 ≡ p = omega arith in
+    least ∙ purpose_low p low)
+    (λ _ e.
+    let high = ltb-false p 4 e in
+    let least : min p 4 ≡ 4 = omega arith in
+    least ∙ purpose_high p high) refl
 
 -- which purpose a number is
 pub purpose_is : (p : ℕ) (x : Purpose) → purpose_number x < 4 → same_purpose (purpose_of p) x ≡ eqb p (purpose_number x)
@@ -114,18 +127,23 @@ module _ (known : List ℕ) (counted : CountsInRange known) (key tag : ℕ) wher
       ∙ ap₂ {C = Bool} (λ a b. a && not b) (purpose_is (tag % 8) for_number (omega arith))
       (keys_have_lem known key 35 (get_or known 1 0) (omega (arith, counted.size, counted.numbers))))
 
-  pub lacks_declared : tag / 8 % 2 ≡ 1 → false ≡ any (undeclared_in known) (used_by (entry key tag))
-  lacks_declared d = sym (lacks_is ∙ rw (eq-eqb (tag / 8 % 2) 1 d))
+  pub lacks_number_lem : tag % 16 ≡ 3 → not (keys_have known number_keys_at (get_or known 1 0) key) ≡ any (undeclared_in known) (used_by (entry key tag))
+  lacks_number_lem e =
+      let used : tag / 8 % 2 ≡ 1 → ⊥ = λ d. omega arith in
+      let number : tag % 8 ≡ 3 = omega arith in
+      sym (lacks_is ∙ rw (ne_eqb (tag / 8 % 2) 1 used, eq-eqb (tag % 8) 3 number))
 
-  pub lacks_number_lem : (tag / 8 % 2 ≡ 1 → ⊥) → tag % 8 ≡ 3 → not (keys_have known number_keys_at (get_or known 1 0) key) ≡ any (undeclared_in known) (used_by (entry key tag))
-  lacks_number_lem d e = sym (lacks_is ∙ rw (ne_eqb (tag / 8 % 2) 1 d, eq-eqb (tag % 8) 3 e))
-
-  pub lacks_none : (tag / 8 % 2 ≡ 1 → ⊥) → (tag % 8 ≡ 3 → ⊥) → false ≡ any (undeclared_in known) (used_by (entry key tag))
-  lacks_none d e = sym (lacks_is ∙ rw (ne_eqb (tag / 8 % 2) 1 d, ne_eqb (tag % 8) 3 e))
+  pub lacks_none : (tag % 16 ≡ 3 → ⊥) → false ≡ any (undeclared_in known) (used_by (entry key tag))
+  lacks_none f =
+      let lacks = not (keys_have known number_keys_at (get_or known 1 0) key) in
+      sym
+      (lacks_is
+      ∙ test_cases (λ t. eqb (tag / 8 % 2) 1 ≡ t → (not t && (eqb (tag % 8) 3 && lacks)) ≡ false) (eqb (tag / 8 % 2) 1) (λ _ _. refl)
+      (λ _ d. let used = eqb-false (tag / 8 % 2) 1 d in rw (ne_eqb (tag % 8) 3 (λ e. f (omega arith)))) refl)
 
 -- an entry declares a name again
 module _ (f : Mention → Bool) (keys tags : List ℕ) (met i : ℕ) where
-  abbrev name : Mention
+  abbrev pub name : Mention
   name = key_mention (get_or keys i 0) (get_or tags i 0 % 8)
 
   abbrev behind : Bool
@@ -141,5 +159,5 @@ module _ (f : Mention → Bool) (keys tags : List ℕ) (met i : ℕ) where
   pub again_behind : get_or tags i 0 / 8 % 2 ≡ 1 → f name ≡ false → (r : Bool) → r ≡ behind → r ≡ again_at f keys tags met i
   again_behind d e r g = g ∙ sym (again-is ∙ rw (eq-eqb (get_or tags i 0 / 8 % 2) 1 d, e))
 
-  pub again_none : (get_or tags i 0 / 8 % 2 ≡ 1 → ⊥) → false ≡ again_at f keys tags met i
-  again_none d = sym (again-is ∙ rw (ne_eqb (get_or tags i 0 / 8 % 2) 1 d))
+  pub again_none : (get_or tags i 0 / 8 % 2 ≡ 1 → ⊥) → eqb (get_or tags i 0 / 8 % 2) 1 ≡ again_at f keys tags met i
+  again_none d = ne_eqb (get_or tags i 0 / 8 % 2) 1 d ∙ sym (again-is ∙ rw (ne_eqb (get_or tags i 0 / 8 % 2) 1 d))

@@ -1,5 +1,5 @@
 -- What judging the names of a statement does. Assumes nothing.
-use Rattle.std.specs.Prelude.{Bool, cond, ◌||◌, List, [], ◌++◌, ◌≡◌, ℕ, ◌+◌, ◌≤◌, ◌<◌, length, get_or}
+use Rattle.std.specs.Prelude.{Bool, cond, ◌||◌, List, [], ◌++◌, ◌≡◌, ℕ, ◌+◌, ◌≤◌, ◌<◌, length, get_or, Result, IfOk}
 use Rattle.base.specs.Lists.{any}
 use Rattle.validation.specs.Environment.{with_names}
 use Rattle.validation.specs.Refusals.{has_other_purpose, has_duplicate, clashes}
@@ -11,7 +11,8 @@ use Rattle.symbols.specs.Environment.{CountsInRange, name_count_at}
 use Rattle.name_checks.specs.Arrays.{entries_from}
 use Rattle.name_checks.specs.Declaring.{declared_in, undeclared_in, again}
 use Rattle.name_checks.specs.Names.{Single, NamesSized}
-use Rattle.name_checks.specs.declared.Verdict.{Verdict}
+use Rattle.validation.specs.RefusalNumbers.{judged_number}
+use Rattle.validation.specs.declared.Refusal.{Refusal}
 
 -- the names that entries declare, and then those they use
 abbrev pub names_of : List NameEntry → List Mention
@@ -37,16 +38,16 @@ pub record NamesReady (known name_keys name_purposes keys tags : List ℕ) (met 
   pub entries : NamesSized keys tags met
   pub single : Single (names_from name_keys name_purposes 0 (get_or known name_count_at 0))
 
--- the number, and the names known where it is 0
-pub record NamesJudged (known name_keys name_purposes keys tags : List ℕ) (met : ℕ) (name_keys' name_purposes' : List ℕ) (r : Verdict)
+-- the number, and how many names are known where it is 0, and which
+pub record NamesJudged (known name_keys name_purposes keys tags : List ℕ) (met : ℕ) (name_keys' name_purposes' : List ℕ) (r : Result ℕ Refusal)
     : Type 0 where
-  pub number : r.number ≡ names_number known (names_from name_keys name_purposes 0 (get_or known name_count_at 0)) (entries_from keys tags 0 met)
+  pub number : judged_number r ≡ names_number known (names_from name_keys name_purposes 0 (get_or known name_count_at 0)) (entries_from keys tags 0 met)
   pub keys_size : length name_keys' ≡ names_room
   pub purposes_size : length name_purposes' ≡ names_room
-  pub few : r.count ≤ get_or known name_count_at 0 + met
-  pub more : get_or known name_count_at 0 ≤ r.count
+  pub few : IfOk r (λ n. n ≤ get_or known name_count_at 0 + met)
+  pub more : IfOk r (λ n. get_or known name_count_at 0 ≤ n)
   pub keys_kept : (i : ℕ) → i < get_or known name_count_at 0 → get_or name_keys' i 0 ≡ get_or name_keys i 0
   pub purposes_kept : (i : ℕ) → i < get_or known name_count_at 0 → get_or name_purposes' i 0 ≡ get_or name_purposes i 0
-  pub extended : r.number ≡ 0 → names_from name_keys' name_purposes' 0 r.count
-      ≡ with_names (names_from name_keys name_purposes 0 (get_or known name_count_at 0)) (names_of (entries_from keys tags 0 met))
-  pub single : r.number ≡ 0 → Single (names_from name_keys' name_purposes' 0 r.count)
+  pub extended : IfOk r (λ n. names_from name_keys' name_purposes' 0 n
+      ≡ with_names (names_from name_keys name_purposes 0 (get_or known name_count_at 0)) (names_of (entries_from keys tags 0 met)))
+  pub single : IfOk r (λ n. Single (names_from name_keys' name_purposes' 0 n))

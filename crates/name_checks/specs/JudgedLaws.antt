@@ -1,9 +1,10 @@
 -- 6, 7 and 8 of names mentioned one by one are those of document 01. Assumes nothing.
-use Rattle.std.specs.Prelude.{Bool, true, false, cond, ◌||◌, List, [], ◌∷◌, ◌++◌, ◌≡◌, ℕ, suc, ◌+◌, ◌/◌, ◌%◌, eqb, length, get_or}
+use Rattle.std.specs.Prelude.{Bool, true, false, cond, ◌||◌, List, [], ◌∷◌, ◌++◌, ◌≡◌, ℕ, suc, ◌+◌, ◌≤◌, length, get_or, Result, Ok, Err, IfOk}
+use Rattle.std.specs.Bool.{beq}
 use Rattle.std.proofs.Math.Path.{refl}
-use Rattle.std.proofs.Common.{sym, ◌∙◌, ap, ap₂, subst, arith, length-append, eqb-true, eq-eqb, ne_eqb}
-use Rattle.std.proofs.lemmas.Bool.{eqb-false}
-use Rattle.base.specs.Choice.{test_cases, or_pairs}
+use Rattle.std.proofs.Common.{sym, ◌∙◌, ap, ap₂, subst, arith, length-append}
+use Rattle.std.proofs.lemmas.Result.{IfOk-weaker}
+use Rattle.base.specs.Choice.{test_cases, cond_cases, or_pairs}
 use Rattle.base.specs.Lists.{any}
 use Rattle.validation.specs.Environment.{same_mention}
 use Rattle.validation.specs.Refusals.{has_other_purpose, has_duplicate, clashes}
@@ -15,26 +16,28 @@ use Rattle.symbols.specs.Environment.{name_count_at}
 use Rattle.name_checks.specs.Arrays.{entry_in, entries_from}
 use Rattle.name_checks.specs.Declaring.{declared_in, undeclared_in, again}
 use Rattle.name_checks.specs.Judged.{names_of, names_number, first_number, NamesReady, NamesJudged}
-use Rattle.name_checks.specs.EnteringLaws.{enters_then}
+use Rattle.name_checks.specs.EnteringLaws.{enters_refused, enters_then}
 use Rattle.name_checks.specs.NameLaws.{conflicts-is, mentions_known}
 use Rattle.name_checks.specs.Names.{conflicts, chosen_by, NamesSized, Enters}
-use Rattle.name_checks.specs.declared.names.Names.{Names}
+use Rattle.validation.specs.RefusalNumbers.{refusal_number, judged_number, refusal_number_some}
+use Rattle.validation.specs.declared.Refusal.{Refusal}
 
 -- the names chosen are those declared, or those used
-chosen_declared : (es : List NameEntry) → gather (chosen_by 1) es ≡ gather declared_by es
-unfolding gather chosen_by declared_by declares_name
+chosen_declared : (es : List NameEntry) → gather (chosen_by true) es ≡ gather declared_by es
+unfolding gather chosen_by declared_by
 chosen_declared [] = refl
-chosen_declared (e ∷ es) = ap (λ (l : List Mention). declared_by e ++ l) (chosen_declared es)
+chosen_declared (x ∷ es) =
+    let here : chosen_by true x ≡ declared_by x =
+    test_cases (λ t. ◌≡◌ {A = List Mention} (cond (beq t true) (mention_of x ∷ []) []) (cond t (mention_of x ∷ []) [])) (declares_name x) (λ _. refl) (λ _. refl)
+    in
+    ap₂ {C = List Mention} ◌++◌ here (chosen_declared es)
 
-chosen-used : (es : List NameEntry) → gather (chosen_by 0) es ≡ gather used_by es
-unfolding gather chosen_by used_by declares_name
+chosen-used : (es : List NameEntry) → gather (chosen_by false) es ≡ gather used_by es
+unfolding gather chosen_by used_by
 chosen-used [] = refl
-chosen-used (e ∷ es) =
-    let bit = e.tag / 8 % 2 in
-    let here : ◌≡◌ {A = List Mention} (cond (eqb bit 0) (mention_of e ∷ []) []) (cond (eqb bit 1) [] (mention_of e ∷ [])) =
-    test_cases (λ t. eqb bit 1 ≡ t → ◌≡◌ {A = List Mention} (cond (eqb bit 0) (mention_of e ∷ []) []) (cond t [] (mention_of e ∷ []))) (eqb bit 1)
-    (λ _ d. rw (ne_eqb bit 0 (λ z. omega (arith, eqb-true bit 1 d))))
-    (λ _ d. let other = eqb-false bit 1 d in rw (eq-eqb bit 0 (omega arith))) refl
+chosen-used (x ∷ es) =
+    let here : chosen_by false x ≡ used_by x =
+    test_cases (λ t. ◌≡◌ {A = List Mention} (cond (beq t false) (mention_of x ∷ []) []) (cond t [] (mention_of x ∷ []))) (declares_name x) (λ _. refl) (λ _. refl)
     in
     ap₂ {C = List Mention} ◌++◌ here (chosen-used es)
 
@@ -51,27 +54,28 @@ chosen_size (e ∷ es) =
     (λ _. omega arith) (λ _. omega arith)
 
 -- there is room for those declared, and then for those used
-module _ (name_keys name_purposes keys tags : List ℕ) (count met : ℕ) where
+module _ (name_keys name_purposes keys tags : List ℕ) (count met : ℕ) (s : NamesSized name_keys name_purposes (count + met)) where
   abbrev entries : List NameEntry
   entries = entries_from keys tags 0 met
 
-  pub room_first : NamesSized name_keys name_purposes (count + met) → NamesSized name_keys name_purposes (count + length (gather (chosen_by 1) entries))
-  room_first s =
+  pub room_first : NamesSized name_keys name_purposes (count + length (gather (chosen_by true) entries))
+  room_first =
       let size = ap length (chosen_declared entries) in
       let all = chosen_size entries in
       record { keys_size = s.keys_size; others_size = s.others_size; room = omega (arith, s.room, length_from (entry_in keys tags) 0 met) }
 
-  pub room_second : NamesSized name_keys name_purposes (count + met) → (name_keys' name_purposes' : List ℕ) (b r : Names) → b.count ≡ count
-      → Enters name_keys name_purposes b (gather (chosen_by 1) entries) name_keys' name_purposes' r
-      → NamesSized name_keys' name_purposes' (r.count + length (gather (chosen_by 0) entries))
-  room_second s name_keys' name_purposes' b r e m =
+  pub room_second : (name_keys' name_purposes' : List ℕ) {n : ℕ}
+      → Enters name_keys name_purposes count (gather (chosen_by true) entries) name_keys' name_purposes' (Ok n)
+      → NamesSized name_keys' name_purposes' (n + length (gather (chosen_by false) entries))
+  room_second name_keys' name_purposes' {n} m =
+      let few : n ≤ count + length (gather (chosen_by true) entries) = m.few in
       let first = ap length (chosen_declared entries) in
       let second = ap length (chosen-used entries) in
       let all = chosen_size entries in
       record {
         keys_size = m.keys_size;
         others_size = m.purposes_size;
-        room = omega (arith, s.room, m.few, length_from (entry_in keys tags) 0 met);
+        room = omega (arith, s.room, few, length_from (entry_in keys tags) 0 met);
       }
 
 -- names declared before or twice
@@ -114,45 +118,96 @@ module _ (known : List ℕ) (clash : Bool) (es : List NameEntry) where
       unfolding first_number
       first_none f e = rw (h, g, f, e)
 
-  none_clashes : first_number known clash es ≡ 0 → clash ≡ false
-  unfolding first_number
-  none_clashes z = test_cases (λ t. clash ≡ t → t ≡ false) clash (λ _ h. absurd (omega (arith, first_clash h))) (λ _ _. refl) refl
-
 -- what judging the names does
-pub names_judged : (known name_keys name_purposes keys tags : List ℕ) (met : ℕ) (name_keys' name_purposes' name_keys'' name_purposes'' : List ℕ)
-    (b r q : Names) (number : ℕ) → NamesReady known name_keys name_purposes keys tags met → b ≡ record { count = get_or known name_count_at 0; clash = false }
-    → Enters name_keys name_purposes b (gather (chosen_by 1) (entries_from keys tags 0 met)) name_keys' name_purposes' r
-    → Enters name_keys' name_purposes' r (gather (chosen_by 0) (entries_from keys tags 0 met)) name_keys'' name_purposes'' q
-    → number ≡ first_number known q.clash (entries_from keys tags 0 met)
-    → NamesJudged known name_keys name_purposes keys tags met name_keys'' name_purposes'' (record { number = number; count = q.count })
-unfolding names_number first_number
-names_judged known name_keys name_purposes keys tags met name_keys' name_purposes' name_keys'' name_purposes'' b r q number pre start m n e =
-    let es = entries_from keys tags 0 met in
-    let count = get_or known name_count_at 0 in
-    let ns = names_from name_keys name_purposes 0 count in
-    let new = names_of es in
-    let before : Names = record { count = count; clash = false } in
-    let together : gather (chosen_by 1) es ++ gather (chosen_by 0) es ≡ new = ap₂ {C = List Mention} ◌++◌ (chosen_declared es) (chosen-used es) in
-    let all : Enters name_keys name_purposes before new name_keys'' name_purposes'' q =
-    subst (λ x. Enters name_keys name_purposes x new name_keys'' name_purposes'' q) start
-    (subst (λ l. Enters name_keys name_purposes b l name_keys'' name_purposes'' q) together
-    (enters_then name_keys name_purposes name_keys' name_purposes' name_keys'' name_purposes'' b r q _ _ m n))
-    in
-    let size = length-append (gather declared_by es) (gather used_by es) in
-    let clash : q.clash ≡ any (has_other_purpose (ns ++ new)) new = all.clash ∙ conflicts-is ns new pre.single in
-    let goes : number ≡ 0 → conflicts ns new ≡ false = λ z. sym all.clash ∙ none_clashes known q.clash es (sym e ∙ z) in
-    record {
-      number =
-          e
-          ∙ ap₂ {C = ℕ}
-          (λ c t. cond (c || t) 6 (cond (any (undeclared_in known) (gather used_by es)) 7 (cond (clashes [] [] (gather roles_by es)) 8 0)))
-          clash (again-is (declared_in known) (gather declared_by es));
-      keys_size = all.keys_size;
-      purposes_size = all.purposes_size;
-      few = omega (arith, all.few, size, chosen_size es, length_from (entry_in keys tags) 0 met);
-      more = all.more;
-      keys_kept = all.keys_kept;
-      purposes_kept = all.purposes_kept;
-      extended = λ z. all.names ∙ (mentions_known ns new pre.single (goes z)).0;
-      single = λ z. subst (λ l. any (has_other_purpose l) l ≡ false) (sym all.names) (mentions_known ns new pre.single (goes z)).1;
-    }
+module _ (known name_keys name_purposes keys tags : List ℕ) (met : ℕ) (pre : NamesReady known name_keys name_purposes keys tags met)
+    (name_keys' name_purposes' : List ℕ) where
+  abbrev es : List NameEntry
+  es = entries_from keys tags 0 met
+
+  abbrev count : ℕ
+  count = get_or known name_count_at 0
+
+  abbrev ns : List Mention
+  ns = names_from name_keys name_purposes 0 count
+
+  together : gather (chosen_by true) es ++ gather (chosen_by false) es ≡ names_of es
+  together = ap₂ {C = List Mention} ◌++◌ (chosen_declared es) (chosen-used es)
+
+  clash_is : conflicts ns (names_of es) ≡ any (has_other_purpose (ns ++ names_of es)) (names_of es)
+  clash_is = conflicts-is ns (names_of es) pre.single
+
+  refused_all : {e : Refusal} → Enters name_keys name_purposes count (names_of es) name_keys' name_purposes' (Err e)
+      → NamesJudged known name_keys name_purposes keys tags met name_keys' name_purposes' (Err e)
+  unfolding names_number
+  refused_all {e} m =
+      record {
+        number =
+            cond_cases (λ n. refusal_number e ≡ n → refusal_number e ≡ names_number known ns es) (conflicts ns (names_of es))
+            (λ c q. q ∙ rw (sym clash_is ∙ c))
+            (λ _ q. absurd (refusal_number_some e q)) m.clash;
+        keys_size = m.keys_size;
+        purposes_size = m.purposes_size;
+        few = tt;
+        more = tt;
+        keys_kept = m.keys_kept;
+        purposes_kept = m.purposes_kept;
+        extended = tt;
+        single = tt;
+      }
+
+  -- a name declared has two purposes
+  pub names_refused : {e : Refusal} → Enters name_keys name_purposes count (gather (chosen_by true) es) name_keys' name_purposes' (Err e)
+      → NamesJudged known name_keys name_purposes keys tags met name_keys' name_purposes' (Err e)
+  names_refused {e} m =
+      refused_all
+      (subst (λ l. Enters name_keys name_purposes count l name_keys' name_purposes' (Err e)) together
+      (enters_refused name_keys name_purposes name_keys' name_purposes' count (gather (chosen_by true) es) (gather (chosen_by false) es) m))
+
+  module _ (name_keys'' name_purposes'' : List ℕ) {n : ℕ}
+      (m : Enters name_keys name_purposes count (gather (chosen_by true) es) name_keys'' name_purposes'' (Ok n)) where
+    all_entered : {r : Result ℕ Refusal} → Enters name_keys'' name_purposes'' n (gather (chosen_by false) es) name_keys' name_purposes' r
+        → Enters name_keys name_purposes count (names_of es) name_keys' name_purposes' r
+    all_entered {r} w =
+        subst (λ l. Enters name_keys name_purposes count l name_keys' name_purposes' r) together
+        (enters_then name_keys name_purposes name_keys'' name_purposes'' count (gather (chosen_by true) es) (gather (chosen_by false) es) name_keys' name_purposes' r m w)
+
+    -- a name used has two purposes
+    pub used_refused : {e : Refusal} → Enters name_keys'' name_purposes'' n (gather (chosen_by false) es) name_keys' name_purposes' (Err e)
+        → NamesJudged known name_keys name_purposes keys tags met name_keys' name_purposes' (Err e)
+    used_refused w = refused_all (all_entered w)
+
+    -- none has: the first of the numbers
+    pub names_judged : {q : ℕ} (r : Result ℕ Refusal)
+        → Enters name_keys'' name_purposes'' n (gather (chosen_by false) es) name_keys' name_purposes' (Ok q) → IfOk r (λ k. q ≡ k)
+        → judged_number r ≡ first_number known false es
+        → NamesJudged known name_keys name_purposes keys tags met name_keys' name_purposes' r
+    unfolding names_number first_number
+    names_judged {q} r w is e =
+        let m' = all_entered w in
+        let few : q ≤ count + length (names_of es) = m'.few in
+        let more : count ≤ q = m'.more in
+        let size = length-append (gather declared_by es) (gather used_by es) in
+        let clear : conflicts ns (names_of es) ≡ false =
+        test_cases (λ t. conflicts ns (names_of es) ≡ t → t ≡ false) (conflicts ns (names_of es))
+        (λ _ c. absurd (let six : 0 ≡ 6 = m'.clash ∙ ap (λ t. cond t 6 0) c in omega arith)) (λ _ _. refl) refl
+        in
+        let known_now = mentions_known ns (names_of es) pre.single clear in
+        record {
+          number =
+              e
+              ∙ ap₂ {C = ℕ}
+              (λ c t. cond (c || t) 6 (cond (any (undeclared_in known) (gather used_by es)) 7 (cond (clashes [] [] (gather roles_by es)) 8 0)))
+              (sym clear ∙ clash_is) (again-is (declared_in known) (gather declared_by es));
+          keys_size = m'.keys_size;
+          purposes_size = m'.purposes_size;
+          few = IfOk-weaker r _ _ (λ k same. omega (arith, few, same, size, chosen_size es, length_from (entry_in keys tags) 0 met)) is;
+          more = IfOk-weaker r _ _ (λ k same. omega (arith, more, same)) is;
+          keys_kept = m'.keys_kept;
+          purposes_kept = m'.purposes_kept;
+          extended =
+              IfOk-weaker r _ _
+              (λ k same. ap (names_from name_keys' name_purposes' 0) (sym same) ∙ m'.names ∙ known_now.0) is;
+          single =
+              IfOk-weaker r _ _
+              (λ k same. subst (λ l. any (has_other_purpose l) l ≡ false) (sym (ap (names_from name_keys' name_purposes' 0) (sym same) ∙ m'.names)) known_now.1) is;
+        }

@@ -1,8 +1,13 @@
 -- What each loop over names, keys and entries finds at a place. Assumes nothing.
-use Rattle.std.specs.Prelude.{Bool, ◌||◌, ◌≡◌, refl, ℕ, ◌+◌, ◌-◌, ◌≤◌, ◌<◌, eqb, get_or}
+use Rattle.std.specs.Prelude.{Bool, true, ◌||◌, ◌≡◌, refl, ℕ, zero, suc, ◌+◌, ◌-◌, ◌≤◌, ◌<◌, eqb, ltb, ◌==◌, get_or, take, length, Some, None}
+use Rattle.std.specs.List.{position, position_or_len}
 use Rattle.std.proofs.Math.Bool.{false, cond}
-use mathlib.Core.List.{List, [], ◌∷◌, ◌++◌}
-use Rattle.std.proofs.Common.{sym, ◌∙◌, arith, eq-eqb, ne_eqb}
+use mathlib.Core.List.{List, [], ◌∷◌, ◌++◌, append_assoc}
+use Rattle.std.proofs.Common.{sym, ◌∙◌, arith, eq-eqb, ne_eqb, eqb-true, ltb-false}
+use Rattle.std.proofs.lemmas.Bool.{eqb-false}
+use Rattle.std.proofs.lemmas.List.{get_or-take, length-take-le}
+use Rattle.std.proofs.lemmas.List.Quantifiers.{position-Some}
+use Rattle.std.proofs.lemmas.List.Sums.{fails_before_first}
 use Rattle.std.proofs.Math.Path.{ap}
 use Rattle.base.specs.Choice.{test_cases}
 use Rattle.base.specs.Lists.{any}
@@ -10,7 +15,7 @@ use Rattle.validation.specs.Environment.{same_mention}
 use Rattle.validation.specs.Names.{any_append}
 use Rattle.syntax.specs.Parsing.{purpose_number, same_purpose, Mention}
 use Rattle.symbols.specs.Entries.{NameEntry, entry, purpose_of, mention_of, declares_name, gather, declared_by}
-use Rattle.symbols.specs.From.{from-turn, from_none}
+use Rattle.symbols.specs.From.{values_from, from-turn, from_none, from_more}
 use Rattle.symbols.specs.Holding.{mention_in, names_from}
 use Rattle.symbols.specs.EnvironmentLaws.{name-same}
 use Rattle.name_checks.specs.Arrays.{entry_in, entries_from, entries_left}
@@ -56,6 +61,55 @@ standing-whole keys purposes n key p =
     let all : n - 0 ≡ n = omega arith in
     ap (λ m. standing (names_from keys purposes 0 m) (key_mention key p)) all
 
+-- how a name stands by the first place that has its key
+module _ (keys purposes : List ℕ) (n key p : ℕ) (inside : n ≤ length keys) where
+  abbrev stands : ℕ
+  stands = standing (names_from keys purposes 0 n) (key_mention key p)
+
+  -- none up to a place has the key
+  passed : (i : ℕ) → i ≤ n → ((j : ℕ) → j < i → (get_or (take n keys) j 0 == key) ≡ false) → stands_from keys purposes n key p i ≡ stands
+  passed zero h f = standing-whole keys purposes n key p
+  passed (suc i) h f =
+      let next : suc i ≡ i + 1 = omega arith in
+      let other : get_or keys i 0 ≡ key → ⊥ = λ e. eqb-false (get_or (take n keys) i 0) key (f i (omega arith)) (get_or-take n keys i 0 (omega arith) ∙ e) in
+      ap (stands_from keys purposes n key p) next
+      ∙ sym (standing-next keys purposes n key p i (omega arith) other)
+      ∙ passed i (omega arith) (λ j l. f j (omega arith))
+
+  size : length (take n keys) ≡ n
+  size = length-take-le n keys inside
+
+  not_found : (xs : List ℕ) → position (λ k. k == key) xs ≡ None → length xs ≤ position_or_len (λ k. k == key) xs
+  not_found xs =
+      let at = position_or_len (λ k. k == key) xs in
+      test_cases (λ t. ltb at (length xs) ≡ t → cond t (Some at) None ≡ None → length xs ≤ at) (ltb at (length xs))
+      (λ _ _ e. cc) (λ _ h _. ltb-false at (length xs) h) refl
+
+  pub stands_not : position (λ k. k == key) (take n keys) ≡ None → stands ≡ 0
+  stands_not e =
+      let most = not_found (take n keys) e in
+      sym (passed n (omega arith) (λ j h. fails_before_first (λ k. k == key) (take n keys) j 0 (omega (arith, size))))
+      ∙ standing_end keys purposes n key p n (omega arith)
+
+  module _ (i : ℕ) (e : position (λ k. k == key) (take n keys) ≡ Some i) where
+    found : (i < length (take n keys)) × ((get_or (take n keys) i 0 == key) ≡ true) × ((k : ℕ) → k < i → (get_or (take n keys) k 0 == key) ≡ false)
+    found = position-Some (λ k. k == key) (take n keys) i 0 e
+
+    pub stands_inside : i < n
+    stands_inside = omega (arith, found.0, size)
+
+    here : get_or keys i 0 ≡ key
+    here = sym (get_or-take n keys i 0 stands_inside) ∙ eqb-true (get_or (take n keys) i 0) key found.1
+
+    before : stands_from keys purposes n key p i ≡ stands
+    before = passed i (omega (arith, stands_inside)) found.2
+
+    pub stands_same : purpose_number (purpose_of p) ≡ purpose_number (purpose_of (get_or purposes i 0)) → stands ≡ 1
+    stands_same f = sym before ∙ standing-same keys purposes n key p i stands_inside here f
+
+    pub stands_other : (purpose_number (purpose_of p) ≡ purpose_number (purpose_of (get_or purposes i 0)) → ⊥) → stands ≡ 2
+    stands_other f = sym before ∙ standing-other keys purposes n key p i stands_inside here f
+
 -- a test of each entry left, one by one
 module _ {A : Type 0} (f : A → Bool) (g : NameEntry → List A) (keys tags : List ℕ) (met : ℕ) where
   abbrev pub any_from : ℕ → Bool
@@ -95,3 +149,16 @@ module _ (f : Mention → Bool) (keys tags : List ℕ) (met : ℕ) where
 
   pub again-whole : again_from 0 ≡ again f (gather declared_by (entries_from keys tags 0 met))
   again-whole = let all : met - 0 ≡ met = omega arith in ap (λ m. again f (gather declared_by (entries_from keys tags 0 m))) all
+
+-- the values up to a place and those from it on
+pub from_parts : {A : Type 0} (f : ℕ → A) (n i : ℕ) → i ≤ n → values_from f 0 i ++ values_from f i (n - i) ≡ values_from f 0 n
+unfolding values_from
+from_parts f n zero h = let all : n - 0 ≡ n = omega arith in ap (values_from f 0) all
+from_parts {A} f n (suc i) h =
+    let at : 0 + i ≡ i = omega arith in
+    let next : suc i ≡ i + 1 = omega arith in
+    ap (λ (l : List A). l ++ values_from f (suc i) (n - suc i)) (from_more f 0 i ∙ ap (λ j. values_from f 0 i ++ (f j ∷ [])) at)
+    ∙ append_assoc (values_from f 0 i) (f i ∷ []) (values_from f (suc i) (n - suc i))
+    ∙ ap (λ j. values_from f 0 i ++ (f i ∷ values_from f j (n - j))) next
+    ∙ ap (λ (l : List A). values_from f 0 i ++ l) (sym (from-turn f n i (omega arith)))
+    ∙ from_parts f n i (omega arith)

@@ -22,15 +22,11 @@ fn is_filler_before(keys: &[u64; NAMES], tags: &[u8; NAMES], n: usize, key: u64)
     requires { NamesSized keys.now tags.now n × Unclashed keys.now tags.now n }
     ensures { result ≡ fillers_have keys.now tags.now n key }
 {
-    let mut i = n;
-    while i > 0 {
-        i -= 1;
-        let role = role_by(keys[i], tags[i], key);
-        if role == FILLER_ROLE {
-            return true;
-        }
-        if role == SOUGHT_ROLE {
-            return false;
+    for i in (0..n).rev() {
+        match role_by(keys[i], tags[i], key) {
+            FILLER_ROLE => return true,
+            SOUGHT_ROLE => return false,
+            _ => {}
         }
     }
     false
@@ -41,14 +37,11 @@ fn clashes_at(keys: &[u64; NAMES], tags: &[u8; NAMES], i: usize, searched: u64) 
     requires { NamesSized keys.now tags.now (i + 1) × Unclashed keys.now tags.now i }
     ensures { result ≡ clash_at keys.now tags.now i searched }
 {
-    let role = tags[i] / 16;
-    if role == SOUGHT_ROLE {
-        return is_filler_before(keys, tags, i, keys[i]);
+    match tags[i] / 16 {
+        SOUGHT_ROLE => is_filler_before(keys, tags, i, keys[i]),
+        FILLER_ROLE => searched == keys[i],
+        _ => false,
     }
-    if role == FILLER_ROLE {
-        return searched == keys[i];
-    }
-    false
 }
 
 // the key of the reference behind a name
@@ -68,13 +61,11 @@ pub fn has_clash(keys: &[u64; NAMES], tags: &[u8; NAMES], met: usize) -> bool
     ensures { result ≡ clashes [] [] (gather roles_by (entries_from keys.now tags.now 0 met)) }
 {
     let mut searched: u64 = 0;
-    let mut i: usize = 0;
-    while i < met {
+    for i in 0..met {
         if clashes_at(keys, tags, i, searched) {
             return true;
         }
         searched = searched_behind(keys[i], tags[i], searched);
-        i += 1;
     }
     false
 }

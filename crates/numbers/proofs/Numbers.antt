@@ -1,22 +1,20 @@
 -- The operators of i64 are those of the integers where the result is of less than 2 ^ 63. Assumes nothing.
-use mathlib.Core.Bool.{true, false, true≢false, false≢true}
-use mathlib.Core.Path.{◌≡◌, refl, sym, subst, ◌∙◌}
+use mathlib.Core.Path.{◌≡◌, refl, subst}
 use Prim.Native.Nat.{ℕ, zero, suc, ◌+◌, ◌*◌, ◌/◌, ◌≤◌, ◌<◌, ◌^◌}
 use native.Mathlib.Nat.{div-le_self}
 use native.Mathlib.Omega.{arith}
-use lib.Dec.{T, ltb, leb-suc-zero}
-use lib.IntN.{ℤ, pos, negsuc, neg_ℤ, nat_abs, sub_ℕ, ◌+ℤ◌, ◌-ℤ◌, ◌*ℤ◌, +ℤ_idl}
-use lib.Signed.{quot_z, non_neg}
+use lib.Dec.{ltb}
+use lib.IntN.{ℤ, pos, negsuc, neg_ℤ, nat_abs, sub_ℕ, ◌+ℤ◌, ◌*ℤ◌}
+use lib.Signed.{quot_z}
 use mir.Syntax.{w64}
 use mir.Val.{SFits, of_z, to_z}
 use borrow.Author.Tests.{ltb-true, ltb-false, le-leb, lt-leb}
 use Rattle.base.specs.Choice.{cond_cases}
 use Rattle.base.specs.Current.{current, limit, limit_is}
-use Rattle.values.specs.Numbers.{is_negative, is_in_range, held}
+use Rattle.values.specs.Numbers.{is_in_range, held}
 use Rattle.values.specs.Result.{done, stop}
 use Rattle.numbers.specs.Laws.{fits, plain}
-use Rattle.numbers.specs.Numbers.{NumberAnswers}
-use Rattle.numbers.specs.declared.Number.{Number}
+use Rattle.numbers.specs.Numbers.{Number, NumberAnswers}
 
 -- ---- how far results are from 0
 
@@ -62,28 +60,6 @@ works op a b ha hb h =
       same = rw (plain a ha, plain b hb) (plain (op a b) h);
       small = rw (plain a ha, plain b hb, plain (op a b) h) h;
     }
-
--- ---- negation
-
-negated_works : (z : ℤ) → nat_abs z < 2 ^ 63 → Works ◌-ℤ◌ (pos 0) z
-negated_works z h = works ◌-ℤ◌ (pos 0) z (omega arith) h (rw (+ℤ_idl, negative_size) h)
-
-pub negated_fit : (z : ℤ) → nat_abs z < 2 ^ 63 → SFits w64 (pos 0 -ℤ to_z w64 (of_z w64 z))
-negated_fit z h = (negated_works z h).fit
-
-pub negated : (z : ℤ) → nat_abs z < 2 ^ 63 → to_z w64 (of_z w64 (pos 0 -ℤ to_z w64 (of_z w64 z))) ≡ neg_ℤ z
-negated z h = (negated_works z h).same ∙ +ℤ_idl (neg_ℤ z)
-
--- the negation of a negative number is from 0 up, and so is a number that is not negative
-pub negative_below : (z : ℤ) → is_negative z ≡ true → T (non_neg (neg_ℤ z))
-unfolding is_negative
-negative_below (pos n) e = absurd (false≢true (sym (leb-suc-zero n) ∙ e))
-negative_below (negsuc n) e = tt
-
-pub not_negative : (z : ℤ) → is_negative z ≡ false → T (non_neg z)
-unfolding is_negative
-not_negative (pos n) e = tt
-not_negative (negsuc n) e = absurd (true≢false e)
 
 -- ---- the range
 

@@ -6,9 +6,13 @@ use Prim.Native.Nat.{ℕ, zero, suc, ◌+◌, ◌*◌, ◌-◌, ◌≤◌, ◌<�
 use native.Mathlib.Omega.{arith}
 use lib.Dec.{ltb, eqb, leb-suc-suc}
 use lib.IntN.{pos, neg_ℤ, nat_abs}
-use lib.ListN.{length, drop, get_or, drop_of_length-le}
+use lib.ListN.{length, take, drop, get_or, drop_of_length-le, length-drop}
+use lib.Seq.{take_all}
 use borrow.Author.Tests.{ltb-true, eq-eqb, ne_eqb, le-ltb, lt-ltb}
-use Rattle.base.specs.Choice.{test_cases, cond_cases}
+use Rattle.std.specs.List.{list_all, starts_with}
+use Rattle.std.proofs.Common.{eqb-true}
+use Rattle.std.proofs.lemmas.Bool.{eqb-false}
+use Rattle.base.specs.Choice.{test_cases, cond_cases, same_truth}
 use Rattle.base.specs.Current.{current, limit}
 use Rattle.base.specs.ListLaws.{drop-next}
 use Rattle.base.specs.Lists.{same, begins, all, is_nil}
@@ -37,19 +41,41 @@ unfolding begins same
 begins-byte c [] some = absurd (some refl)
 begins-byte c (b ∷ s) some = and-true (eqb b c)
 
-pub sign_none : (s : List ℕ) → length s ≡ 0 → sign_length s ≡ 0
-unfolding sign_length is_signed begins same bytes
-sign_none [] e = refl
-sign_none (b ∷ s) e = absurd (omega arith)
+-- as code looks for it
+starts-begins : (c : ℕ) (s : List ℕ) → starts_with eqb s (c ∷ []) ≡ begins (c ∷ []) s
+unfolding begins same
+starts-begins c [] = refl
+starts-begins c (b ∷ s) = ap (λ t. t && true) (same_truth (eqb c b) (eqb b c) (λ e. eq-eqb b c (sym (eqb-true c b e))) (λ e. eq-eqb c b (sym (eqb-true b c e))))
 
-pub sign_seen : (s : List ℕ) → (length s ≡ 0 → ⊥)
-    → sign_length s ≡ cond (eqb (get_or s 0 0) 43 || eqb (get_or s 0 0) 45) 1 0
-unfolding sign_length is_signed bytes
-sign_seen s some = rw (begins-byte 43 s some, begins-byte 45 s some)
+module _ (s : List ℕ) where
+  pub sign_plus : starts_with eqb s (43 ∷ []) ≡ true → sign_length s ≡ 1
+  unfolding sign_length is_signed bytes
+  sign_plus plus = rw (sym (starts-begins 43 s) ∙ plus)
+
+  pub sign_minus : starts_with eqb s (45 ∷ []) ≡ true → sign_length s ≡ 1
+  unfolding sign_length is_signed bytes
+  sign_minus minus =
+      ap (λ t. cond (begins (43 ∷ []) s || t) 1 0) (sym (starts-begins 45 s) ∙ minus)
+      ∙ test_cases (λ t. ◌≡◌ {A = ℕ} (cond (t || true) 1 0) 1) (begins (43 ∷ []) s) (λ _. refl) (λ _. refl)
+
+  pub sign_neither : starts_with eqb s (43 ∷ []) ≡ false → starts_with eqb s (45 ∷ []) ≡ false → sign_length s ≡ 0
+  unfolding sign_length is_signed bytes
+  sign_neither plus minus = rw (sym (starts-begins 43 s) ∙ plus, sym (starts-begins 45 s) ∙ minus)
 
 unsigned-drop : (s : List ℕ) → unsigned_part s ≡ drop (sign_length s) s
 unfolding unsigned_part sign_length
 unsigned-drop s = test_cases (λ t. cond t (drop 1 s) s ≡ drop (cond t 1 0) s) (is_signed s) (λ e. refl) (λ e. refl)
+
+-- ---- the bytes from a position on, as a slice has them
+
+pub rest-is : (k : ℕ) (s : List ℕ) → take (length s - k) (drop k s) ≡ drop k s
+rest-is k s = take_all (length s - k) (drop k s) (omega (arith, length-drop k s))
+
+-- a sign is in the string
+pub sign_most : (s : List ℕ) → sign_length s ≤ length s
+unfolding sign_length is_signed begins same bytes
+sign_most [] = omega arith
+sign_most (b ∷ s) = cond_cases (λ (n : ℕ). n ≤ suc (length s)) (is_signed (b ∷ s)) (λ e. omega arith) (λ e. omega arith)
 
 -- ---- NUMERIC
 
@@ -64,6 +90,29 @@ some_left (suc k) (b ∷ s) = some_left k s ∙ sym (leb-suc-suc (suc k) (length
 pub numeric_from_lem : (s : List ℕ) → is_numeric s ≡ (ltb (sign_length s) (length s) && all is_digit_or_blank (drop (sign_length s) s))
 unfolding is_numeric
 numeric_from_lem s = rw (unsigned-drop s, some_left (sign_length s) s)
+
+-- the same, where k bytes are the sign
+module _ (s : List ℕ) (k : ℕ) (sign : k ≡ sign_length s) where
+  abbrev digits : List ℕ
+  digits = take (length s - k) (drop k s)
+
+  list_all_is : (f : ℕ → Bool) (xs : List ℕ) → list_all f xs ≡ all f xs
+  unfolding all
+  list_all_is f [] = refl
+  list_all_is f (x ∷ xs) = ap (λ t. f x && t) (list_all_is f xs)
+
+  pub numeric-all : eqb (length digits) 0 ≡ false → is_numeric s ≡ list_all is_digit_or_blank digits
+  numeric-all some =
+      let long : ¬ (length digits ≡ 0) = eqb-false (length digits) 0 some in
+      numeric_from_lem s
+      ∙ rw (← sign, lt-ltb k (length s) (omega (arith, long, ap length (rest-is k s), length-drop k s)))
+      (ap (all is_digit_or_blank) (sym (rest-is k s)) ∙ sym (list_all_is is_digit_or_blank digits))
+
+  pub numeric-none : eqb (length digits) 0 ≡ true → is_numeric s ≡ false
+  numeric-none none =
+      let long : length digits ≡ 0 = eqb-true (length digits) 0 none in
+      numeric_from_lem s
+      ∙ rw (← sign, le-ltb k (length s) (omega (arith, long, ap length (rest-is k s), length-drop k s)))
 
 -- a numeric string has something behind its sign
 pub numeric_some : (s : List ℕ) → is_numeric s ≡ true → sign_length s < length s

@@ -1,11 +1,13 @@
 -- Bytes stored one behind the other. Assumes nothing.
-use mathlib.Core.List.{List, [], ◌∷◌, ◌++◌}
-use mathlib.Core.Path.{◌≡◌, refl, sym, ap, subst, ◌∙◌}
+use mathlib.Core.List.{List, [], ◌∷◌, ◌++◌, append_assoc}
+use mathlib.Core.Path.{◌≡◌, refl, sym, ap, ◌∙◌}
 use Prim.Native.Nat.{ℕ, suc, ◌+◌, ◌-◌, ◌≤◌}
 use native.Mathlib.Nat.{add-zero}
 use native.Mathlib.Omega.{arith}
-use lib.ListN.{length, take, drop, set, replicate, length-append, replicate-append-replicate}
-use lib.Seq.{sets, sets-eq, length-sets, take_at, take-take}
+use lib.ListN.{length, take, drop, set, replicate, length-append, length-drop, length-replicate}
+use lib.Seq.{sets, sets-eq, length-sets, length-take-le, take_at, take-take}
+use Rattle.std.proofs.Common.{drop-drop}
+use borrow.Rule.Slice.PartMut.{put_mid, mid_of}
 use Rattle.numbers.specs.Text.{DigitsStored}
 
 -- a run of stores behind a run of stores
@@ -26,18 +28,27 @@ stored-behind {l} {m} {n} {i} {j} {k} {xs} {ys} first second =
           ∙ sets_append l i xs ys;
     }
 
+-- a run of one byte put between what stands before it and what stands behind it
+pub run_stored : (out : List ℕ) (at count byte : ℕ) → at + count ≤ length out
+    → DigitsStored out (put_mid at (at + count - at) out (replicate (length (mid_of at (at + count - at) out)) byte)) at
+    (replicate count byte) (at + count)
+run_stored out at count byte room =
+    let size : at + count - at ≡ count = omega arith in
+    let long : length (take count (drop at out)) ≡ count = length-take-le count (drop at out) (omega (arith, length-drop at out)) in
+    let all : at + length (replicate count byte) ≡ at + count = omega (arith, length-replicate count byte) in
+    let run : List ℕ = replicate count byte in
+    let behind : drop (at + length run) out ≡ drop count (drop at out) = ap (λ (k : ℕ). drop k out) all ∙ sym (drop-drop count at out) in
+    rw (size, long)
+    (record {
+      ends = sym all;
+      holds = sym (sets-eq run out at (omega arith)
+          ∙ append_assoc (take at out) run (drop (at + length run) out)
+          ∙ ap (λ (l : List ℕ). take at out ++ (run ++ l)) behind);
+    })
+
 -- one byte stored
 pub stored_one : (l : List ℕ) (i b : ℕ) → DigitsStored l (set l i b) i (b ∷ []) (i + 1)
 stored_one l i b = record { ends = refl; holds = refl }
-
--- a run of one byte grows by a byte
-pub run_grows : {l m : List ℕ} {at i : ℕ} (b : ℕ) → at ≤ i → DigitsStored l m at (replicate (i - at) b) i
-    → DigitsStored l (set m i b) at (replicate (i + 1 - at) b) (i + 1)
-run_grows {l} {m} {at} {i} b h run =
-    let more : (i - at) + 1 ≡ i + 1 - at = omega arith in
-    subst (λ (bytes : List ℕ). DigitsStored l (set m i b) at bytes (i + 1))
-    (replicate-append-replicate (i - at) 1 b ∙ ap (λ (k : ℕ). replicate k b) more)
-    (stored-behind run (stored_one m i b))
 
 module _ {l after xs : List ℕ} {end : ℕ} (stored : DigitsStored l after 0 xs end) (room : length xs ≤ length l) where
   -- what was stored at the front is read there, as far as asked

@@ -19,7 +19,7 @@ use Rattle.numbers.specs.Laws.{longest-is}
 use Rattle.numbers.specs.Numbers.{IntInRange}
 use Rattle.numbers.specs.Text.{longest_text, filled_text, TextRoom, DigitsStored, TextWritten}
 use Rattle.numbers.specs.declared.Int.{Int}
-use Rattle.numbers.specs.declared.Text.TheVariants.{Is}
+use Rattle.std.specs.Prelude.{Ok}
 use Rattle.numbers.proofs.Stores.{take_some, length-stored}
 
 -- ---- its parts
@@ -79,7 +79,7 @@ module _ (n m : ℤ) (nonzero : nat_abs n ≡ 0 → ⊥) where
 
 -- as far as asked
 pub written_part : {n m : ℤ} {l after t : List ℕ} {end k notes : ℕ} → DigitsStored l after 0 t end → length l ≡ longest_text → length t ≤ longest_text
-    → k ≤ length t → text_of n m ≡ done (take k t) notes → TextWritten n m (Is k notes) l after
+    → k ≤ length t → text_of n m ≡ done (take k t) notes → TextWritten n m (Ok (record { value = k; notes = notes })) l after
 written_part {k = k} {notes = notes} stored full room short is =
     record {
       text = ap (λ (x : List ℕ). done x notes) (take_some stored (omega arith) k short) ∙ sym is;
@@ -89,6 +89,6 @@ written_part {k = k} {notes = notes} stored full room short is =
 
 -- all of it
 pub written-whole : {n m : ℤ} {l after t : List ℕ} {end k notes : ℕ} → DigitsStored l after 0 t end → length l ≡ longest_text → length t ≤ longest_text
-    → k ≡ length t → text_of n m ≡ done t notes → TextWritten n m (Is k notes) l after
+    → k ≡ length t → text_of n m ≡ done t notes → TextWritten n m (Ok (record { value = k; notes = notes })) l after
 written-whole {t = t} {notes = notes} stored full room e is =
     written_part stored full room (omega arith) (is ∙ ap (λ (x : List ℕ). done x notes) (sym (ap (λ (j : ℕ). take j t) e ∙ take-length t)))

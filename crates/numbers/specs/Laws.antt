@@ -1,6 +1,6 @@
 -- The code's sizes are those of the definitions, a number is what its bits are read as, and what an answer tells once its case is known.
 -- Assumes nothing.
-use Rattle.std.specs.Prelude.{true, List, ◌≡◌, refl, ℕ, ◌≤◌, ◌<◌, ◌^◌, ℤ, pos, negsuc, nat_abs, take}
+use Rattle.std.specs.Prelude.{true, List, ◌≡◌, refl, ℕ, ◌≤◌, ◌<◌, ◌^◌, ℤ, pos, negsuc, nat_abs, take, Ok, Err}
 use Rattle.std.proofs.Common.{sym, ap, subst, ◌∙◌, arith, SFits, of_z, to_z, leb-true}
 use Rattle.std.specs.Int.{w64}
 use Rattle.std.proofs.lemmas.Int.{to_z-of_z}
@@ -8,11 +8,12 @@ use Rattle.base.specs.Current.{current, limit, limit_is}
 use Rattle.values.specs.Conversion.{longest_string, text_of}
 use Rattle.values.specs.Numbers.{is_in_range}
 use Rattle.values.specs.Result.{Result, done, stop}
+use Rattle.values.specs.Stops.{stop_number}
+use Rattle.values.specs.declared.Noted.{Noted}
+use Rattle.values.specs.declared.Stop.{Stop}
 use Rattle.numbers.specs.declared.Int.{Int}
-use Rattle.numbers.specs.declared.Number as Number
-use Rattle.numbers.specs.declared.Text as Text
-use Rattle.numbers.specs.Numbers.{IntInRange, worked, NumberWithin, NumberAnswers}
-use Rattle.numbers.specs.Text.{longest_text, text_worked, Settled, TextWritten}
+use Rattle.numbers.specs.Numbers.{IntInRange, Number, worked, NumberWithin, NumberAnswers}
+use Rattle.numbers.specs.Text.{longest_text, Text, text_worked, Settled, TextWritten}
 
 -- a number that passes the test is in range
 pub in_range_lem : (z : ℤ) → is_in_range current z ≡ true → nat_abs z ≤ limit
@@ -34,23 +35,23 @@ pub plain : (z : ℤ) → nat_abs z < 2 ^ 63 → to_z w64 (of_z w64 z) ≡ z
 plain z h = to_z-of_z w64 z (fits z h)
 
 -- an answer that is a value, and one that stops
-module _ {r : Number.Number} {w : Result ℤ} (a : NumberAnswers r w) where
-  pub number_is : {v : Int} {notes : ℕ} → r ≡ Number.TheVariants.Is v notes → w ≡ done v.value notes
+module _ {r : Number} {w : Result ℤ} (a : NumberAnswers r w) where
+  pub number_is : {v : Noted Int} → r ≡ Ok v → w ≡ done v.value.value v.notes
   number_is e = sym a.work ∙ ap worked e
 
-  pub number_range : {v : Int} {notes : ℕ} → r ≡ Number.TheVariants.Is v notes → IntInRange v
+  pub number_range : {v : Noted Int} → r ≡ Ok v → IntInRange v.value
   number_range e = subst NumberWithin e a.range
 
-  pub number_stops : {k : ℕ} → r ≡ Number.TheVariants.Stops k → w ≡ stop k
+  pub number_stops : {s : Stop} → r ≡ Err s → w ≡ stop (stop_number s)
   number_stops e = sym a.work ∙ ap worked e
 
 -- a text that was written, and one that stops
-module _ {n m : ℤ} {r : Text.Text} {before after : List ℕ} (a : TextWritten n m r before after) where
-  pub text_is : {size notes : ℕ} → r ≡ Text.TheVariants.Is size notes → text_of n m ≡ done (take size after) notes
-  text_is e = sym a.text ∙ ap (λ (x : Text.Text). text_worked x after) e
+module _ {n m : ℤ} {r : Text} {before after : List ℕ} (a : TextWritten n m r before after) where
+  pub text_is : {v : Noted ℕ} → r ≡ Ok v → text_of n m ≡ done (take v.value after) v.notes
+  text_is e = sym a.text ∙ ap (λ (x : Text). text_worked x after) e
 
-  pub text_fits : {size notes : ℕ} → r ≡ Text.TheVariants.Is size notes → size ≤ longest_text
-  text_fits e = subst (λ (x : Text.Text). Settled x before after) e a.settled
+  pub text_fits : {v : Noted ℕ} → r ≡ Ok v → v.value ≤ longest_text
+  text_fits e = subst (λ (x : Text). Settled x before after) e a.settled
 
-  pub text_stops : {k : ℕ} → r ≡ Text.TheVariants.Stops k → text_of n m ≡ stop k
-  text_stops e = sym a.text ∙ ap (λ (x : Text.Text). text_worked x after) e
+  pub text_stops : {s : Stop} → r ≡ Err s → text_of n m ≡ stop (stop_number s)
+  text_stops e = sym a.text ∙ ap (λ (x : Text). text_worked x after) e

@@ -1,12 +1,14 @@
 -- The code's numbers and comparisons, as document 01 has them. Assumes nothing.
-use Rattle.std.specs.Prelude.{cond, List, ◌≡◌, ℕ, ◌≤◌, ◌<◌, ℤ, nat_abs}
+use Rattle.std.specs.Prelude as std
+use Rattle.std.specs.Prelude.{cond, List, ◌≡◌, ℕ, ◌≤◌, ◌<◌, ℤ, nat_abs, Ok, Err}
 use Rattle.base.specs.Current.{limit}
 use Rattle.syntax.specs.Program as Program
 use Rattle.values.specs.Conversion.{is_signed}
-use Rattle.values.specs.Result.{Result, done, stop}
+use Rattle.values.specs.Result.{Result}
+use Rattle.values.specs.Stops as Stops
+use Rattle.values.specs.declared.Noted.{Noted}
+use Rattle.values.specs.declared.Stop.{Stop}
 use Rattle.numbers.specs.declared.Int.{Int}
-use Rattle.numbers.specs.declared.Number.{Number}
-use Rattle.numbers.specs.declared.Number.TheVariants.{Is, Stops}
 use Rattle.numbers.specs.declared.Comparison.{Comparison}
 use Rattle.numbers.specs.declared.Comparison.TheVariants.{Equal, Unequal, Less, Greater, AtMost, AtLeast}
 
@@ -24,15 +26,18 @@ pub record GivesInt (r : Int) (z : ℤ) : Type 0 where
   pub value : r.value ≡ z
   pub range : IntInRange r
 
+-- what work on numbers answers: a number with its notes, or what stops the step
+abbrev pub Number : Type 0
+Number = std.Result (Noted Int) Stop
+
 -- the work that an answer stands for
 abbrev pub worked : Number → Result ℤ
-worked (Is value notes) = done value.value notes
-worked (Stops k) = stop k
+worked r = Stops.worked (λ (v : Int). v.value) r
 
 -- a value that is given is in range
 abbrev pub NumberWithin : Number → Type 0
-NumberWithin (Is value notes) = IntInRange value
-NumberWithin (Stops k) = Unit {0}
+NumberWithin (Ok v) = IntInRange v.value
+NumberWithin (Err s) = Unit {0}
 
 -- an answer stands for this work
 pub record NumberAnswers (r : Number) (w : Result ℤ) : Type 0 where

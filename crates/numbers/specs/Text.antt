@@ -1,11 +1,13 @@
 -- The text that the code writes, as document 01 has it. Assumes nothing.
-use Rattle.std.specs.Prelude.{List, ◌++◌, ◌≡◌, ℕ, ◌+◌, ◌≤◌, ℤ, nat_abs, length, take, replicate}
+use Rattle.std.specs.Prelude as std
+use Rattle.std.specs.Prelude.{List, ◌++◌, ◌≡◌, ℕ, ◌+◌, ◌≤◌, ℤ, nat_abs, length, take, replicate, Ok, Err}
 use Rattle.std.proofs.lemmas.List.Edits.{sets}
 use Rattle.values.specs.Conversion.{sign_of, digits, text_of}
-use Rattle.values.specs.Result.{Result, done, stop}
+use Rattle.values.specs.Result.{Result}
+use Rattle.values.specs.Stops as Stops
+use Rattle.values.specs.declared.Noted.{Noted}
+use Rattle.values.specs.declared.Stop.{Stop}
 use Rattle.numbers.specs.declared.Int.{Int}
-use Rattle.numbers.specs.declared.Text.{Text}
-use Rattle.numbers.specs.declared.Text.TheVariants.{Is, Stops}
 use Rattle.numbers.specs.Numbers.{IntInRange}
 
 -- the bytes of the longest string
@@ -26,15 +28,18 @@ pub record TextRoom (m : Int) (byte count : ℕ) : Type 0 where
   pub number : IntInRange m
   pub room : length (filled_text m.value byte count) ≤ longest_text
 
+-- what writing a text answers: its length with the notes made, or what stops the step
+abbrev pub Text : Type 0
+Text = std.Result (Noted ℕ) Stop
+
 -- the work that an answer and the bytes written stand for
 abbrev pub text_worked : Text → List ℕ → Result (List ℕ)
-text_worked (Is length notes) bytes = done (take length bytes) notes
-text_worked (Stops k) bytes = stop k
+text_worked r bytes = Stops.worked (λ (n : ℕ). take n bytes) r
 
 -- a text is within the bytes; where there is none they are as before
 abbrev pub Settled : Text → (before after : List ℕ) → Type 0
-Settled (Is length notes) before after = length ≤ longest_text
-Settled (Stops k) before after = after ≡ before
+Settled (Ok size) before after = size.value ≤ longest_text
+Settled (Err s) before after = after ≡ before
 
 -- two numbers in range, and 1,024 bytes to write to
 pub record TextWritable (n m : Int) (out : List ℕ) : Type 0 where

@@ -13,32 +13,19 @@ ghost use Rattle.numbers.specs.Text.{longest_text, DigitsStored, filled_text, Te
 
 use base::LONGEST;
 use classes::is_digit_or_blank;
+use values::{Noted, Stop};
 
 // numbers run from -LIMIT to LIMIT
 pub const LIMIT: u64 = 8_388_607;
 
 // a number of the language
-#[derive(Clone, Copy)]
+#[derive(Clone, Copy, PartialEq, Eq)]
 pub struct Int {
     pub value: i64,
 }
 
-// what work on numbers gives: a value with the notes made on the way, or what stops the run
-#[derive(Clone, Copy)]
-pub enum Number {
-    Is { value: Int, notes: u32 },
-    Stops(u32),
-}
-
-// what STRING gives: the length of the text written with the notes made, or what stops the run
-#[derive(Clone, Copy)]
-pub enum Text {
-    Is { length: usize, notes: u32 },
-    Stops(u32),
-}
-
 // the comparisons of IF
-#[derive(Clone, Copy)]
+#[derive(Clone, Copy, PartialEq, Eq)]
 pub enum Comparison {
     Equal,
     Unequal,
@@ -59,18 +46,14 @@ pub fn size(z: Int) -> u64
     requires { nat_abs z.value < 2 ^ 63 }
     ensures { result ≡ nat_abs z.value }
 {
-    if is_negative(z) {
-        (0 - z.value) as u64
-    } else {
-        z.value as u64
-    }
+    z.value.unsigned_abs()
 }
 
 pub fn negate(z: Int) -> Int
     requires { IntInRange z }
     ensures { GivesInt result (neg_ℤ z.value) }
 {
-    Int { value: 0 - z.value }
+    Int { value: -z.value }
 }
 
 // a natural number as a number
@@ -82,18 +65,18 @@ pub fn int_of(n: u64) -> Int
 }
 
 // z if it is in range
-fn held(z: Int) -> Number
+fn held(z: Int) -> Result<Noted<Int>, Stop>
     requires { nat_abs z.value < 2 ^ 63 }
     ensures { NumberAnswers result (Numbers.held current z.value) }
 {
     if size(z) <= LIMIT {
-        Number::Is { value: z, notes: 0 }
+        Ok(Noted::plain(z))
     } else {
-        Number::Stops(19)
+        Err(Stop::OutOfRange)
     }
 }
 
-pub fn add(a: Int, b: Int) -> Number
+pub fn add(a: Int, b: Int) -> Result<Noted<Int>, Stop>
     requires { BothInRange a b }
     ensures { NumberAnswers result (sum current a.value b.value) }
 {
@@ -102,7 +85,7 @@ pub fn add(a: Int, b: Int) -> Number
     })
 }
 
-pub fn subtract(a: Int, b: Int) -> Number
+pub fn subtract(a: Int, b: Int) -> Result<Noted<Int>, Stop>
     requires { BothInRange a b }
     ensures { NumberAnswers result (difference current a.value b.value) }
 {
@@ -111,7 +94,7 @@ pub fn subtract(a: Int, b: Int) -> Number
     })
 }
 
-pub fn multiply(a: Int, b: Int) -> Number
+pub fn multiply(a: Int, b: Int) -> Result<Noted<Int>, Stop>
     requires { BothInRange a b }
     ensures { NumberAnswers result (product current a.value b.value) }
 {
@@ -121,12 +104,12 @@ pub fn multiply(a: Int, b: Int) -> Number
 }
 
 // the fraction is dropped
-pub fn divide(a: Int, b: Int) -> Number
+pub fn divide(a: Int, b: Int) -> Result<Noted<Int>, Stop>
     requires { BothInRange a b }
     ensures { NumberAnswers result (quotient current a.value b.value) }
 {
     if b.value == 0 {
-        return Number::Stops(18);
+        return Err(Stop::ZeroDivisor);
     }
     held(Int {
         value: a.value / b.value,
@@ -150,38 +133,25 @@ pub fn compare(c: Comparison, a: Int, b: Int) -> bool
 fn sign_length(s: &[u8]) -> usize
     ensures { result ≡ sign_length s.now }
 {
-    if s.len() == 0 {
-        return 0;
+    if s.starts_with(b"+") || s.starts_with(b"-") {
+        1
+    } else {
+        0
     }
-    let first = s[0];
-    if first == b'+' {
-        return 1;
-    }
-    if first == b'-' { 1 } else { 0 }
 }
 
 pub fn is_numeric(s: &[u8]) -> bool
     ensures { result ≡ is_numeric s.now }
 {
-    let start = sign_length(s);
-    if s.len() <= start {
-        return false;
-    }
-    let mut i = start;
-    while i < s.len() {
-        if !is_digit_or_blank(s[i]) {
-            return false;
-        }
-        i += 1;
-    }
-    true
+    let digits = &s[sign_length(s)..];
+    !digits.is_empty() && digits.iter().all(|b| is_digit_or_blank(*b))
 }
 
 // the digit that a byte stands for: a blank is a zero
 fn digit_of(b: u8) -> u64
     ensures { (result ≡ digit_of b) × (result < 256) }
 {
-    if b < b'0' { 0 } else { (b - b'0') as u64 }
+    if b < b'0' { 0 } else { u64::from(b - b'0') }
 }
 
 // the value of the digits from start on, or one that is above LIMIT if that is
@@ -189,41 +159,33 @@ pub fn decimal_from(s: &[u8], start: usize) -> u64
     requires { start ≤ length s.now }
     ensures { Capped result (decimal 0 (drop start s.now)) }
 {
-    let mut v: u64 = 0;
-    let mut i = start;
-    while i < s.len() {
-        v = v * 10 + digit_of(s[i]);
+    let mut v = 0;
+    for b in &s[start..] {
+        v = v * 10 + digit_of(*b);
         if LIMIT < v {
             return v;
         }
-        i += 1;
     }
     v
 }
 
-pub fn number_of(s: &[u8]) -> Number
+pub fn number_of(s: &[u8]) -> Result<Noted<Int>, Stop>
     ensures { NumberAnswers result (number_of current s.now) }
 {
     if !is_numeric(s) {
-        return Number::Is {
+        return Ok(Noted {
             value: Int { value: 0 },
             notes: 1,
-        };
+        });
     }
     let v = decimal_from(s, sign_length(s));
     if LIMIT < v {
-        return Number::Stops(19);
+        return Err(Stop::OutOfRange);
     }
     if s[0] == b'-' {
-        return Number::Is {
-            value: negate(int_of(v)),
-            notes: 0,
-        };
+        return Ok(Noted::plain(negate(int_of(v))));
     }
-    Number::Is {
-        value: int_of(v),
-        notes: 0,
-    }
+    Ok(Noted::plain(int_of(v)))
 }
 
 // how many digits v has
@@ -252,13 +214,9 @@ fn put_run(byte: u8, count: usize, at: usize, out: &mut [u8; LONGEST]) -> usize
     requires { at + count ≤ longest_text }
     ensures { DigitsStored out.old out.new at (replicate count byte) result }
 {
-    let last = at + count;
-    let mut i = at;
-    while i < last {
-        out[i] = byte;
-        i += 1;
-    }
-    i
+    let end = at + count;
+    out[at..end].fill(byte);
+    end
 }
 
 // the sign of m, if it is negative, at 0; where it ends
@@ -299,29 +257,26 @@ fn fill_byte(n: Int) -> u8
 }
 
 // STRING(n,m), at the start of out; bytes behind it may change
-pub fn text_of(n: Int, m: Int, out: &mut [u8; LONGEST]) -> Text
+pub fn text_of(n: Int, m: Int, out: &mut [u8; LONGEST]) -> Result<Noted<usize>, Stop>
     requires { TextWritable n m out.old }
     ensures { TextWritten n.value m.value result out.old out.new }
 {
     let asked = size(n) as usize;
     if asked == 0 {
         let length = put_text(m, b'0', 0, out);
-        return Text::Is { length, notes: 0 };
+        return Ok(Noted::plain(length));
     }
     if LONGEST < asked {
-        return Text::Stops(20);
+        return Err(Stop::TooLong);
     }
     let plain = plain_length(m);
     if plain <= asked {
         put_text(m, fill_byte(n), asked - plain, out);
-        return Text::Is {
-            length: asked,
-            notes: 0,
-        };
+        return Ok(Noted::plain(asked));
     }
     put_text(m, b'0', 0, out);
-    Text::Is {
-        length: asked,
+    Ok(Noted {
+        value: asked,
         notes: 1,
-    }
+    })
 }

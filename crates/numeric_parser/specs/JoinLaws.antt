@@ -1,6 +1,6 @@
 -- One turn of a loop over joined forms, for terms and factors alike: a form is read, what waited is written, and the next operator waits.
 -- Assumes nothing.
-use Rattle.std.specs.Prelude.{Bool, true, false, ◌≡◌, refl, ℕ, ◌+◌, ◌-◌, ◌≤◌, ◌<◌, drop}
+use Rattle.std.specs.Prelude.{Option, Some, None, is_some, Bool, true, false, ◌≡◌, refl, ℕ, ◌+◌, ◌-◌, ◌≤◌, ◌<◌, drop}
 use mathlib.Core.List.{List, [], ◌∷◌, ◌++◌, append_assoc, append-nil}
 use Rattle.std.proofs.Math.Path.{sym, ap}
 use Rattle.std.proofs.Common.{subst, ◌∙◌, add-zero, arith}
@@ -19,13 +19,12 @@ use Rattle.symbols.specs.ParsingLaws.{mentioning_nothing}
 use Rattle.symbols.specs.declared.Cursor.{Cursor}
 use Rattle.card_reader.specs.Letters.{letters, letters_on}
 use Rattle.numeric_parser.specs.Joins.{waited, Joins, WaitedRead, Joining}
+use Rattle.numeric_parser.specs.declared.Mark.{Mark}
 use Rattle.numeric_parser.specs.Kinds.{SignAt, OperatorAt, SumAt, ProductAt, ItemsPut}
-use Rattle.numeric_parser.specs.KindLaws.{items_case, items_none}
+use Rattle.numeric_parser.specs.KindLaws.{items_case, items_none, waiting_one}
 use Rattle.numeric_parser.specs.OperandLaws.{noting_more, noting_none, onward_none, ready_on, ready_here, chosen}
 use Rattle.numeric_parser.specs.Operands.{cursor_moved, ReaderReady}
 use Rattle.numeric_parser.specs.Reads.{GetsItems, ItemsRead, waiting}
-use Rattle.numeric_parser.specs.declared.Outcome as OutcomeCode
-use Rattle.numeric_parser.specs.declared.Outcome.{Outcome}
 
 -- nothing more is read
 nothing_read : (before : List Item) {text table keys tags : List ℕ} {c : Cursor} → ReaderReady text keys tags c
@@ -62,12 +61,12 @@ module _ (one : Reader) (more : More) (ps before : List Item) where
         ap (λ (z : Parsed (List Item)). mentioning (mentions_in [] (length ps) [] 0) (z >>= λ (u, rest). more (before ++ (u ++ ps)) rest)) a.is
         ∙ ap (λ (z : Parsed (List Item)). mentioning (mentions_in [] (length ps) [] 0) (mentioning (mentions_in a.entries (length a.items) [] 0) z)) e
 
-    waited-read : {t₂ : List ℕ} {e : Cursor} → ReaderReady text keys tags (cursor_moved c (length ps)) → ItemsPut t₁ d ps t₂ e → (r : Outcome)
+    waited-read : {t₂ : List ℕ} {e : Cursor} → ReaderReady text keys tags (cursor_moved c (length ps)) → ItemsPut t₁ d ps t₂ e → (r : Option Cursor)
         → {t₃ k₂ g₂ : List ℕ}
         → ItemsRead (before ++ (a.items ++ ps)) text t₂ k₁ g₁ e (more (before ++ (a.items ++ ps)) (drop e.at text)) r t₃ k₂ g₂
         → ItemsRead before text table keys tags c (waited one more ps before (drop (c.at + length ps) text)) r t₃ k₂ g₂
     unfolding mentioning
-    waited-read {t₂} {e} ready put (OutcomeCode.TheVariants.Got f) b =
+    waited-read {t₂} {e} ready put (Some f) b =
         let q = b.answer in
         let us = a.items in
         let n = length ps in
@@ -115,20 +114,21 @@ module _ (one : Reader) (more : More) (ps before : List Item) where
                 short = omega (arith, a.short, q.short, put.at);
               };
         }
-    waited-read ready put OutcomeCode.TheVariants.Broken b =
+    waited-read ready put None b =
         record {
           answer = waited_then broken (ap (λ j. more (before ++ (a.items ++ ps)) (drop j text)) (sym put.at) ∙ b.answer);
         }
 
 -- a loop begins, where there is room for what waits
-pub joining_begins : {one : Reader} {more : More} {text table keys tags : List ℕ} {kind : ℕ} {d : Cursor} → ReaderReady text keys tags d
-    → d.items + length (waiting kind) + length text ≤ far_enough + d.at → Joining one more text table keys tags kind d table keys tags kind d
-joining_begins ready room = record { same_size = refl; later = omega arith; ready = ready; room = room; goes = λ r p. p }
+pub joining_begins : {one : Reader} {more : More} {text table keys tags : List ℕ} {mark : Option Mark} {d : Cursor} → ReaderReady text keys tags d
+    → d.items + length (waiting mark) + length text ≤ far_enough + d.at → Joining one more text table keys tags mark d table keys tags mark d
+joining_begins ready room =
+    record { same_size = refl; later = omega arith; ready = ready; room = room; goes = λ r p. p }
 
 -- and behind the sign of the first term
-pub joining_signed : {one : Reader} {more : More} {text table keys tags : List ℕ} {c : Cursor} {kind n : ℕ} {d : Cursor}
-    → ReaderReady text keys tags c → SignAt text c.at kind → n ≡ length (waiting kind) → d ≡ cursor_moved c n
-    → Joining one more text table keys tags kind d table keys tags kind d
+pub joining_signed : {one : Reader} {more : More} {text table keys tags : List ℕ} {c : Cursor} {mark : Option Mark} {n : ℕ} {d : Cursor}
+    → ReaderReady text keys tags c → SignAt text c.at mark → n ≡ length (waiting mark) → d ≡ cursor_moved c n
+    → Joining one more text table keys tags mark d table keys tags mark d
 joining_signed {text = text} {keys = keys} {tags = tags} {n = n} ready s size skips =
     let inside = s.inside ready.inside in
     let at = ap (λ (z : Cursor). z.at) skips in
@@ -137,28 +137,28 @@ joining_signed {text = text} {keys = keys} {tags = tags} {n = n} ready s size sk
     (omega (arith, at, items, size, ready.items))
 
 -- a turn: a form is read
-module _ {one : Reader} {more : More} {text table₀ keys₀ tags₀ : List ℕ} {kind₀ : ℕ} {d₀ : Cursor} {table keys tags : List ℕ} {kind : ℕ}
-    {d : Cursor} (i : Joining one more text table₀ keys₀ tags₀ kind₀ d₀ table keys tags kind d) {r₁ : Outcome} {t₁ k₁ g₁ : List ℕ}
+module _ {one : Reader} {more : More} {text table₀ keys₀ tags₀ : List ℕ} {mark₀ : Option Mark} {d₀ : Cursor} {table keys tags : List ℕ} {mark : Option Mark}
+    {d : Cursor} (i : Joining one more text table₀ keys₀ tags₀ mark₀ d₀ table keys tags mark d) {r₁ : Option Cursor} {t₁ k₁ g₁ : List ℕ}
     (a : ItemsRead [] text table keys tags d (one (drop d.at text)) r₁ t₁ k₁ g₁) where
-  pub joining_broken : r₁ ≡ OutcomeCode.TheVariants.Broken → {t k g : List ℕ}
-      → WaitedRead one more text table₀ keys₀ tags₀ kind₀ d₀ OutcomeCode.TheVariants.Broken t k g
-  joining_broken e =
-      i.goes OutcomeCode.TheVariants.Broken (λ c at before.
+  pub joining_broken : r₁ ≡ None → {r : Option Cursor} → r ≡ None → {t k g : List ℕ}
+      → WaitedRead one more text table₀ keys₀ tags₀ mark₀ d₀ r t k g
+  joining_broken e none {t} {k} {g} =
+      subst (λ z. WaitedRead one more text table₀ keys₀ tags₀ mark₀ d₀ z t k g) (sym none) (i.goes None (λ c at before.
       record {
         answer =
-            waited_broken one more (waiting kind) before (drop (c.at + length (waiting kind)) text)
+            waited_broken one more (waiting mark) before (drop (c.at + length (waiting mark)) text)
             (ap (λ (z : Cursor). one (drop z.at text)) (sym at) ∙ items_none a e);
-      })
+      }))
 
-  module _ {e : Cursor} (is : r₁ ≡ OutcomeCode.TheVariants.Got e) {t₂ : List ℕ} {f : Cursor} (put : ItemsPut t₁ e (waiting kind) t₂ f) where
+  module _ {e : Cursor} (is : r₁ ≡ Some e) {t₂ : List ℕ} {f : Cursor} (put : ItemsPut t₁ e (waiting mark) t₂ f) where
     -- what waited is written, and more is read
-    joining_more : (r : Outcome) {t k g : List ℕ}
+    joining_more : (r : Option Cursor) {t k g : List ℕ}
         → ((before : List Item) → ItemsRead before text t₂ k₁ g₁ f (more before (drop f.at text)) r t k g)
-        → WaitedRead one more text table keys tags kind d r t k g
+        → WaitedRead one more text table keys tags mark d r t k g
     joining_more r m c at before =
         let x =
         subst (λ (z : Cursor). GetsItems [] text table keys tags z (one (drop z.at text)) t₁ k₁ g₁ e) at (items_case a is) in
-        waited-read one more (waiting kind) before c x (subst (ReaderReady text keys tags) at i.ready) put r (m _)
+        waited-read one more (waiting mark) before c x (subst (ReaderReady text keys tags) at i.ready) put r (m _)
 
     pub ready_behind : ReaderReady text k₁ g₁ f
     ready_behind =
@@ -167,16 +167,16 @@ module _ {one : Reader} {more : More} {text table₀ keys₀ tags₀ : List ℕ}
         (omega (arith, x.ready, put.goes, put.at)) (omega (arith, x.ready, put.goes, put.at))
 
     -- by the operator behind the form
-    module _ {kind' : ℕ} (o : Joins one more text f.at kind') where
-      pub joining_ends : kind' ≡ 0 → WaitedRead one more text table₀ keys₀ tags₀ kind₀ d₀ (OutcomeCode.TheVariants.Got f) t₂ k₁ g₁
+    module _ {mark' : Option Mark} (o : Joins one more text f.at mark') where
+      pub joining_ends : is_some mark' ≡ false → WaitedRead one more text table₀ keys₀ tags₀ mark₀ d₀ (Some f) t₂ k₁ g₁
       joining_ends none =
-          i.goes (OutcomeCode.TheVariants.Got f) (joining_more (OutcomeCode.TheVariants.Got f) (λ before.
+          i.goes (Some f) (joining_more (Some f) (λ before.
           record {
             answer = subst (λ y. GetsItems before text t₂ k₁ g₁ f y t₂ k₁ g₁ f) (sym (o.ends none before)) (nothing_read before ready_behind);
           }))
 
-      module _ (some : kind' ≡ 0 → ⊥) {d' : Cursor} (skips : d' ≡ cursor_moved f 1) where
-        pub joining_again : length t₂ ≡ length table₀ → Joining one more text table₀ keys₀ tags₀ kind₀ d₀ t₂ k₁ g₁ kind' d'
+      module _ (some : is_some mark' ≡ true) {d' : Cursor} (skips : d' ≡ cursor_moved f 1) where
+        pub joining_again : length t₂ ≡ length table₀ → Joining one more text table₀ keys₀ tags₀ mark₀ d₀ t₂ k₁ g₁ mark' d'
         joining_again same =
             let x = items_case a is in
             let at = ap (λ (z : Cursor). z.at) skips in
@@ -185,12 +185,12 @@ module _ {one : Reader} {more : More} {text table₀ keys₀ tags₀ : List ℕ}
               same_size = same;
               later = omega (arith, i.later, x.short, put.at, at);
               ready = ready_on 1 ready_behind skips (omega (arith, o.further some));
-              room = omega (arith, at, items, ready_behind.items, o.size some);
+              room = omega (arith, at, items, ready_behind.items, waiting_one mark' some);
               goes =
                   λ r {t} {k} {g} p.
                   i.goes r (joining_more r (λ before.
                   subst (λ y. ItemsRead before text t₂ k₁ g₁ f y r t k g) (sym (o.goes some before))
-                  (p f (skips ∙ ap (cursor_moved f) (o.size some)) before)));
+                  (p f (skips ∙ ap (cursor_moved f) (waiting_one mark' some)) before)));
             }
 
         pub joining_less : length text - d'.at < length text - d.at
@@ -200,14 +200,14 @@ module _ {one : Reader} {more : More} {text table₀ keys₀ tags₀ : List ℕ}
             omega (arith, at, x.short, put.at, o.further some)
 
 -- the operators that join forms
-operator_joins : {one : Reader} {more : More} {text : List ℕ} {at kind : ℕ} {test : Bool} {x : Parsed Operator}
+operator_joins : {one : Reader} {more : More} {text : List ℕ} {at : ℕ} {mark : Option Mark} {test : Bool} {x : Parsed Operator}
     → ((before : List Item)
     → more before (drop at text)
     ≡ elim test [
       | true ↦ x >>= λ (o, rest). one rest >>= λ (u, rest). more (before ++ (u ++ (operator o ∷ []))) rest
       | false ↦ succeed before (drop at text)
     ])
-    → OperatorAt test x text at kind → Joins one more text at kind
+    → OperatorAt test x text at mark → Joins one more text at mark
 unfolding ◌>>=◌ mentioning one_item mentions_in gather
 operator_joins {one} {more} {text} {at} is s =
     record {
@@ -218,23 +218,22 @@ operator_joins {one} {more} {text} {at} is s =
           is before ∙ chosen _ _ (s.sign h)
           ∙ ap (λ (z : Parsed Operator). z >>= λ (o, rest). one rest >>= λ (u, rest). more (before ++ (u ++ (operator o ∷ []))) rest) o.is
           ∙ ap (λ (l : List Item). waited one more l before (drop (at + length l) text)) (sym o.waits);
-      size = λ h. sym (ap length (s.stands h).waits);
       further = λ h. (s.stands h).further;
     }
 
-module _ (p : Resolution) (depth : ℕ) {text : List ℕ} {at kind : ℕ} where
-  pub sum-joins : SumAt text at kind → Joins (term_from current p depth) (more_terms_from current p depth) text at kind
+module _ (p : Resolution) (depth : ℕ) {text : List ℕ} {at : ℕ} {mark : Option Mark} where
+  pub sum-joins : SumAt text at mark → Joins (term_from current p depth) (more_terms_from current p depth) text at mark
   unfolding more_terms_by
   sum-joins = operator_joins (more_terms_is current p depth (drop at text))
 
-  pub product-joins : ProductAt text at kind → Joins (factor_from current p depth) (more_factors_from current p depth) text at kind
+  pub product-joins : ProductAt text at mark → Joins (factor_from current p depth) (more_factors_from current p depth) text at mark
   unfolding more_factors_by
   product-joins = operator_joins (more_factors_is current p depth (drop at text))
 
 -- an expression is terms joined, the first with its sign
-pub expression_joined : (p : Resolution) (depth : ℕ) {text table keys tags : List ℕ} (c : Cursor) {kind n : ℕ} {d : Cursor} {r : Outcome}
-    {t k g : List ℕ} → SignAt text c.at kind → n ≡ length (waiting kind) → d ≡ cursor_moved c n
-    → WaitedRead (term_from current p depth) (more_terms_from current p depth) text table keys tags kind d r t k g
+pub expression_joined : (p : Resolution) (depth : ℕ) {text table keys tags : List ℕ} (c : Cursor) {mark : Option Mark} {n : ℕ} {d : Cursor} {r : Option Cursor}
+    {t k g : List ℕ} → SignAt text c.at mark → n ≡ length (waiting mark) → d ≡ cursor_moved c n
+    → WaitedRead (term_from current p depth) (more_terms_from current p depth) text table keys tags mark d r t k g
     → ItemsRead [] text table keys tags c (expression_from current p depth (drop c.at text)) r t k g
 unfolding expression_by ◌>>=◌
 expression_joined p depth {text} {table} {keys} {tags} c {r = r} {t} {k} {g} s size skips w =
@@ -274,10 +273,10 @@ moved_none c =
     }
 
 -- a term is factors joined
-pub term_joined : (p : Resolution) (depth : ℕ) {text table keys tags : List ℕ} (c : Cursor) {r : Outcome} {t k g : List ℕ}
-    → WaitedRead (factor_from current p depth) (more_factors_from current p depth) text table keys tags 0 c r t k g
+pub term_joined : (p : Resolution) (depth : ℕ) {text table keys tags : List ℕ} (c : Cursor) {r : Option Cursor} {t k g : List ℕ}
+    → WaitedRead (factor_from current p depth) (more_factors_from current p depth) text table keys tags None c r t k g
     → ItemsRead [] text table keys tags c (term_from current p depth (drop c.at text)) r t k g
-unfolding term_by waiting
+unfolding term_by
 term_joined p depth {text} {table} {keys} {tags} c {r} {t} {k} {g} w =
     subst (λ y. ItemsRead [] text table keys tags c y r t k g)
     (sym

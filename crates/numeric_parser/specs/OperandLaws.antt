@@ -1,6 +1,6 @@
 -- How readings follow each other: a value made of another, a reading behind skipped bytes, one behind another, one before `)`.
 -- Assumes nothing.
-use Rattle.std.specs.Prelude.{Bool, true, false, ◌≡◌, pos, get_or}
+use Rattle.std.specs.Prelude.{is_some, Option, Some, None, Bool, true, false, ◌≡◌, pos, get_or}
 use mathlib.Core.List.{List, [], ◌∷◌, ◌++◌, append-nil, map, map-append}
 use Rattle.std.proofs.Math.Path.{refl, sym, ap, subst}
 use Rattle.std.proofs.Common.{ap₂, ◌∙◌, add_assoc, arith, length-drop, drop-drop}
@@ -8,6 +8,8 @@ use Prim.Native.Nat.{ℕ, ◌+◌, ◌-◌, ◌/◌, ◌≤◌, ◌<◌}
 use Rattle.std.proofs.Math.Nat.{add-zero}
 use Rattle.std.proofs.Math.ListN.{length, take, drop, length-append}
 use Rattle.std.proofs.lemmas.List.{length-map}
+use Rattle.std.proofs.lemmas.Bool.{false≢true}
+use Rattle.base.specs.Choice.{test_cases}
 use Rattle.base.specs.Current.{current}
 use Rattle.base.specs.Lists.{all, begins}
 use Rattle.base.specs.ListLaws.{begins_room}
@@ -34,15 +36,9 @@ use Rattle.card_reader.specs.Keys.{key_of, is_key_byte}
 use Rattle.card_reader.specs.Letters.{letters, letters_on, letters-past}
 use Rattle.lexer.specs.Laws.{name-first, name-is, name_keys_lem}
 use Rattle.lexer.specs.Places.{NameAt}
-use Rattle.numeric_parser.specs.Operands.{Onward, cursor_moved, Skips, ReaderReady, Noting, Gets, StringTag, NameParsed, NameAnswer, NameRead}
-use Rattle.numeric_parser.specs.Operands.{PlaceAnswer, PlaceRead, CellAnswer, OperandRead, meaning, placed_in, ConstantRead, length_cell, OperandInside, behind_parenthesis}
+use Rattle.numeric_parser.specs.Operands.{behind_mark, Onward, cursor_moved, Skips, ReaderReady, Noting, Gets, StringTag, NameParsed}
+use Rattle.numeric_parser.specs.Operands.{PlaceRead, OperandRead, meaning, placed_in, ConstantRead, length_cell, InText, celled_at, behind_parenthesis}
 use Rattle.numeric_parser.specs.declared.operands.Cell.{Cell}
-use Rattle.numeric_parser.specs.declared.operands.Name as NameCode
-use Rattle.numeric_parser.specs.declared.operands.Name.{Name}
-use Rattle.numeric_parser.specs.declared.operands.Operand as OperandCode
-use Rattle.numeric_parser.specs.declared.operands.Operand.{Operand}
-use Rattle.numeric_parser.specs.declared.operands.Place as PlaceCode
-use Rattle.numeric_parser.specs.declared.operands.Place.{Place}
 
 -- entries noted behind others
 pub noting_more : {keys tags : List ℕ} {n m : ℕ} {es fs : List NameEntry} {k t k' t' : List ℕ} → n ≤ length keys → n ≤ length tags
@@ -204,6 +200,34 @@ pub ready_moved : {text keys tags : List ℕ} {c d : Cursor} (w : List ℕ) → 
 ready_moved {text} {c = c} w ready m e =
     ready_on (length w) ready m (omega (arith, ready.inside, begins_room w (drop c.at text) e, length-drop c.at text))
 
+pub text_here : {text keys tags : List ℕ} {c : Cursor} → ReaderReady text keys tags c → InText text c
+text_here ready = (ready.inside, ready.text_size)
+
+-- what an answer of `marked` says
+abbrev cursor_or : Cursor → Option Cursor → Cursor
+cursor_or c (Some d) = d
+cursor_or c None = c
+
+module _ (text : List ℕ) (w : ℕ) (c : Cursor) where
+  pub mark_passed : {d : Cursor} → Some d ≡ behind_mark text w c → (begins (w ∷ []) (drop c.at text) ≡ true) × (d ≡ cursor_moved c 1)
+  mark_passed {d} e =
+      test_cases
+      (λ b.
+      begins (w ∷ []) (drop c.at text) ≡ b → Some d ≡ elim b [ true ↦ Some (cursor_moved c 1) | false ↦ None ]
+      → (begins (w ∷ []) (drop c.at text) ≡ true) × (d ≡ cursor_moved c 1))
+      (begins (w ∷ []) (drop c.at text)) (λ _ h g. (h, ap (cursor_or c) g)) (λ _ h g. absurd (false≢true (sym (ap is_some g)))) refl e
+
+  pub mark_none : None ≡ behind_mark text w c → begins (w ∷ []) (drop c.at text) ≡ false
+  mark_none e =
+      test_cases
+      (λ b.
+      begins (w ∷ []) (drop c.at text) ≡ b → None ≡ elim b [ true ↦ Some (cursor_moved c 1) | false ↦ None ]
+      → begins (w ∷ []) (drop c.at text) ≡ false)
+      (begins (w ∷ []) (drop c.at text)) (λ _ h g. absurd (false≢true (ap is_some g))) (λ _ h g. h) refl e
+
+  pub mark_ready : {keys tags : List ℕ} {d : Cursor} → ReaderReady text keys tags c → Some d ≡ behind_mark text w c → ReaderReady text keys tags d
+  mark_ready ready e = let m = mark_passed e in ready_moved (w ∷ []) ready m.1 m.0
+
 -- there is room for the name at the cursor
 pub name_notable : {text keys tags : List ℕ} {c : Cursor} {n : ℕ} → ReaderReady text keys tags c → NameAt text c.at n → 1 ≤ n → NameNotable keys tags c
 name_notable {text} {c = c} ready a h =
@@ -306,35 +330,22 @@ module _ {text keys tags : List ℕ} {c : Cursor} (known : List ℕ) {key place 
       (ap (λ j. mentions_in (entry j tag ∷ []) 0 [] 0) n.keyed ∙ role_mentioned n.bytes n.shown tag s.is)
       (string_placed known n.bytes n.shown ∙ ap (λ j. key_place j (string_keys known)) (sym n.keyed) ∙ sym e)
 
--- the answers by their case
-module _ {text keys tags : List ℕ} {c : Cursor} {tag : ℕ} {r : Name} {k t : List ℕ} (a : NameRead text keys tags c tag r k t) where
-  pub name_case : {key : ℕ} {d : Cursor} → r ≡ NameCode.TheVariants.Got key d → NameParsed text keys tags c tag key k t d
-  name_case e = subst (λ z. NameAnswer text keys tags c tag z k t) e a.answer
+-- a broken form
+pub place_lost : {text keys tags : List ℕ} {c : Cursor} {x : Parsed ℕ} {r : Option (ℕ × Cursor)} {k t : List ℕ} → r ≡ None → x ≡ broken
+    → PlaceRead text keys tags c x r k t
+place_lost {text} {keys} {tags} {c} {x} {k = k} {t} e h = subst (λ z. PlaceRead text keys tags c x z k t) (sym e) (record { answer = h })
 
-  pub name_none : r ≡ NameCode.TheVariants.Broken → Words.name (drop c.at text) ≡ broken
-  name_none e = subst (λ z. NameAnswer text keys tags c tag z k t) e a.answer
-
-module _ {text keys tags : List ℕ} {c : Cursor} {x : Parsed ℕ} {r : Place} {k t : List ℕ} (a : PlaceRead text keys tags c x r k t) where
-  pub place_case : {place : ℕ} {d : Cursor} → r ≡ PlaceCode.TheVariants.Got place d → Gets (λ j. j) place text keys tags c x k t d
-  place_case e = subst (λ z. PlaceAnswer text keys tags c x z k t) e a.answer
-
-  pub place_none : r ≡ PlaceCode.TheVariants.Broken → x ≡ broken
-  place_none e = subst (λ z. PlaceAnswer text keys tags c x z k t) e a.answer
-
-module _ {A : Type 0} {f : A → Table.Cell} {text keys tags : List ℕ} {c : Cursor} {x : Parsed A} {r : Operand} {k t : List ℕ}
-    (a : OperandRead f text keys tags c x r k t) where
-  pub cell_case : {v : Cell} {d : Cursor} → r ≡ OperandCode.TheVariants.Got v d → Gets f (meaning v) text keys tags c x k t d
-  cell_case e = subst (λ z. CellAnswer f text keys tags c x z k t) e a.answer
-
-  pub cell_none : r ≡ OperandCode.TheVariants.Broken → x ≡ broken
-  cell_none e = subst (λ z. CellAnswer f text keys tags c x z k t) e a.answer
+pub cell_lost : {A : Type 0} {f : A → Table.Cell} {text keys tags : List ℕ} {c : Cursor} {x : Parsed A} {r : Option (Cell × Cursor)}
+    {k t : List ℕ} → r ≡ None → x ≡ broken → OperandRead f text keys tags c x r k t
+cell_lost {f = f} {text} {keys} {tags} {c} {x} {k = k} {t} e h =
+    subst (λ z. OperandRead f text keys tags c x z k t) (sym e) (record { answer = h })
 
 -- a cell by the same answer, and by the same reading
-pub cell_ends : {A : Type 0} {f : A → Table.Cell} {text keys tags : List ℕ} {c : Cursor} {x : Parsed A} {q r : Operand} {k t : List ℕ} → q ≡ r
+pub cell_ends : {A : Type 0} {f : A → Table.Cell} {text keys tags : List ℕ} {c : Cursor} {x : Parsed A} {q r : Option (Cell × Cursor)} {k t : List ℕ} → q ≡ r
     → OperandRead f text keys tags c x r k t → OperandRead f text keys tags c x q k t
 cell_ends {f = f} {text} {keys} {tags} {c} {x} {k = k} {t} e a = subst (λ z. OperandRead f text keys tags c x z k t) (sym e) a
 
-pub cell_same : {A : Type 0} {f : A → Table.Cell} {text keys tags : List ℕ} {c : Cursor} {x y : Parsed A} {r : Operand} {k t : List ℕ} → x ≡ y
+pub cell_same : {A : Type 0} {f : A → Table.Cell} {text keys tags : List ℕ} {c : Cursor} {x y : Parsed A} {r : Option (Cell × Cursor)} {k t : List ℕ} → x ≡ y
     → OperandRead f text keys tags c y r k t → OperandRead f text keys tags c x r k t
 cell_same {f = f} {text} {keys} {tags} {c} {r = r} {k} {t} e a = subst (λ z. OperandRead f text keys tags c z r k t) (sym e) a
 
@@ -358,16 +369,16 @@ module _ (p : Resolution) (bs : List ℕ) (e : Words.name bs ≡ broken) where
 
 -- a cell's value made of another that has the same cell
 pub cell-made : {A B : Type 0} {f : A → Table.Cell} (g : A → B) (h : B → Table.Cell) {text keys tags : List ℕ} {c : Cursor} {x : Parsed A}
-    {k t : List ℕ} (r : Operand) → ((a : A) → h (g a) ≡ f a) → OperandRead f text keys tags c x r k t
+    {k t : List ℕ} (r : Option (Cell × Cursor)) → ((a : A) → h (g a) ≡ f a) → OperandRead f text keys tags c x r k t
     → OperandRead h text keys tags c (x >>= λ (a, rest). succeed (g a) rest) r k t
-cell-made g h (OperandCode.TheVariants.Got v d) same a =
+cell-made g h (Some (v, d)) same a =
     record { answer = gets_succeed _ h (meaning v) (g a.answer.value) a.answer refl (same a.answer.value ∙ a.answer.made) }
-cell-made g h OperandCode.TheVariants.Broken same a = record { answer = then_broken _ a.answer }
+cell-made g h None same a = record { answer = then_broken _ a.answer }
 
 -- a place in a cell of a kind and a value
-pub place-cell : (kind v : ℕ) {text keys tags : List ℕ} {c : Cursor} {x : Parsed ℕ} {k t : List ℕ} (p : Place)
+pub place-cell : (kind v : ℕ) {text keys tags : List ℕ} {c : Cursor} {x : Parsed ℕ} {k t : List ℕ} (p : Option (ℕ × Cursor))
     → PlaceRead text keys tags c x p k t → OperandRead (λ n. Table.cell kind n v) text keys tags c x (placed_in kind v p) k t
-place-cell kind v (PlaceCode.TheVariants.Got place d) a =
+place-cell kind v (Some (place, d)) a =
     let r = a.answer in
     record {
       answer =
@@ -383,21 +394,21 @@ place-cell kind v (PlaceCode.TheVariants.Got place d) a =
             further = r.further;
           };
     }
-place-cell kind v PlaceCode.TheVariants.Broken a = record { answer = a.answer }
+place-cell kind v None a = record { answer = a.answer }
 
 -- a cell read behind skipped bytes
-pub cell_skip : {A : Type 0} {f : A → Table.Cell} {text keys tags : List ℕ} (n : ℕ) {b c : Cursor} {x : Parsed A} {k t : List ℕ} (r : Operand)
+pub cell_skip : {A : Type 0} {f : A → Table.Cell} {text keys tags : List ℕ} (n : ℕ) {b c : Cursor} {x : Parsed A} {k t : List ℕ} (r : Option (Cell × Cursor))
     → Skips b n c → OperandRead f text keys tags c x r k t → OperandRead f text keys tags b x r k t
-cell_skip n (OperandCode.TheVariants.Got v d) s a = record { answer = gets_skip n s a.answer }
-cell_skip n OperandCode.TheVariants.Broken s a = record { answer = a.answer }
+cell_skip n (Some (v, d)) s a = record { answer = gets_skip n s a.answer }
+cell_skip n None s a = record { answer = a.answer }
 
 -- a cell read behind another reading
 pub cell_then : {A B C : Type 0} {f : A → C} {v : C} {text keys tags : List ℕ} {c : Cursor} {x : Parsed A} {k t : List ℕ} {d : Cursor}
-    (r : Gets f v text keys tags c x k t d) (next : A × List ℕ → Parsed B) (h : B → Table.Cell) (q : Operand) {k' t' : List ℕ}
+    (r : Gets f v text keys tags c x k t d) (next : A × List ℕ → Parsed B) (h : B → Table.Cell) (q : Option (Cell × Cursor)) {k' t' : List ℕ}
     → ReaderReady text keys tags c → OperandRead h text k t d (next (r.value, drop d.at text)) q k' t'
     → OperandRead h text keys tags c (x >>= next) q k' t'
-cell_then r next h (OperandCode.TheVariants.Got w e) ready a = record { answer = gets_then next h (meaning w) ready r a.answer }
-cell_then r next h OperandCode.TheVariants.Broken ready a = record { answer = got_broken next r.is a.answer }
+cell_then r next h (Some (w, e)) ready a = record { answer = gets_then next h (meaning w) ready r a.answer }
+cell_then r next h None ready a = record { answer = got_broken next r.is a.answer }
 
 -- a value that is given from a place on
 pub value_got : {A C : Type 0} (f : A → C) (v : A) (w : C) (next : ℕ) {text keys tags : List ℕ} {c : Cursor} {x : Parsed A} {d : Cursor}
@@ -432,7 +443,7 @@ part_length kind s (numbered i) = ap (λ k. Table.cell k s i) (sym (add_assoc ki
 
 module _ (p : Resolution) {text keys tags : List ℕ} {c : Cursor} where
   module _ (kind place : ℕ) where
-    pub bound_constant : {r : Operand} → is_digit (get_or (drop c.at text) 0 0) ≡ true → ConstantRead text keys tags c kind place r
+    pub bound_constant : {r : Option (Cell × Cursor)} → is_digit (get_or (drop c.at text) 0 0) ≡ true → ConstantRead text keys tags c kind place r
         → OperandRead (length_cell kind place) text keys tags c (bound current p (drop c.at text)) r keys tags
     unfolding bound length_cell
     bound_constant {r} e a =
@@ -456,7 +467,7 @@ module _ (p : Resolution) {text keys tags : List ℕ} {c : Cursor} where
         gets_succeed (λ (s, rest). part_of current p s rest) (part_cell kind) _ (whole a.value) a (chosen _ _ e)
         (ap (λ j. Table.cell kind j 0) a.made)
 
-    pub part_first : ReaderReady text keys tags c → begins (36 ∷ []) (drop d.at text) ≡ true → (r : Operand) {b : Cursor} {k' t' : List ℕ}
+    pub part_first : ReaderReady text keys tags c → begins (36 ∷ []) (drop d.at text) ≡ true → (r : Option (Cell × Cursor)) {b : Cursor} {k' t' : List ℕ}
         → b ≡ cursor_moved d 1 → OperandRead (length_cell (kind + 1) s) text k t b (bound current p (drop b.at text)) r k' t'
         → OperandRead (part_cell kind) text keys tags c (part_name current p roles (drop c.at text)) r k' t'
     unfolding part_name part_of part_cell bytes
@@ -511,20 +522,14 @@ module _ {A B : Type 0} {f : A → Table.Cell} (g : A → B) (h : B → Table.Ce
   closed_case : (v : Cell) (d : Cursor) (b : Bool) → begins (41 ∷ []) (drop d.at text) ≡ b
       → Gets f (meaning v) text keys tags c x k t d
       → OperandRead h text keys tags c (x >>= λ (a, rest). expect (bytes ")") rest >>= λ (_, rest). succeed (g a) rest)
-      (elim b [ true ↦ OperandCode.TheVariants.Got v (cursor_moved d 1) | false ↦ OperandCode.TheVariants.Broken ]) k t
+      (celled_at v (elim b [ true ↦ Some (cursor_moved d 1) | false ↦ None ])) k t
   closed_case v d true e a = record { answer = gets_closed g a h e (same a.value ∙ a.made) }
   closed_case v d false e a = record { answer = gets_open g a e }
 
-  pub closed_cell : (r : Operand) → OperandRead f text keys tags c x r k t
+  pub closed_cell : (r : Option (Cell × Cursor)) → OperandRead f text keys tags c x r k t
       → OperandRead h text keys tags c (x >>= λ (a, rest). expect (bytes ")") rest >>= λ (_, rest). succeed (g a) rest) (behind_parenthesis text r) k t
-  closed_cell (OperandCode.TheVariants.Got v d) a = closed_case v d (begins (41 ∷ []) (drop d.at text)) refl a.answer
-  closed_cell OperandCode.TheVariants.Broken a = record { answer = then_broken _ a.answer }
-
--- where an operand ends
-pub cell_inside : {A : Type 0} {f : A → Table.Cell} {text keys tags : List ℕ} {c : Cursor} {x : Parsed A} {k t : List ℕ} (r : Operand)
-    → OperandRead f text keys tags c x r k t → OperandInside text r
-cell_inside (OperandCode.TheVariants.Got v d) a = (a.answer.ready.inside, a.answer.ready.text_size)
-cell_inside OperandCode.TheVariants.Broken a = tt
+  closed_cell (Some (v, d)) a = closed_case v d (begins (41 ∷ []) (drop d.at text)) refl a.answer
+  closed_cell None a = record { answer = then_broken _ a.answer }
 
 -- no role by its number
 pub role_none : role_of 0 ≡ no_role
@@ -533,7 +538,7 @@ role_none = refl
 
 -- LENGTH, NUMBER, a number; constants
 module _ (p : Resolution) {text keys tags : List ℕ} {c : Cursor} {k t : List ℕ} where
-  pub called_length : {d : Cursor} → d ≡ cursor_moved c 7 → begins (bytes "LENGTH(") (drop c.at text) ≡ true → (q : Place)
+  pub called_length : {d : Cursor} → d ≡ cursor_moved c 7 → begins (bytes "LENGTH(") (drop c.at text) ≡ true → (q : Option (ℕ × Cursor))
       → PlaceRead text keys tags d (string_name current p (role_of 0) (drop d.at text)) q k t
       → OperandRead operand_cell text keys tags c (called_or_number current p (drop c.at text)) (behind_parenthesis text (placed_in length_kind.number 0 q)) k t
   unfolding called_or_number operand_cell role_of no_role
@@ -545,7 +550,7 @@ module _ (p : Resolution) {text keys tags : List ℕ} {c : Cursor} {k t : List �
       (closed_cell length_of operand_cell (λ _. refl) cell (cell_skip 7 cell (skipped c 7 s) (place-cell length_kind.number 0 q a)))
 
   pub called_number : {d : Cursor} → d ≡ cursor_moved c 7 → begins (bytes "LENGTH(") (drop c.at text) ≡ false
-      → begins (bytes "NUMBER(") (drop c.at text) ≡ true → (q : Operand)
+      → begins (bytes "NUMBER(") (drop c.at text) ≡ true → (q : Option (Cell × Cursor))
       → OperandRead (part_cell number_of_parts) text keys tags d (part_name current p (role_of 0) (drop d.at text)) q k t
       → OperandRead operand_cell text keys tags c (called_or_number current p (drop c.at text)) (behind_parenthesis text q) k t
   unfolding called_or_number operand_cell part_cell role_of no_role
@@ -555,7 +560,7 @@ module _ (p : Resolution) {text keys tags : List ℕ} {c : Cursor} {k t : List �
       cell_same (chosen _ _ e₁ ∙ chosen _ _ e ∙ ap closes (sym (drop-moved text c 7 s)))
       (closed_cell number_of operand_cell (λ _. refl) q (cell_skip 7 q (skipped c 7 s) a))
 
-  pub called_plain : begins (bytes "LENGTH(") (drop c.at text) ≡ false → begins (bytes "NUMBER(") (drop c.at text) ≡ false → (q : Place)
+  pub called_plain : begins (bytes "LENGTH(") (drop c.at text) ≡ false → begins (bytes "NUMBER(") (drop c.at text) ≡ false → (q : Option (ℕ × Cursor))
       → PlaceRead text keys tags c (number_name current p (drop c.at text)) q k t
       → OperandRead operand_cell text keys tags c (called_or_number current p (drop c.at text)) (placed_in number_kind.number 0 q) k t
   unfolding called_or_number operand_cell
@@ -563,14 +568,14 @@ module _ (p : Resolution) {text keys tags : List ℕ} {c : Cursor} {k t : List �
       cell_same (chosen _ _ e₁ ∙ chosen _ _ e₂)
       (cell-made Program.variable operand_cell (placed_in number_kind.number 0 q) (λ _. refl) (place-cell number_kind.number 0 q a))
 
-  pub plain_called : {r : Operand} → is_digit (get_or (drop c.at text) 0 0) ≡ false
+  pub plain_called : {r : Option (Cell × Cursor)} → is_digit (get_or (drop c.at text) 0 0) ≡ false
       → OperandRead operand_cell text keys tags c (called_or_number current p (drop c.at text)) r k t
       → OperandRead operand_cell text keys tags c (plain_factor current p (drop c.at text)) r k t
   unfolding plain_factor
   plain_called e a = cell_same (chosen _ _ e) a
 
 module _ (p : Resolution) {text keys tags : List ℕ} {c : Cursor} where
-  pub plain_constant : {r : Operand} → is_digit (get_or (drop c.at text) 0 0) ≡ true → ConstantRead text keys tags c constant_kind.number 0 r
+  pub plain_constant : {r : Option (Cell × Cursor)} → is_digit (get_or (drop c.at text) 0 0) ≡ true → ConstantRead text keys tags c constant_kind.number 0 r
       → OperandRead operand_cell text keys tags c (plain_factor current p (drop c.at text)) r keys tags
   unfolding plain_factor operand_cell
   plain_constant {r} e a = cell_same (chosen _ _ e) (cell-made (λ v. Program.constant (pos v)) operand_cell r (λ _. refl) a)

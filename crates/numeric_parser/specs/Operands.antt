@@ -1,5 +1,5 @@
 -- What the readers of operands do: the value read, the names noted, the bytes left. Assumes nothing.
-use Rattle.std.specs.Prelude.{true, false, List, [], ◌∷◌, map, ◌≡◌, ℕ, ◌+◌, ◌/◌, ◌%◌, ◌≤◌, ◌<◌, pos, length, drop}
+use Rattle.std.specs.Prelude.{Option, Some, None, true, false, List, [], ◌∷◌, map, ◌≡◌, ℕ, ◌+◌, ◌/◌, ◌%◌, ◌≤◌, ◌<◌, pos, length, drop}
 use Rattle.base.specs.Current.{current}
 use Rattle.base.specs.Lists.{all, begins}
 use Rattle.encoding.specs.Numerals.{biased}
@@ -19,12 +19,6 @@ use Rattle.symbols.specs.declared.Cursor.{Cursor}
 use Rattle.card_reader.specs.Keys.{key_of, is_key_byte}
 use Rattle.card_reader.specs.Letters.{letters}
 use Rattle.numeric_parser.specs.declared.operands.Cell.{Cell}
-use Rattle.numeric_parser.specs.declared.operands.Name as NameCode
-use Rattle.numeric_parser.specs.declared.operands.Name.{Name}
-use Rattle.numeric_parser.specs.declared.operands.Operand as OperandCode
-use Rattle.numeric_parser.specs.declared.operands.Operand.{Operand}
-use Rattle.numeric_parser.specs.declared.operands.Place as PlaceCode
-use Rattle.numeric_parser.specs.declared.operands.Place.{Place}
 use Rattle.card_reader.specs.Packs.{longest_text}
 
 -- a cursor d behind c by so many names and items
@@ -97,42 +91,42 @@ pub record NameParsed (text keys tags : List ℕ) (c : Cursor) (tag key : ℕ) (
   pub few : letters (drop d.at text) < letters (drop c.at text)
   pub further : c.at < d.at
 
-abbrev pub NameAnswer : (text keys tags : List ℕ) (c : Cursor) (tag : ℕ) → Name → (keys' tags' : List ℕ) → Type 0
-NameAnswer text keys tags c tag (NameCode.TheVariants.Got key d) keys' tags' = NameParsed text keys tags c tag key keys' tags' d
-NameAnswer text keys tags c tag NameCode.TheVariants.Broken keys' tags' = Words.name (drop c.at text) ≡ broken
+abbrev pub NameAnswer : (text keys tags : List ℕ) (c : Cursor) (tag : ℕ) → Option (ℕ × Cursor) → (keys' tags' : List ℕ) → Type 0
+NameAnswer text keys tags c tag (Some (key, d)) keys' tags' = NameParsed text keys tags c tag key keys' tags' d
+NameAnswer text keys tags c tag None keys' tags' = Words.name (drop c.at text) ≡ broken
 
-pub record NameRead (text keys tags : List ℕ) (c : Cursor) (tag : ℕ) (r : Name) (keys' tags' : List ℕ) : Type 0 where
+pub record NameRead (text keys tags : List ℕ) (c : Cursor) (tag : ℕ) (r : Option (ℕ × Cursor)) (keys' tags' : List ℕ) : Type 0 where
   pub answer : NameAnswer text keys tags c tag r keys' tags'
 
 -- a reading answered by a place of a name, and one answered by a cell
-abbrev pub PlaceAnswer : (text keys tags : List ℕ) (c : Cursor) → Parsed ℕ → Place → (keys' tags' : List ℕ) → Type 0
-PlaceAnswer text keys tags c x (PlaceCode.TheVariants.Got place d) keys' tags' = Gets (λ n. n) place text keys tags c x keys' tags' d
-PlaceAnswer text keys tags c x PlaceCode.TheVariants.Broken keys' tags' = x ≡ broken
+abbrev pub PlaceAnswer : (text keys tags : List ℕ) (c : Cursor) → Parsed ℕ → Option (ℕ × Cursor) → (keys' tags' : List ℕ) → Type 0
+PlaceAnswer text keys tags c x (Some (place, d)) keys' tags' = Gets (λ n. n) place text keys tags c x keys' tags' d
+PlaceAnswer text keys tags c x None keys' tags' = x ≡ broken
 
-pub record PlaceRead (text keys tags : List ℕ) (c : Cursor) (x : Parsed ℕ) (r : Place) (keys' tags' : List ℕ) : Type 0 where
+pub record PlaceRead (text keys tags : List ℕ) (c : Cursor) (x : Parsed ℕ) (r : Option (ℕ × Cursor)) (keys' tags' : List ℕ) : Type 0 where
   pub answer : PlaceAnswer text keys tags c x r keys' tags'
 
 abbrev pub meaning : Cell → Table.Cell
 meaning x = Table.cell x.kind x.place x.value
 
-abbrev pub CellAnswer : {A : Type 0} (f : A → Table.Cell) (text keys tags : List ℕ) (c : Cursor) → Parsed A → Operand
+abbrev pub CellAnswer : {A : Type 0} (f : A → Table.Cell) (text keys tags : List ℕ) (c : Cursor) → Parsed A → Option (Cell × Cursor)
     → (keys' tags' : List ℕ) → Type 0
-CellAnswer f text keys tags c x (OperandCode.TheVariants.Got v d) keys' tags' = Gets f (meaning v) text keys tags c x keys' tags' d
-CellAnswer f text keys tags c x OperandCode.TheVariants.Broken keys' tags' = x ≡ broken
+CellAnswer f text keys tags c x (Some (v, d)) keys' tags' = Gets f (meaning v) text keys tags c x keys' tags' d
+CellAnswer f text keys tags c x None keys' tags' = x ≡ broken
 
-pub record OperandRead {A : Type 0} (f : A → Table.Cell) (text keys tags : List ℕ) (c : Cursor) (x : Parsed A) (r : Operand)
+pub record OperandRead {A : Type 0} (f : A → Table.Cell) (text keys tags : List ℕ) (c : Cursor) (x : Parsed A) (r : Option (Cell × Cursor))
     (keys' tags' : List ℕ) : Type 0 where
   pub answer : CellAnswer f text keys tags c x r keys' tags'
 
 -- each reader of document 01 at the cursor
-abbrev pub NumberRead : (text known keys tags : List ℕ) (c : Cursor) → Place → (keys' tags' : List ℕ) → Type 0
+abbrev pub NumberRead : (text known keys tags : List ℕ) (c : Cursor) → Option (ℕ × Cursor) → (keys' tags' : List ℕ) → Type 0
 NumberRead text known keys tags c = PlaceRead text keys tags c (number_name current (places_in known) (drop c.at text))
 
-abbrev pub StringRead : (text known keys tags : List ℕ) (c : Cursor) (tag : ℕ) → Place → (keys' tags' : List ℕ) → Type 0
+abbrev pub StringRead : (text known keys tags : List ℕ) (c : Cursor) (tag : ℕ) → Option (ℕ × Cursor) → (keys' tags' : List ℕ) → Type 0
 StringRead text known keys tags c tag =
     PlaceRead text keys tags c (string_name current (places_in known) (role_of (tag / 16)) (drop c.at text))
 
-abbrev pub ConstantRead : (text keys tags : List ℕ) (c : Cursor) (kind place : ℕ) → Operand → Type 0
+abbrev pub ConstantRead : (text keys tags : List ℕ) (c : Cursor) (kind place : ℕ) → Option (Cell × Cursor) → Type 0
 ConstantRead text keys tags c kind place r =
     OperandRead (λ v. Table.cell kind place (biased (pos v))) text keys tags c (unsigned current (drop c.at text)) r keys tags
 
@@ -141,35 +135,40 @@ unfoldable pub length_cell : (kind place : ℕ) → Length → Table.Cell
 length_cell kind place (constantly z) = Table.cell kind place (biased z)
 length_cell kind place (numbered n) = Table.cell (kind + 1) place n
 
-abbrev pub BoundRead : (text known keys tags : List ℕ) (c : Cursor) (kind place : ℕ) → Operand → (keys' tags' : List ℕ) → Type 0
+abbrev pub BoundRead : (text known keys tags : List ℕ) (c : Cursor) (kind place : ℕ) → Option (Cell × Cursor) → (keys' tags' : List ℕ) → Type 0
 BoundRead text known keys tags c kind place =
     OperandRead (length_cell kind place) text keys tags c (bound current (places_in known) (drop c.at text))
 
-abbrev pub PartRead : (text known keys tags : List ℕ) (c : Cursor) (kind tag : ℕ) → Operand → (keys' tags' : List ℕ) → Type 0
+abbrev pub PartRead : (text known keys tags : List ℕ) (c : Cursor) (kind tag : ℕ) → Option (Cell × Cursor) → (keys' tags' : List ℕ) → Type 0
 PartRead text known keys tags c kind tag =
     OperandRead (part_cell kind) text keys tags c (part_name current (places_in known) (role_of (tag / 16)) (drop c.at text))
 
-abbrev pub CalledRead : (text known keys tags : List ℕ) (c : Cursor) → Operand → (keys' tags' : List ℕ) → Type 0
+abbrev pub CalledRead : (text known keys tags : List ℕ) (c : Cursor) → Option (Cell × Cursor) → (keys' tags' : List ℕ) → Type 0
 CalledRead text known keys tags c = OperandRead operand_cell text keys tags c (called_or_number current (places_in known) (drop c.at text))
 
-abbrev pub PlainRead : (text known keys tags : List ℕ) (c : Cursor) → Operand → (keys' tags' : List ℕ) → Type 0
+abbrev pub PlainRead : (text known keys tags : List ℕ) (c : Cursor) → Option (Cell × Cursor) → (keys' tags' : List ℕ) → Type 0
 PlainRead text known keys tags c = OperandRead operand_cell text keys tags c (plain_factor current (places_in known) (drop c.at text))
 
 -- a place in a cell of a kind and a value
-abbrev pub placed_in : (kind value : ℕ) → Place → Operand
-placed_in kind value (PlaceCode.TheVariants.Got place d) =
-    OperandCode.TheVariants.Got (record { kind = kind; place = place; value = value }) d
-placed_in kind value PlaceCode.TheVariants.Broken = OperandCode.TheVariants.Broken
+abbrev pub placed_in : (kind value : ℕ) → Option (ℕ × Cursor) → Option (Cell × Cursor)
+placed_in kind value (Some (place, d)) =
+    Some (record { kind = kind; place = place; value = value }, d)
+placed_in kind value None = None
 
--- the cursor of an operand is inside the text
-abbrev pub OperandInside : List ℕ → Operand → Type 0
-OperandInside text (OperandCode.TheVariants.Got v d) = (d.at ≤ length text) × (length text ≤ longest_text)
-OperandInside text OperandCode.TheVariants.Broken = Unit {0}
+-- the cursor is inside the text
+abbrev pub InText : List ℕ → Cursor → Type 0
+InText text c = (c.at ≤ length text) × (length text ≤ longest_text)
+
+-- the cursor behind a mark, if it stands there
+abbrev pub behind_mark : List ℕ → (mark : ℕ) → Cursor → Option Cursor
+behind_mark text mark c = elim (begins (mark ∷ []) (drop c.at text)) [ true ↦ Some (cursor_moved c 1) | false ↦ None ]
+
+-- a cell with a cursor, if there is one
+abbrev pub celled_at : Cell → Option Cursor → Option (Cell × Cursor)
+celled_at v (Some d) = Some (v, d)
+celled_at v None = None
 
 -- the operand before `)`, its cursor behind it
-abbrev pub behind_parenthesis : List ℕ → Operand → Operand
-behind_parenthesis text (OperandCode.TheVariants.Got v d) = elim (begins (41 ∷ []) (drop d.at text)) [
-  | true ↦ OperandCode.TheVariants.Got v (cursor_moved d 1)
-  | false ↦ OperandCode.TheVariants.Broken
-]
-behind_parenthesis text OperandCode.TheVariants.Broken = OperandCode.TheVariants.Broken
+abbrev pub behind_parenthesis : List ℕ → Option (Cell × Cursor) → Option (Cell × Cursor)
+behind_parenthesis text (Some (v, d)) = celled_at v (behind_mark text 41 d)
+behind_parenthesis text None = None

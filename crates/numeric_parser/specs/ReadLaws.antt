@@ -1,6 +1,6 @@
 -- How a factor is read: an operand as one item, or an expression in parentheses.
 -- Assumes nothing.
-use Rattle.std.specs.Prelude.{true, false, ◌≡◌, ℕ, suc, ◌+◌, ltb, length, drop}
+use Rattle.std.specs.Prelude.{Some, true, false, ◌≡◌, ℕ, suc, ◌+◌, ltb, length, drop}
 use mathlib.Core.List.{List, [], ◌∷◌}
 use Rattle.std.proofs.Math.Path.{refl, ap}
 use Rattle.std.proofs.Common.{sym, ◌∙◌, add-zero, arith, drop-drop}
@@ -25,14 +25,13 @@ use Rattle.numeric_parser.specs.Kinds.{PutsCell}
 use Rattle.numeric_parser.specs.Operands.{cursor_moved, ReaderReady, Gets, meaning}
 use Rattle.numeric_parser.specs.Reads.{GetsItems, ItemsRead}
 use Rattle.numeric_parser.specs.declared.operands.Cell.{Cell}
-use Rattle.numeric_parser.specs.declared.Outcome as OutcomeCode
 
 -- an operand is one item
 pub operand_written : (p : Resolution) (depth : ℕ) {text table keys tags : List ℕ} {c : Cursor} (v : Cell) {k g : List ℕ} {d : Cursor}
     → ReaderReady text keys tags c → begins (bytes "(") (drop c.at text) ≡ false
     → Gets operand_cell (meaning v) text keys tags c (plain_factor current p (drop c.at text)) k g d → {t : List ℕ} {e : Cursor}
     → PutsCell table d (meaning v) t e
-    → ItemsRead [] text table keys tags c (factor_from current p depth (drop c.at text)) (OutcomeCode.TheVariants.Got e) t k g
+    → ItemsRead [] text table keys tags c (factor_from current p depth (drop c.at text)) (Some e) t k g
 unfolding factor_by ◌>>=◌ mentioning with_items item_cell operand_cell one_item mentions_in gather
 operand_written p depth {text} {table} {c = c} v {d = d} ready open' a {t} {e} put =
     let on = put.goes in

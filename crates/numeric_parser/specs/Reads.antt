@@ -1,8 +1,7 @@
 -- What the readers of expressions do: the items read stand written in the table, operators and signs behind what they work on.
 -- Assumes nothing.
-use Rattle.std.specs.Prelude.{cond, List, [], ◌∷◌, ◌++◌, ◌≡◌, ℕ, ◌+◌, ◌≤◌, eqb, length, drop}
+use Rattle.std.specs.Prelude.{Option, Some, None, List, [], ◌∷◌, ◌++◌, ◌≡◌, ℕ, ◌+◌, ◌≤◌, length, drop}
 use Rattle.base.specs.Current.{current}
-use Rattle.encoding.specs.Kinds.{operator_number, sign_number}
 use Rattle.syntax.specs.Fuel.{expression_from, term_from, factor_from}
 use Rattle.syntax.specs.Program.{Item, operator, sign, plus, minus, times, over, positive, negative}
 use Rattle.syntax.specs.Parsing.{Parsed, got, broken}
@@ -12,8 +11,8 @@ use Rattle.symbols.specs.Environment.{places_in}
 use Rattle.symbols.specs.declared.Cursor.{Cursor}
 use Rattle.card_reader.specs.Letters.{letters}
 use Rattle.numeric_parser.specs.Operands.{Onward, ReaderReady, Noting}
-use Rattle.numeric_parser.specs.declared.Outcome as OutcomeCode
-use Rattle.numeric_parser.specs.declared.Outcome.{Outcome}
+use Rattle.numeric_parser.specs.declared.Mark.{Mark}
+use Rattle.numeric_parser.specs.declared.Mark.TheVariants.{Plus, Minus, Times, Over, Positive, Negative}
 
 -- the reading x gives items behind those read before
 pub record GetsItems (before : List Item) (text table keys tags : List ℕ) (c : Cursor) (x : Parsed (List Item)) (table' keys' tags' : List ℕ)
@@ -28,36 +27,40 @@ pub record GetsItems (before : List Item) (text table keys tags : List ℕ) (c :
   pub few : length entries + letters (drop d.at text) ≤ letters (drop c.at text)
   pub short : length items + c.at ≤ d.at
 
-abbrev pub ItemsAnswer : (before : List Item) (text table keys tags : List ℕ) (c : Cursor) → Parsed (List Item) → Outcome
+abbrev pub ItemsAnswer : (before : List Item) (text table keys tags : List ℕ) (c : Cursor) → Parsed (List Item) → Option Cursor
     → (table' keys' tags' : List ℕ) → Type 0
-ItemsAnswer before text table keys tags c x (OutcomeCode.TheVariants.Got d) table' keys' tags' =
+ItemsAnswer before text table keys tags c x (Some d) table' keys' tags' =
     GetsItems before text table keys tags c x table' keys' tags' d
-ItemsAnswer before text table keys tags c x OutcomeCode.TheVariants.Broken table' keys' tags' = x ≡ broken
+ItemsAnswer before text table keys tags c x None table' keys' tags' = x ≡ broken
 
 -- the one relation of all readers of items
-pub record ItemsRead (before : List Item) (text table keys tags : List ℕ) (c : Cursor) (x : Parsed (List Item)) (r : Outcome)
+pub record ItemsRead (before : List Item) (text table keys tags : List ℕ) (c : Cursor) (x : Parsed (List Item)) (r : Option Cursor)
     (table' keys' tags' : List ℕ) : Type 0 where
   pub answer : ItemsAnswer before text table keys tags c x r table' keys' tags'
 
--- the items that a kind stands for, none for 0
-unfoldable pub waiting : ℕ → List Item
-unfolding operator_number sign_number
-waiting kind =
-    cond (eqb kind (operator_number plus)) (operator plus ∷ [])
-    (cond (eqb kind (operator_number minus)) (operator minus ∷ [])
-    (cond (eqb kind (operator_number times)) (operator times ∷ [])
-    (cond (eqb kind (operator_number over)) (operator over ∷ [])
-    (cond (eqb kind (sign_number positive)) (sign positive ∷ []) (cond (eqb kind (sign_number negative)) (sign negative ∷ []) [])))))
+-- the item that a mark stands for
+abbrev pub mark_item : Mark → Item
+mark_item Plus = operator plus
+mark_item Minus = operator minus
+mark_item Times = operator times
+mark_item Over = operator over
+mark_item Positive = sign positive
+mark_item Negative = sign negative
+
+-- what waits by a mark: nothing where no mark stands
+abbrev pub waiting : Option Mark → List Item
+waiting (Some m) = mark_item m ∷ []
+waiting None = []
 
 -- each reader of document 01 at the cursor
-abbrev pub ExpressionRead : (text known table keys tags : List ℕ) (c : Cursor) (depth : ℕ) → Outcome → (table' keys' tags' : List ℕ) → Type 0
+abbrev pub ExpressionRead : (text known table keys tags : List ℕ) (c : Cursor) (depth : ℕ) → Option Cursor → (table' keys' tags' : List ℕ) → Type 0
 ExpressionRead text known table keys tags c depth =
     ItemsRead [] text table keys tags c (expression_from current (places_in known) depth (drop c.at text))
 
-abbrev pub TermRead : (text known table keys tags : List ℕ) (c : Cursor) (depth : ℕ) → Outcome → (table' keys' tags' : List ℕ) → Type 0
+abbrev pub TermRead : (text known table keys tags : List ℕ) (c : Cursor) (depth : ℕ) → Option Cursor → (table' keys' tags' : List ℕ) → Type 0
 TermRead text known table keys tags c depth =
     ItemsRead [] text table keys tags c (term_from current (places_in known) depth (drop c.at text))
 
-abbrev pub FactorRead : (text known table keys tags : List ℕ) (c : Cursor) (depth : ℕ) → Outcome → (table' keys' tags' : List ℕ) → Type 0
+abbrev pub FactorRead : (text known table keys tags : List ℕ) (c : Cursor) (depth : ℕ) → Option Cursor → (table' keys' tags' : List ℕ) → Type 0
 FactorRead text known table keys tags c depth =
     ItemsRead [] text table keys tags c (factor_from current (places_in known) depth (drop c.at text))

@@ -6,56 +6,68 @@ pub mod operands;
 
 ghost use Rattle.std.specs.Prelude.{◌≡◌, ◌≤◌, ◌<◌, length};
 ghost use Rattle.base.specs.Current.{table_size};
-ghost use Rattle.encoding.specs.Table.{cell};
+ghost use Rattle.encoding.specs.Table.{cell, item_cell};
 ghost use Rattle.symbols.specs.Bounds.{far_enough};
 ghost use Rattle.symbols.specs.Environment.{CountsInRange};
 ghost use Rattle.numeric_parser.specs.Operands.{ReaderReady};
-ghost use Rattle.numeric_parser.specs.Kinds.{mark_kind, PutsCell, ItemsPut, OperandWritten, OutcomeWithin, closes};
-ghost use Rattle.numeric_parser.specs.Reads.{waiting, FactorRead, ExpressionRead, TermRead};
+ghost use Rattle.numeric_parser.specs.Kinds.{mark_at, PutsCell, ItemsPut, OperandWritten};
+ghost use Rattle.numeric_parser.specs.Reads.{mark_item, waiting, FactorRead, ExpressionRead, TermRead};
 
 use base::DEEPEST;
 use encoding::cell_kinds;
 use lexer::stands_at;
-use operands::{Operand, plain, skip};
+use operands::{marked, plain, skip};
 use symbols::{Cursor, KNOWN, NAMES, put_item};
 
-// the form is broken, or read up to this cursor
-#[derive(Clone, Copy)]
-pub enum Outcome {
-    Broken,
-    Got(Cursor),
+// a mark whose item waits for what stands behind it: an operator, or the sign of an expression
+#[derive(Clone, Copy, PartialEq, Eq)]
+pub enum Mark {
+    Plus,
+    Minus,
+    Times,
+    Over,
+    Positive,
+    Negative,
 }
 
-// the kind of the mark at a place, of two that may stand there, 0 for none
-fn mark_kind(text: &[u8], at: usize, first: u8, kind: u8, second: u8, other: u8) -> u8
-    ensures { result ≡ mark_kind first kind second other text.now at }
+impl Mark {
+    // the kind of its item's cell
+    #[tactic(auto, unfolding(encoding::specs::Table::item_cell))]
+    fn kind(self) -> u8
+        ensures { cell result 0 0 ≡ item_cell (mark_item self) }
+    {
+        match self {
+            Mark::Plus => cell_kinds::PLUS,
+            Mark::Minus => cell_kinds::MINUS,
+            Mark::Times => cell_kinds::TIMES,
+            Mark::Over => cell_kinds::OVER,
+            Mark::Positive => cell_kinds::POSITIVE,
+            Mark::Negative => cell_kinds::NEGATIVE,
+        }
+    }
+}
+
+// the mark at a place, of two that may stand there
+fn mark_at(text: &[u8], at: usize, first: u8, one: Mark, second: u8, other: Mark) -> Option<Mark>
+    ensures { result ≡ mark_at first one second other text.now at }
 {
     if stands_at(text, at, first) {
-        return kind;
+        return Some(one);
     }
     if stands_at(text, at, second) {
-        return other;
+        return Some(other);
     }
-    0
+    None
 }
 
-// how many items a kind stands for
-fn size(kind: u8) -> usize
-    ensures { result ≡ length (waiting kind) }
+// how many items wait
+fn size(mark: Option<Mark>) -> usize
+    ensures { result ≡ length (waiting mark) }
 {
-    if kind < cell_kinds::PLUS {
-        return 0;
+    match mark {
+        Some(_) => 1,
+        None => 0,
     }
-    if kind <= cell_kinds::OVER {
-        return 1;
-    }
-    if kind < cell_kinds::POSITIVE {
-        return 0;
-    }
-    if kind <= cell_kinds::NEGATIVE {
-        return 1;
-    }
-    0
 }
 
 // writes the next item
@@ -65,24 +77,20 @@ fn put(table: &mut [u8], c: Cursor, kind: u8, place: u8, value: usize) -> Cursor
 {
     put_item(table, c.items, kind, place, value);
     Cursor {
-        at: c.at,
-        names: c.names,
         items: c.items + 1,
-        elements: c.elements,
-        literals: c.literals,
-        longest: c.longest,
+        ..c
     }
 }
 
-// writes what a kind stands for
-fn put_kind(table: &mut [u8], c: Cursor, kind: u8) -> Cursor
+// writes what waits
+fn put_mark(table: &mut [u8], c: Cursor, mark: Option<Mark>) -> Cursor
     requires { (table_size ≤ length table.old) × (c.items ≤ far_enough) }
-    ensures { ItemsPut table.old c (waiting kind) table.new result }
+    ensures { ItemsPut table.old c (waiting mark) table.new result }
 {
-    if size(kind) == 0 {
-        return c;
+    match mark {
+        Some(mark) => put(table, c, mark.kind(), 0, 0),
+        None => c,
     }
-    put(table, c, kind, 0, 0)
 }
 
 // writes the operand at the cursor
@@ -93,33 +101,15 @@ fn write_operand(
     keys: &mut [u64; NAMES],
     tags: &mut [u8; NAMES],
     c: Cursor,
-) -> Outcome
+) -> Option<Cursor>
     requires reader_ready { ReaderReady text.now keys.old tags.old c }
     requires counts_in_range { CountsInRange known.now }
     requires table_size_in_bounds { table_size ≤ length table.old }
     ensures { OperandWritten text.now known.now table.old keys.old tags.old c result
         table.new keys.new tags.new }
 {
-    match plain(text, known, keys, tags, c) {
-        Operand::Broken => Outcome::Broken,
-        Operand::Got(cell, d) => Outcome::Got(put(table, d, cell.kind, cell.place, cell.value)),
-    }
-}
-
-// a cursor before `)` goes behind it
-fn pass_closing(text: &[u8], r: Outcome) -> Outcome
-    requires { OutcomeWithin text.now r }
-    ensures { result ≡ closes text.now r }
-{
-    match r {
-        Outcome::Broken => Outcome::Broken,
-        Outcome::Got(d) => {
-            if stands_at(text, d.at, b')') {
-                return Outcome::Got(skip(d, 1));
-            }
-            Outcome::Broken
-        }
-    }
+    let (cell, d) = plain(text, known, keys, tags, c)?;
+    Some(put(table, d, cell.kind, cell.place, cell.value))
 }
 
 // an expression at a depth of parentheses: each operator, and the sign of the first term, is written behind the term it stands before
@@ -132,7 +122,7 @@ pub fn expression(
     tags: &mut [u8; NAMES],
     c: Cursor,
     depth: usize,
-) -> Outcome
+) -> Option<Cursor>
     requires reader_ready { ReaderReady text.now keys.old tags.old c }
     requires counts_in_range { CountsInRange known.now }
     requires table_size_in_bounds { table_size ≤ length table.old }
@@ -140,29 +130,21 @@ pub fn expression(
         table.new keys.new tags.new }
 {
     // what waits for the next term
-    let mut kind = mark_kind(
-        text,
-        c.at,
-        b'+',
-        cell_kinds::POSITIVE,
-        b'-',
-        cell_kinds::NEGATIVE,
-    );
-    let mut d = skip(c, size(kind));
+    let mut mark = mark_at(text, c.at, b'+', Mark::Positive, b'-', Mark::Negative);
+    let mut d = skip(c, size(mark));
     loop {
-        let Outcome::Got(e) = term(text, known, table, keys, tags, d, depth) else {
-            return Outcome::Broken;
-        };
-        let f = put_kind(table, e, kind);
-        kind = mark_kind(text, f.at, b'+', cell_kinds::PLUS, b'-', cell_kinds::MINUS);
-        if kind == 0 {
-            return Outcome::Got(f);
+        let e = term(text, known, table, keys, tags, d, depth)?;
+        let f = put_mark(table, e, mark);
+        mark = mark_at(text, f.at, b'+', Mark::Plus, b'-', Mark::Minus);
+        if mark.is_none() {
+            return Some(f);
         }
         d = skip(f, 1);
     }
 }
 
 // a term: each operator is written behind the factor it stands before
+// kept: a term is read as an expression is, but each reads the other; one function for both would ask at every turn which of the two it is
 #[cycle(expression_factor_term)]
 fn term(
     text: &[u8],
@@ -172,7 +154,7 @@ fn term(
     tags: &mut [u8; NAMES],
     c: Cursor,
     depth: usize,
-) -> Outcome
+) -> Option<Cursor>
     requires reader_ready { ReaderReady text.now keys.old tags.old c }
     requires counts_in_range { CountsInRange known.now }
     requires table_size_in_bounds { table_size ≤ length table.old }
@@ -180,16 +162,14 @@ fn term(
         table.new keys.new tags.new }
 {
     // what waits for the next factor: nothing at first
-    let mut kind = 0;
+    let mut mark: Option<Mark> = None;
     let mut d = c;
     loop {
-        let Outcome::Got(e) = factor(text, known, table, keys, tags, d, depth) else {
-            return Outcome::Broken;
-        };
-        let f = put_kind(table, e, kind);
-        kind = mark_kind(text, f.at, b'*', cell_kinds::TIMES, b'/', cell_kinds::OVER);
-        if kind == 0 {
-            return Outcome::Got(f);
+        let e = factor(text, known, table, keys, tags, d, depth)?;
+        let f = put_mark(table, e, mark);
+        mark = mark_at(text, f.at, b'*', Mark::Times, b'/', Mark::Over);
+        if mark.is_none() {
+            return Some(f);
         }
         d = skip(f, 1);
     }
@@ -205,7 +185,7 @@ fn factor(
     tags: &mut [u8; NAMES],
     c: Cursor,
     depth: usize,
-) -> Outcome
+) -> Option<Cursor>
     requires reader_ready { ReaderReady text.now keys.old tags.old c }
     requires counts_in_range { CountsInRange known.now }
     requires table_size_in_bounds { table_size ≤ length table.old }
@@ -216,10 +196,8 @@ fn factor(
         return write_operand(text, known, table, keys, tags, c);
     }
     if DEEPEST <= depth {
-        return Outcome::Broken;
+        return None;
     }
-    pass_closing(
-        text,
-        expression(text, known, table, keys, tags, skip(c, 1), depth + 1),
-    )
+    let d = expression(text, known, table, keys, tags, skip(c, 1), depth + 1)?;
+    marked(text, d, b')')
 }

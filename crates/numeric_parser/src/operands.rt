@@ -1,33 +1,18 @@
 // Operands: names, constants, LENGTH and NUMBER, each read as a cell of the table.
 // Assumes nothing.
-ghost use Rattle.std.specs.Prelude.{List, ◌≡◌, ℕ, ◌+◌, ◌≤◌, ◌<◌, length};
+ghost use Rattle.std.specs.Prelude.{List, Some, ◌≡◌, ℕ, ◌+◌, ◌≤◌, ◌<◌, length};
 ghost use Rattle.numeric_parser.specs.Operands.{ReaderReady, cursor_moved, StringTag, NameRead, NumberRead, StringRead, ConstantRead};
-ghost use Rattle.numeric_parser.specs.Operands.{BoundRead, PartRead, OperandInside, behind_parenthesis, placed_in, CalledRead, PlainRead};
+ghost use Rattle.numeric_parser.specs.Operands.{InText, BoundRead, PartRead, behind_mark, behind_parenthesis, CalledRead, PlainRead};
 ghost use Rattle.symbols.specs.Bounds.{far_enough};
 ghost use Rattle.symbols.specs.Environment.{CountsInRange};
-ghost use Rattle.card_reader.specs.Packs.{longest_text};
 
 use classes::is_digit;
 use encoding::cell_kinds;
-use lexer::constants::{Constant, unsigned};
+use lexer::constants::unsigned;
 use lexer::names::{key_of, name_length};
 use lexer::{begins_at, byte_at, stands_at};
 use symbols::tags::{NUMBER, STRING};
 use symbols::{BIAS, Cursor, KNOWN, NAMES, note_name, number_place, string_place};
-
-// a name by its key, with the cursor behind it
-#[derive(Clone, Copy)]
-pub enum Name {
-    Broken,
-    Got(u64, Cursor),
-}
-
-// a name by its place
-#[derive(Clone, Copy)]
-pub enum Place {
-    Broken,
-    Got(u8, Cursor),
-}
 
 // a cell of the table
 #[derive(Clone, Copy)]
@@ -37,24 +22,23 @@ pub struct Cell {
     pub value: usize,
 }
 
-#[derive(Clone, Copy)]
-pub enum Operand {
-    Broken,
-    Got(Cell, Cursor),
-}
-
 // the cursor so many bytes further
 pub fn skip(c: Cursor, n: usize) -> Cursor
     requires { c.at + n ≤ far_enough }
     ensures { result ≡ cursor_moved c n }
 {
-    Cursor {
-        at: c.at + n,
-        names: c.names,
-        items: c.items,
-        elements: c.elements,
-        literals: c.literals,
-        longest: c.longest,
+    Cursor { at: c.at + n, ..c }
+}
+
+// the cursor behind a mark, if it stands here
+pub fn marked(text: &[u8], c: Cursor, mark: u8) -> Option<Cursor>
+    requires { InText text.now c }
+    ensures { result ≡ behind_mark text.now mark c }
+{
+    if stands_at(text, c.at, mark) {
+        Some(skip(c, 1))
+    } else {
+        None
     }
 }
 
@@ -65,17 +49,17 @@ pub fn read_name(
     tags: &mut [u8; NAMES],
     c: Cursor,
     tag: u8,
-) -> Name
+) -> Option<(u64, Cursor)>
     requires { ReaderReady text.now keys.old tags.old c }
     ensures { NameRead text.now keys.old tags.old c tag result keys.new tags.new }
 {
     let at = c.at;
     let n = name_length(text, at);
     if n == 0 {
-        return Name::Broken;
+        return None;
     }
     let key = key_of(text, at, n);
-    Name::Got(key, skip(note_name(keys, tags, c, key, tag), n))
+    Some((key, skip(note_name(keys, tags, c, key, tag), n)))
 }
 
 // a number's name
@@ -85,15 +69,13 @@ pub fn read_number(
     keys: &mut [u64; NAMES],
     tags: &mut [u8; NAMES],
     c: Cursor,
-) -> Place
+) -> Option<(u8, Cursor)>
     requires reader_ready { ReaderReady text.now keys.old tags.old c }
     requires counts_in_range { CountsInRange known.now }
     ensures { NumberRead text.now known.now keys.old tags.old c result keys.new tags.new }
 {
-    match read_name(text, keys, tags, c, NUMBER) {
-        Name::Broken => Place::Broken,
-        Name::Got(key, d) => Place::Got(number_place(known, key), d),
-    }
+    let (key, d) = read_name(text, keys, tags, c, NUMBER)?;
+    Some((number_place(known, key), d))
 }
 
 // a string's name, noted with a tag that tells its role
@@ -104,35 +86,25 @@ pub fn read_string(
     tags: &mut [u8; NAMES],
     c: Cursor,
     tag: u8,
-) -> Place
+) -> Option<(u8, Cursor)>
     requires reader_ready { ReaderReady text.now keys.old tags.old c }
     requires counts_in_range { CountsInRange known.now }
     requires string_tag { StringTag tag }
     ensures { StringRead text.now known.now keys.old tags.old c tag result keys.new tags.new }
 {
-    match read_name(text, keys, tags, c, tag) {
-        Name::Broken => Place::Broken,
-        Name::Got(key, d) => Place::Got(string_place(known, key), d),
-    }
+    let (key, d) = read_name(text, keys, tags, c, tag)?;
+    Some((string_place(known, key), d))
 }
 
 // a constant at the cursor, in the cell of a kind and a place
-fn constant(text: &[u8], c: Cursor, kind: u8, place: u8) -> Operand
-    requires { (c.at ≤ length text.now) × (length text.now ≤ longest_text) }
+fn constant(text: &[u8], c: Cursor, kind: u8, place: u8) -> Option<(Cell, Cursor)>
+    requires { InText text.now c }
     ensures { (keys tags : List ℕ) → ReaderReady text.now keys tags c → ConstantRead text.now keys tags c kind place result }
 {
     let at = c.at;
-    match unsigned(text, at) {
-        Constant::Broken => Operand::Broken,
-        Constant::Is { value, next } => Operand::Got(
-            Cell {
-                kind,
-                place,
-                value: value as usize + BIAS,
-            },
-            skip(c, next - at),
-        ),
-    }
+    let number = unsigned(text, at)?;
+    let value = number.value as usize + BIAS;
+    Some((Cell { kind, place, value }, skip(c, number.next - at)))
 }
 
 // the n of S$n, in the cell of this kind and place, or for a number of the next kind
@@ -144,7 +116,7 @@ pub fn read_bound(
     c: Cursor,
     kind: u8,
     place: u8,
-) -> Operand
+) -> Option<(Cell, Cursor)>
     requires reader_ready { ReaderReady text.now keys.old tags.old c }
     requires counts_in_range { CountsInRange known.now }
     requires kind_bound { kind < 200 }
@@ -154,17 +126,13 @@ pub fn read_bound(
     if is_digit(byte_at(text, at)) {
         return constant(text, c, kind, place);
     }
-    match read_number(text, known, keys, tags, c) {
-        Place::Broken => Operand::Broken,
-        Place::Got(number, d) => Operand::Got(
-            Cell {
-                kind: kind + 1,
-                place,
-                value: number as usize,
-            },
-            d,
-        ),
-    }
+    let (number, d) = read_number(text, known, keys, tags, c)?;
+    let cell = Cell {
+        kind: kind + 1,
+        place,
+        value: number as usize,
+    };
+    Some((cell, d))
 }
 
 // a string or a substring, in a cell of this kind, or for the first bytes of one of the next two kinds
@@ -176,54 +144,27 @@ pub fn read_part(
     c: Cursor,
     kind: u8,
     tag: u8,
-) -> Operand
+) -> Option<(Cell, Cursor)>
     requires reader_ready { ReaderReady text.now keys.old tags.old c }
     requires counts_in_range { CountsInRange known.now }
     requires kind_bound { (kind < 100) × StringTag tag }
     ensures { PartRead text.now known.now keys.old tags.old c kind tag result keys.new tags.new }
 {
-    match read_string(text, known, keys, tags, c, tag) {
-        Place::Broken => Operand::Broken,
-        Place::Got(place, d) => {
-            if stands_at(text, d.at, b'$') {
-                return read_bound(text, known, keys, tags, skip(d, 1), kind + 1, place);
-            }
-            Operand::Got(
-                Cell {
-                    kind,
-                    place,
-                    value: 0,
-                },
-                d,
-            )
-        }
+    let (place, d) = read_string(text, known, keys, tags, c, tag)?;
+    if stands_at(text, d.at, b'$') {
+        return read_bound(text, known, keys, tags, skip(d, 1), kind + 1, place);
     }
+    let value = 0;
+    Some((Cell { kind, place, value }, d))
 }
 
-// an operand before `)`
-pub fn closed(text: &[u8], r: Operand) -> Operand
-    requires { OperandInside text.now r }
-    ensures { result ≡ behind_parenthesis text.now r }
+// a cell with the cursor behind `)`, if that stands here
+pub fn closed(text: &[u8], cell: Cell, c: Cursor) -> Option<(Cell, Cursor)>
+    requires { InText text.now c }
+    ensures { result ≡ behind_parenthesis text.now (Some (cell, c)) }
 {
-    match r {
-        Operand::Broken => Operand::Broken,
-        Operand::Got(cell, d) => {
-            if stands_at(text, d.at, b')') {
-                return Operand::Got(cell, skip(d, 1));
-            }
-            Operand::Broken
-        }
-    }
-}
-
-// a place, in a cell of a kind and a value
-pub fn placed(kind: u8, value: usize, p: Place) -> Operand
-    ensures { result ≡ placed_in kind value p }
-{
-    match p {
-        Place::Broken => Operand::Broken,
-        Place::Got(place, d) => Operand::Got(Cell { kind, place, value }, d),
-    }
+    let d = marked(text, c, b')')?;
+    Some((cell, d))
 }
 
 // LENGTH, NUMBER or a number
@@ -233,41 +174,26 @@ pub fn read_called(
     keys: &mut [u64; NAMES],
     tags: &mut [u8; NAMES],
     c: Cursor,
-) -> Operand
+) -> Option<(Cell, Cursor)>
     requires reader_ready { ReaderReady text.now keys.old tags.old c }
     requires counts_in_range { CountsInRange known.now }
     ensures { CalledRead text.now known.now keys.old tags.old c result keys.new tags.new }
 {
     let at = c.at;
+    let value = 0;
     if begins_at(text, at, b"LENGTH(") {
-        return closed(
-            text,
-            placed(
-                cell_kinds::LENGTH,
-                0,
-                read_string(text, known, keys, tags, skip(c, 7), STRING),
-            ),
-        );
+        let (place, d) = read_string(text, known, keys, tags, skip(c, 7), STRING)?;
+        let kind = cell_kinds::LENGTH;
+        return closed(text, Cell { kind, place, value }, d);
     }
     if begins_at(text, at, b"NUMBER(") {
-        return closed(
-            text,
-            read_part(
-                text,
-                known,
-                keys,
-                tags,
-                skip(c, 7),
-                cell_kinds::NUMBER_OF,
-                STRING,
-            ),
-        );
+        let kind = cell_kinds::NUMBER_OF;
+        let (cell, d) = read_part(text, known, keys, tags, skip(c, 7), kind, STRING)?;
+        return closed(text, cell, d);
     }
-    placed(
-        cell_kinds::NUMBER,
-        0,
-        read_number(text, known, keys, tags, c),
-    )
+    let (place, d) = read_number(text, known, keys, tags, c)?;
+    let kind = cell_kinds::NUMBER;
+    Some((Cell { kind, place, value }, d))
 }
 
 // a factor but for parentheses
@@ -277,7 +203,7 @@ pub fn plain(
     keys: &mut [u64; NAMES],
     tags: &mut [u8; NAMES],
     c: Cursor,
-) -> Operand
+) -> Option<(Cell, Cursor)>
     requires reader_ready { ReaderReady text.now keys.old tags.old c }
     requires counts_in_range { CountsInRange known.now }
     ensures { PlainRead text.now known.now keys.old tags.old c result keys.new tags.new }

@@ -5,7 +5,7 @@ use Rattle.std.proofs.lemmas.Bool.{false≢true, eqb-false, lt-leb, not-true}
 use mathlib.Core.List.{List, [], ◌∷◌, ◌++◌, append_assoc, append-nil, map, map-append, map-id}
 use Rattle.std.proofs.Math.Path.{refl, sym, ap, ap₂}
 use Rattle.std.proofs.Common.{◌∙◌, subst, arith, eqb-true, eq-eqb, ne_eqb, leb-true, leb-false, le-leb}
-use Prim.Native.Nat.{ℕ, zero, ◌≤◌, ◌<◌}
+use Prim.Native.Nat.{ℕ, ◌≤◌, ◌<◌}
 use Rattle.std.proofs.Math.ListN.{length, length-append, length-map}
 use Rattle.base.specs.Choice.{both_true, both_pass, test_cases, neither_true, same_truth}
 use Rattle.base.specs.ListLaws.{all_append, all_imply, same_true, same_iff}

@@ -1,5 +1,8 @@
-// Definitions: the register of contracts of document 02. For code: the layout of specs/Buffer, and the numbers that a call gives.
+// Definitions: the register of contracts of document 02. For code: the layout of specs/Buffer, why a call is turned down, and the number that it gives.
 #![tactic(auto)]
+
+ghost use Rattle.std.specs.Prelude.{◌≡◌};
+ghost use Rattle.register.specs.Refusals.{number_of, refusal_number};
 
 // the most lines, and the bytes of a register, of its header and of a line's slot
 pub const LINES: usize = 256;
@@ -20,16 +23,40 @@ pub const FIELDS: usize = 5;
 // the bytes that a line is handed out in
 pub const LINE_SIZE: usize = 32;
 
-// the buffer is too small, against its rules or not opened; the output can't hold the report; a line breaks its form; its contract is held already;
-// all places are taken; the house currency breaks its form
-pub const BAD_BUFFER: u32 = 14;
+// Why a call is turned down: the buffer is too small, against its rules or not opened; the output can't hold the report; a line breaks its form; its
+// contract is held already; all places are taken; the house currency breaks its form.
+#[derive(Clone, Copy, Debug, PartialEq, Eq)]
+pub enum Refusal {
+    BadBuffer,
+    OutputFull,
+    BadLine,
+    ContractHeld,
+    Full,
+    BadCurrency,
+}
 
-pub const OUTPUT_FULL: u32 = 21;
+impl Refusal {
+    // the number that the call gives
+    pub fn number(self) -> u32
+        ensures { result ≡ refusal_number self }
+    {
+        match self {
+            Refusal::BadBuffer => 14,
+            Refusal::OutputFull => 21,
+            Refusal::BadLine => 25,
+            Refusal::ContractHeld => 26,
+            Refusal::Full => 27,
+            Refusal::BadCurrency => 29,
+        }
+    }
+}
 
-pub const BAD_LINE: u32 = 25;
-
-pub const CONTRACT_HELD: u32 = 26;
-
-pub const FULL: u32 = 27;
-
-pub const BAD_CURRENCY: u32 = 29;
+// the number that a call gives: 0 where it was not turned down
+pub fn number_of(outcome: Result<(), Refusal>) -> u32
+    ensures { result ≡ number_of outcome }
+{
+    match outcome {
+        Ok(()) => 0,
+        Err(refusal) => refusal.number(),
+    }
+}

@@ -244,9 +244,6 @@ module _ (buffer c : List ℕ) (is : is_currency c ≡ true) where
   unfolding register_turned_down
   open_broken_gets e = sym (open_refused buffer c is e)
 
-  pub told_room : buffer_keeps buffer ≡ true → 0 + length c ≤ length buffer
-  told_room keeps = omega (arith, currency_size c is, sound_size buffer keeps)
-
   pub opened_again_gets : (n : ℕ) (keys left : List ℕ) → RegisterReady buffer n keys → left ≡ splice buffer 0 c → buffer_back 0 left ≡ open_call buffer c
   opened_again_gets n keys left ready put =
       let s = read_sound buffer ready.counted.keeps in

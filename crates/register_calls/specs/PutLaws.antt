@@ -1,14 +1,19 @@
 -- A line stored in its slot, a line handed out, and the number for a line offered. Assumes nothing.
-use Rattle.std.specs.Prelude.{Bool, true, false, cond, ◌≡◌, refl, eqb, leb, take}
-use Rattle.std.proofs.Math.Bool.{not}
+use Rattle.std.specs.Prelude.{Bool, true, false, cond, ◌≡◌, eqb, leb, take}
 use mathlib.Core.List.{List, [], ◌∷◌, ◌++◌, append_assoc, append-nil}
 use Rattle.std.proofs.Math.Path.{sym, ap, ap₂}
-use Rattle.std.proofs.Common.{◌∙◌, zero-add, take-append-drop, length-take-le, take-take, eq-eqb, eqb-true, le-leb, leb-true, ne_eqb}
+use Rattle.std.proofs.Common.{drop-drop, subst, ◌∙◌, zero-add, take-append-drop, length-take-le, take-take, eq-eqb, eqb-true, le-leb, leb-true, ne_eqb}
 use Prim.Native.Nat.{ℕ, ◌+◌, ◌*◌, ◌-◌, ◌≤◌, ◌<◌}
 use native.Mathlib.Omega.{arith}
 use Rattle.std.proofs.Math.ListN.{get_or-eq_default, length, drop, replicate, length-append, replicate-append-replicate}
 use Rattle.std.proofs.lemmas.List.{length-replicate}
 use Rattle.std.proofs.Math.Seq.{take_at}
+use Rattle.std.specs.Prelude.{Option, Some, None, Result, Ok, Err}
+use Rattle.register.specs.Refusals.{number_of, refusal_number}
+use Rattle.register.specs.declared.Refusal.{Refusal}
+use Rattle.register.specs.declared.Refusal.TheVariants.{BadBuffer, OutputFull, BadLine, ContractHeld, Full, BadCurrency}
+use Rattle.register_lines.specs.declared.Form.{Form}
+use borrow.Rule.Slice.PartMut.{put_mid}
 use Rattle.base.specs.Choice.{same_truth, test_cases}
 use Rattle.base.specs.ListLaws.{drop-zeros}
 use Rattle.base.specs.Lists.{among}
@@ -19,18 +24,31 @@ use Rattle.encoding.specs.Splices.{splice, splice-behind, splice_seam, take-spli
 use Rattle.register.specs.Buffer.{buffer_keeps, cell_of, header_in, header_size, register_image, register_in, register_size, slot_size, slots_of, text_in}
 use Rattle.register.specs.BufferLaws.{header_image, header_size_lem, read-image, read_sound, slots_append, slots_size, sound_size, text_front}
 use Rattle.register.specs.CallLaws.{line_handed, line_refused, offer_taken, offer_declined, offer_refused, open_keeps}
-use Rattle.register.specs.Calls.{BufferCalled, LineCalled, buffer_open, handing, line_call, line_size, offer_call, register_turned_down, with_register}
+use Rattle.register.specs.Calls.{buffer_open, handing, line_call, line_size, offer_call, register_turned_down, with_register}
 use Rattle.register.specs.Claims.{buffer_back, line_back}
 use Rattle.register.specs.Line.{contract_of, has_form, is_currency, stored, with_currency}
 use Rattle.register.specs.LineLaws.{currency_size, line_size_lem, record_form}
 use Rattle.register.specs.Register.{Lines, Register, is_held, line_at, lowest_of, most_lines, offer_number}
 use Rattle.register.specs.RegisterLaws.{OfferTaken, all_forms, house_open, stored_record, taken}
-use Rattle.register_lines.specs.FieldLaws.{contract_size, count-form, four-fields}
-use Rattle.register_lines.specs.Fields.{RunOfBytes, field_count}
+use Rattle.register_lines.specs.FieldLaws.{contract_size, count_none, four-fields}
+use Rattle.register_lines.specs.Fields.{FormFound, RunOfBytes, field_count, is_count}
 use Rattle.register_reading.specs.KeyLaws.{key-read, keys_hold}
-use Rattle.register_reading.specs.ReadLaws.{here-form, here_size}
-use Rattle.register_reading.specs.Reading.{Placed, RegisterReady, LineStands, slot_at}
-use Rattle.register_calls.specs.Putting.{OfferJudged, Keyed, LinePut, stored_by}
+use Rattle.register_reading.specs.ReadLaws.{here-form, opened_refused}
+use Rattle.register_reading.specs.Reading.{OpenedRead, Placed, RegisterReady, slot_at}
+use Rattle.register_calls.specs.Putting.{OfferJudged, Keyed, stored_by}
+
+refusal_some : (refusal : Refusal) → ¬ (refusal_number refusal ≡ 0)
+refusal_some BadBuffer e = omega arith
+refusal_some OutputFull e = omega arith
+refusal_some BadLine e = omega arith
+refusal_some ContractHeld e = omega arith
+refusal_some Full e = omega arith
+refusal_some BadCurrency e = omega arith
+
+-- bytes copied over a part of others
+pub copied : (d : List ℕ) (at n : ℕ) (copy v : List ℕ) → copy ≡ v → n ≡ length v → put_mid at n d copy ≡ splice d at v
+unfolding splice
+copied d at n copy v same size = rw (same, size) (ap (λ l. take at d ++ (v ++ l)) (drop-drop (length v) at d))
 
 -- slots with zeros behind them, with a line over the first of these
 slots_put : (held : Lines) (line : List ℕ) → length line ≤ slot_size → length held < most_lines
@@ -90,9 +108,9 @@ module _ (buffer : List ℕ) (e : buffer_keeps buffer ≡ true) (line : List ℕ
       ∙ ap (λ l. (header_image r ++ l) ++ rest) (slots_put r.lines line fits room)
 
 -- a line with the house currency behind it or without, as the number of its fields tells
-pub stored_is : (house line : List ℕ) → stored_by (field_count line) house line ≡ stored house line
-unfolding stored_by stored
-stored_is house line = ap (λ t. cond t (with_currency house line) line) (four-fields line)
+pub stored_is : (fields : ℕ) (house line : List ℕ) → field_count line ≡ Some fields → stored_by fields house line ≡ stored house line
+unfolding stored_by stored is_count
+stored_is fields house line e = ap (λ t. cond t (with_currency house line) line) (sym (ap (is_count 4) e) ∙ four-fields line)
 
 pub stored-four : (fields : ℕ) (house line : List ℕ) → fields ≡ 4 → stored_by fields house line ≡ line ++ (44 ∷ house)
 unfolding stored_by with_currency comma
@@ -145,12 +163,9 @@ module _ (buffer line : List ℕ) (at fields : ℕ) where
         ∙ splice-behind buffer at line (44 ∷ house) (omega (arith, room_any low room))
         ∙ ap (splice buffer at) (sym (stored-four fields house line four))
 
--- three bytes copied
-pub house_copied : (from copy : List ℕ) → 3 ≤ length from → copy ≡ splice (replicate 3 0) 0 (take 3 from) → copy ≡ take 3 from
-unfolding splice
-house_copied from copy h put =
-    let three : 0 + length (take 3 from) ≡ 3 = omega (arith, length-take-le 3 from h) in
-    put ∙ ap (λ n. take 3 from ++ drop n (replicate 3 0)) three ∙ append-nil (take 3 from)
+fields_in : Result Form Refusal → Option ℕ
+fields_in (Ok form) = Some form.fields
+fields_in (Err refusal) = None
 
 -- The number for a line offered, by what the code asks: its form, whether its key is among the others, whether all places are taken
 module _ (line keys : List ℕ) (n contract key : ℕ) (run : RunOfBytes is_name_byte line 0 contract)
@@ -166,25 +181,41 @@ module _ (line keys : List ℕ) (n contract key : ℕ) (run : RunOfBytes is_name
       (λ e. le-leb most_lines (length held) (omega (arith, eqb-true n most_lines e, r.count)))
       (λ e. eq-eqb n most_lines (omega (arith, leb-true most_lines (length held) e, r.count, r.few)))
 
-  pub offer_judged : (fields : ℕ) (found : Bool) (number : ℕ) → fields ≡ field_count line → found ≡ among key (take n keys)
-      → number ≡ lowest_of (not (eqb fields 0)) found (eqb n most_lines)
-      → OfferJudged line n keys number
+  pub held_judged : has_form line ≡ true → among key (take n keys) ≡ true → OfferJudged line n keys (Err ContractHeld)
   unfolding offer_number lowest_of
-  offer_judged fields found number f h lowest =
-      let formed : not (eqb fields 0) ≡ has_form line = ap (λ m. not (eqb m 0)) f ∙ count-form line in
-      record {
-        judged = λ held r.
-            lowest
-            ∙ test_cases (λ t. has_form line ≡ t → lowest_of (not (eqb fields 0)) found (eqb n most_lines) ≡ lowest_of t (is_held held (contract_of line))
-            (leb most_lines (length held)))
-            (has_form line)
-            (λ form _. rw (formed ∙ form, h ∙ held-is held r form, full_is held r))
-            (λ form _. rw (formed ∙ form)) refl;
-      }
+  held_judged form found =
+      record { judged = λ held r. rw (form, sym (held-is held r form) ∙ found); counted = λ f e. cc }
+
+  module _ (form : has_form line ≡ true) (other : among key (take n keys) ≡ false) where
+    pub full_judged : n ≡ most_lines → OfferJudged line n keys (Err Full)
+    unfolding offer_number lowest_of
+    full_judged e =
+        record { judged = λ held r. rw (form, sym (held-is held r form) ∙ other, sym (full_is held r) ∙ eq-eqb n most_lines e); counted = λ f k. cc }
+
+    pub taken_judged : (found : Form) → field_count line ≡ Some found.fields → ¬ (n ≡ most_lines) → OfferJudged line n keys (Ok found)
+    unfolding offer_number lowest_of fields_in
+    taken_judged found count e =
+        record {
+          judged = λ held r. rw (form, sym (held-is held r form) ∙ other, sym (full_is held r) ∙ ne_eqb n most_lines e);
+          counted = λ f k. count ∙ ap (λ (r : Result Form Refusal). fields_in r) k;
+        }
+
+-- the form that was found
+pub form_known : (line : List ℕ) (r : Option Form) (form : Form) → FormFound line r → r ≡ Some form
+    → (field_count line ≡ Some form.fields) × RunOfBytes is_name_byte line 0 form.contract
+unfolding FormFound
+form_known line r form found is = subst (FormFound line) is found
+
+pub none_known : (line : List ℕ) (r : Option Form) → FormFound line r → r ≡ None → field_count line ≡ None
+unfolding FormFound
+none_known line r found is = subst (FormFound line) is found
+
+pub bad_judged : (line keys : List ℕ) (n : ℕ) → field_count line ≡ None → OfferJudged line n keys (Err BadLine)
+unfolding offer_number lowest_of
+bad_judged line keys n none = record { judged = λ held r. rw (count_none line none); counted = λ f e. cc }
 
 -- An offer to an opened register of n lines, by its number
-module _ (buffer line keys : List ℕ) (n fields number : ℕ) (ready : RegisterReady buffer n keys) (j : OfferJudged line n keys number)
-    (f : fields ≡ field_count line) where
+module _ (buffer line keys : List ℕ) (n : ℕ) (ready : RegisterReady buffer n keys) (r : Result Form Refusal) (j : OfferJudged line n keys r) where
   is_ready : buffer_open buffer ≡ true
   is_ready = open_keeps buffer ready.counted.keeps ∙ ready.counted.is_open_lem
 
@@ -193,13 +224,22 @@ module _ (buffer line keys : List ℕ) (n fields number : ℕ) (ready : Register
       let s = read_sound buffer ready.counted.keeps in
       record { good = all_forms (register_in buffer) s; few = s.few; count = ready.counted.count; keyed = ready.keyed }
 
-  number_is : offer_number (register_in buffer).lines line ≡ number
+  number_is : offer_number (register_in buffer).lines line ≡ number_of r
   number_is = sym (j.judged (register_in buffer).lines keyed)
 
-  pub offer_kept : ¬ (number ≡ 0) → buffer_back number buffer ≡ offer_call buffer line
-  offer_kept other = sym (offer_declined buffer line number is_ready number_is other)
+  pub offer_kept : (refusal : Refusal) → r ≡ Err refusal → buffer_back (number_of r) buffer ≡ offer_call buffer line
+  offer_kept refusal e = sym (offer_declined buffer line (number_of r) is_ready number_is (λ z. refusal_some refusal (sym (ap number_of e) ∙ z)))
 
-  module _ (zero_is : number ≡ 0) where
+  module _ (form : Form) (ok : r ≡ Ok form) where
+    abbrev fields : ℕ
+    fields = form.fields
+
+    zero_is : number_of r ≡ 0
+    zero_is = ap number_of ok
+
+    f : field_count line ≡ Some fields
+    f = j.counted form ok
+
     takes : OfferTaken (register_in buffer).lines line
     takes = taken (register_in buffer).lines line (number_is ∙ zero_is)
 
@@ -216,7 +256,7 @@ module _ (buffer line keys : List ℕ) (n fields number : ℕ) (ready : Register
         ∙ take_at h (drop (length h) (header_in buffer)) 3 (currency_size h currency_is)
 
     text_is : stored_by fields (take 3 buffer) line ≡ stored (register_in buffer).house line
-    text_is = ap₂ {C = List ℕ} (λ m h. stored_by m h line) f house-here ∙ stored_is (register_in buffer).house line
+    text_is = ap (λ h. stored_by fields h line) house-here ∙ stored_is fields (register_in buffer).house line f
 
     fits : length (stored (register_in buffer).house line) ≤ slot_size
     fits =
@@ -233,12 +273,12 @@ module _ (buffer line keys : List ℕ) (n fields number : ℕ) (ready : Register
         )
 
     pub offer_put : (left : List ℕ) → left ≡ splice buffer (slot_at n) (stored_by fields (take 3 buffer) line)
-        → buffer_back number left ≡ offer_call buffer line
+        → buffer_back 0 left ≡ offer_call buffer line
     offer_put left put =
         let at : splice buffer (slot_at n) (stored_by fields (take 3 buffer) line)
         ≡ splice buffer (slot_at (length (register_in buffer).lines)) (stored (register_in buffer).house line) =
         ap₂ {C = List ℕ} (λ m t. splice buffer (slot_at m) t) ready.counted.count text_is in
-        ap₂ {C = BufferCalled} buffer_back zero_is
+        ap (buffer_back 0)
         (put ∙ at ∙ line-put buffer ready.counted.keeps (stored (register_in buffer).house line) fits takes.room)
         ∙ sym (offer_taken buffer line is_ready (number_is ∙ zero_is))
 
@@ -246,38 +286,37 @@ pub offer_refuses : (buffer line : List ℕ) → buffer_open buffer ≡ false �
 unfolding register_turned_down
 offer_refuses buffer line e = sym (offer_refused buffer line e)
 
--- A line handed out, before zeros
-module _ (buffer : List ℕ) (place : ℕ) (p : Placed buffer place) (end : ℕ) (s : LineStands buffer place end) where
-  pub line-lent : length (take (end - slot_at place) (drop (slot_at place) buffer)) ≤ slot_size
-  line-lent = omega (arith, ap length s.bytes, (line_size_lem (line_at (register_in buffer).lines place) (here-form buffer place p)).1)
+-- so what reading turns down
+pub offer_unopened : (buffer keys line : List ℕ) (refusal : Refusal) → OpenedRead buffer keys (Err refusal)
+    → buffer_back (refusal_number refusal) buffer ≡ offer_call buffer line
+offer_unopened buffer keys line refusal read =
+    let r = opened_refused buffer keys refusal read in
+    ap (λ k. buffer_back (refusal_number k) buffer) r.0 ∙ offer_refuses buffer line r.1
 
-  pub line_puts : (out left : List ℕ) → out ≡ replicate line_size 0 → left ≡ splice out 0 (take (end - slot_at place) (drop (slot_at place) buffer))
-      → LinePut (line_at (register_in buffer).lines place) (end - slot_at place) left
-  unfolding splice
-  line_puts out left zeros put =
-      let line = line_at (register_in buffer).lines place in
-      let size = here_size buffer place p end s in
-      record {
-        length-is = size;
-        short = omega (arith, size, (line_size_lem line (here-form buffer place p)).1);
-        bytes =
-            put
-            ∙ ap₂ {C = List ℕ} (λ o v. splice o 0 v) zeros s.bytes
-            ∙ ap (λ l. line ++ l) (drop-zeros (0 + length line) line_size ∙ ap (λ k. replicate (line_size - k) 0) (zero-add (length line)));
-      }
+-- a line handed out, before zeros
+module _ (buffer : List ℕ) (place : ℕ) (p : Placed buffer place) where
+  pub line-lent : length (line_at (register_in buffer).lines place) ≤ slot_size
+  line-lent = (line_size_lem (line_at (register_in buffer).lines place) (here-form buffer place p)).1
 
 -- no line, and a line handed out
 pub none_handed : (number : ℕ) (out : List ℕ) → out ≡ replicate line_size 0 → line_back number out 0 ≡ handing number []
 unfolding handing
 none_handed number out zeros = ap (λ l. line_back number l 0) zeros
 
-line_handed_out : (line : List ℕ) (n : ℕ) (out : List ℕ) → LinePut line n out → line_back 0 out n ≡ handing 0 line
-unfolding handing
-line_handed_out line n out puts = ap₂ {C = LineCalled} (λ l k. line_back 0 l k) puts.bytes puts.length-is
+line_handed_out : (line : List ℕ) → line_back 0 (splice (replicate line_size 0) 0 line) (length line) ≡ handing 0 line
+unfolding handing splice
+line_handed_out line =
+    ap (λ l. line_back 0 (line ++ l) (length line)) (drop-zeros (0 + length line) line_size ∙ ap (λ k. replicate (line_size - k) 0) (zero-add (length line)))
 
 module _ (buffer : List ℕ) (place : ℕ) where
   pub line_refuses : (out : List ℕ) → out ≡ replicate line_size 0 → buffer_open buffer ≡ false → line_back 14 out 0 ≡ line_call buffer place
   line_refuses out zeros e = none_handed 14 out zeros ∙ sym (line_refused buffer place e)
+
+  pub line_unopened : (keys out : List ℕ) (refusal : Refusal) → out ≡ replicate line_size 0 → OpenedRead buffer keys (Err refusal)
+      → line_back (refusal_number refusal) out 0 ≡ line_call buffer place
+  line_unopened keys out refusal zeros read =
+      let r = opened_refused buffer keys refusal read in
+      ap (λ k. line_back (refusal_number k) out 0) r.0 ∙ line_refuses out zeros r.1
 
   module _ (n : ℕ) (keys : List ℕ) (ready : RegisterReady buffer n keys) where
     lent : buffer_open buffer ≡ true
@@ -293,5 +332,7 @@ module _ (buffer : List ℕ) (place : ℕ) where
         ∙ ap (handing 0) (sym (get_or-eq_default (register_in buffer).lines [] (omega (arith, ready.counted.count))))
         ∙ sym (line_handed buffer place lent)
 
-    pub line-found : (size : ℕ) (out : List ℕ) → LinePut (line_at (register_in buffer).lines place) size out → line_back 0 out size ≡ line_call buffer place
-    line-found size out puts = line_handed_out (line_at (register_in buffer).lines place) size out puts ∙ sym (line_handed buffer place lent)
+    pub line-found : (line out : List ℕ) → line ≡ line_at (register_in buffer).lines place → out ≡ splice (replicate line_size 0) 0 line
+        → line_back 0 out (length line) ≡ line_call buffer place
+    line-found line out is put =
+        ap (λ o. line_back 0 o (length line)) put ∙ line_handed_out line ∙ ap (handing 0) is ∙ sym (line_handed buffer place lent)

@@ -1,10 +1,15 @@
 -- What the code says of lines put, stored and written out. Assumes nothing.
-use Rattle.std.specs.Prelude.{true, cond, List, ◌++◌, map, ◌≡◌, ℕ, ◌-◌, ◌≤◌, eqb, length, replicate, take, drop}
+use Rattle.std.specs.Prelude.{true, cond, List, ◌++◌, map, ◌≡◌, ℕ, ◌≤◌, eqb, length, take, drop}
+use Rattle.std.specs.Prelude.{Some, Result, Ok}
 use Rattle.base.specs.Lists.{all}
 use Rattle.register.specs.Buffer.{register_in}
-use Rattle.register.specs.Calls.{line_size, with_register}
+use Rattle.register.specs.Calls.{with_register}
 use Rattle.register.specs.Line.{has_form, with_currency}
 use Rattle.register.specs.Register.{Lines, Register, most_lines, offer_number}
+use Rattle.register.specs.Refusals.{number_of}
+use Rattle.register.specs.declared.Refusal.{Refusal}
+use Rattle.register_lines.specs.Fields.{field_count}
+use Rattle.register_lines.specs.declared.Form.{Form}
 use Rattle.register_reading.specs.Reading.{keys_of}
 
 -- lines with their keys
@@ -14,9 +19,10 @@ pub record Keyed (held : Lines) (n : ℕ) (keys : List ℕ) : Type 0 where
   pub count : n ≡ length held
   pub keyed : take n keys ≡ keys_of held
 
--- the number for a line offered, whatever lines have these keys
-pub record OfferJudged (line : List ℕ) (n : ℕ) (keys : List ℕ) (r : ℕ) : Type 0 where
-  pub judged : (held : Lines) → Keyed held n keys → r ≡ offer_number held line
+-- the number for a line offered, whatever lines have these keys; and the fields of one that is taken
+pub record OfferJudged (line : List ℕ) (n : ℕ) (keys : List ℕ) (r : Result Form Refusal) : Type 0 where
+  pub judged : (held : Lines) → Keyed held n keys → number_of r ≡ offer_number held line
+  pub counted : (form : Form) → r ≡ Ok form → field_count line ≡ Some form.fields
 
 -- a line of so many fields as it is stored: one of four with a comma and the house currency behind it
 unfoldable pub stored_by : (fields : ℕ) (house line : List ℕ) → List ℕ
@@ -38,9 +44,3 @@ pub record WrittenTo (buffer currency : List ℕ) (k : ℕ) (so_far : List ℕ) 
 -- a currency was written behind each line of a register
 pub record WrittenOut (buffer currency left : List ℕ) : Type 0 where
   pub is : left ≡ with_register buffer (record { house = (register_in buffer).house; lines = map (with_currency currency) (register_in buffer).lines })
-
--- a line put before zeros
-pub record LinePut (line : List ℕ) (size : ℕ) (out : List ℕ) : Type 0 where
-  pub length-is : size ≡ length line
-  pub short : size ≤ line_size
-  pub bytes : out ≡ line ++ replicate (line_size - length line) 0

@@ -5,24 +5,25 @@
 
 ghost use Rattle.std.specs.Prelude.{true, ◌∷◌, ◌≡◌, ◌+◌, ◌≤◌, length, replicate, take};
 ghost use Rattle.encoding.specs.Splices.{splice};
-ghost use Rattle.cards.specs.Bytes.{is_name_byte};
-ghost use Rattle.register.specs.Buffer.{register_in};
-ghost use Rattle.register.specs.Calls.{line_size, offer_call, open_call};
+ghost use Rattle.register.specs.Calls.{line_call, line_size, offer_call, open_call};
 ghost use Rattle.register.specs.Claims.{LinePromise, OfferPromise, OpenPromise, buffer_back, line_back};
 ghost use Rattle.register.specs.Line.{is_currency};
-ghost use Rattle.register.specs.Register.{line_at, lowest_of};
-ghost use Rattle.register_calls.specs.Putting.{OfferJudged, LinePut, WrittenOut, stored_by};
-ghost use Rattle.register_lines.specs.Fields.{RunOfBytes, field_count};
-ghost use Rattle.register_reading.specs.Reading.{Placed, RegisterReady, Unopened};
+ghost use Rattle.register.specs.Refusals.{number_of};
+ghost use Rattle.register_calls.specs.Putting.{OfferJudged, WrittenOut, stored_by};
+ghost use Rattle.register_reading.specs.Reading.{Unopened};
 
 use card_reader::keys;
-use register::{
-    BAD_BUFFER, BAD_CURRENCY, BAD_LINE, CONTRACT_HELD, CURRENCY, FULL, HEADER, LINE_SIZE, LINES,
-    OLD_FIELDS, SLOT,
-};
-use register_lines::{contract_length, field_count, is_currency};
-use register_reading::{State, is_among, line_end, line_length, read_register};
-use store::spans;
+use register::{CURRENCY, HEADER, LINE_SIZE, LINES, OLD_FIELDS, Refusal, SLOT, number_of};
+use register_lines::{Form, form_of, is_currency};
+use register_reading::{Held, line_in, line_length, read_opened, read_register};
+
+// tells a register its house currency
+fn tell_house(buffer: &mut [u8], currency: &[u8])
+    requires { (length currency.now ≡ 3) × (3 ≤ length buffer.old) }
+    ensures { buffer.new ≡ splice buffer.old 0 currency.now }
+{
+    buffer[..CURRENCY].copy_from_slice(currency);
+}
 
 // a comma and a currency, from a place on
 fn write_currency(buffer: &mut [u8], at: usize, currency: &[u8])
@@ -30,7 +31,7 @@ fn write_currency(buffer: &mut [u8], at: usize, currency: &[u8])
     ensures { buffer.new ≡ splice buffer.old at (44 ∷ currency.now) }
 {
     buffer[at] = b',';
-    spans::write(buffer, at + 1, currency);
+    buffer[at + 1..at + 1 + currency.len()].copy_from_slice(currency);
 }
 
 // writes a currency behind each of the n lines of a register that isn't opened
@@ -38,13 +39,10 @@ fn write_out(buffer: &mut [u8], n: usize, currency: &[u8])
     requires { Unopened buffer.old n × (is_currency currency.now ≡ true) }
     ensures { WrittenOut buffer.old currency.now buffer.new }
 {
-    let mut k = 0;
-    while k < n {
+    for k in 0..n {
         let at = HEADER + SLOT * k;
-        let end = at + SLOT;
-        let size = line_length(&buffer[at..end]);
+        let size = line_length(&buffer[at..at + SLOT]);
         write_currency(buffer, at + size, currency);
-        k += 1;
     }
 }
 
@@ -54,54 +52,45 @@ fn open_old(buffer: &mut [u8], n: usize, currency: &[u8])
     ensures { buffer_back 0 buffer.new ≡ open_call buffer.old currency.now }
 {
     write_out(buffer, n, currency);
-    spans::write(buffer, 0, currency);
+    tell_house(buffer, currency);
+}
+
+// opens the register, or opens it again: then the house currency alone changes
+fn open(buffer: &mut [u8], currency: &[u8]) -> Result<(), Refusal>
+    ensures { buffer_back (number_of result) buffer.new ≡ open_call buffer.old currency.now }
+{
+    if !is_currency(currency) {
+        return Err(Refusal::BadCurrency);
+    }
+    let mut keys = [0; LINES];
+    match read_register(buffer, &mut keys).ok_or(Refusal::BadBuffer)? {
+        Held::Opened(_) => tell_house(buffer, currency),
+        Held::Old(n) => open_old(buffer, n, currency),
+    }
+    Ok(())
 }
 
 // Opens the register, or opens it again.
 pub fn strigol_register_open(buffer: &mut [u8], currency: &[u8]) -> u32
     ensures { OpenPromise buffer.old currency.now (buffer_back result buffer.new) }
 {
-    if !is_currency(currency) {
-        return BAD_CURRENCY;
-    }
-    let mut keys = [0; LINES];
-    let state = read_register(buffer, &mut keys);
-    match state {
-        State::Broken => BAD_BUFFER,
-        State::Opened(_) => {
-            spans::write(buffer, 0, currency);
-            0
-        }
-        State::Old(n) => {
-            open_old(buffer, n, currency);
-            0
-        }
-    }
+    number_of(open(buffer, currency))
 }
 
-// the lowest number that applies to a line offered, or 0
-fn lowest(formed: bool, held: bool, full: bool) -> u32
-    ensures { result ≡ lowest_of formed held full }
-{
-    if !formed {
-        return BAD_LINE;
-    }
-    if held {
-        return CONTRACT_HELD;
-    }
-    if full {
-        return FULL;
-    }
-    0
-}
-
-// the number for a line whose contract has so many bytes, with so many fields, offered to a register of n lines with these keys
-fn offer_number(line: &[u8], contract: usize, fields: usize, n: usize, keys: &[u64]) -> u32
-    requires { RunOfBytes is_name_byte line.now 0 contract × (fields ≡ field_count line.now) × (n ≤ length keys.now) }
+// the form of a line offered to a register of n lines with these keys; or the lowest number's refusal, of those that apply
+fn judge(line: &[u8], n: usize, keys: &[u64]) -> Result<Form, Refusal>
+    requires { n ≤ length keys.now }
     ensures { OfferJudged line.now n keys.now result }
 {
-    let held = is_among(keys, n, keys::key_of(&line[..contract]));
-    lowest(fields != 0, held, n == LINES)
+    let form = form_of(line).ok_or(Refusal::BadLine)?;
+    let key = keys::key_of(&line[..form.contract]);
+    if keys[..n].contains(&key) {
+        return Err(Refusal::ContractHeld);
+    }
+    if n == LINES {
+        return Err(Refusal::Full);
+    }
+    Ok(form)
 }
 
 // a line from a place on, and behind one of four fields the house currency
@@ -109,50 +98,50 @@ fn put_stored(buffer: &mut [u8], at: usize, line: &[u8], fields: usize)
     requires { (3 ≤ at) × (at + length (stored_by fields (take 3 buffer.old) line.now) ≤ length buffer.old) }
     ensures { buffer.new ≡ splice buffer.old at (stored_by fields (take 3 buffer.old) line.now) }
 {
-    spans::write(buffer, at, line);
+    buffer[at..at + line.len()].copy_from_slice(line);
     if fields == OLD_FIELDS {
         let mut house = [0; CURRENCY];
-        spans::write(&mut house, 0, &buffer[..CURRENCY]);
+        house.copy_from_slice(&buffer[..CURRENCY]);
         write_currency(buffer, at + line.len(), &house);
     }
 }
 
-// a line offered to an opened register of n lines
-fn offer_to(buffer: &mut [u8], line: &[u8], n: usize, keys: &[u64]) -> u32
-    requires { RegisterReady buffer.old n keys.now × (n ≤ length keys.now) }
-    ensures { buffer_back result buffer.new ≡ offer_call buffer.old line.now }
+// a line offered to the register
+fn offer(buffer: &mut [u8], line: &[u8]) -> Result<(), Refusal>
+    ensures { buffer_back (number_of result) buffer.new ≡ offer_call buffer.old line.now }
 {
-    let contract = contract_length(line);
-    let fields = field_count(line, contract);
-    let number = offer_number(line, contract, fields, n, keys);
-    if number == 0 {
-        put_stored(buffer, HEADER + SLOT * n, line, fields);
-    }
-    number
+    let mut keys = [0; LINES];
+    let n = read_opened(buffer, &mut keys)?;
+    let form = judge(line, n, &keys)?;
+    put_stored(buffer, HEADER + SLOT * n, line, form.fields);
+    Ok(())
 }
 
 // Offers a line to the register.
 pub fn strigol_register_offer(buffer: &mut [u8], line: &[u8]) -> u32
     ensures { OfferPromise buffer.old line.now (buffer_back result buffer.new) }
 {
-    let mut keys = [0; LINES];
-    let state = read_register(buffer, &mut keys);
-    match state {
-        State::Broken => BAD_BUFFER,
-        State::Old(_) => BAD_BUFFER,
-        State::Opened(n) => offer_to(buffer, line, n, &keys),
-    }
+    number_of(offer(buffer, line))
 }
 
-// the line of a place where one stands, put before zeros; how many bytes it has
-fn put_line(buffer: &[u8], place: usize, line: &mut [u8; LINE_SIZE]) -> usize
-    requires { Placed buffer.now place × (line.old ≡ replicate line_size 0) }
-    ensures { LinePut (line_at (register_in buffer.now).lines place) result line.new }
+// the line of a place where one stands, put before zeros; and how many bytes it has
+fn hand_out(
+    buffer: &[u8],
+    place: u64,
+    line: &mut [u8; LINE_SIZE],
+    length: &mut u32,
+) -> Result<(), Refusal>
+    requires { (line.old ≡ replicate line_size 0) × (length.old ≡ 0) }
+    ensures { line_back (number_of result) line.new length.new ≡ line_call buffer.now place }
 {
-    let at = HEADER + SLOT * place;
-    let end = line_end(buffer, place);
-    spans::write(line, 0, &buffer[at..end]);
-    end - at
+    let mut keys = [0; LINES];
+    let n = read_opened(buffer, &mut keys)?;
+    if place < n as u64 {
+        let held = line_in(buffer, place as usize);
+        line[..held.len()].copy_from_slice(held);
+        *length = held.len() as u32;
+    }
+    Ok(())
 }
 
 // Hands out the line of a place.
@@ -164,18 +153,7 @@ pub fn strigol_register_line(
 ) -> u32
     ensures { LinePromise buffer.now place (line_back result line.new length.new) }
 {
-    let mut keys = [0; LINES];
     *line = [0; LINE_SIZE];
     *length = 0;
-    let state = read_register(buffer, &mut keys);
-    match state {
-        State::Broken => BAD_BUFFER,
-        State::Old(_) => BAD_BUFFER,
-        State::Opened(n) => {
-            if place < n as u64 {
-                *length = put_line(buffer, place as usize, line) as u32;
-            }
-            0
-        }
-    }
+    number_of(hand_out(buffer, place, line, length))
 }

@@ -1,20 +1,21 @@
 -- Fields found by runs of bytes: each field's form by the length of its run, the fields one after the other, and how many there are.
 -- Assumes nothing.
-use Rattle.std.specs.Prelude.{Bool, ◌&&◌, ◌||◌, ◌≡◌, leb, ltb, take, drop}
+use Rattle.std.specs.Prelude.{Bool, ◌&&◌, ◌||◌, ◌≡◌, ltb, take, drop}
 use Rattle.std.proofs.Math.Bool.{true, false, cond, not, and_comm, and-false, and-true}
 use Rattle.std.proofs.lemmas.Bool.{false≢true}
 use mathlib.Core.List.{List, [], ◌∷◌, ◌++◌}
 use Rattle.std.proofs.Math.Path.{refl, ap, ap₂}
-use Rattle.std.proofs.Common.{sym, ◌∙◌, drop-cons}
-use Prim.Native.Nat.{ℕ, zero, suc, ◌+◌, ◌-◌, ◌≤◌, ◌<◌}
+use Rattle.std.proofs.Common.{sym, subst, ◌∙◌, drop-cons}
+use Prim.Native.Nat.{ℕ, zero, suc, ◌+◌, ◌≤◌, ◌<◌}
 use Rattle.std.proofs.Math.Nat.{zero-add}
 use native.Mathlib.Omega.{arith}
 use Rattle.std.proofs.Math.Dec.{eqb}
 use Rattle.std.proofs.Math.ListN.{length, get_or, length-drop, get_or-eq_default}
-use Rattle.std.proofs.Math.Seq.{take-suc, get_or-drop}
-use borrow.Author.Tests.{eqb-true, eq-eqb, ne_eqb, ltb-true, ltb-false, le-leb, lt-leb}
-use Rattle.base.specs.Choice.{both_pass, both_true, neither_true, same_truth, test_cases}
-use Rattle.base.specs.ListLaws.{all_append, drop-next, length_stretch, stretch_behind, stretch_end}
+use Rattle.std.proofs.Math.Seq.{take-length, get_or-drop}
+use borrow.Author.Tests.{eqb-true, eq-eqb, ne_eqb, ltb-true, ltb-false}
+use Rattle.std.proofs.lemmas.List.Sums.{prefix_len-le-length, prefix_len_stops}
+use Rattle.base.specs.Choice.{both_pass, both_true, cond_cases, same_truth, test_cases}
+use Rattle.base.specs.ListLaws.{drop-next, length_stretch, stretch_behind, stretch_end}
 use Rattle.base.specs.Lists.{all, begins}
 use Rattle.base.specs.Text.{bytes}
 use Rattle.cards.specs.Bytes.{between, comma, is_digit, is_letter, is_name_byte}
@@ -35,32 +36,53 @@ use Rattle.register.specs.LineLaws.{
   tonnes_digits,
   price_digits,
 }
-use Rattle.register_lines.specs.Fields.{RunOfBytes, fields_behind, field_count_of, field_count, fields_counted, fields_ended}
+use Rattle.register_lines.specs.Fields.{RunOfBytes, fields_behind, field_count_of, field_count, fields_counted, fields_ended, is_count, ContractFound, FieldFound, GrainFound, NumberFound, number_run}
+use Rattle.std.specs.Prelude.{Option, Some, None}
+use Rattle.std.specs.Option.{option_and_then}
+use Rattle.std.specs.List.{prefix_len}
+use Rattle.std.specs.Char.{is_ascii_digit, is_ascii_uppercase}
 
--- a run goes on by a byte that passes, and ends where none is left or one doesn't
-module _ (p : ℕ → Bool) (line : List ℕ) (at : ℕ) where
-  abbrev pub Running : ℕ → Type 0
-  Running i = (at ≤ i) × (i ≤ length line) × (all p (take (i - at) (drop at line)) ≡ true)
+one_more : (n : ℕ) → 1 + n ≡ suc n
+one_more n = omega arith
 
-  pub run_none : at ≤ length line → Running at
+-- the run of bytes that a list begins with, and that from a place of a line on
+module _ (p : ℕ → Bool) where
+  front_pass : (l : List ℕ) → all p (take (prefix_len p l) l) ≡ true
   unfolding all
-  run_none h = let none : at - at ≡ 0 = omega arith in (omega arith, h, rw none)
+  front_pass [] = refl
+  front_pass (b ∷ bs) =
+      cond_cases (λ n. all p (take n (b ∷ bs)) ≡ true) (p b)
+      (λ e. rw one_more (both_pass e (front_pass bs))) (λ _. refl)
 
-  pub run_more : (i : ℕ) → Running i → i < length line → p (get_or line i 0) ≡ true → Running (i + 1)
+  front_all : (l : List ℕ) → all p l ≡ true → prefix_len p l ≡ length l
   unfolding all
-  run_more i r h e =
-      let m = i - at in
-      let next : i + 1 - at ≡ suc m = omega arith in
-      let place : at + m ≡ i = omega arith in
-      let byte : get_or (drop at line) m 0 ≡ get_or line i 0 = get_or-drop at line m 0 ∙ ap (λ k. get_or line k 0) place in
-      let inside : m < length (drop at line) = omega (arith, length-drop at line) in
-      let more = all_append p (take m (drop at line)) (get_or line i 0 ∷ []) r.2 (both_pass e refl) in
-      (omega arith, omega arith, rw (next, take-suc (drop at line) m 0 inside, byte) more)
+  front_all [] e = refl
+  front_all (b ∷ bs) e = let parts = both_true (p b) (all p bs) e in rw (parts.0, front_all bs parts.1) (one_more (length bs))
 
-  pub run_ends : (i : ℕ) → Running i → (i < length line → p (get_or line i 0) ≡ false) → RunOfBytes p line at (i - at)
-  run_ends i r e =
-      let place : at + (i - at) ≡ i = omega arith in
-      record { inside = omega arith; pass = r.2; stop = λ h. rw place (e (omega arith)) }
+  run_front : (line : List ℕ) (at : ℕ) → at ≤ length line → RunOfBytes p line at (prefix_len p (drop at line))
+  run_front line at h =
+      let rest = drop at line in
+      let n = prefix_len p rest in
+      let room : at + n ≤ length line = omega (arith, prefix_len-le-length p rest, length-drop at line) in
+      record {
+        inside = room;
+        pass = front_pass rest;
+        stop = λ more. sym (ap p (get_or-drop at line n 0)) ∙ prefix_len_stops p rest 0 (omega (arith, length-drop at line));
+      }
+
+-- the runs that the code counts
+module _ (line : List ℕ) (at : ℕ) (h : at ≤ length line) where
+  pub letters_run : RunOfBytes is_letter line at (prefix_len is_ascii_uppercase (drop at line))
+  unfolding is_letter between
+  letters_run = run_front is_ascii_uppercase line at h
+
+  pub digits_run : RunOfBytes is_digit line at (prefix_len is_ascii_digit (drop at line))
+  unfolding is_digit between
+  digits_run = run_front is_ascii_digit line at h
+
+pub names_run : (line : List ℕ) → RunOfBytes is_name_byte line 0 (prefix_len (λ b. is_ascii_uppercase b || is_ascii_digit b) line)
+unfolding is_name_byte is_letter is_digit between
+names_run line = run_front (λ b. is_ascii_uppercase b || is_ascii_digit b) line 0 (omega arith)
 
 -- whether the bytes of a run begin with a zero, the byte at its place tells
 run_lead : (line : List ℕ) (at n k : ℕ) → at + n ≤ length line
@@ -81,18 +103,15 @@ module _ (line : List ℕ) (at n : ℕ) where
   unfolding is_grain
   grain_run r = rw (length_stretch line at n r.inside, r.pass, and-true)
 
-  abbrev pub number_run : ℕ → Bool
-  number_run most = between 1 most n && not (eqb (get_or line at 0) 48)
-
   number_run_lem : (k : ℕ) → RunOfBytes is_digit line at n
-      → (is_decimal (take n (drop at line)) && between 1 k (length (take n (drop at line)))) ≡ number_run k
+      → (is_decimal (take n (drop at line)) && between 1 k (length (take n (drop at line)))) ≡ number_run line at n k
   unfolding is_decimal
   number_run_lem k r = rw (length_stretch line at n r.inside, r.pass) (run_lead line at n k r.inside)
 
-  tonnes_run : RunOfBytes is_digit line at n → is_tonnes (take n (drop at line)) ≡ number_run 5
+  tonnes_run : RunOfBytes is_digit line at n → is_tonnes (take n (drop at line)) ≡ number_run line at n 5
   tonnes_run r = tonnes_digits (take n (drop at line)) ∙ number_run_lem 5 r
 
-  price_run : RunOfBytes is_digit line at n → is_price (take n (drop at line)) ≡ number_run 6
+  price_run : RunOfBytes is_digit line at n → is_price (take n (drop at line)) ≡ number_run line at n 6
   price_run r = price_digits (take n (drop at line)) ∙ number_run_lem 6 r
 
 -- what holds whichever way a test comes out
@@ -163,28 +182,13 @@ module _ (p : ℕ → Bool) (c : p comma ≡ false) (line : List ℕ) (at n : �
         (λ h e. rw (goes_on h e, some_field (drop (at + n + 1) line), before h))
         (λ h e. rw (breaks [] h e, before h) (sym (and-false (t (take n (drop at line))))))
 
--- a range as the code tests it
-pub range : (most n : ℕ) → between 1 most n ≡ not (ltb n 1 || ltb most n)
-unfolding between
-range most n = ap₂ ◌&&◌ (not_below 1 n) (not_below n most) ∙ neither (ltb n 1) (ltb most n)
-  where
-    neither : (a b : Bool) → (not a && not b) ≡ not (a || b)
-    neither true b = refl
-    neither false b = refl
-
-    not_below : (a b : ℕ) → leb a b ≡ not (ltb b a)
-    not_below a b = test_cases (λ t. leb a b ≡ not t) (ltb b a) (λ e. lt-leb a b (ltb-true b a e)) (λ e. le-leb a b (ltb-false b a e))
-
-pub range_low : (most n : ℕ) → (ltb n 1 || ltb most n) ≡ false → 1 ≤ n
-range_low most n e = ltb-false n 1 (neither_true (ltb n 1) (ltb most n) e).0
-
 -- a comma that isn't there, and one that is
 module _ (line : List ℕ) (at : ℕ) where
-  pub no_comma : (tests : List (List ℕ → Bool)) → eqb (get_or line at 0) 44 ≡ false → false ≡ fields_behind tests line at
+  pub no_comma : (tests : List (List ℕ → Bool)) → eqb (get_or line at 0) 44 ≡ false → fields_behind tests line at ≡ false
   unfolding fields_behind comma
   no_comma tests e = rw e
 
-  pub no_count : (tests : List (List ℕ → Bool)) → eqb (get_or line at 0) 44 ≡ false → 0 ≡ fields_counted tests line at
+  pub no_count : (tests : List (List ℕ → Bool)) → eqb (get_or line at 0) 44 ≡ false → fields_counted tests line at ≡ None
   unfolding fields_counted
   no_count tests e = ap₂ field_count_of (no_comma tests e) (no_comma (tests ++ (is_currency ∷ [])) e)
 
@@ -229,7 +233,7 @@ unfolding is_price
 price_bytes = number_bytes 999_999
 
 -- a test that four fields and five begin with
-count_then : (t four five : Bool) → field_count_of (t && four) (t && five) ≡ cond t (field_count_of four five) 0
+count_then : (t four five : Bool) → field_count_of (t && four) (t && five) ≡ cond t (field_count_of four five) None
 count_then true four five = refl
 count_then false four five = refl
 
@@ -238,7 +242,7 @@ module _ (line : List ℕ) (at n : ℕ) (is : eqb (get_or line at 0) 44 ≡ true
   counted_then : (p : ℕ → Bool) → p comma ≡ false → RunOfBytes p line (at + 1) n
       → (t : List ℕ → Bool) → ((f : List ℕ) → t f ≡ true → all p f ≡ true)
       → (u : List ℕ → Bool) (us : List (List ℕ → Bool))
-      → fields_counted (t ∷ u ∷ us) line at ≡ cond (t (take n (drop (at + 1) line))) (fields_counted (u ∷ us) line (at + 1 + n)) 0
+      → fields_counted (t ∷ u ∷ us) line at ≡ cond (t (take n (drop (at + 1) line))) (fields_counted (u ∷ us) line (at + 1 + n)) None
   unfolding fields_counted
   counted_then p c r t of u us =
       let here = t (take n (drop (at + 1) line)) in
@@ -247,8 +251,8 @@ module _ (line : List ℕ) (at n : ℕ) (is : eqb (get_or line at 0) 44 ≡ true
       let more = us ++ (is_currency ∷ []) in
       ap₂ field_count_of (next us) (next more) ∙ count_then here (fields_behind (u ∷ us) line (at + 1 + n)) (fields_behind (u ∷ more) line (at + 1 + n))
 
-  pub price_counted : RunOfBytes is_digit line (at + 1) n
-      → fields_counted (is_price ∷ []) line at ≡ cond (number_run line (at + 1) n 6) (fields_ended line (at + 1 + n)) 0
+  price_counted : RunOfBytes is_digit line (at + 1) n
+      → fields_counted (is_price ∷ []) line at ≡ cond (is_price (take n (drop (at + 1) line))) (fields_ended line (at + 1 + n)) None
   unfolding fields_counted fields_ended
   price_counted r =
       let here = is_price (take n (drop (at + 1) line)) in
@@ -258,19 +262,40 @@ module _ (line : List ℕ) (at n : ℕ) (is : eqb (get_or line at 0) 44 ≡ true
       behind-comma line at (is_price ∷ is_currency ∷ []) is
       ∙ field_then is_digit comma_digit line (at + 1) n r is_price price_bytes is_currency [] in
       ap₂ field_count_of last more ∙ count_then here (eqb (at + 1 + n) (length line)) (fields_behind (is_currency ∷ []) line (at + 1 + n))
-      ∙ ap (λ t. cond t (fields_ended line (at + 1 + n)) 0) (price_run line (at + 1) n r)
 
-  pub tonnes_counted : RunOfBytes is_digit line (at + 1) n
-      → fields_counted (is_tonnes ∷ is_price ∷ []) line at ≡ cond (number_run line (at + 1) n 5) (fields_counted (is_price ∷ []) line (at + 1 + n)) 0
-  tonnes_counted r =
-      counted_then is_digit comma_digit r is_tonnes tonnes_bytes is_price []
-      ∙ ap (λ t. cond t (fields_counted (is_price ∷ []) line (at + 1 + n)) 0) (tonnes_run line (at + 1) n r)
+-- A field behind a comma, as the code finds it: what follows it tells how many fields there are, and nothing does where it isn't found.
+module _ (p : ℕ → Bool) (passes : ℕ → Bool) (tests : List (List ℕ → Bool)) (line : List ℕ) (at : ℕ) (next : ℕ → Option ℕ)
+    (counted : (n : ℕ) → eqb (get_or line at 0) 44 ≡ true → RunOfBytes p line (at + 1) n
+    → fields_counted tests line at ≡ cond (passes n) (next (at + 1 + n)) None) where
+  found : (r : Option ℕ) → FieldFound p passes line at r → fields_counted tests line at ≡ option_and_then next r
+  unfolding FieldFound
+  found (Some end) f = counted f.0 f.1 f.2 ∙ rw (f.3, f.4) refl
+  found None f =
+      either (eqb (get_or line at 0) 44)
+      (λ is. let h = f is in counted h.0 is h.1 ∙ rw h.2 refl)
+      (λ e. no_count line at tests e)
 
-  pub grain_counted : RunOfBytes is_letter line (at + 1) n
-      → fields_counted (is_grain ∷ is_tonnes ∷ is_price ∷ []) line at ≡ cond (eqb n 2) (fields_counted (is_tonnes ∷ is_price ∷ []) line (at + 1 + n)) 0
-  grain_counted r =
-      counted_then is_letter comma_letter r is_grain grain_bytes is_tonnes (is_price ∷ [])
-      ∙ ap (λ t. cond t (fields_counted (is_tonnes ∷ is_price ∷ []) line (at + 1 + n)) 0) (grain_run line (at + 1) n r)
+module _ (line : List ℕ) (at : ℕ) where
+  pub grain_found : (r : Option ℕ) → GrainFound line at r
+      → fields_counted (is_grain ∷ is_tonnes ∷ is_price ∷ []) line at ≡ option_and_then (fields_counted (is_tonnes ∷ is_price ∷ []) line) r
+  grain_found =
+      found is_letter (λ n. eqb n 2) (is_grain ∷ is_tonnes ∷ is_price ∷ []) line at (fields_counted (is_tonnes ∷ is_price ∷ []) line)
+      (λ n is r. counted_then line at n is is_letter comma_letter r is_grain grain_bytes is_tonnes (is_price ∷ [])
+      ∙ ap (λ t. cond t (fields_counted (is_tonnes ∷ is_price ∷ []) line (at + 1 + n)) None) (grain_run line (at + 1) n r))
+
+  pub tonnes_found : (r : Option ℕ) → NumberFound 5 line at r
+      → fields_counted (is_tonnes ∷ is_price ∷ []) line at ≡ option_and_then (fields_counted (is_price ∷ []) line) r
+  tonnes_found =
+      found is_digit (λ n. number_run line (at + 1) n 5) (is_tonnes ∷ is_price ∷ []) line at (fields_counted (is_price ∷ []) line)
+      (λ n is r. counted_then line at n is is_digit comma_digit r is_tonnes tonnes_bytes is_price []
+      ∙ ap (λ t. cond t (fields_counted (is_price ∷ []) line (at + 1 + n)) None) (tonnes_run line (at + 1) n r))
+
+  pub price_found : (r : Option ℕ) → NumberFound 6 line at r
+      → fields_counted (is_price ∷ []) line at ≡ option_and_then (fields_ended line) r
+  price_found =
+      found is_digit (λ n. number_run line (at + 1) n 6) (is_price ∷ []) line at (fields_ended line)
+      (λ n is r. price_counted line at n is r
+      ∙ ap (λ t. cond t (fields_ended line (at + 1 + n)) None) (price_run line (at + 1) n r))
 
 -- the currency ends the line: it is all that stands behind its comma
 currency_alone : (l : List ℕ) → each (is_currency ∷ []) (fields l) ≡ is_currency l
@@ -287,19 +312,13 @@ pub currency_behind : (line : List ℕ) (at : ℕ) → eqb (get_or line at 0) 44
 currency_behind line at is = behind-comma line at (is_currency ∷ []) is ∙ currency_alone (drop (at + 1) line)
 
 -- three bytes are a currency where each is a letter
-pub currency_three : (v : List ℕ) → length v ≡ 3
-    → is_currency v ≡ ((is_letter (get_or v 0 0) && is_letter (get_or v 1 0)) && is_letter (get_or v 2 0))
-unfolding is_currency all
-currency_three [] h = absurd (omega arith)
-currency_three (a ∷ []) h = absurd (omega arith)
-currency_three (a ∷ b ∷ []) h = absurd (omega arith)
-currency_three (a ∷ b ∷ c ∷ []) h = three (is_letter a) (is_letter b) (is_letter c)
-  where
-    three : (x y z : Bool) → (x && (y && (z && true))) ≡ ((x && y) && z)
-    three false y z = refl
-    three true false z = refl
-    three true true z = and-true z
-currency_three (a ∷ b ∷ c ∷ d ∷ v) h = absurd (omega arith)
+pub currency_run : (v : List ℕ) → length v ≡ 3 → is_currency v ≡ eqb (prefix_len is_ascii_uppercase v) 3
+unfolding is_currency is_letter between
+currency_run v h =
+    same_truth (is_currency v) (eqb (prefix_len is_ascii_uppercase v) 3)
+    (λ e. eq-eqb (prefix_len is_ascii_uppercase v) 3 (front_all is_ascii_uppercase v (both_true (eqb (length v) 3) (all is_letter v) e).1 ∙ h))
+    (λ e. let whole : prefix_len is_ascii_uppercase v ≡ length v = eqb-true (prefix_len is_ascii_uppercase v) 3 e ∙ sym h in
+    both_pass (eq-eqb (length v) 3 h) (subst (λ l. all is_letter l ≡ true) (ap (λ n. take n v) whole ∙ take-length v) (front_pass is_ascii_uppercase v)))
 
 -- the line by its first run
 module _ (line : List ℕ) (n : ℕ) (r : RunOfBytes is_name_byte line 0 n) where
@@ -309,7 +328,7 @@ module _ (line : List ℕ) (n : ℕ) (r : RunOfBytes is_name_byte line 0 n) wher
       field_then is_name_byte comma-name line 0 n r is_contract contract_bytes is_grain us
       ∙ ap₂ (λ t k. t && fields_behind (is_grain ∷ us) line k) (contract_run line 0 n r) (zero-add n)
 
-  pub line_counted : field_count line ≡ cond (between 1 8 n) (fields_counted (is_grain ∷ is_tonnes ∷ is_price ∷ []) line n) 0
+  line_counted : field_count line ≡ cond (between 1 8 n) (fields_counted (is_grain ∷ is_tonnes ∷ is_price ∷ []) line n) None
   unfolding field_count fields_counted is_line is_record
   line_counted =
       let four = is_tonnes ∷ is_price ∷ [] in
@@ -332,52 +351,51 @@ module _ (line : List ℕ) (n : ℕ) (r : RunOfBytes is_name_byte line 0 n) wher
       either (is_line line) (first_size (is_tonnes ∷ is_price ∷ []))
       (λ f. first_size (is_tonnes ∷ is_price ∷ is_currency ∷ []) (sym (ap (λ t. t || is_record line) f) ∙ e))
 
+-- the contract, as the code finds it
+module _ (line : List ℕ) where
+  pub contract_found : (n : ℕ) → ContractFound line (Some n) → field_count line ≡ fields_counted (is_grain ∷ is_tonnes ∷ is_price ∷ []) line n
+  unfolding ContractFound
+  contract_found n k = line_counted line n k.0 ∙ rw k.1 refl
+
+  pub no_contract : ContractFound line None → field_count line ≡ None
+  unfolding ContractFound
+  no_contract k = line_counted line k.0 k.1 ∙ rw k.2 refl
+
 -- the number of fields tells a line's form, and the form tells the number
 module _ (line : List ℕ) where
-  count-line : field_count line ≡ 4 → is_line line ≡ true
-  unfolding field_count
-  count-line = four (is_line line) (is_record line)
-    where
-      four : (a b : Bool) → field_count_of a b ≡ 4 → a ≡ true
-      four true b e = refl
-      four false true e = absurd (omega arith)
-      four false false e = absurd (omega arith)
-
-  line-count : is_line line ≡ true → field_count line ≡ 4
-  unfolding field_count
-  line-count e = rw e
-
-  count_record : field_count line ≡ 5 → is_record line ≡ true
-  unfolding field_count
-  count_record = five (is_line line) (is_record line)
-    where
-      five : (a b : Bool) → field_count_of a b ≡ 5 → b ≡ true
-      five true b e = absurd (omega arith)
-      five false true e = refl
-      five false false e = absurd (omega arith)
-
-  record_count : is_record line ≡ true → field_count line ≡ 5
-  unfolding field_count
-  record_count e =
-      test_cases (λ t. is_line line ≡ t → field_count_of t (is_record line) ≡ 5) (is_line line)
-      (λ is _. absurd (false≢true (sym (not_both line is) ∙ e))) (λ _ _. ap (field_count_of false) e) refl
-
-  pub count-form : not (eqb (field_count line) 0) ≡ has_form line
+  pub count_none : field_count line ≡ None → has_form line ≡ false
   unfolding field_count has_form
-  count-form = some (is_line line) (is_record line)
+  count_none = none (is_line line) (is_record line)
     where
-      some : (a b : Bool) → not (eqb (field_count_of a b) 0) ≡ (a || b)
-      some true b = refl
-      some false true = refl
-      some false false = refl
+      none : (a b : Bool) → field_count_of a b ≡ None → (a || b) ≡ false
+      none true b e = cc
+      none false true e = cc
+      none false false e = refl
 
-  -- the two as tests
-  pub four-fields : eqb (field_count line) 4 ≡ is_line line
-  four-fields =
-      same_truth (eqb (field_count line) 4) (is_line line) (λ e. count-line (eqb-true (field_count line) 4 e))
-      (λ e. eq-eqb (field_count line) 4 (line-count e))
+  pub count_some : (n : ℕ) → field_count line ≡ Some n → has_form line ≡ true
+  unfolding field_count has_form
+  count_some n = some (is_line line) (is_record line)
+    where
+      some : (a b : Bool) → field_count_of a b ≡ Some n → (a || b) ≡ true
+      some true b e = refl
+      some false true e = refl
+      some false false e = cc
 
-  pub five_fields : eqb (field_count line) 5 ≡ is_record line
-  five_fields =
-      same_truth (eqb (field_count line) 5) (is_record line) (λ e. count_record (eqb-true (field_count line) 5 e))
-      (λ e. eq-eqb (field_count line) 5 (record_count e))
+  -- the two numbers as tests
+  pub four-fields : is_count 4 (field_count line) ≡ is_line line
+  unfolding field_count is_count
+  four-fields = four (is_line line) (is_record line)
+    where
+      four : (a b : Bool) → is_count 4 (field_count_of a b) ≡ a
+      four true b = refl
+      four false true = refl
+      four false false = refl
+
+  pub five_fields : is_count 5 (field_count line) ≡ is_record line
+  unfolding field_count is_count
+  five_fields = five (is_line line) (is_record line) (not_both line)
+    where
+      five : (a b : Bool) → (a ≡ true → b ≡ false) → is_count 5 (field_count_of a b) ≡ b
+      five true b e = sym (e refl)
+      five false true e = refl
+      five false false e = refl

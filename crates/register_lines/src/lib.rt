@@ -3,11 +3,12 @@
 // Assumes nothing.
 #![tactic(auto)]
 
-ghost use Rattle.std.specs.Prelude.{[], ◌∷◌, ◌≡◌, ◌+◌, ◌≤◌, eqb, length, get_or};
-ghost use Rattle.cards.specs.Bytes.{is_digit, is_letter, is_name_byte};
-ghost use Rattle.register.specs.Line.{is_currency, is_grain, is_tonnes, is_price};
-ghost use Rattle.register_lines.specs.Fields.{RunOfBytes, fields_behind, fields_counted, fields_ended, field_count, is_of};
-ghost use Rattle.register_lines.specs.FieldLaws.{number_run};
+ghost use Rattle.std.specs.Prelude.{[], ◌∷◌, ◌||◌, ◌≡◌, ◌+◌, ◌≤◌, eqb, length, get_or};
+ghost use Rattle.std.specs.Char.{is_ascii_digit, is_ascii_uppercase};
+ghost use Rattle.std.specs.List.{prefix_len};
+ghost use Rattle.cards.specs.Bytes.{is_name_byte};
+ghost use Rattle.register.specs.Line.{is_currency};
+ghost use Rattle.register_lines.specs.Fields.{ContractFound, FormFound, GrainFound, NumberFound, RunOfBytes, fields_behind, fields_ended, number_run};
 
 use register::{CURRENCY, FIELDS, OLD_FIELDS};
 
@@ -20,163 +21,138 @@ const TONNES: usize = 5;
 
 const PRICE: usize = 6;
 
-// the bytes that a field may have: letters and digits, letters, digits
-#[derive(Clone, Copy)]
-enum Class {
-    Names,
-    Letters,
-    Digits,
+// a line that has its form: how many bytes its contract has, and how many fields it has, 4 or with a currency 5
+#[derive(Clone, Copy, Debug, PartialEq, Eq)]
+pub struct Form {
+    pub contract: usize,
+    pub fields: usize,
 }
 
-fn is_letter(b: u8) -> bool
-    ensures { result ≡ is_letter b }
+// how many letters and digits bytes begin with
+fn names_len(bytes: &[u8]) -> usize
+    ensures { result ≡ prefix_len (λ b. is_ascii_uppercase b || is_ascii_digit b) bytes.now }
 {
-    (b'A' <= b) & (b <= b'Z')
+    bytes
+        .iter()
+        .take_while(|b| b.is_ascii_uppercase() || b.is_ascii_digit())
+        .count()
 }
 
-fn is_digit(b: u8) -> bool
-    ensures { result ≡ is_digit b }
+// how many letters
+fn letters_len(bytes: &[u8]) -> usize
+    ensures { result ≡ prefix_len is_ascii_uppercase bytes.now }
 {
-    (b'0' <= b) & (b <= b'9')
+    bytes.iter().take_while(|b| b.is_ascii_uppercase()).count()
 }
 
-fn is_of(class: Class, b: u8) -> bool
-    ensures { result ≡ is_of class b }
+// how many digits
+fn digits_len(bytes: &[u8]) -> usize
+    ensures { result ≡ prefix_len is_ascii_digit bytes.now }
 {
-    match class {
-        Class::Names => is_letter(b) | is_digit(b),
-        Class::Letters => is_letter(b),
-        Class::Digits => is_digit(b),
-    }
-}
-
-// how many bytes of a class stand at a place
-fn run(line: &[u8], at: usize, class: Class) -> usize
-    requires { at ≤ length line.now }
-    ensures { RunOfBytes (is_of class) line.now at result }
-{
-    let mut i = at;
-    while i < line.len() {
-        if !is_of(class, line[i]) {
-            return i - at;
-        }
-        i += 1;
-    }
-    i - at
+    bytes.iter().take_while(|b| b.is_ascii_digit()).count()
 }
 
 // whether n digits at a place are a number of at most so many, without a leading zero
+#[tactic(auto, unfolding(cards::specs::Bytes::between))]
 fn is_number(line: &[u8], at: usize, n: usize, most: usize) -> bool
     requires { at + n ≤ length line.now }
     ensures { result ≡ number_run line.now at n most }
 {
-    if (n < 1) | (most < n) {
-        return false;
-    }
-    line[at] != b'0'
+    (1..=most).contains(&n) && line[at] != b'0'
 }
 
 fn has_comma(line: &[u8], at: usize) -> bool
     ensures { result ≡ eqb (get_or line.now at 0) 44 }
 {
-    if line.len() <= at {
-        return false;
-    }
-    line[at] == b','
+    line.get(at) == Some(&b',')
 }
 
 // whether the bytes are three letters
 pub fn is_currency(v: &[u8]) -> bool
     ensures { result ≡ is_currency v.now }
 {
-    if v.len() != CURRENCY {
-        return false;
-    }
-    is_letter(v[0]) & is_letter(v[1]) & is_letter(v[2])
+    v.len() == CURRENCY && letters_len(v) == CURRENCY
 }
 
 // a comma at a place, and behind it a currency, with which the line ends
+#[tactic(auto, using(crate::specs::FieldLaws::no_comma, crate::specs::FieldLaws::comma_inside, crate::specs::FieldLaws::currency_behind))]
 fn currency_on(line: &[u8], at: usize) -> bool
     ensures { result ≡ fields_behind (is_currency ∷ []) line.now at }
 {
-    if !has_comma(line, at) {
-        return false;
-    }
-    is_currency(&line[at + 1..])
+    has_comma(line, at) && is_currency(&line[at + 1..])
 }
 
-// how many fields a line has whose price ends at a place: 4 where the line ends there, 5 where a comma and a currency end it, otherwise 0
-fn ending_on(line: &[u8], at: usize) -> usize
+// how many fields a line has whose price ends at a place: 4 where the line ends there, 5 where a comma and a currency end it
+#[inline]
+#[tactic(auto, unfolding(crate::specs::Fields::fields_ended))]
+fn ending_on(line: &[u8], at: usize) -> Option<usize>
     ensures { result ≡ fields_ended line.now at }
 {
     if at == line.len() {
-        return OLD_FIELDS;
+        Some(OLD_FIELDS)
+    } else if currency_on(line, at) {
+        Some(FIELDS)
+    } else {
+        None
     }
-    if currency_on(line, at) {
-        return FIELDS;
-    }
-    0
 }
 
-// a comma at a place, and behind it the price and what follows: how many fields the line then has, or 0
-fn price_on(line: &[u8], at: usize) -> usize
-    ensures { result ≡ fields_counted (is_price ∷ []) line.now at }
+// a comma at a place, and behind it a number of at most so many digits: where it ends
+fn number_on(line: &[u8], at: usize, most: usize) -> Option<usize>
+    ensures { NumberFound most line.now at result }
 {
     if !has_comma(line, at) {
-        return 0;
+        return None;
     }
     let from = at + 1;
-    let n = run(line, from, Class::Digits);
-    if !is_number(line, from, n, PRICE) {
-        return 0;
+    let n = digits_len(&line[from..]);
+    if is_number(line, from, n, most) {
+        Some(from + n)
+    } else {
+        None
     }
-    ending_on(line, from + n)
 }
 
-// likewise the tonnes and what follows
-fn tonnes_on(line: &[u8], at: usize) -> usize
-    ensures { result ≡ fields_counted (is_tonnes ∷ is_price ∷ []) line.now at }
+// a comma at a place, and behind it the grain: where it ends
+fn grain_on(line: &[u8], at: usize) -> Option<usize>
+    ensures { GrainFound line.now at result }
 {
     if !has_comma(line, at) {
-        return 0;
+        return None;
     }
     let from = at + 1;
-    let n = run(line, from, Class::Digits);
-    if !is_number(line, from, n, TONNES) {
-        return 0;
-    }
-    price_on(line, from + n)
-}
-
-// likewise the grain and what follows
-fn grain_on(line: &[u8], at: usize) -> usize
-    ensures { result ≡ fields_counted (is_grain ∷ is_tonnes ∷ is_price ∷ []) line.now at }
-{
-    if !has_comma(line, at) {
-        return 0;
-    }
-    let from = at + 1;
-    let n = run(line, from, Class::Letters);
-    if n != GRAIN {
-        return 0;
-    }
-    tonnes_on(line, from + n)
+    let n = letters_len(&line[from..]);
+    if n == GRAIN { Some(from + n) } else { None }
 }
 
 // how many letters and digits a line begins with: of a line that has its form, those of its contract
 pub fn contract_length(line: &[u8]) -> usize
     ensures { RunOfBytes is_name_byte line.now 0 result }
 {
-    run(line, 0, Class::Names)
+    names_len(line)
 }
 
-// how many fields a line has that begins with so many letters and digits: 4, or 5 with a currency, or 0 where it has no good form
-pub fn field_count(line: &[u8], contract: usize) -> usize
-    requires { RunOfBytes is_name_byte line.now 0 contract }
-    ensures { result ≡ field_count line.now }
+// how many bytes the contract has that a line begins with: 1 to 8 letters and digits; None where it begins with fewer or more of them
+fn contract_on(line: &[u8]) -> Option<usize>
+    ensures { ContractFound line.now result }
 {
-    if (contract < 1) | (CONTRACT < contract) {
-        return 0;
+    let n = contract_length(line);
+    if (1..=CONTRACT).contains(&n) {
+        Some(n)
+    } else {
+        None
     }
-    grain_on(line, contract)
+}
+
+// the form of a line, if it is good
+#[inline]
+pub fn form_of(line: &[u8]) -> Option<Form>
+    ensures { FormFound line.now result }
+{
+    let contract = contract_on(line)?;
+    let grain = grain_on(line, contract)?;
+    let tonnes = number_on(line, grain, TONNES)?;
+    let price = number_on(line, tonnes, PRICE)?;
+    let fields = ending_on(line, price)?;
+    Some(Form { contract, fields })
 }

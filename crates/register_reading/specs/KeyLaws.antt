@@ -1,7 +1,9 @@
 -- Contracts as keys: a key shows its contract, so keys are compared for contracts; marks tell which keys can't be held. Assumes nothing.
 use Rattle.std.specs.Prelude.{Bool, true, false, not, ◌||◌, List, [], ◌∷◌, ◌++◌, ◌≡◌, refl, ℕ, zero, suc, ◌+◌, ◌*◌, ◌%◌, ◌≤◌, ◌<◌, eqb, length, take, get_or, set}
 use Rattle.std.proofs.lemmas.Bool.{false≢true, eqb-false}
-use Rattle.std.proofs.Common.{sym, ap, ap₂, ◌∙◌, add-one, arith, length-set, take-suc, take_all, get_or-set_same, get_or-set_other, eqb-true, eq-eqb, ne_eqb}
+use Rattle.std.proofs.Common.{sym, ap, ap₂, ◌∙◌, arith, length-set, take-suc, take_all, get_or-set_same, get_or-set_other, eqb-true, eq-eqb, ne_eqb}
+use Rattle.std.specs.Prelude.{nat_eq}
+use Rattle.std.specs.List.{fold, list_any}
 use Rattle.base.specs.Choice.{both_true, same_truth, test_cases}
 use Rattle.base.specs.Lists.{all, among, any, same}
 use Rattle.base.specs.ListLaws.{same_true, same_iff}
@@ -20,19 +22,25 @@ among-append x [] ys = refl
 among-append x (y ∷ xs) ys =
     test_cases (λ t. (t || among x (xs ++ ys)) ≡ ((t || among x xs) || among x ys)) (eqb x y) (λ _. refl) (λ _. among-append x xs ys)
 
--- one more key among those looked at
-pub among_next : (key : ℕ) (keys : List ℕ) (i : ℕ) → i < length keys
-    → among key (take (i + 1) keys) ≡ (among key (take i keys) || eqb key (get_or keys i 0))
+eqb_turned : (a b : ℕ) → eqb a b ≡ eqb b a
+eqb_turned a b = same_truth (eqb a b) (eqb b a) (λ e. eq-eqb b a (sym (eqb-true a b e))) (λ e. eq-eqb a b (sym (eqb-true b a e)))
+
+-- whether one of the keys is this one, as the library looks for it
+pub among-any : (key : ℕ) (keys : List ℕ) → list_any (λ k. nat_eq k key) keys ≡ among key keys
 unfolding among
-among_next key keys i h =
-    ap (λ n. among key (take n keys)) (add-one i)
-    ∙ ap (among key) (take-suc keys i 0 h)
-    ∙ among-append key (take i keys) (get_or keys i 0 ∷ [])
-    ∙ ap (λ b. among key (take i keys) || b) (or-false (eqb key (get_or keys i 0)))
-  where
-    or-false : (b : Bool) → (b || false) ≡ b
-    or-false true = refl
-    or-false false = refl
+among-any key [] = refl
+among-any key (k ∷ keys) = ap₂ {C = Bool} ◌||◌ (eqb_turned k key) (among-any key keys)
+
+-- and as the code does, which compares it with all
+folded : (key : ℕ) (found : Bool) (keys : List ℕ) → fold (λ f k. f || nat_eq k key) found keys ≡ (found || among key keys)
+unfolding among
+folded key true [] = refl
+folded key false [] = refl
+folded key true (k ∷ keys) = folded key true keys
+folded key false (k ∷ keys) = folded key (nat_eq k key) keys ∙ ap (λ b. b || among key keys) (eqb_turned k key)
+
+pub among-fold : (key : ℕ) (keys : List ℕ) → fold (λ found k. found || nat_eq k key) false keys ≡ among key keys
+among-fold key keys = folded key false keys
 
 -- a key shows the bytes of its name
 key-byte : (b : ℕ) → is_key_byte b ≡ true → (1 ≤ b) × (b ≤ 255)

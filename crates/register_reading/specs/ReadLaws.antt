@@ -1,10 +1,10 @@
 -- A register read from a buffer: what its header tells, what the slots make of it, and where a line stands. Assumes nothing.
-use Rattle.std.specs.Prelude.{Bool, ◌&&◌, ℕ, zero, suc, ◌+◌, ◌*◌, ◌-◌, ◌≤◌, ◌<◌, eqb, drop, get_or}
+use Rattle.std.specs.Prelude.{Bool, ◌&&◌, ℕ, zero, suc, ◌+◌, ◌*◌, ◌-◌, ◌≤◌, ◌<◌, drop, get_or}
 use Rattle.std.proofs.Math.Bool.{true, false, cond, not}
 use Rattle.std.proofs.lemmas.Bool.{false≢true, lt-leb}
 use mathlib.Core.List.{List, [], ◌∷◌, ◌++◌}
 use Rattle.std.proofs.Math.Path.{◌≡◌, refl, sym, ap, subst}
-use Rattle.std.proofs.Common.{◌∙◌, arith, length-drop, take-append-drop, drop-drop, length-take-le, take_at, take-take, le-leb}
+use Rattle.std.proofs.Common.{◌∙◌, arith, take-append-drop, drop-drop, length-take-le, take_at, le-leb}
 use Rattle.std.proofs.Math.ListN.{length, take}
 use Rattle.base.specs.Choice.{both_pass, both_true, test_cases}
 use Rattle.base.specs.ListLaws.{all_append, all_drop, all_inside, all_take, stretch_cut, stretch_front}
@@ -19,12 +19,12 @@ use Rattle.register.specs.LineLaws.{currency_size, currency_text}
 use Rattle.register.specs.Register.{Lines, differ, held_form, is_house, is_open, line_at, most_lines}
 use Rattle.register.specs.RegisterLaws.{all_forms, currency_some, form_has, home_currency}
 use Rattle.register_lines.specs.FieldLaws.{five_fields, four-fields}
-use Rattle.register_lines.specs.Fields.{field_count}
-use Rattle.register_reading.specs.declared.Held.{Held}
-use Rattle.register_reading.specs.declared.Held.TheVariants.{Count, Bad}
-use Rattle.register_reading.specs.declared.State.{State}
-use Rattle.register_reading.specs.declared.State.TheVariants.{Opened, Old, Broken}
-use Rattle.register_reading.specs.Reading.{SlotsFound, SlotsHold, Placed, RegisterRead, RegisterReads, RegisterReady, LineStands, Trimmed, Unopened}
+use Rattle.register_lines.specs.Fields.{field_count, is_count}
+use Rattle.register_reading.specs.declared.Held.TheVariants.{Opened, Old}
+use Rattle.std.specs.Prelude.{Option, Some, None, Ok, Err}
+use Rattle.register.specs.declared.Refusal.{Refusal}
+use Rattle.register.specs.declared.Refusal.TheVariants.{BadBuffer}
+use Rattle.register_reading.specs.Reading.{SlotsFound, SlotsHold, Placed, RegisterRead, RegisterReads, RegisterReady, OpenedRead, OpenedReads, Trimmed, Unopened}
 use Rattle.register_reading.specs.Reading.{fields_of, has_fields, header_fields, slot_at, slots_hold}
 use Rattle.register_reading.specs.SlotLaws.{trim_line}
 
@@ -36,14 +36,14 @@ later k m l h a =
 
 -- The header: by its first three bytes and those behind them.
 module _ (header : List ℕ) (size : length header ≡ header_size) where
-  fields_by : (t : Bool) → slot_cell_keeps is_house header ≡ t → header_fields header ≡ cond t (fields_of (text_in header)) 0
+  fields_by : (t : Bool) → slot_cell_keeps is_house header ≡ t → header_fields header ≡ cond t (Some (fields_of (text_in header))) None
   unfolding header_fields
   fields_by t e = rw e
 
   -- a header that can't keep its rule
-  broken : (slot_cell_keeps is_house header ≡ true → ⊥) → 0 ≡ header_fields header
+  broken : (slot_cell_keeps is_house header ≡ true → ⊥) → None ≡ header_fields header
   broken n =
-      test_cases (λ t. slot_cell_keeps is_house header ≡ t → 0 ≡ header_fields header) (slot_cell_keeps is_house header)
+      test_cases (λ t. slot_cell_keeps is_house header ≡ t → None ≡ header_fields header) (slot_cell_keeps is_house header)
       (λ e _. absurd (n e)) (λ e _. sym (fields_by false e)) refl
 
   whole : take 3 header ++ drop 3 header ≡ header
@@ -52,22 +52,22 @@ module _ (header : List ℕ) (size : length header ≡ header_size) where
   front : length (take 3 header) ≡ 3
   front = length-take-le 3 header (omega arith)
 
-  pub header-behind : all is_zero (drop 3 header) ≡ false → 0 ≡ header_fields header
+  pub header-behind : all is_zero (drop 3 header) ≡ false → None ≡ header_fields header
   header-behind e =
       broken (λ keeps.
       let few = house_size (text_in header) (cell-form is_house header keeps) in
       false≢true (sym e ∙ later (length (text_in header)) 3 header few (cell-zeros is_house header keeps)))
 
   module _ (behind : all is_zero (drop 3 header) ≡ true) where
-    pub header_old : all is_zero (take 3 header) ≡ true → 4 ≡ header_fields header
+    pub header_old : all is_zero (take 3 header) ≡ true → Some 4 ≡ header_fields header
     unfolding slot_cell_keeps is_house is_nil fields_of all
     header_old e =
         let zeros : all is_zero header ≡ true = ap (all is_zero) (sym whole) ∙ all_append is_zero (take 3 header) (drop 3 header) e behind in
         let none : text_in header ≡ [] = text_read [] header refl zeros in
         let keeps : slot_cell_keeps is_house header ≡ true = rw none zeros in
-        sym (fields_by true keeps ∙ ap fields_of none)
+        sym (fields_by true keeps ∙ ap (λ h. Some (fields_of h)) none)
 
-    pub header_open : is_currency (take 3 header) ≡ true → 5 ≡ header_fields header
+    pub header_open : is_currency (take 3 header) ≡ true → Some 5 ≡ header_fields header
     unfolding slot_cell_keeps fields_of
     header_open is =
         let house : text_in header ≡ take 3 header =
@@ -75,9 +75,9 @@ module _ (header : List ℕ) (size : length header ≡ header_size) where
         let keeps : slot_cell_keeps is_house header ≡ true =
         both_pass (ap is_house house ∙ home_currency (take 3 header) is)
         (ap (λ k. all is_zero (drop k header)) (ap length house ∙ front) ∙ behind) in
-        sym (fields_by true keeps ∙ ap fields_of house ∙ rw (currency_some (take 3 header) is))
+        sym (fields_by true keeps ∙ ap (λ h. Some (fields_of h)) house ∙ rw (currency_some (take 3 header) is))
 
-  pub header_neither : all is_zero (take 3 header) ≡ false → is_currency (take 3 header) ≡ false → 0 ≡ header_fields header
+  pub header_neither : all is_zero (take 3 header) ≡ false → is_currency (take 3 header) ≡ false → None ≡ header_fields header
   header_neither some other =
       broken (λ keeps.
       let house = text_in header in
@@ -89,55 +89,55 @@ module _ (header : List ℕ) (size : length header ≡ header_size) where
       ∙ take_at house (drop (length house) header) 3 (currency_size house is) in
       false≢true (sym other ∙ ap is_currency at ∙ is)))
 
--- a header that tells a number of fields keeps its rule
-pub header_keeps : (header : List ℕ) → ¬ (header_fields header ≡ 0)
-    → (slot_cell_keeps is_house header ≡ true) × (header_fields header ≡ fields_of (text_in header))
-unfolding header_fields
-header_keeps header n =
-    test_cases (λ t. ¬ (cond t (fields_of (text_in header)) 0 ≡ 0) → (t ≡ true) × (cond t (fields_of (text_in header)) 0 ≡ fields_of (text_in header)))
-    (slot_cell_keeps is_house header) (λ _ _. (refl, refl)) (λ _ no. absurd (no refl)) n
+-- a header that tells a number of fields keeps its rule, and one that tells none breaks it
+module _ (header : List ℕ) where
+  pub header_keeps : (fields : ℕ) → header_fields header ≡ Some fields
+      → (slot_cell_keeps is_house header ≡ true) × (fields ≡ fields_of (text_in header))
+  unfolding header_fields
+  header_keeps fields = keeps (slot_cell_keeps is_house header)
+    where
+      keeps : (t : Bool) → cond t (Some (fields_of (text_in header))) None ≡ Some fields → (t ≡ true) × (fields ≡ fields_of (text_in header))
+      keeps true e = (refl, cc)
+      keeps false e = cc
 
-header_lacks : (header : List ℕ) → header_fields header ≡ 0 → slot_cell_keeps is_house header ≡ false
-unfolding header_fields fields_of
-header_lacks header z =
-    test_cases (λ t. cond t (fields_of (text_in header)) 0 ≡ 0 → t ≡ false) (slot_cell_keeps is_house header)
-    (λ _ e. absurd (some (is_nil (text_in header)) e)) (λ _ _. refl) z
-  where
-    some : (t : Bool) → ¬ (◌≡◌ {A = ℕ} (cond t 4 5) 0)
-    some true e = omega arith
-    some false e = omega arith
+  header_lacks : header_fields header ≡ None → slot_cell_keeps is_house header ≡ false
+  unfolding header_fields
+  header_lacks = lacks (slot_cell_keeps is_house header)
+    where
+      lacks : (t : Bool) → cond t (Some (fields_of (text_in header))) None ≡ None → t ≡ false
+      lacks true e = cc
+      lacks false e = refl
 
 -- the number of fields tells the form
 form-fields : (house : List ℕ) → has_fields (fields_of house) ≡ held_form house
 unfolding has_fields fields_of held_form
 form-fields house =
-    test_cases (λ t. ◌≡◌ {A = List ℕ → Bool} (λ line. eqb (field_count line) (cond t 4 5)) (λ line. cond t (is_line line) (is_record line)))
+    test_cases (λ t. ◌≡◌ {A = List ℕ → Bool} (λ line. is_count (cond t 4 5) (field_count line)) (λ line. cond t (is_line line) (is_record line)))
     (is_nil house)
     (λ _ i line. four-fields line i) (λ _ i line. five_fields line i)
 
 -- Reading: a buffer that is too small, one whose header breaks its rule, and one that is judged by its slots
-read_broken : (buffer keys : List ℕ) → length keys ≡ most_lines → buffer_keeps buffer ≡ false → RegisterRead buffer keys Broken
+read_broken : (buffer keys : List ℕ) → length keys ≡ most_lines → buffer_keeps buffer ≡ false → RegisterRead buffer keys None
 unfolding RegisterReads
 read_broken buffer keys size e = record { finds = e; size = size }
 
 module _ (buffer keys : List ℕ) (size : length keys ≡ most_lines) where
-  pub buffer_small : length buffer < register_size → RegisterRead buffer keys Broken
+  pub buffer_small : length buffer < register_size → RegisterRead buffer keys None
   unfolding buffer_keeps
   buffer_small h = read_broken buffer keys size (ap (λ b. b && register_keeps_rules buffer) (lt-leb register_size (length buffer) h))
 
-  pub header_bad : register_size ≤ length buffer → header_fields (header_in buffer) ≡ 0 → RegisterRead buffer keys Broken
+  pub header_bad : register_size ≤ length buffer → header_fields (header_in buffer) ≡ None → RegisterRead buffer keys None
   unfolding buffer_keeps register_keeps_rules
   header_bad h e = read_broken buffer keys size (rw (le-leb register_size (length buffer) h, header_lacks (header_in buffer) e))
 
-module _ (buffer : List ℕ) (fields : ℕ) (h : register_size ≤ length buffer) (is : fields ≡ header_fields (header_in buffer))
-    (some : ¬ (fields ≡ 0)) where
+module _ (buffer : List ℕ) (fields : ℕ) (h : register_size ≤ length buffer) (is : header_fields (header_in buffer) ≡ Some fields) where
   fields_are : fields ≡ fields_of (text_in (header_in buffer))
-  fields_are = is ∙ (header_keeps (header_in buffer) (λ z. some (is ∙ z))).1
+  fields_are = (header_keeps (header_in buffer) fields is).1
 
   judged : buffer_keeps buffer ≡ slots_hold fields (slots_in buffer)
   unfolding buffer_keeps register_keeps_rules register_in slots_hold
   judged =
-      rw (le-leb register_size (length buffer) h, (header_keeps (header_in buffer) (λ z. some (is ∙ z))).0)
+      rw (le-leb register_size (length buffer) h, (header_keeps (header_in buffer) fields is).0)
       (ap (λ f. slots_keep f most_lines (slots_in buffer) && differ (lines_in most_lines (slots_in buffer)))
       (sym (ap has_fields fields_are ∙ form-fields (text_in (header_in buffer)))))
 
@@ -164,57 +164,75 @@ module _ (buffer : List ℕ) (fields : ℕ) (h : register_size ≤ length buffer
       either true e = e
       either false e = absurd (n e)
 
-  module _ (keys : List ℕ) (r : Held) (found : SlotsHold (slots_hold fields (slots_in buffer)) (lines_in most_lines (slots_in buffer)) keys r) where
-    pub read_refused : r ≡ Bad → RegisterRead buffer keys Broken
+  module _ (keys : List ℕ) where
+    abbrev Found : Option ℕ → Type 0
+    Found = SlotsHold (slots_hold fields (slots_in buffer)) (lines_in most_lines (slots_in buffer)) keys
+
+    pub read_refused : Found None → RegisterRead buffer keys None
     unfolding SlotsFound
-    read_refused bad =
-        read_broken buffer keys found.size
-        (judged ∙ subst (SlotsFound (slots_hold fields (slots_in buffer)) (lines_in most_lines (slots_in buffer)) keys) bad found.finds)
+    read_refused found = read_broken buffer keys found.size (judged ∙ found.finds)
 
-    module _ (n : ℕ) (count : r ≡ Count n) where
-      finds : SlotsFound (slots_hold fields (slots_in buffer)) (lines_in most_lines (slots_in buffer)) keys (Count n)
-      finds = subst (SlotsFound (slots_hold fields (slots_in buffer)) (lines_in most_lines (slots_in buffer)) keys) count found.finds
-
-      pub read_opened : fields ≡ 5 → RegisterRead buffer keys (Opened n)
+    module _ (n : ℕ) (found : Found (Some n)) where
+      pub read_opened : fields ≡ 5 → RegisterRead buffer keys (Some (Opened n))
       unfolding SlotsFound RegisterReads register_in
       read_opened five =
           record {
             finds =
                 record {
-                  counted = record { keeps = judged ∙ finds.0; is_open_lem = open_is false (sym five); count = finds.1 };
-                  keyed = finds.2;
+                  counted = record { keeps = judged ∙ found.finds.0; is_open_lem = open_is false (sym five); count = found.finds.1 };
+                  keyed = found.finds.2;
                 };
             size = found.size;
           }
 
-      pub read_old : ¬ (fields ≡ 5) → RegisterRead buffer keys (Old n)
+      pub read_old : ¬ (fields ≡ 5) → RegisterRead buffer keys (Some (Old n))
       unfolding SlotsFound RegisterReads register_in
       read_old n5 =
           record {
-            finds = record { keeps = judged ∙ finds.0; is_old = open_is true (sym (not_five n5)); count = finds.1 };
+            finds = record { keeps = judged ∙ found.finds.0; is_old = open_is true (sym (not_five n5)); count = found.finds.1 };
             size = found.size;
           }
 
--- What was read, by the state that came back.
-module _ (buffer keys : List ℕ) (r : State) (read : RegisterRead buffer keys r) where
-  pub is_broken : r ≡ Broken → buffer_keeps buffer ≡ false
+-- What was read, by what came back; W10.6 the buffers that every call but opening turns down.
+module _ (buffer keys : List ℕ) where
+  pub is_broken : RegisterRead buffer keys None → buffer_keeps buffer ≡ false
   unfolding RegisterReads
-  is_broken e = subst (RegisterReads buffer keys) e read.finds
+  is_broken read = read.finds
 
-  pub is_old : (n : ℕ) → r ≡ Old n → Unopened buffer n
+  pub is_old : (n : ℕ) → RegisterRead buffer keys (Some (Old n)) → Unopened buffer n
   unfolding RegisterReads
-  is_old n e = subst (RegisterReads buffer keys) e read.finds
+  is_old n read = read.finds
 
-  pub is_opened_lem : (n : ℕ) → r ≡ Opened n → RegisterReady buffer n keys
+  pub is_opened_lem : (n : ℕ) → RegisterRead buffer keys (Some (Opened n)) → RegisterReady buffer n keys
   unfolding RegisterReads
-  is_opened_lem n e = subst (RegisterReads buffer keys) e read.finds
+  is_opened_lem n read = read.finds
 
-  -- W10.6 the buffers that every call but opening turns down
-  pub broken_refused : r ≡ Broken → buffer_open buffer ≡ false
-  broken_refused e = open_broken buffer (is_broken e)
+  pub opened_is : (n : ℕ) → RegisterRead buffer keys (Some (Opened n)) → OpenedRead buffer keys (Ok n)
+  unfolding OpenedReads
+  opened_is n read = record { finds = is_opened_lem n read; size = read.size }
 
-  pub old_refused : (n : ℕ) → r ≡ Old n → buffer_open buffer ≡ false
-  old_refused n e = let u = is_old n e in open_keeps buffer u.keeps ∙ u.is_old
+  pub old_refused : (n : ℕ) → RegisterRead buffer keys (Some (Old n)) → OpenedRead buffer keys (Err BadBuffer)
+  unfolding OpenedReads
+  old_refused n read = let u = is_old n read in record { finds = (refl, open_keeps buffer u.keeps ∙ u.is_old); size = read.size }
+
+  pub broken_refused : RegisterRead buffer keys None → OpenedRead buffer keys (Err BadBuffer)
+  unfolding OpenedReads
+  broken_refused read = record { finds = (refl, open_broken buffer (is_broken read)); size = read.size }
+
+-- what is known of an opened register that was read, and of any other buffer
+module _ (buffer keys : List ℕ) where
+  pub opened_ready : (n : ℕ) → OpenedRead buffer keys (Ok n) → RegisterReady buffer n keys
+  unfolding OpenedReads
+  opened_ready n read = read.finds
+
+  pub opened_few : (n : ℕ) → OpenedRead buffer keys (Ok n) → n ≤ length keys
+  opened_few n read =
+      let ready = (opened_ready n read).counted in
+      omega (arith, read.size, ready.count, (read_sound buffer ready.keeps).few)
+
+  pub opened_refused : (refusal : Refusal) → OpenedRead buffer keys (Err refusal) → (refusal ≡ BadBuffer) × (buffer_open buffer ≡ false)
+  unfolding OpenedReads
+  opened_refused refusal read = read.finds
 
 -- The line of a place stands in its slot, which keeps its rule
 record SlotHolds (form : List ℕ → Bool) (slot line : List ℕ) : Type 0 where
@@ -282,27 +300,13 @@ module _ (buffer : List ℕ) (place : ℕ) (p : Placed buffer place) where
     trims : Trimmed slot n
     trims = subst (λ s. Trimmed s n) (stretch_cut buffer at slot_size) t
 
-    pub line_stands : LineStands buffer place (at + n)
+    pub line_stands : take n (take (at + slot_size - at) (drop at buffer)) ≡ line_at (register_in buffer).lines place
     line_stands =
-        let size = length-take-le slot_size (drop at buffer) (omega (arith, slot_room, length-drop at buffer)) in
-        let short : n ≤ slot_size = omega (arith, trims.inside, size) in
-        record {
-          from = omega arith;
-          inside = omega (arith, slot_room);
-          bytes =
-              stretch_cut buffer at n
-              ∙ sym (take-take n slot_size (drop at buffer) short)
-              ∙ trim_line form (form_has (text_in (header_in buffer))) slot n trims here.keeps
-              ∙ here.is;
-        }
+        ap (take n) (stretch_cut buffer at slot_size)
+        ∙ trim_line form (form_has (text_in (header_in buffer))) slot n trims here.keeps
+        ∙ here.is
 
   pub here-form : has_form (line_at (register_in buffer).lines place) ≡ true
   unfolding line_at
   here-form =
       all_inside has_form (register_in buffer).lines [] (all_forms (register_in buffer) (read_sound buffer p.keeps)) place p.inside
-
-  pub here_size : (end : ℕ) → LineStands buffer place end → end - at ≡ length (line_at (register_in buffer).lines place)
-  here_size end s =
-      let from = s.from in
-      let inside = s.inside in
-      sym (length-take-le (end - at) (drop at buffer) (omega (arith, length-drop at buffer))) ∙ ap length s.bytes

@@ -1,15 +1,17 @@
 -- What the code says of a register in a buffer: the contracts of its lines as keys, and what reading it found. Assumes nothing.
-use Rattle.std.specs.Prelude.{Bool, true, false, cond, not, ◌&&◌, List, map, ◌≡◌, ℕ, ◌+◌, ◌*◌, ◌-◌, ◌%◌, ◌≤◌, ◌<◌, eqb, length, take, drop, get_or, set}
+use Rattle.std.specs.Prelude.{Bool, true, false, cond, not, ◌&&◌, List, map, ◌≡◌, ℕ, ◌+◌, ◌*◌, ◌-◌, ◌%◌, ◌≤◌, ◌<◌, length, take, drop, get_or, set}
+use Rattle.std.specs.Prelude.{Option, Some, None, Result, Ok, Err}
 use Rattle.base.specs.Lists.{all, among, is_nil}
 use Rattle.card_reader.specs.Keys.{key_of}
 use Rattle.register.specs.Buffer.{is_zero, header_size, slot_size, text_in, lines_in, register_in, slot_cell_keeps, slots_keep, buffer_keeps}
+use Rattle.register.specs.Calls.{buffer_open}
 use Rattle.register.specs.Line.{contract_of}
-use Rattle.register.specs.Register.{Lines, most_lines, differ, is_house, is_open, line_at}
-use Rattle.register_lines.specs.Fields.{field_count}
+use Rattle.register.specs.declared.Refusal.{Refusal}
+use Rattle.register.specs.declared.Refusal.TheVariants.{BadBuffer}
+use Rattle.register.specs.Register.{Lines, most_lines, differ, is_house, is_open}
+use Rattle.register_lines.specs.Fields.{field_count, is_count}
 use Rattle.register_reading.specs.declared.Held.{Held}
-use Rattle.register_reading.specs.declared.Held.TheVariants.{Count, Bad}
-use Rattle.register_reading.specs.declared.State.{State}
-use Rattle.register_reading.specs.declared.State.TheVariants.{Opened, Old, Broken}
+use Rattle.register_reading.specs.declared.Held.TheVariants.{Opened, Old}
 
 -- the contracts of lines, each as one number
 unfoldable pub key_in : (line : List ℕ) → ℕ
@@ -26,11 +28,11 @@ pub record Trimmed (slot : List ℕ) (n : ℕ) : Type 0 where
 
 -- a line has so many fields, each with its form
 unfoldable pub has_fields : (fields : ℕ) (line : List ℕ) → Bool
-has_fields fields line = eqb (field_count line) fields
+has_fields fields line = is_count fields (field_count line)
 
--- the key of the line in a slot, which should have so many fields; 0 where the slot breaks its rule
-unfoldable pub slot_key : (fields : ℕ) (slot : List ℕ) → ℕ
-slot_key fields slot = cond (slot_cell_keeps (has_fields fields) slot) (key_in (text_in slot)) 0
+-- the key of the line in a slot, which should have so many fields; none where the slot breaks its rule
+unfoldable pub slot_key : (fields : ℕ) (slot : List ℕ) → Option ℕ
+slot_key fields slot = cond (slot_cell_keeps (has_fields fields) slot) (Some (key_in (text_in slot))) None
 
 -- how many marks there are; a key is marked at its place among them
 abbrev pub mark_count : ℕ
@@ -53,20 +55,20 @@ unfoldable pub slots_hold : (fields : ℕ) (slots : List ℕ) → Bool
 slots_hold fields slots = slots_keep (has_fields fields) most_lines slots && differ (lines_in most_lines slots)
 
 -- what was found, of slots that keep the rules or not: how many lines, with their keys
-unfoldable pub SlotsFound : (keeps : Bool) → Lines → (keys : List ℕ) → Held → Type 0
-SlotsFound keeps held keys (Count n) = (keeps ≡ true) × (n ≡ length held) × (take n keys ≡ keys_of held)
-SlotsFound keeps held keys Bad = keeps ≡ false
+unfoldable pub SlotsFound : (keeps : Bool) → Lines → (keys : List ℕ) → Option ℕ → Type 0
+SlotsFound keeps held keys (Some n) = (keeps ≡ true) × (n ≡ length held) × (take n keys ≡ keys_of held)
+SlotsFound keeps held keys None = keeps ≡ false
 
-pub record SlotsHold (keeps : Bool) (held : Lines) (keys : List ℕ) (r : Held) : Type 0 where
+pub record SlotsHold (keeps : Bool) (held : Lines) (keys : List ℕ) (r : Option ℕ) : Type 0 where
   pub finds : SlotsFound keeps held keys r
   pub size : length keys ≡ most_lines
 
--- how many fields lines have in a register with this house currency; and under this header, 0 where it breaks its rule
+-- how many fields lines have in a register with this house currency; and under this header, none where it breaks its rule
 unfoldable pub fields_of : (house : List ℕ) → ℕ
 fields_of house = cond (is_nil house) 4 5
 
-unfoldable pub header_fields : (header : List ℕ) → ℕ
-header_fields header = cond (slot_cell_keeps is_house header) (fields_of (text_in header)) 0
+unfoldable pub header_fields : (header : List ℕ) → Option ℕ
+header_fields header = cond (slot_cell_keeps is_house header) (Some (fields_of (text_in header))) None
 
 -- a register with so many lines: one that is opened, also with their keys; and one that isn't
 pub record LinesCounted (buffer : List ℕ) (n : ℕ) : Type 0 where
@@ -83,14 +85,22 @@ pub record Unopened (buffer : List ℕ) (n : ℕ) : Type 0 where
   pub is_old : is_open (register_in buffer) ≡ false
   pub count : n ≡ length (register_in buffer).lines
 
--- what was read
-unfoldable pub RegisterReads : (buffer keys : List ℕ) → State → Type 0
-RegisterReads buffer keys (Opened n) = RegisterReady buffer n keys
-RegisterReads buffer keys (Old n) = Unopened buffer n
-RegisterReads buffer keys Broken = buffer_keeps buffer ≡ false
+-- what was read, of an opened register or any
+unfoldable pub RegisterReads : (buffer keys : List ℕ) → Option Held → Type 0
+RegisterReads buffer keys (Some (Opened n)) = RegisterReady buffer n keys
+RegisterReads buffer keys (Some (Old n)) = Unopened buffer n
+RegisterReads buffer keys None = buffer_keeps buffer ≡ false
 
-pub record RegisterRead (buffer keys : List ℕ) (r : State) : Type 0 where
+pub record RegisterRead (buffer keys : List ℕ) (r : Option Held) : Type 0 where
   pub finds : RegisterReads buffer keys r
+  pub size : length keys ≡ most_lines
+
+unfoldable pub OpenedReads : (buffer keys : List ℕ) → Result ℕ Refusal → Type 0
+OpenedReads buffer keys (Ok n) = RegisterReady buffer n keys
+OpenedReads buffer keys (Err refusal) = (refusal ≡ BadBuffer) × (buffer_open buffer ≡ false)
+
+pub record OpenedRead (buffer keys : List ℕ) (r : Result ℕ Refusal) : Type 0 where
+  pub finds : OpenedReads buffer keys r
   pub size : length keys ≡ most_lines
 
 -- a buffer with a register that has a line at a place
@@ -98,19 +108,14 @@ pub record Placed (buffer : List ℕ) (place : ℕ) : Type 0 where
   pub keeps : buffer_keeps buffer ≡ true
   pub inside : place < length (register_in buffer).lines
 
--- where its slot begins, and that the line ends at a place of the buffer
+-- where its slot begins
 abbrev pub slot_at : (place : ℕ) → ℕ
 slot_at place = header_size + slot_size * place
 
-pub record LineStands (buffer : List ℕ) (place end : ℕ) : Type 0 where
-  pub from : slot_at place ≤ end
-  pub inside : end ≤ length buffer
-  pub bytes : take (end - slot_at place) (drop (slot_at place) buffer) ≡ line_at (register_in buffer).lines place
-
 -- what is found at slot k, which begins with zero: the end of the lines, or a byte that isn't zero behind it
-unfoldable pub EndFinds : (slots : List ℕ) (k : ℕ) → Held → Type 0
-EndFinds slots k (Count n) = (n ≡ k) × (all is_zero (drop (slot_size * k) slots) ≡ true)
-EndFinds slots k Bad = all is_zero (drop (slot_size * k) slots) ≡ false
+unfoldable pub EndFinds : (slots : List ℕ) (k : ℕ) → Option ℕ → Type 0
+EndFinds slots k (Some n) = (n ≡ k) × (all is_zero (drop (slot_size * k) slots) ≡ true)
+EndFinds slots k None = all is_zero (drop (slot_size * k) slots) ≡ false
 
-pub record EndFound (slots : List ℕ) (k : ℕ) (r : Held) : Type 0 where
+pub record EndFound (slots : List ℕ) (k : ℕ) (r : Option ℕ) : Type 0 where
   pub finds : EndFinds slots k r

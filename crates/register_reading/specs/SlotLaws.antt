@@ -1,16 +1,19 @@
 -- Slots read one after the other: the line of a slot, the lines and keys so far, and what each end of the reading finds. Assumes nothing.
 use Rattle.std.specs.Prelude.{Bool, ◌&&◌, ◌≡◌, ℕ, zero, suc, ◌+◌, ◌*◌, ◌-◌, ◌≤◌, ◌<◌, eqb, drop, get_or}
-use Rattle.std.proofs.Math.Bool.{true, false, cond, not, and-false}
+use Rattle.std.proofs.Math.Bool.{true, false, cond, and-false}
 use Rattle.std.proofs.lemmas.Bool.{false≢true}
 use mathlib.Core.List.{List, [], ◌∷◌, ◌++◌, append_assoc, append-nil, map-append}
 use Rattle.std.proofs.Math.Path.{refl, sym, ap, ap₂}
-use Rattle.std.proofs.Common.{◌∙◌, add-zero, add-one, take-append-drop, drop-drop, get_or-drop, take_at, take-take}
+use Rattle.std.proofs.Common.{subst, ◌∙◌, add-zero, add-one, take-append-drop, drop-drop, get_or-drop, take_at}
 use native.Mathlib.Omega.{arith}
 use Rattle.std.proofs.Math.ListN.{length, take, length-append, length-set, get_or-append}
 use Rattle.std.proofs.Math.Seq.{length-take-le, take-suc-set}
-use borrow.Author.Tests.{eq-eqb, eqb-true, ne_eqb, not-true}
-use Rattle.base.specs.Choice.{both_true, both_pass, test_cases}
-use Rattle.base.specs.ListLaws.{all_append, all_end, all_inside, all-next, stretch_end}
+use borrow.Author.Tests.{eq-eqb, ne_eqb, not-true}
+use Rattle.std.specs.Prelude.{Option, Some, None, reverse}
+use Rattle.std.specs.List.{prefix_len, suffix_len}
+use Rattle.std.proofs.lemmas.List.{drop-append-le, get_or_push, length-reverse, reverse-append, reverse-reverse}
+use Rattle.base.specs.Choice.{both_true, both_pass, cond_cases, test_cases}
+use Rattle.base.specs.ListLaws.{all_append, all_end, all_inside, stretch_end}
 use Rattle.base.specs.Lists.{all, among}
 use Rattle.cards.specs.Bytes.{is_name_byte}
 use Rattle.cards.specs.Cards.{without_blanks}
@@ -21,11 +24,9 @@ use Rattle.register.specs.Line.{contract_of, has_form}
 use Rattle.register.specs.LineLaws.{is_text, line_size_lem, line_text}
 use Rattle.register.specs.Register.{Lines, most_lines, differ, is_held}
 use Rattle.register.specs.RegisterLaws.{differ-more, differ-split}
-use Rattle.register_lines.specs.FieldLaws.{contract_size, count-form}
-use Rattle.register_lines.specs.Fields.{RunOfBytes, field_count}
-use Rattle.register_reading.specs.declared.Held.{Held}
-use Rattle.register_reading.specs.declared.Held.TheVariants.{Count, Bad}
-use Rattle.register_reading.specs.KeyLaws.{key-read, key_some, keys_hold, none_marked}
+use Rattle.register_lines.specs.FieldLaws.{contract_size, count_some}
+use Rattle.register_lines.specs.Fields.{RunOfBytes, field_count, is_count}
+use Rattle.register_reading.specs.KeyLaws.{key-read, keys_hold, none_marked}
 use Rattle.register_reading.specs.Reading.{
   EndFinds,
   EndFound,
@@ -42,16 +43,38 @@ use Rattle.register_reading.specs.Reading.{
   slots_hold,
 }
 
--- A slot without the zeros at its end: they are passed from the last byte on.
-pub trim_none : (slot : List ℕ) → all is_zero (drop (length slot) slot) ≡ true
-trim_none slot = all_end is_zero slot (length slot) (omega arith)
+-- a slot without the zeros at its end, by its bytes from the last one on
+trim_turned : (l : List ℕ) → Trimmed (reverse l) (length l - prefix_len is_zero l)
+unfolding all
+trim_turned [] = record { inside = omega arith; zeros = refl; last = λ some. absurd (omega arith) }
+trim_turned (b ∷ l) =
+    let t = trim_turned l in
+    let whole = reverse l ++ (b ∷ []) in
+    let size : length (reverse l) ≡ length l = length-reverse l in
+    let more : length whole ≡ length l + 1 = length-append (reverse l) (b ∷ []) ∙ ap (λ n. n + 1) size in
+    subst (λ w. Trimmed w (length (b ∷ l) - prefix_len is_zero (b ∷ l))) (sym (reverse-append (b ∷ []) l))
+    (cond_cases (λ n. Trimmed whole (suc (length l) - n)) (is_zero b) {x = 1 + prefix_len is_zero l} {y = 0}
+    (λ e.
+    let n = length l - prefix_len is_zero l in
+    let same : suc (length l) - (1 + prefix_len is_zero l) ≡ n = omega arith in
+    let inside : n ≤ length (reverse l) = t.inside in
+    rw same (record {
+      inside = omega arith;
+      zeros = rw drop-append-le (all_append is_zero (drop n (reverse l)) (b ∷ []) t.zeros (both_pass e refl));
+      last = λ some. ap is_zero (get_or-append (reverse l) (b ∷ []) 0 (n - 1) (omega arith)) ∙ t.last some;
+    }))
+    (λ e.
+    record {
+      inside = omega arith;
+      zeros = all_end is_zero whole (suc (length l) - 0) (omega arith);
+      last = λ some. ap is_zero (get_or_push (reverse l) b 0 (suc (length l) - 0 - 1) (omega arith)) ∙ e;
+    }))
 
-pub trim_more : (slot : List ℕ) (n : ℕ) → 0 < n → n ≤ length slot → all is_zero (drop n slot) ≡ true → get_or slot (n - 1) 0 ≡ 0
-    → all is_zero (drop (n - 1) slot) ≡ true
-trim_more slot n some inside zeros here =
-    let next : n - 1 + 1 ≡ n = omega arith in
-    all-next is_zero slot (n - 1) (omega arith)
-    ∙ both_pass (eq-eqb (get_or slot (n - 1) 0) 0 here) (ap (λ k. all is_zero (drop k slot)) next ∙ zeros)
+pub trim_lem : (slot : List ℕ) → Trimmed slot (length slot - suffix_len is_zero slot)
+trim_lem slot =
+    let t = trim_turned (reverse slot) in
+    let size : length (reverse slot) ≡ length slot = length-reverse slot in
+    subst (λ s. Trimmed s (length slot - suffix_len is_zero slot)) (reverse-reverse slot) (subst (λ n. Trimmed (reverse (reverse slot)) (n - suffix_len is_zero slot)) size t)
 
 -- zeros are zero wherever one looks
 zeros-at : (l : List ℕ) → all is_zero l ≡ true → (j : ℕ) → is_zero (get_or l j 0) ≡ true
@@ -123,74 +146,82 @@ zeros-behind l at bits e = ap (all is_zero) (sym (stretch_end l at (length l - a
 
 -- what a reading finds
 found-lines : (keeps : Bool) (held : Lines) (keys : List ℕ) (n : ℕ) → length keys ≡ most_lines → keeps ≡ true → n ≡ length held
-    → take n keys ≡ keys_of held → SlotsHold keeps held keys (Count n)
+    → take n keys ≡ keys_of held → SlotsHold keeps held keys (Some n)
 unfolding SlotsFound
 found-lines keeps held keys n size e count keyed = record { finds = (e, count, keyed); size = size }
 
-pub found_broken : (keeps : Bool) (held : Lines) (keys : List ℕ) → length keys ≡ most_lines → keeps ≡ false → SlotsHold keeps held keys Bad
+pub found_broken : (keeps : Bool) (held : Lines) (keys : List ℕ) → length keys ≡ most_lines → keeps ≡ false → SlotsHold keeps held keys None
 unfolding SlotsFound
 found_broken keeps held keys size e = record { finds = e; size = size }
 
 -- what is found at slot k, where the lines end
-pub end_found : (slots : List ℕ) (k : ℕ) → all is_zero (drop (slot_size * k) slots) ≡ true → EndFound slots k (Count k)
+pub end_found : (slots : List ℕ) (k : ℕ) → all is_zero (drop (slot_size * k) slots) ≡ true → EndFound slots k (Some k)
 unfolding EndFinds
 end_found slots k e = record { finds = (refl, e) }
 
-pub end_broken : (slots : List ℕ) (k : ℕ) → all is_zero (drop (slot_size * k) slots) ≡ false → EndFound slots k Bad
+pub end_broken : (slots : List ℕ) (k : ℕ) → all is_zero (drop (slot_size * k) slots) ≡ false → EndFound slots k None
 unfolding EndFinds
 end_broken slots k e = record { finds = e }
 
 -- Slots whose lines should have so many fields.
-module _ (fields : ℕ) (some-fields : 1 ≤ fields) where
+module _ (fields : ℕ) where
   fields-form : (line : List ℕ) → has_fields fields line ≡ true → has_form line ≡ true
-  unfolding has_fields
-  fields-form line e =
-      sym (count-form line)
-      ∙ ap not (ne_eqb (field_count line) 0 (λ z. omega (arith, eqb-true (field_count line) fields e)))
+  unfolding has_fields is_count
+  fields-form line = counted (field_count line) refl
+    where
+      counted : (count : Option ℕ) → field_count line ≡ count → is_count fields count ≡ true → has_form line ≡ true
+      counted (Some n) is e = count_some line n is
+      counted None is e = absurd (false≢true e)
 
+  pub form_none : (line : List ℕ) → field_count line ≡ None → has_fields fields line ≡ false
+  unfolding has_fields is_count
+  form_none line e = rw e refl
+
+  pub form_other : (line : List ℕ) (n : ℕ) → field_count line ≡ Some n → ¬ (n ≡ fields) → has_fields fields line ≡ false
+  unfolding has_fields is_count
+  form_other line n e other = rw e (ne_eqb n fields other)
+
+  pub form_same : (line : List ℕ) (n : ℕ) → field_count line ≡ Some n → n ≡ fields → has_fields fields line ≡ true
+  unfolding has_fields is_count
+  form_same line n e same = rw e (eq-eqb n fields same)
+
+  -- the key of a slot, by the form of what stands in it
   module _ (slot : List ℕ) (n : ℕ) (t : Trimmed slot n) where
-    -- The key of a slot, by how many fields are counted in it.
-    module _ (count : ℕ) (counted : count ≡ field_count (take n slot)) where
-      pub slot_formless : ¬ (count ≡ fields) → 0 ≡ slot_key fields slot
-      unfolding slot_key has_fields
-      slot_formless other =
-          let lacks : has_fields fields (take n slot) ≡ false = ne_eqb (field_count (take n slot)) fields (λ e. other (counted ∙ e)) in
-          test_cases (λ k. slot_cell_keeps (has_fields fields) slot ≡ k → 0 ≡ cond k (key_in (text_in slot)) 0) (slot_cell_keeps (has_fields fields) slot)
-          (λ keeps _.
-          let line = trim_line (has_fields fields) fields-form slot n t keeps in
-          absurd (false≢true (sym lacks ∙ ap (has_fields fields) line ∙ cell-form (has_fields fields) slot keeps)))
-          (λ _ _. refl) refl
+    pub slot_formless : has_fields fields (take n slot) ≡ false → None ≡ slot_key fields slot
+    unfolding slot_key
+    slot_formless lacks =
+        test_cases (λ k. slot_cell_keeps (has_fields fields) slot ≡ k → None ≡ cond k (Some (key_in (text_in slot))) None) (slot_cell_keeps (has_fields fields) slot)
+        (λ keeps _.
+        let line = trim_line (has_fields fields) fields-form slot n t keeps in
+        absurd (false≢true (sym lacks ∙ ap (has_fields fields) line ∙ cell-form (has_fields fields) slot keeps)))
+        (λ _ _. refl) refl
 
-      module _ (same : count ≡ fields) (contract : ℕ) (r : RunOfBytes is_name_byte (take n slot) 0 contract) where
-        pub contract_within : contract ≤ n
-        contract_within = omega (arith, r.inside, length-take-le n slot t.inside)
-
-        pub slot-keyed : key_of (without_blanks (take 8 (take contract slot))) ≡ slot_key fields slot
-        unfolding slot_key has_fields
-        slot-keyed =
-            let form : has_fields fields (take n slot) ≡ true = eq-eqb (field_count (take n slot)) fields (sym counted ∙ same) in
-            let good = fields-form (take n slot) form in
-            ap (λ l. key_of (without_blanks (take 8 l))) (sym (take-take contract n slot contract_within))
-            ∙ key-read (take n slot) contract good (contract_size (take n slot) contract r good)
-            ∙ ap key_in (sym (form-line (has_fields fields) fields-form slot n t form))
-            ∙ sym (ap (λ b. cond b (key_in (text_in slot)) 0) (form_keeps (has_fields fields) fields-form slot n t form))
+    pub slot-keyed : (contract : ℕ) → RunOfBytes is_name_byte (take n slot) 0 contract → has_fields fields (take n slot) ≡ true
+        → Some (key_of (without_blanks (take 8 (take contract (take n slot))))) ≡ slot_key fields slot
+    unfolding slot_key
+    slot-keyed contract r form =
+        let good = fields-form (take n slot) form in
+        ap Some (key-read (take n slot) contract good (contract_size (take n slot) contract r good)
+        ∙ ap key_in (sym (form-line (has_fields fields) fields-form slot n t form)))
+        ∙ sym (ap (λ b. cond b (Some (key_in (text_in slot))) None) (form_keeps (has_fields fields) fields-form slot n t form))
 
   -- a slot with a key keeps its rule, one without breaks it
-  pub key-holds : (slot : List ℕ) → ¬ (slot_key fields slot ≡ 0)
-      → (slot_cell_keeps (has_fields fields) slot ≡ true) × (slot_key fields slot ≡ key_in (text_in slot))
+  pub key-holds : (slot : List ℕ) (key : ℕ) → slot_key fields slot ≡ Some key
+      → (slot_cell_keeps (has_fields fields) slot ≡ true) × (key ≡ key_in (text_in slot))
   unfolding slot_key
-  key-holds slot n =
-      test_cases (λ t. ¬ (cond t (key_in (text_in slot)) 0 ≡ 0) → (t ≡ true) × (cond t (key_in (text_in slot)) 0 ≡ key_in (text_in slot)))
-      (slot_cell_keeps (has_fields fields) slot)
-      (λ _ _. (refl, refl)) (λ _ no_key. absurd (no_key refl)) n
+  key-holds slot key = holds (slot_cell_keeps (has_fields fields) slot)
+    where
+      holds : (t : Bool) → cond t (Some (key_in (text_in slot))) None ≡ Some key → (t ≡ true) × (key ≡ key_in (text_in slot))
+      holds true e = (refl, cc)
+      holds false e = cc
 
-  pub key_lacks : (slot : List ℕ) → slot_key fields slot ≡ 0 → slot_cell_keeps (has_fields fields) slot ≡ false
-  unfolding slot_key slot_cell_keeps
-  key_lacks slot z =
-      test_cases (λ t. slot_cell_keeps (has_fields fields) slot ≡ t → t ≡ false) (slot_cell_keeps (has_fields fields) slot)
-      (λ e _. absurd (key_some (text_in slot) (fields-form (text_in slot) (cell-form (has_fields fields) slot e))
-      (sym (ap (λ b. cond b (key_in (text_in slot)) 0) e) ∙ z)))
-      (λ _ _. refl) refl
+  pub key_lacks : (slot : List ℕ) → slot_key fields slot ≡ None → slot_cell_keeps (has_fields fields) slot ≡ false
+  unfolding slot_key
+  key_lacks slot = lacks (slot_cell_keeps (has_fields fields) slot)
+    where
+      lacks : (t : Bool) → cond t (Some (key_in (text_in slot))) None ≡ None → t ≡ false
+      lacks true e = cc
+      lacks false e = refl
 
   pub read_none : (slots keys marks : List ℕ) → length keys ≡ most_lines → length marks ≡ mark_count → SlotsReadTo fields slots keys marks 0
   unfolding all differ
@@ -268,7 +299,7 @@ module _ (fields : ℕ) (some-fields : 1 ≤ fields) where
   -- The reading at slot k: it ends, breaks off or goes on.
   module _ (slots keys marks : List ℕ) (k : ℕ) (r : SlotsReadTo fields slots keys marks k) where
     -- all slots are read
-    pub read_all : k ≡ most_lines → SlotsHold (slots_hold fields slots) (lines_in most_lines slots) keys (Count k)
+    pub read_all : k ≡ most_lines → SlotsHold (slots_hold fields slots) (lines_in most_lines slots) keys (Some k)
     unfolding slots_hold lines_in slots_keep
     read_all full =
         let none : most_lines - k ≡ 0 = omega arith in
@@ -288,15 +319,15 @@ module _ (fields : ℕ) (some-fields : 1 ≤ fields) where
         ended_keep : slots_keep (has_fields fields) most_lines slots ≡ all is_zero (drop (slot_size * k) slots)
         ended_keep = r.keep ∙ keep_stop slots k h z
 
-        pub read_ends : (held : Held) → EndFound slots k held → SlotsHold (slots_hold fields slots) (lines_in most_lines slots) keys held
+        pub read_ends : (held : Option ℕ) → EndFound slots k held → SlotsHold (slots_hold fields slots) (lines_in most_lines slots) keys held
         unfolding EndFinds slots_hold
-        read_ends (Count n) e =
+        read_ends (Some n) e =
             let is = e.finds.0 in
             found-lines (slots_hold fields slots) (lines_in most_lines slots) keys n r.size
             (both_pass (ended_keep ∙ e.finds.1) (ap differ ended_lines ∙ r.different))
             (is ∙ sym r.count ∙ sym (ap length ended_lines))
             (ap (λ m. take m keys) is ∙ r.keyed ∙ sym (ap keys_of ended_lines))
-        read_ends Bad e =
+        read_ends None e =
             found_broken (slots_hold fields slots) (lines_in most_lines slots) keys r.size
             (ap (λ b. b && differ (lines_in most_lines slots)) (ended_keep ∙ e.finds))
 
@@ -305,24 +336,24 @@ module _ (fields : ℕ) (some-fields : 1 ≤ fields) where
         abbrev slot : List ℕ
         slot = take slot_size (drop (slot_size * k) slots)
 
-        pub read_bad : (key : ℕ) → key ≡ slot_key fields slot → key ≡ 0 → SlotsHold (slots_hold fields slots) (lines_in most_lines slots) keys Bad
+        pub read_bad : slot_key fields slot ≡ None → SlotsHold (slots_hold fields slots) (lines_in most_lines slots) keys None
         unfolding slots_hold
-        read_bad key is none =
-            let lacks = key_lacks slot (sym is ∙ none) in
+        read_bad none =
+            let lacks = key_lacks slot none in
             found_broken (slots_hold fields slots) (lines_in most_lines slots) keys r.size
             (ap (λ b. b && differ (lines_in most_lines slots))
             (r.keep ∙ keep-more slots k h z ∙ ap (λ b. b && slots_keep (has_fields fields) (most_lines - (k + 1))
             (drop (slot_size * (k + 1)) slots)) lacks))
 
-        module _ (key : ℕ) (is : key ≡ slot_key fields slot) (some : ¬ (key ≡ 0)) where
+        module _ (key : ℕ) (is : slot_key fields slot ≡ Some key) where
           abbrev line : List ℕ
           line = text_in slot
 
           abbrev rest : Lines
           rest = lines_in (most_lines - (k + 1)) (drop (slot_size * (k + 1)) slots)
 
-          holds-slot : (slot_cell_keeps (has_fields fields) slot ≡ true) × (slot_key fields slot ≡ key_in line)
-          holds-slot = key-holds slot (λ e. some (is ∙ e))
+          holds-slot : (slot_cell_keeps (has_fields fields) slot ≡ true) × (key ≡ key_in line)
+          holds-slot = key-holds slot key is
 
           form : has_form line ≡ true
           form = fields-form line (cell-form (has_fields fields) slot holds-slot.0)
@@ -333,10 +364,10 @@ module _ (fields : ℕ) (some-fields : 1 ≤ fields) where
           -- whether the contract is held is whether its key is among those noted
           held-is : among key (take k keys) ≡ is_held r.done (contract_of line)
           held-is =
-              ap₂ {C = Bool} among (is ∙ holds-slot.1) r.keyed ∙ keys_hold r.done line r.good form
+              ap₂ {C = Bool} among holds-slot.1 r.keyed ∙ keys_hold r.done line r.good form
 
           pub read_twice : (keys' : List ℕ) → length keys' ≡ most_lines → among key (take k keys) ≡ true
-              → SlotsHold (slots_hold fields slots) (lines_in most_lines slots) keys' Bad
+              → SlotsHold (slots_hold fields slots) (lines_in most_lines slots) keys' None
           unfolding slots_hold
           read_twice keys' size found =
               let same : differ (lines_in most_lines slots) ≡ false =
@@ -366,7 +397,7 @@ module _ (fields : ℕ) (some-fields : 1 ≤ fields) where
                 keyed =
                     ap₂ {C = List ℕ} take (add-one k) kept
                     ∙ take-suc-set keys k key (omega (arith, r.size))
-                    ∙ ap₂ {C = List ℕ} (λ l x. l ++ (x ∷ [])) r.keyed (is ∙ holds-slot.1)
+                    ∙ ap₂ {C = List ℕ} (λ l x. l ++ (x ∷ [])) r.keyed holds-slot.1
                     ∙ sym (map-append key_in r.done (line ∷ []));
                 marked = noted.marked refl;
                 size = ap length kept ∙ length-set keys k key ∙ r.size;

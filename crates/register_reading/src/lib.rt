@@ -3,48 +3,35 @@
 // Assumes nothing.
 #![tactic(auto)]
 
-ghost use Rattle.std.specs.Prelude.{◌≡◌, ◌*◌, ◌<◌, ◌≤◌, length, take};
-ghost use Rattle.base.specs.Lists.{among};
-ghost use Rattle.register.specs.Buffer.{header_size, lines_in, slot_size};
-ghost use Rattle.register.specs.Register.{most_lines};
-ghost use Rattle.register_reading.specs.Reading.{EndFound, SlotsHold, Marked, KeyNoted, Placed, RegisterRead, LineStands, Trimmed};
+ghost use Rattle.std.specs.Prelude.{false, fold, ◌==◌, ◌||◌, ◌≡◌, ◌*◌, ◌<◌, ◌≤◌, length};
+ghost use Rattle.std.specs.List.{suffix_len};
+ghost use Rattle.register.specs.Buffer.{header_size, is_zero, lines_in, register_in, slot_size};
+ghost use Rattle.register.specs.Register.{line_at, most_lines};
+ghost use Rattle.register_reading.specs.Reading.{EndFound, SlotsHold, Marked, KeyNoted, OpenedRead, Placed, RegisterRead, Trimmed};
 ghost use Rattle.register_reading.specs.Reading.{header_fields, slot_key, slots_hold};
 
 use card_reader::keys;
-use register::{CURRENCY, FIELDS, HEADER, LINES, OLD_FIELDS, SIZE, SLOT};
-use register_lines::{contract_length, field_count, is_currency};
+use register::{CURRENCY, FIELDS, HEADER, LINES, OLD_FIELDS, Refusal, SIZE, SLOT};
+use register_lines::{form_of, is_currency};
 use store::spans;
 
 // how many marks tell that a key may be held already: a prime, so that contracts in a row have marks of their own
 const MARKS: usize = 4093;
 
-// how many lines the slots hold, or that they are against their rules
-#[derive(Clone, Copy)]
-enum Held {
-    Count(usize),
-    Bad,
-}
-
-// how many lines a register holds, one that is opened or one that isn't; or that its buffer is too small or against its rules
-#[derive(Clone, Copy)]
-pub enum State {
+// how many lines a register holds: one that is opened, or one that isn't
+#[derive(Clone, Copy, Debug, PartialEq, Eq)]
+pub enum Held {
     Opened(usize),
     Old(usize),
-    Broken,
 }
 
-// whether a key is one of the first n
-pub fn is_among(keys: &[u64], n: usize, key: u64) -> bool
-    requires { n ≤ length keys.now }
-    ensures { result ≡ among key (take n keys.now) }
+// whether a key is among others; all are compared, so that this becomes vector code
+// kept: contains, which leaves at the first that is the same, took twice as long over contracts made against the marks
+fn is_among(keys: &[u64], key: u64) -> bool
+    ensures { result ≡ fold (λ found held. found || held == key) false keys.now }
 {
-    let mut found = false;
-    let mut i = 0;
-    while i < n {
-        found = found | (key == keys[i]);
-        i += 1;
-    }
-    found
+    keys.iter()
+        .fold(false, |found, held| found | (*held == key))
 }
 
 // Notes a key behind k others and marks it, unless it is one of them. It is compared with them only where its mark is there.
@@ -53,129 +40,122 @@ fn note(keys: &mut [u64], marks: &mut [u8], k: usize, key: u64) -> bool
     ensures { KeyNoted keys.old k key result keys.new marks.new }
 {
     let place = key as usize % MARKS;
-    if marks[place] != 0 {
-        if is_among(keys, k, key) {
-            return false;
-        }
+    if marks[place] != 0 && is_among(&keys[..k], key) {
+        return false;
     }
     marks[place] = 1;
     keys[k] = key;
     true
 }
 
-// how many bytes a slot has before the zeros at its end: those of its line, where it keeps its rule
+// how many zeros stand at the end of a slot
+fn zeros_behind(slot: &[u8]) -> usize
+    ensures { result ≡ suffix_len is_zero slot.now }
+{
+    slot.iter().rev().take_while(|b| **b == 0).count()
+}
+
+// how many bytes a slot has before them: those of its line, where it keeps its rule
 pub fn line_length(slot: &[u8]) -> usize
     ensures { Trimmed slot.now result }
 {
-    let mut n = slot.len();
-    while 0 < n {
-        if slot[n - 1] != 0 {
-            return n;
-        }
-        n -= 1;
-    }
-    n
+    slot.len() - zeros_behind(slot)
 }
 
-// the key of the contract in a slot whose line should have so many fields; 0 where the slot breaks its rule
-fn slot_key(slot: &[u8], fields: usize) -> u64
-    requires { 1 ≤ fields }
+// the key of the contract in a slot whose line should have so many fields; None where the slot breaks its rule
+fn slot_key(slot: &[u8], fields: usize) -> Option<u64>
     ensures { result ≡ slot_key fields slot.now }
 {
-    let n = line_length(slot);
-    let contract = contract_length(&slot[..n]);
-    let count = field_count(&slot[..n], contract);
-    if count != fields {
-        return 0;
+    let line = &slot[..line_length(slot)];
+    let form = form_of(line)?;
+    if form.fields != fields {
+        return None;
     }
-    keys::key_of(&slot[..contract])
+    Some(keys::key_of(&line[..form.contract]))
 }
 
-// what is found where slot k begins with zero: all behind it must be zero
-fn found_end(slots: &[u8], k: usize) -> Held
+// how many lines there are where slot k begins with zero: all behind it must be zero
+fn found_end(slots: &[u8], k: usize) -> Option<usize>
     requires { (length slots.now ≡ slot_size * most_lines) × (k < most_lines) }
     ensures { EndFound slots.now k result }
 {
-    let at = SLOT * k;
-    if spans::marks(&slots[at..]) == 0 {
-        Held::Count(k)
+    if spans::marks(&slots[SLOT * k..]) == 0 {
+        Some(k)
     } else {
-        Held::Bad
+        None
     }
 }
 
-// the lines in the slots, which should have so many fields, with their keys
-fn read_slots(slots: &[u8], fields: usize, keys: &mut [u64; LINES]) -> Held
-    requires { (length slots.now ≡ slot_size * most_lines) × (1 ≤ fields) × (length keys.old ≡ most_lines) }
+// how many lines are in the slots, which should have so many fields, with their keys; None where the slots break their rules
+fn read_slots(slots: &[u8], fields: usize, keys: &mut [u64; LINES]) -> Option<usize>
+    requires { (length slots.now ≡ slot_size * most_lines) × (length keys.old ≡ most_lines) }
     ensures { SlotsHold (slots_hold fields slots.now) (lines_in most_lines slots.now) keys.new result }
 {
     let mut marks = [0; MARKS];
-    let mut k = 0;
-    while k < LINES {
+    for k in 0..LINES {
         let at = SLOT * k;
         if slots[at] == 0 {
             return found_end(slots, k);
         }
-        let end = at + SLOT;
-        let key = slot_key(&slots[at..end], fields);
-        if key == 0 {
-            return Held::Bad;
-        }
+        let key = slot_key(&slots[at..at + SLOT], fields)?;
         if !note(keys, &mut marks, k, key) {
-            return Held::Bad;
+            return None;
         }
-        k += 1;
     }
-    Held::Count(LINES)
+    Some(LINES)
 }
 
-// how many fields lines have under this header: five where it has a house currency, four where it is all zeros; 0 where it is neither
-fn header_fields(header: &[u8]) -> usize
+// how many fields lines have under this header: five where it has a house currency, four where it is all zeros; None where it is neither
+fn header_fields(header: &[u8]) -> Option<usize>
     requires { length header.now ≡ header_size }
     ensures { result ≡ header_fields header.now }
 {
     if spans::marks(&header[CURRENCY..]) != 0 {
-        return 0;
+        None
+    } else if spans::marks(&header[..CURRENCY]) == 0 {
+        Some(OLD_FIELDS)
+    } else if is_currency(&header[..CURRENCY]) {
+        Some(FIELDS)
+    } else {
+        None
     }
-    if spans::marks(&header[..CURRENCY]) == 0 {
-        return OLD_FIELDS;
-    }
-    if is_currency(&header[..CURRENCY]) {
-        return FIELDS;
-    }
-    0
 }
 
-// the register in a buffer
-pub fn read_register(buffer: &[u8], keys: &mut [u64; LINES]) -> State
+// the register in a buffer; None where the buffer is too small or against the rules
+pub fn read_register(buffer: &[u8], keys: &mut [u64; LINES]) -> Option<Held>
     requires { length keys.old ≡ most_lines }
     ensures { RegisterRead buffer.now keys.new result }
 {
     if buffer.len() < SIZE {
-        return State::Broken;
+        return None;
     }
-    let fields = header_fields(&buffer[..HEADER]);
-    if fields == 0 {
-        return State::Broken;
-    }
-    let held = read_slots(&buffer[HEADER..SIZE], fields, keys);
-    match held {
-        Held::Bad => State::Broken,
-        Held::Count(n) => {
-            if fields == FIELDS {
-                return State::Opened(n);
-            }
-            State::Old(n)
-        }
+    let fields = header_fields(&buffer[..HEADER])?;
+    let n = read_slots(&buffer[HEADER..SIZE], fields, keys)?;
+    if fields == FIELDS {
+        Some(Held::Opened(n))
+    } else {
+        Some(Held::Old(n))
     }
 }
 
-// where the line of a place ends, in a register that has one there
-pub fn line_end(buffer: &[u8], place: usize) -> usize
+// how many lines an opened register holds; any other buffer is refused
+#[tactic(auto, using(crate::specs::ReadLaws::opened_is, crate::specs::ReadLaws::old_refused, crate::specs::ReadLaws::broken_refused))]
+pub fn read_opened(buffer: &[u8], keys: &mut [u64; LINES]) -> Result<usize, Refusal>
+    requires { length keys.old ≡ most_lines }
+    ensures { OpenedRead buffer.now keys.new result }
+{
+    match read_register(buffer, keys) {
+        Some(Held::Opened(n)) => Ok(n),
+        Some(Held::Old(_)) | None => Err(Refusal::BadBuffer),
+    }
+}
+
+// the line of a place, in a register that has one there
+pub fn line_in(buffer: &[u8], place: usize) -> &[u8]
     requires { Placed buffer.now place }
-    ensures { LineStands buffer.now place result }
+    ensures { result.now ≡ line_at (register_in buffer.now).lines place }
 {
     let at = HEADER + SLOT * place;
-    let end = at + SLOT;
-    at + line_length(&buffer[at..end])
+    let slot = &buffer[at..at + SLOT];
+    &slot[..line_length(slot)]
 }

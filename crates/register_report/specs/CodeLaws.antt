@@ -12,6 +12,11 @@ use Rattle.std.proofs.Math.Nat.{zero-add}
 use Rattle.std.proofs.Math.Dec.{ltb}
 use Rattle.std.proofs.Math.ListN.{length, get_or}
 use borrow.Author.Tests.{eq-eqb, eqb-false, eqb-true, le-leb, le-ltb, leb-true, lt-ltb, ltb-false, ltb-true}
+use Rattle.std.specs.Prelude.{Some, None}
+use Rattle.std.proofs.lemmas.List.{get_or-map, length-map}
+use Rattle.register_report.specs.Codes.{CodeFound}
+use Rattle.register_report.specs.Sums.{codes_in}
+use Rattle.register_report.specs.declared.Worth.{Worth}
 use Rattle.base.specs.Choice.{both_pass, both_true, cond_cases, either_true, same_truth, test_cases, true_behind}
 use Rattle.base.specs.ListLaws.{all_among, all_drop, all_imply, all_inside, drop-next, same_true}
 use Rattle.base.specs.Lists.{all, among, any, keep, same, total}
@@ -393,3 +398,34 @@ module _ (last next : ℕ) (codes : List ℕ) (k : ℕ) where
 
 pub lowest_within : (last next : ℕ) (codes : List ℕ) → lowest_code last next codes ≤ next
 lowest_within last next codes = (lowest-found last next codes).within
+
+-- the lowest of the codes of lines
+module _ (last next : ℕ) (worths : List Worth) (k : ℕ) where
+  pub code_again : k < length worths → (d : Worth) → (t : Bool)
+      → (ltb last (get_or worths k d).code && ltb (get_or worths k d).code next) ≡ t → (new : ℕ)
+      → new ≡ cond t (get_or worths k d).code next → lowest_code last new (drop (k + 1) (codes_in worths)) ≡ lowest_code last next (drop k (codes_in worths))
+  code_again h d t e new is =
+      let here : get_or (codes_in worths) k 0 ≡ (get_or worths k d).code = get_or-map (λ w. w.code) worths k d 0 h in
+      lowest-again last next (codes_in worths) k (omega (arith, length-map worths (λ w. w.code))) t
+      (ap (λ c. ltb last c && ltb c next) here ∙ e) new (is ∙ ap (λ c. cond t c next) (sym here))
+
+  pub code_end : length worths ≤ k → lowest_code last next (drop k (codes_in worths)) ≡ next
+  code_end h = lowest_end last next (codes_in worths) k (omega (arith, length-map worths (λ w. w.code)))
+
+-- what was found, as an option
+module _ (code : ℕ) where
+  pub some_found : (next : ℕ) → code ≡ next → next < no_code → CodeFound code (Some next)
+  unfolding CodeFound
+  some_found next e small = (sym e, small)
+
+  pub none_found : (next : ℕ) → code ≡ next → code ≤ no_code → no_code ≤ next → CodeFound code None
+  unfolding CodeFound
+  none_found next e most high = omega arith
+
+  pub found_is : (found : ℕ) → CodeFound code (Some found) → (found ≡ code) × (found < no_code)
+  unfolding CodeFound
+  found_is found f = f
+
+  pub none_is : CodeFound code None → code ≡ no_code
+  unfolding CodeFound
+  none_is f = f

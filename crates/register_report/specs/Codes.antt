@@ -1,5 +1,6 @@
 -- Currencies as numbers, and columns of numbers: a code, tonnes and a value for each line. Assumes nothing.
 use Rattle.std.specs.Prelude.{cond, ◌&&◌, List, [], ◌∷◌, ℕ, ◌+◌, ◌*◌, ◌/◌, ◌%◌, eqb, ltb}
+use Rattle.std.specs.Prelude.{Option, Some, None, ◌≡◌, ◌<◌}
 use Rattle.base.specs.Lists.{total}
 use Rattle.register.specs.Line.{currency_of}
 
@@ -38,3 +39,8 @@ unfoldable pub sum_of : (code : ℕ) → (codes numbers : List ℕ) → ℕ
 sum_of code [] numbers = 0
 sum_of code (c ∷ codes) [] = 0
 sum_of code (c ∷ codes) (x ∷ numbers) = cond (eqb c code) x 0 + sum_of code codes numbers
+
+-- the lowest code found, or none
+unfoldable pub CodeFound : (code : ℕ) → Option ℕ → Type 0
+CodeFound code (Some found) = (found ≡ code) × (found < no_code)
+CodeFound code None = code ≡ no_code

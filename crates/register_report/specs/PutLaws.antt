@@ -1,12 +1,15 @@
 -- The columns of a register's lines, its lines put, and its report put together. Assumes nothing.
-use Rattle.std.specs.Prelude.{true, false, ◌≡◌, refl, ℕ, ◌+◌, ◌-◌, ◌≤◌, ◌<◌, leb, set}
+use Rattle.std.specs.Prelude.{true, false, ◌≡◌, refl, ℕ, ◌+◌, ◌≤◌, ◌<◌, leb, set}
 use mathlib.Core.List.{List, [], ◌∷◌, ◌++◌, map, map-append}
 use Rattle.std.proofs.Math.Path.{sym, ap, ap₂}
-use Rattle.std.proofs.Common.{◌∙◌, subst, zero-add, add-one, length-set, take-append-drop, length-take-le, take_all, take-suc-set, le-leb}
+use Rattle.std.proofs.Common.{◌∙◌, subst, zero-add, add-one, take-append-drop, length-take-le, take_all, take-suc-set, le-leb}
 use native.Mathlib.Omega.{arith}
 use Rattle.std.proofs.Math.ListN.{length, take, drop, length-append}
 use Rattle.std.proofs.lemmas.List.{length-map}
 use Rattle.std.proofs.Math.Seq.{take-suc}
+use Rattle.std.specs.Prelude.{Err}
+use Rattle.register.specs.Refusals.{refusal_number}
+use Rattle.register.specs.declared.Refusal.{Refusal}
 use Rattle.base.specs.Choice.{both_pass, both_true}
 use Rattle.base.specs.ListLaws.{all_inside, drop-next}
 use Rattle.base.specs.Lists.{all}
@@ -22,12 +25,12 @@ use Rattle.register.specs.Register.{Lines, line_at, most_lines}
 use Rattle.register.specs.RegisterLaws.{open_records}
 use Rattle.register.specs.Report.{printed_records, report, tonnes_of, total_lines, value_of}
 use Rattle.register.specs.ReportLaws.{most_report, most_value, printed-append, record_small, report_size, value_small}
-use Rattle.register_reading.specs.ReadLaws.{here_size}
-use Rattle.register_reading.specs.Reading.{LinesCounted, Placed, LineStands, slot_at}
+use Rattle.register_reading.specs.ReadLaws.{opened_refused}
+use Rattle.register_reading.specs.Reading.{LinesCounted, OpenedRead, Placed}
 use Rattle.register_report.specs.Codes.{currency_code_in}
 use Rattle.register_report.specs.declared.Sizes.{Sizes}
 use Rattle.register_report.specs.declared.Worth.{Worth}
-use Rattle.register_report.specs.Sums.{Columns, ColumnsFilled, ColumnsFit, LinesPut, RecordPut, ColumnsRoomy, TotalsMade, Weighed}
+use Rattle.register_report.specs.Sums.{LinesWeighed, LinesPut, RecordPut, TotalsMade, Weighed, WorthsFit, WorthsOf, codes_in, tonnes_in, values_in}
 
 -- The columns of lines are small enough for their sums.
 column_small : (f : List ℕ → ℕ) (most : ℕ) → ((line : List ℕ) → is_record line ≡ true → f line ≤ most) → (lines : Lines) → all is_record lines ≡ true
@@ -38,8 +41,8 @@ column_small f most small (line ∷ lines) a =
     let parts = both_true (is_record line) (all is_record lines) a in
     both_pass (le-leb (f line) most (small line parts.0)) (column_small f most small lines parts.1)
 
-pub columns_fit : (lines : Lines) (codes tonnes values : List ℕ) → Columns lines codes tonnes values → ColumnsFit codes tonnes values
-columns_fit lines codes tonnes values c =
+pub columns_fit : (lines : Lines) (worths : List Worth) → WorthsOf lines worths → WorthsFit worths
+columns_fit lines worths c =
     let size = ap length c.currency ∙ length-map lines currency_code_in in
     record {
       few = omega (arith, c.few, size);
@@ -86,11 +89,12 @@ module _ (lines : Lines) (k : ℕ) (h : k < length lines) where
       omega (arith, ap length printed-more, length-append (printed_records before) (line ++ (10 ∷ [])), length-append line (10 ∷ []))
 
   -- one more number in a column
-  column_more : (f : List ℕ → ℕ) (xs : List ℕ) (x : ℕ) → k < length xs → take k xs ≡ map f before → x ≡ f line
-      → take (k + 1) (set xs k x) ≡ map f (take (k + 1) lines)
-  column_more f xs x inside e is =
-      ap (λ n. take n (set xs k x)) (add-one k)
-      ∙ take-suc-set xs k x inside
+  column_more : (f : List ℕ → ℕ) (in_it : Worth → ℕ) (ws : List Worth) (w : Worth) → k < length ws → map in_it (take k ws) ≡ map f before
+      → in_it w ≡ f line → map in_it (take (k + 1) (set ws k w)) ≡ map f (take (k + 1) lines)
+  column_more f in_it ws w inside e is =
+      ap (λ n. map in_it (take n (set ws k w))) (add-one k)
+      ∙ ap (map in_it) (take-suc-set ws k w inside)
+      ∙ map-append in_it (take k ws) (w ∷ [])
       ∙ ap₂ {C = List ℕ} (λ l y. l ++ (y ∷ [])) e is
       ∙ sym (ap (map f) next-lines ∙ map-append f before (line ∷ []))
 
@@ -115,25 +119,16 @@ lines_none output = record { ends = refl; bytes = sym (splice_nil output 0) }
 pub all_lines : (lines : Lines) (k : ℕ) → k ≡ length lines → take k lines ≡ lines
 all_lines lines k e = take_all k lines (omega arith)
 
--- the columns of the first lines, and the bytes that they are printed in
-pub record FilledTo (lines : Lines) (codes tonnes values : List ℕ) (bytes k : ℕ) : Type 0 where
-  pub currency_to : take k codes ≡ map currency_code_in (take k lines)
-  pub weight_to : take k tonnes ≡ map tonnes_of (take k lines)
-  pub cents_to : take k values ≡ map value_of (take k lines)
+-- what the first lines add, and the bytes that they are printed in
+pub record FilledTo (lines : Lines) (worths : List Worth) (bytes k : ℕ) : Type 0 where
+  pub currency_to : codes_in (take k worths) ≡ map currency_code_in (take k lines)
+  pub weight_to : tonnes_in (take k worths) ≡ map tonnes_of (take k lines)
+  pub cents_to : values_in (take k worths) ≡ map value_of (take k lines)
   pub size_to : bytes ≡ length (printed_records (take k lines))
 
-pub filled_none : (lines : Lines) (codes tonnes values : List ℕ) → FilledTo lines codes tonnes values 0 0
+pub filled_none : (lines : Lines) (worths : List Worth) → FilledTo lines worths 0 0
 unfolding printed_records
-filled_none lines codes tonnes values = record { currency_to = refl; weight_to = refl; cents_to = refl; size_to = refl }
-
-pub room_kept : (codes tonnes values : List ℕ) (k code t v : ℕ) → ColumnsRoomy codes tonnes values
-    → ColumnsRoomy (set codes k code) (set tonnes k t) (set values k v)
-room_kept codes tonnes values k code t v room =
-    record {
-      code_room = length-set codes k code ∙ room.code_room;
-      tonnes_room = length-set tonnes k t ∙ room.tonnes_room;
-      value_room = length-set values k v ∙ room.value_room;
-    }
+filled_none lines worths = record { currency_to = refl; weight_to = refl; cents_to = refl; size_to = refl }
 
 -- A register of n lines, and its line of a place.
 module _ (buffer : List ℕ) (n : ℕ) (c : LinesCounted buffer n) where
@@ -161,25 +156,21 @@ module _ (buffer : List ℕ) (n : ℕ) (c : LinesCounted buffer n) where
   lines_small : length (printed_records held) ≤ most_report
   lines_small = omega (arith, report_small, ap length report-is, length-append (printed_records held) (printed_records (total_lines held)))
 
-  -- all lines are in the columns
-  pub filled-all : (codes tonnes values : List ℕ) (bytes k : ℕ) → k ≡ n → FilledTo held codes tonnes values bytes k
-      → ColumnsFilled held n codes tonnes values bytes
-  filled-all codes tonnes values bytes k e f =
-      let whole = all_lines held k (e ∙ c.count) in
+  -- all lines are weighed
+  pub filled-all : (worths : List Worth) (bytes : ℕ) → length worths ≡ most_lines → FilledTo held worths bytes n → LinesWeighed held n worths bytes
+  filled-all worths bytes room f =
+      let whole = all_lines held n c.count in
       record {
+        room = omega (arith, count_few, room);
         columns = record {
           few = few;
           good = good;
-          currency = ap (λ i. take i codes) (sym e) ∙ f.currency_to ∙ ap (map currency_code_in) whole;
-          weight = ap (λ i. take i tonnes) (sym e) ∙ f.weight_to ∙ ap (map tonnes_of) whole;
-          cents = ap (λ i. take i values) (sym e) ∙ f.cents_to ∙ ap (map value_of) whole;
+          currency = f.currency_to ∙ ap (map currency_code_in) whole;
+          weight = f.weight_to ∙ ap (map tonnes_of) whole;
+          cents = f.cents_to ∙ ap (map value_of) whole;
         };
         size = f.size_to ∙ ap (λ l. length (printed_records l)) whole;
       }
-
-  -- and the first n of each column are these
-  pub column_size : (f : List ℕ → ℕ) (xs : List ℕ) → take n xs ≡ map f held → n ≡ length (take n xs)
-  column_size f xs e = c.count ∙ sym (ap length e ∙ length-map held f)
 
   module _ (k : ℕ) (h : k < n) where
     inside : k < length held
@@ -188,36 +179,24 @@ module _ (buffer : List ℕ) (n : ℕ) (c : LinesCounted buffer n) where
     pub placed : Placed buffer k
     placed = record { keeps = c.keeps; inside = inside }
 
-    module _ (end : ℕ) (s : LineStands buffer k end) where
-      abbrev slice : List ℕ
-      slice = take (end - slot_at k) (drop (slot_at k) buffer)
-
+    module _ (slice : List ℕ) (is : slice ≡ line_at held k) where
       pub line_good : is_record slice ≡ true
       unfolding line_at
-      line_good = ap is_record s.bytes ∙ all_inside is_record held [] good k inside
+      line_good = ap is_record is ∙ all_inside is_record held [] good k inside
 
-      line_size_lem : end - slot_at k ≡ length (line_at held k)
-      line_size_lem = here_size buffer k placed end s
+      -- the line weighed behind those before it
+      module _ (worths : List Worth) (bytes : ℕ) (f : FilledTo held worths bytes k) where
+        pub bytes_fit : bytes + length slice + 1 ≤ most_report
+        bytes_fit = omega (arith, ap length is, f.size_to, size_within held k inside, lines_small)
 
-      -- the line entered in the columns behind those before it
-      module _ (codes tonnes values : List ℕ) (bytes : ℕ) (f : FilledTo held codes tonnes values bytes k) where
-        pub bytes_fit : bytes + (end - slot_at k) + 1 ≤ most_report
-        bytes_fit = omega (arith, line_size_lem, f.size_to, size_within held k inside, lines_small)
-
-        pub line-filled : ColumnsRoomy codes tonnes values → (w : Worth) → Weighed slice w
-            → FilledTo held (set codes k w.code) (set tonnes k w.tonnes) (set values k w.value) (bytes + (end - slot_at k) + 1) (k + 1)
+        pub line-filled : length worths ≡ most_lines → (w : Worth) → Weighed slice w → FilledTo held (set worths k w) (bytes + length slice + 1) (k + 1)
         line-filled room w m =
+            let here : k < length worths = omega (arith, count_few, room) in
             record {
-              currency_to =
-                  column_more held k inside currency_code_in codes w.code (omega (arith, count_few, room.code_room)) f.currency_to
-                  (m.currency ∙ ap currency_code_in s.bytes);
-              weight_to =
-                  column_more held k inside tonnes_of tonnes w.tonnes (omega (arith, count_few, room.tonnes_room)) f.weight_to
-                  (m.weight ∙ ap tonnes_of s.bytes);
-              cents_to =
-                  column_more held k inside value_of values w.value (omega (arith, count_few, room.value_room)) f.cents_to
-                  (m.cents ∙ ap value_of s.bytes);
-              size_to = size_more held k inside bytes (end - slot_at k) f.size_to line_size_lem;
+              currency_to = column_more held k inside currency_code_in (λ v. v.code) worths w here f.currency_to (m.currency ∙ ap currency_code_in is);
+              weight_to = column_more held k inside tonnes_of (λ v. v.tonnes) worths w here f.weight_to (m.weight ∙ ap tonnes_of is);
+              cents_to = column_more held k inside value_of (λ v. v.value) worths w here f.cents_to (m.cents ∙ ap value_of is);
+              size_to = size_more held k inside bytes (length slice) f.size_to (ap length is);
             }
 
       -- the line put behind those before it: there is room
@@ -229,14 +208,14 @@ module _ (buffer : List ℕ) (n : ℕ) (c : LinesCounted buffer n) where
             omega (
               arith,
               p.ends,
-              ap length s.bytes,
+              ap length is,
               ap length p.bytes,
               length-splice output 0 (printed_records (take k held)) (omega arith),
             )
 
         pub line-put : (after : List ℕ) (to : ℕ) → RecordPut middle after put-to slice to → LinesPut (take (k + 1) held) output after to
         line-put after to r =
-            lines_more held k inside output middle after put-to to p (subst (λ l. RecordPut middle after put-to l to) s.bytes r)
+            lines_more held k inside output middle after put-to to p (subst (λ l. RecordPut middle after put-to l to) is r)
 
   -- The report put together: its size, where it doesn't fit, and what is left where it does.
   module _ (totals : List ℕ) (r : Sizes) (m : TotalsMade held totals r) where
@@ -295,3 +274,10 @@ module _ (buffer : List ℕ) (n : ℕ) (c : LinesCounted buffer n) where
 pub report_refuses : (buffer output : List ℕ) → buffer_open buffer ≡ false → report_back 14 output 0 ≡ report_call buffer output
 unfolding putting_nothing
 report_refuses buffer output e = sym (report_refused buffer output e)
+
+-- so what reading turns down
+pub report_unopened : (buffer keys output : List ℕ) (refusal : Refusal) → OpenedRead buffer keys (Err refusal)
+    → report_back (refusal_number refusal) output 0 ≡ report_call buffer output
+report_unopened buffer keys output refusal read =
+    let r = opened_refused buffer keys refusal read in
+    ap (λ k. report_back (refusal_number k) output 0) r.0 ∙ report_refuses buffer output r.1

@@ -6,6 +6,8 @@ use Rattle.std.proofs.Common.{sym, ◌∙◌, zero-add, add-one, arith, length-a
 use Prim.Native.Nat.{ℕ, zero, suc, ◌+◌, ◌*◌, ◌≤◌, ◌<◌}
 use Rattle.std.proofs.Math.ListN.{get_or-eq_default, length, drop, get_or, drop_of_length-le, length-map}
 use borrow.Author.Tests.{eq-eqb, leb-false, leb-true, ne_eqb}
+use Rattle.std.proofs.lemmas.List.{get_or-map}
+use Rattle.register_report.specs.declared.Worth.{Worth}
 use Rattle.base.specs.Choice.{test_cases}
 use Rattle.base.specs.ListLaws.{all_inside}
 use Rattle.base.specs.Lists.{total}
@@ -24,7 +26,7 @@ use Rattle.register_report.specs.CodeLaws.{code_range, code_word, codes_of, coun
 use Rattle.register_report.specs.CodeLaws.{first_code, lowest_within, next_code_lem, sum-lines, sum-next, sum_small}
 use Rattle.register_report.specs.Codes.{currency_code_in, currency_code, code_count, lowest_code, no_code, sum_of, word_of}
 use Rattle.register_report.specs.declared.Sums.{Sums}
-use Rattle.register_report.specs.Sums.{Columns, ColumnsFit, RecordPut, Summed, TotalsPut, most_total, total_text, totals_from}
+use Rattle.register_report.specs.Sums.{Columns, ColumnsFit, RecordPut, Summed, TotalsPut, WorthsFit, codes_in, most_total, tonnes_in, total_text, totals_from, values_in}
 
 -- The sums of a code over the first places: with those of the places left they are the sums of all.
 pub record SummedTo (code : ℕ) (codes tonnes values : List ℕ) (count weight value k : ℕ) : Type 0 where
@@ -97,6 +99,53 @@ module _ (code : ℕ) (codes tonnes values : List ℕ) (f : ColumnsFit codes ton
             weight_left = omega (arith, s.weight_left, sum-next code codes k h false other tonnes f.weights);
             cents_left = omega (arith, s.cents_left, sum-next code codes k h false other values f.cents);
           }
+
+-- The sums of a code over the first lines, by what the next one adds.
+module _ (code : ℕ) (worths : List Worth) (fit : WorthsFit worths) (count weight value k : ℕ)
+    (s : SummedTo code (codes_in worths) (tonnes_in worths) (values_in worths) count weight value k) (h : k < length worths) (d : Worth) where
+  abbrev added : Worth
+  added = get_or worths k d
+
+  inside-codes : k < length (codes_in worths)
+  inside-codes = omega (arith, length-map worths (λ w. w.code))
+
+  code-here : get_or (codes_in worths) k 0 ≡ added.code
+  code-here = get_or-map (λ w. w.code) worths k d 0 h
+
+  tonnes-here : get_or (tonnes_in worths) k 0 ≡ added.tonnes
+  tonnes-here = get_or-map (λ w. w.tonnes) worths k d 0 h
+
+  value-here : get_or (values_in worths) k 0 ≡ added.value
+  value-here = get_or-map (λ w. w.value) worths k d 0 h
+
+  module _ (is : added.code ≡ code) where
+    pub line_count : count + 1 ≤ most_lines
+    line_count = count_fits code (codes_in worths) (tonnes_in worths) (values_in worths) fit count weight value k s inside-codes (code-here ∙ is)
+
+    pub line_weight : weight + added.tonnes ≤ 99_999 * most_lines
+    line_weight =
+        omega (
+          arith,
+          weight_fits code (codes_in worths) (tonnes_in worths) (values_in worths) fit count weight value k s inside-codes (code-here ∙ is),
+          tonnes-here,
+        )
+
+    pub line_value : value + added.value ≤ most_value * most_lines
+    line_value =
+        omega (
+          arith,
+          value_fits code (codes_in worths) (tonnes_in worths) (values_in worths) fit count weight value k s inside-codes (code-here ∙ is),
+          value-here,
+        )
+
+    pub line_here : SummedTo code (codes_in worths) (tonnes_in worths) (values_in worths) (count + 1) (weight + added.tonnes) (value + added.value) (k + 1)
+    line_here =
+        rw (← tonnes-here, ← value-here)
+        (summed_here code (codes_in worths) (tonnes_in worths) (values_in worths) fit count weight value k s inside-codes (code-here ∙ is))
+
+  pub line_past : ¬ (added.code ≡ code) → SummedTo code (codes_in worths) (tonnes_in worths) (values_in worths) count weight value (k + 1)
+  line_past other =
+      summed_past code (codes_in worths) (tonnes_in worths) (values_in worths) fit count weight value k s inside-codes (λ e. other (sym code-here ∙ e))
 
 -- a record, and byte 10 behind it
 pub record_put : (output : List ℕ) (at : ℕ) (v : List ℕ) → at + length v < length output

@@ -52,15 +52,26 @@ pub record Columns (lines : Lines) (codes tonnes values : List ℕ) : Type 0 whe
   pub weight : tonnes ≡ map tonnes_of lines
   pub cents : values ≡ map value_of lines
 
--- columns with room for 256 lines
-pub record ColumnsRoomy (codes tonnes values : List ℕ) : Type 0 where
-  pub code_room : length codes ≡ most_lines
-  pub tonnes_room : length tonnes ≡ most_lines
-  pub value_room : length values ≡ most_lines
+-- the columns of what lines add
+abbrev pub codes_in : List Worth → List ℕ
+codes_in = map (λ w. w.code)
 
--- the columns of n lines, and the bytes that they are printed in
-pub record ColumnsFilled (lines : Lines) (n : ℕ) (codes tonnes values : List ℕ) (bytes : ℕ) : Type 0 where
-  pub columns : Columns lines (take n codes) (take n tonnes) (take n values)
+abbrev pub tonnes_in : List Worth → List ℕ
+tonnes_in = map (λ w. w.tonnes)
+
+abbrev pub values_in : List Worth → List ℕ
+values_in = map (λ w. w.value)
+
+abbrev pub WorthsFit : (worths : List Worth) → Type 0
+WorthsFit worths = ColumnsFit (codes_in worths) (tonnes_in worths) (values_in worths)
+
+abbrev pub WorthsOf : (lines : Lines) (worths : List Worth) → Type 0
+WorthsOf lines worths = Columns lines (codes_in worths) (tonnes_in worths) (values_in worths)
+
+-- what n lines add, and the bytes that they are printed in
+pub record LinesWeighed (lines : Lines) (n : ℕ) (worths : List Worth) (bytes : ℕ) : Type 0 where
+  pub room : n ≤ length worths
+  pub columns : WorthsOf lines (take n worths)
   pub size : bytes ≡ length (printed_records lines)
 
 -- the sums of a code
@@ -92,9 +103,9 @@ pub record TotalsPut (lines : Lines) (out : List ℕ) (end : ℕ) : Type 0 where
   pub within : end ≤ length out
   pub bytes : take end out ≡ printed_records (total_lines lines)
 
--- whatever lines have these columns
-abbrev pub TotalsFor : (codes tonnes values out : List ℕ) (end : ℕ) → Type 0
-TotalsFor codes tonnes values out end = (lines : Lines) → Columns lines codes tonnes values → TotalsPut lines out end
+-- whatever lines add this
+abbrev pub TotalsFor : (worths : List Worth) (out : List ℕ) (end : ℕ) → Type 0
+TotalsFor worths out end = (lines : Lines) → WorthsOf lines worths → TotalsPut lines out end
 
 -- and the bytes that the lines and they are printed in
 pub record TotalsMade (lines : Lines) (out : List ℕ) (r : Sizes) : Type 0 where

@@ -9,15 +9,17 @@ ghost use Rattle.register.specs.Buffer.{register_in};
 ghost use Rattle.register.specs.Calls.{report_call};
 ghost use Rattle.register.specs.Claims.{ReportPromise, report_back};
 ghost use Rattle.register.specs.Line.{is_record};
+ghost use Rattle.register.specs.Register.{most_lines};
 ghost use Rattle.register.specs.Report.{printed_records};
+ghost use Rattle.register.specs.Refusals.{number_of};
 ghost use Rattle.register_reading.specs.Reading.{LinesCounted};
-ghost use Rattle.register_report.specs.Codes.{currency_code, lowest_code, no_code};
-ghost use Rattle.register_report.specs.Sums.{ColumnsFilled, ColumnsFit, LinesPut, Numeric, RecordPut, ColumnsRoomy, FieldShows, Summed};
-ghost use Rattle.register_report.specs.Sums.{TotalsFor, TotalsMade, Weighed, longest_total, total_text, totals_room};
+ghost use Rattle.register_report.specs.Codes.{CodeFound, currency_code, lowest_code, no_code};
+ghost use Rattle.register_report.specs.Sums.{LinesWeighed, LinesPut, Numeric, RecordPut, FieldShows, Summed, codes_in, tonnes_in, values_in};
+ghost use Rattle.register_report.specs.Sums.{TotalsFor, TotalsMade, Weighed, WorthsFit, longest_total, total_text, totals_room};
 
 use printing::{LONGEST_NUMBERS, put, put_numbers};
-use register::{BAD_BUFFER, HEADER, LINES, OUTPUT_FULL, SLOT};
-use register_reading::{State, line_end, read_register};
+use register::{LINES, Refusal, number_of};
+use register_reading::{line_in, read_opened};
 use store::spans;
 
 // the bytes from the end of a contract to the tonnes: two commas and the grain
@@ -70,16 +72,17 @@ fn number_at(line: &[u8], at: usize) -> Field
     ensures { FieldShows line.now at result }
 {
     let mut value: u64 = 0;
-    let mut end = at;
-    while end < line.len() {
+    for end in at..line.len() {
         let b = line[end];
         if b == b',' {
             return Field { value, end };
         }
         value = value * 10 + (b - b'0') as u64;
-        end += 1;
     }
-    Field { value, end }
+    Field {
+        value,
+        end: line.len(),
+    }
 }
 
 // the code of the three bytes at a place: one number, the first byte the highest, so that codes are in letter order
@@ -106,68 +109,52 @@ fn worth_of(line: &[u8]) -> Worth
     }
 }
 
-// the codes, tonnes and values of a register of n lines; the bytes that these lines are printed in
-fn fill_columns(
-    buffer: &[u8],
-    n: usize,
-    codes: &mut [u64],
-    tonnes: &mut [u64],
-    values: &mut [u64],
-) -> usize
-    requires { LinesCounted buffer.now n × ColumnsRoomy codes.old tonnes.old values.old }
-    ensures { ColumnsFilled (register_in buffer.now).lines n codes.new tonnes.new values.new result }
+// what each of the n lines of a register adds; the bytes that these lines are printed in
+fn weigh_lines(buffer: &[u8], n: usize, worths: &mut [Worth; LINES]) -> usize
+    requires { LinesCounted buffer.now n × (length worths.old ≡ most_lines) }
+    ensures { LinesWeighed (register_in buffer.now).lines n worths.new result }
 {
     let mut bytes = 0;
-    let mut k = 0;
-    while k < n {
-        let at = HEADER + SLOT * k;
-        let end = line_end(buffer, k);
-        let worth = worth_of(&buffer[at..end]);
-        codes[k] = worth.code;
-        tonnes[k] = worth.tonnes;
-        values[k] = worth.value;
-        bytes = bytes + (end - at) + 1;
-        k += 1;
+    for k in 0..n {
+        let line = line_in(buffer, k);
+        worths[k] = worth_of(line);
+        bytes = bytes + line.len() + 1;
     }
     bytes
 }
 
-// the lowest code above the last one, or NO_CODE
-fn next_code(codes: &[u64], last: u64) -> u64
-    ensures { result ≡ lowest_code last no_code codes.now }
+// the lowest code above the last one, if there is one
+fn next_code(worths: &[Worth], last: u64) -> Option<u64>
+    ensures { CodeFound (lowest_code last no_code (codes_in worths.now)) result }
 {
     let mut next = NO_CODE;
-    let mut k = 0;
-    while k < codes.len() {
-        let code = codes[k];
+    for worth in worths {
+        let code = worth.code;
         if (last < code) & (code < next) {
             next = code;
         }
-        k += 1;
     }
-    next
+    if next < NO_CODE { Some(next) } else { None }
 }
 
 // what the lines with a code add up to
-fn sums_of(codes: &[u64], tonnes: &[u64], values: &[u64], code: u64) -> Sums
-    requires { ColumnsFit codes.now tonnes.now values.now }
-    ensures { Summed code codes.now tonnes.now values.now result }
+fn sums_of(worths: &[Worth], code: u64) -> Sums
+    requires { WorthsFit worths.now }
+    ensures { Summed code (codes_in worths.now) (tonnes_in worths.now) (values_in worths.now) result }
 {
     let mut count: u64 = 0;
-    let mut weight: u64 = 0;
+    let mut tonnes: u64 = 0;
     let mut value: u64 = 0;
-    let mut k = 0;
-    while k < codes.len() {
-        if codes[k] == code {
+    for worth in worths {
+        if worth.code == code {
             count = count + 1;
-            weight = weight + tonnes[k];
-            value = value + values[k];
+            tonnes = tonnes + worth.tonnes;
+            value = value + worth.value;
         }
-        k += 1;
     }
     Sums {
         count,
-        tonnes: weight,
+        tonnes,
         value,
     }
 }
@@ -188,21 +175,20 @@ fn put_total(code: u64, sums: Sums, at: usize, out: &mut [u8]) -> usize
 }
 
 // the TOTAL lines of all codes in their order, each with its byte 10, at the start of out; where they end. There are no more codes than lines
-fn put_totals(codes: &[u64], tonnes: &[u64], values: &[u64], out: &mut [u8]) -> usize
-    requires { ColumnsFit codes.now tonnes.now values.now × (totals_room ≤ length out.old) }
-    ensures { TotalsFor codes.now tonnes.now values.now out.new result }
+fn put_totals(worths: &[Worth], out: &mut [u8]) -> usize
+    requires { WorthsFit worths.now × (totals_room ≤ length out.old) }
+    ensures { TotalsFor worths.now out.new result }
 {
-    let mut code = next_code(codes, 0);
+    let mut next = next_code(worths, 0);
     let mut at = 0;
-    let mut j = 0;
-    while j < codes.len() {
-        if code == NO_CODE {
-            return at;
+    for j in 0..worths.len() {
+        match next {
+            None => return at,
+            Some(code) => {
+                at = put_total(code, sums_of(worths, code), at, out);
+                next = next_code(worths, code);
+            }
         }
-        let sums = sums_of(codes, tonnes, values, code);
-        at = put_total(code, sums, at, out);
-        code = next_code(codes, code);
-        j += 1;
     }
     at
 }
@@ -212,11 +198,14 @@ fn make_totals(buffer: &[u8], n: usize, out: &mut [u8]) -> Sizes
     requires { LinesCounted buffer.now n × (totals_room ≤ length out.old) }
     ensures { TotalsMade (register_in buffer.now).lines out.new result }
 {
-    let mut codes = [0; LINES];
-    let mut tonnes = [0; LINES];
-    let mut values = [0; LINES];
-    let lines = fill_columns(buffer, n, &mut codes, &mut tonnes, &mut values);
-    let totals = put_totals(&codes[..n], &tonnes[..n], &values[..n], out);
+    let nothing = Worth {
+        code: 0,
+        tonnes: 0,
+        value: 0,
+    };
+    let mut worths = [nothing; LINES];
+    let lines = weigh_lines(buffer, n, &mut worths);
+    let totals = put_totals(&worths[..n], out);
     Sizes { lines, totals }
 }
 
@@ -237,20 +226,16 @@ fn put_lines(buffer: &[u8], n: usize, output: &mut [u8]) -> usize
     ensures { LinesPut (register_in buffer.now).lines output.old output.new result }
 {
     let mut put_to = 0;
-    let mut k = 0;
-    while k < n {
-        let at = HEADER + SLOT * k;
-        let end = line_end(buffer, k);
-        put_to = put_record(output, put_to, &buffer[at..end]);
-        k += 1;
+    for k in 0..n {
+        put_to = put_record(output, put_to, line_in(buffer, k));
     }
     put_to
 }
 
-// Puts the report of a register of n lines and sets its length: 0; or 21, and nothing is put. The length is 0 before.
-fn put_report(buffer: &[u8], n: usize, output: &mut [u8], length: &mut u32) -> u32
+// Puts the report of a register of n lines and sets its length, which is 0 before; or the output has no room for it, and nothing is put.
+fn put_report(buffer: &[u8], n: usize, output: &mut [u8], length: &mut u32) -> Result<(), Refusal>
     requires { LinesCounted buffer.now n × (length.old ≡ 0) }
-    ensures { report_back result output.new length.new ≡ report_call buffer.now output.old }
+    ensures { report_back (number_of result) output.new length.new ≡ report_call buffer.now output.old }
 {
     let mut totals = [0; TOTALS_ROOM];
     let sizes = make_totals(buffer, n, &mut totals);
@@ -258,24 +243,28 @@ fn put_report(buffer: &[u8], n: usize, output: &mut [u8], length: &mut u32) -> u
     let totals_size = sizes.totals;
     let size = lines_size + totals_size;
     if output.len() < size {
-        return OUTPUT_FULL;
+        return Err(Refusal::OutputFull);
     }
     let at = put_lines(buffer, n, output);
     spans::write(output, at, &totals[..totals_size]);
     *length = size as u32;
-    0
+    Ok(())
+}
+
+// puts the report of the register, and sets its length, which is 0 before
+fn report(buffer: &[u8], output: &mut [u8], length: &mut u32) -> Result<(), Refusal>
+    requires { length.old ≡ 0 }
+    ensures { report_back (number_of result) output.new length.new ≡ report_call buffer.now output.old }
+{
+    let mut keys = [0; LINES];
+    let n = read_opened(buffer, &mut keys)?;
+    put_report(buffer, n, output, length)
 }
 
 // Puts the closing report of the register.
 pub fn strigol_register_report(buffer: &[u8], output: &mut [u8], length: &mut u32) -> u32
     ensures { ReportPromise buffer.now output.old (report_back result output.new length.new) }
 {
-    let mut keys = [0; LINES];
     *length = 0;
-    let state = read_register(buffer, &mut keys);
-    match state {
-        State::Broken => BAD_BUFFER,
-        State::Old(_) => BAD_BUFFER,
-        State::Opened(n) => put_report(buffer, n, output, length),
-    }
+    number_of(report(buffer, output, length))
 }

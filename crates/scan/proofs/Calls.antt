@@ -1,5 +1,6 @@
 -- The call: rows of bytes read as elements, the pattern they make, and the promise. Assumes nothing.
-use mathlib.Core.Bool.{Bool, true, false, cond, true≢false, false≢true}
+use mathlib.Core.Bool.{Bool, true, false, cond}
+use Rattle.std.specs.Prelude.{None, Some}
 use mathlib.Core.List.{List, [], ◌∷◌, ◌++◌, append_assoc, append-nil}
 use mathlib.Core.Option.{Option, none, some}
 use mathlib.Core.Path.{◌≡◌, refl, sym, ◌∙◌, ap, subst}
@@ -9,33 +10,40 @@ use lib.Dec.{leb, ltb, eqb}
 use lib.ListN.{length, get_or, set, replicate}
 use lib.Seq.{take_at}
 use borrow.Author.Count.{below_more}
-use borrow.Author.Tests.{eq-eqb, ne_eqb, le-leb, lt-leb, lt-ltb, le-ltb, leb-true, ltb-true}
+use borrow.Author.Tests.{eq-eqb, le-leb, lt-leb, lt-ltb, le-ltb}
 use Rattle.scanning.specs.Splits as Splits
-use Rattle.scanning.specs.Splits.{Split, FirstFit, AnswersFirstFit}
+use Rattle.scanning.specs.Splits.{Split, free, FirstFit, AnswersFirstFit}
+use Rattle.scanning.specs.Kinds.{row_kind_of}
+use Rattle.scanning.specs.declared.RowKind.{RowKind}
+use Rattle.std.proofs.lemmas.Option.{none-some}
+use Rattle.scanning.specs.declared.Refusal.{Refusal}
+use Rattle.scanning.specs.declared.Refusal.TheVariants.{NoElement}
 use Rattle.scanning.specs.Trials.{scan}
 use Rattle.scanning.specs.Laws.{fits_count}
 use Rattle.scanning.specs.FirstFit.{scan_first_fit}
 use Rattle.scanning.specs.Call.{longest_reference, most_elements, scan_row_size, number4, row_count, string_of_row, fixed_by, element_of_row}
 use Rattle.scanning.specs.Call.{no_answer, join_element, elements_of_rows, pattern_of_rows, split_numbers, answer_numbers, Called, scan_turned_down, scan_with, scan_call}
 use Rattle.scanning.specs.Call.{split_in, ScanPromise}
-use Rattle.scan.specs.Rows.{scan_row, scan_row_at, row_element, scan_element, scan_elements, pattern_of, size_of, sizes_at, RowGood, RowSays, row_answer, RowsSay}
+use Rattle.scan.specs.Rows.{scan_row, scan_row_at, row_element, scan_element, scan_elements, pattern_of, size_of, sizes_at, RowGood, RowIs, row_answer, RowsAre, RowsRefused}
 use Rattle.scan.proofs.Answers.{row-filled}
-use Rattle.scan.specs.Steps.{CallSays}
 use Rattle.scan.specs.declared.Element.{Element}
+use Rattle.scan.specs.declared.Element.TheVariants.{Part, Fixed, Free}
 
 module _ (values elements : List ℕ) (at : ℕ) where
-  -- a row that is no element
-  pub row_bad : element_of_row values elements at ≡ none → RowSays values elements at false
-  row_bad h = record { bad = λ e. h; same = λ e. absurd (false≢true e); good = λ e. absurd (false≢true e); room = λ e. absurd (false≢true e) }
+  -- a row that is an element
+  row_is : {e : Element} → e ≡ scan_row_at elements at → element_of_row values elements at ≡ some (scan_element values (scan_row_at elements at))
+      → RowGood values (scan_row_at elements at) → at + 12 ≤ length elements → RowIs values elements at e
+  row_is e h g l =
+      record {
+        read = e;
+        same = h ∙ ap (λ (x : Element). some (scan_element values x)) (sym e);
+        good = subst (RowGood values) (sym e) g;
+        room = l;
+      }
 
-  -- a row that is one
-  pub row_good : element_of_row values elements at ≡ some (scan_element values (scan_row_at elements at)) → RowGood values (scan_row_at elements at)
-      → at + 12 ≤ length elements → RowSays values elements at true
-  row_good h g l = record { bad = λ e. absurd (true≢false e); same = λ e. h; good = λ e. g; room = λ e. l }
-
-  pub element_short : at ≤ length elements → length elements - at < 12 → RowSays values elements at false
+  pub element_short : at ≤ length elements → length elements - at < 12 → element_of_row values elements at ≡ none
   unfolding element_of_row scan_row_size
-  element_short h g = row_bad (rw (lt-leb (at + 12) (length elements) (omega arith)))
+  element_short h g = rw (lt-leb (at + 12) (length elements) (omega arith))
 
   module _ (room : 12 ≤ length elements - at) where
     abbrev kind : ℕ
@@ -50,39 +58,44 @@ module _ (values elements : List ℕ) (at : ℕ) where
     in_row : leb (at + 12) (length elements) ≡ true
     in_row = le-leb (at + 12) (length elements) (omega arith)
 
-    pub string_disordered : kind ≡ 1 → to < from → RowSays values elements at false
+    pub string_disordered : kind ≡ 1 → to < from → element_of_row values elements at ≡ none
     unfolding element_of_row scan_row_size string_of_row
-    string_disordered k h = row_bad (rw (in_row, eq-eqb kind 1 k, lt-leb from to h))
+    string_disordered k h = rw (in_row, eq-eqb kind 1 k, lt-leb from to h)
 
-    pub string_told : kind ≡ 1 → to < 2 ^ 32 → from ≤ to → RowSays values elements at (leb to (length values))
+    pub string_outside : kind ≡ 1 → from ≤ to → length values < to → element_of_row values elements at ≡ none
+    unfolding element_of_row scan_row_size string_of_row
+    string_outside k h g = rw (in_row, eq-eqb kind 1 k, le-leb from to h, lt-leb to (length values) g)
+
+    pub string_told : kind ≡ 1 → to < 2 ^ 32 → from ≤ to → to ≤ length values → RowIs values elements at (Part from to)
     unfolding element_of_row scan_row_size string_of_row scan_row_at scan_row scan_element RowGood
-    string_told k small h = by (leb to (length values)) refl
-      where
-        by : (b : Bool) → leb to (length values) ≡ b → RowSays values elements at b
-        by true e =
-            row_good (rw (in_row, eq-eqb kind 1 k, le-leb from to h, e))
-            (rw (eq-eqb kind 1 k) (record { order = h; inside = leb-true to (length values) e; small = small }))
-            (omega arith)
-        by false e = row_bad (rw (in_row, eq-eqb kind 1 k, le-leb from to h, e))
+    string_told k small h g =
+        row_is (rw (eq-eqb kind 1 k)) (rw (in_row, eq-eqb kind 1 k, le-leb from to h, le-leb to (length values) g))
+        (rw (eq-eqb kind 1 k) (record { order = h; inside = g; small = small }))
+        (omega arith)
 
-    pub fixed_told : (kind ≡ 1 → ⊥) → kind ≡ 2 → RowSays values elements at (ltb from (2 ^ 31))
+    pub fixed_bad : kind ≡ 2 → 2 ^ 31 ≤ from → element_of_row values elements at ≡ none
+    unfolding element_of_row scan_row_size fixed_by
+    fixed_bad k h = rw (in_row, k, le-ltb from (2 ^ 31) h)
+
+    pub fixed_told : kind ≡ 2 → from < 2 ^ 31 → RowIs values elements at (Fixed from)
     unfolding element_of_row scan_row_size fixed_by scan_row_at scan_row scan_element RowGood
-    fixed_told j k = by (ltb from (2 ^ 31)) refl
-      where
-        by : (b : Bool) → ltb from (2 ^ 31) ≡ b → RowSays values elements at b
-        by true e =
-            row_good (rw (in_row, ne_eqb kind 1 j, eq-eqb kind 2 k, e))
-            (rw (ne_eqb kind 1 j, eq-eqb kind 2 k) (omega (arith, ltb-true from (2 ^ 31) e)))
-            (omega arith)
-        by false e = row_bad (rw (in_row, ne_eqb kind 1 j, eq-eqb kind 2 k, e))
+    fixed_told k h = row_is (rw k) (rw (in_row, k, lt-ltb from (2 ^ 31) h)) (rw k (omega arith)) (omega arith)
 
-    pub free_told : (kind ≡ 1 → ⊥) → (kind ≡ 2 → ⊥) → RowSays values elements at (eqb kind 3)
+    pub free_told : kind ≡ 3 → RowIs values elements at Free
     unfolding element_of_row scan_row_size scan_row_at scan_row scan_element RowGood
-    free_told i j = by (eqb kind 3) refl
+    free_told k = row_is (rw k) (rw (in_row, k)) (rw k tt) (omega arith)
+
+    pub kind_unknown : row_kind_of kind ≡ None → element_of_row values elements at ≡ none
+    unfolding element_of_row scan_row_size
+    kind_unknown h = rw in_row (by (eqb kind 1) (eqb kind 2) (eqb kind 3) h)
       where
-        by : (b : Bool) → eqb kind 3 ≡ b → RowSays values elements at b
-        by true e = row_good (rw (in_row, ne_eqb kind 1 i, ne_eqb kind 2 j, e)) (rw (ne_eqb kind 1 i, ne_eqb kind 2 j) tt) (omega arith)
-        by false e = row_bad (rw (in_row, ne_eqb kind 1 i, ne_eqb kind 2 j, e))
+        by : (a b c : Bool)
+            → cond a (Some RowKind.String) (cond b (Some RowKind.Fixed) (cond c (Some RowKind.Free) None)) ≡ None
+            → cond a (string_of_row values from to) (cond b (fixed_by from) (cond c (some free) none)) ≡ none
+        by true b c e = absurd (none-some _ (sym e))
+        by false true c e = absurd (none-some _ (sym e))
+        by false false true e = absurd (none-some _ (sym e))
+        by false false false e = refl
 
 -- one row more
 pub elements-more : (values rows : List ℕ) (n i : ℕ)
@@ -113,22 +126,20 @@ unfolding prefixed join_element
 prefixed_more p e none = refl
 prefixed_more p e (some q) = ap some (sym (append_assoc p (e ∷ []) q))
 
--- the first i rows were read, the next starts at a place
-pub record Reading (values elements : List ℕ) (count : ℕ) (answer : List ℕ) (i at : ℕ) : Type 0 where
-  pub place : at ≡ 12 * i
+-- the first i rows were read
+pub record Reading (values elements : List ℕ) (count : ℕ) (answer : List ℕ) (i : ℕ) : Type 0 where
   pub high : i ≤ count
   pub room : 12 * i ≤ length elements
   pub good : (j : ℕ) → j < i → RowGood values (row_element elements j)
-  pub same : pattern_of_rows values elements ≡ prefixed (scan_elements values elements i 0) (elements_of_rows values elements (count - i) at)
+  pub same : pattern_of_rows values elements ≡ prefixed (scan_elements values elements i 0) (elements_of_rows values elements (count - i) (12 * i))
   pub left : answer ≡ row_answer i (0 ∷ sizes_at elements i 0)
 
 module _ {values elements : List ℕ} {count : ℕ} (counted : count ≡ row_count elements) where
-  pub read-begins : {answer : List ℕ} → answer ≡ row_answer 0 (0 ∷ []) → Reading values elements count answer 0 0
+  pub read-begins : {answer : List ℕ} → answer ≡ row_answer 0 (0 ∷ []) → Reading values elements count answer 0
   unfolding pattern_of_rows scan_elements sizes_at
   read-begins left =
       let e : row_count elements ≡ count - 0 = omega arith in
       record {
-        place = omega arith;
         high = omega arith;
         room = omega arith;
         good = λ j h. absurd (omega arith);
@@ -137,10 +148,13 @@ module _ {values elements : List ℕ} {count : ℕ} (counted : count ≡ row_cou
         left = left;
       }
 
-  module _ {answer : List ℕ} {i at : ℕ} (d : Reading values elements count answer i at) where
+  module _ {answer : List ℕ} {i : ℕ} (d : Reading values elements count answer i) where
+    abbrev at : ℕ
+    at = 12 * i
+
     pub read_inside : i < count → at ≤ length elements
     unfolding row_count scan_row_size
-    read_inside h = omega (arith, d.place)
+    read_inside h = omega arith
 
     -- the pattern by the next row's element
     next : i < count
@@ -152,34 +166,33 @@ module _ {values elements : List ℕ} {count : ℕ} (counted : count ≡ row_cou
         let e : count - i ≡ suc (count - (i + 1)) = omega arith in
         d.same ∙ ap (λ (n : ℕ). prefixed (scan_elements values elements i 0) (elements_of_rows values elements n at)) e
 
-    pub read_bad : {answer' : List ℕ} → i < count → RowSays values elements at false → RowsSay values elements count answer' false
+    pub read_bad : {refusal : Refusal} → i < count → element_of_row values elements at ≡ none → refusal ≡ NoElement
+        → RowsRefused values elements refusal
     unfolding prefixed join_element
-    read_bad h r =
+    read_bad h bad why =
         record {
           bad =
-              λ f.
               next h
               ∙ ap
               (λ (o : Option Splits.Element).
               prefixed (scan_elements values elements i 0) (join_element o (elements_of_rows values elements (count - (i + 1)) (at + 12))))
-              (r.bad refl);
-          same = λ e. absurd (false≢true e);
-          good = λ e. absurd (false≢true e);
-          left = λ e. absurd (false≢true e);
+              bad;
+          why = why;
         }
 
     -- the row at this place is row i
     here : scan_row_at elements at ≡ row_element elements i
     unfolding row_element
-    here = ap (scan_row_at elements) d.place
+    here = refl
 
     -- it is one of the pattern's
-    pub read_good : RowSays values elements at true → RowGood values (row_element elements i)
-    read_good r = subst (RowGood values) here (r.good refl)
+    pub read_good : {e : Element} → RowIs values elements at e → RowGood values (row_element elements i)
+    read_good r = subst (RowGood values) (r.read ∙ here) r.good
 
-    pub read_more : {v : ℕ} → i < count → count ≤ 20 → RowSays values elements at true → v ≡ size_of (row_element elements i)
-        → Reading values elements count (set answer (4 + i) v) (i + 1) (at + 12)
+    pub read_more : {v : ℕ} {e : Element} → i < count → count ≤ 20 → RowIs values elements at e → v ≡ size_of e
+        → Reading values elements count (set answer (4 + i) v) (i + 1)
     read_more {v} h most r size =
+        let further : at + 12 ≡ 12 * (i + 1) = omega arith in
         let o : Option (List Splits.Element) = elements_of_rows values elements (count - (i + 1)) (at + 12) in
         let this = scan_element values (row_element elements i) in
         let one : i + 1 ≡ suc i = omega arith in
@@ -188,34 +201,32 @@ module _ {values elements : List ℕ} {count : ℕ} (counted : count ≡ row_cou
         ∙ elements-more values elements i 0
         ∙ ap (λ (n : ℕ). scan_elements values elements i 0 ++ (scan_element values (row_element elements n) ∷ [])) (omega arith) in
         record {
-          place = omega (arith, d.place);
           high = omega arith;
-          room = omega (arith, r.room refl, d.place);
+          room = omega (arith, r.room);
           good = below_more (λ j. RowGood values (row_element elements j)) i d.good (read_good r);
           same =
               next h
               ∙ ap (λ (e : Option Splits.Element). prefixed (scan_elements values elements i 0) (join_element e o))
-              (r.same refl ∙ ap (λ (e : Element). some (scan_element values e)) here)
+              (r.same ∙ ap (λ (e : Element). some (scan_element values e)) (r.read ∙ here))
               ∙ prefixed_more (scan_elements values elements i 0) this o
-              ∙ ap (λ (p : List Splits.Element). prefixed p o) (sym all);
-          left = ap (λ (l : List ℕ). set l (4 + i) v) d.left ∙ row-filled elements i v (omega arith) size;
+              ∙ ap (λ (p : List Splits.Element). prefixed p o) (sym all)
+              ∙ ap (λ (n : ℕ). prefixed (scan_elements values elements (i + 1) 0) (elements_of_rows values elements (count - (i + 1)) n)) further;
+          left = ap (λ (l : List ℕ). set l (4 + i) v) d.left ∙ row-filled elements i v (omega arith) (size ∙ ap size_of (r.read ∙ here));
         }
 
-    pub read_ends : count ≤ i → count ≤ 20 → RowsSay values elements count answer true
+    pub read_ends : count ≤ i → count ≤ 20 → RowsAre values elements count answer
     unfolding elements_of_rows prefixed pattern_of
     read_ends h most =
         let e : i ≡ count = omega (arith, d.high) in
         let z : count - i ≡ 0 = omega arith in
         record {
-          bad = λ f. absurd (true≢false f);
           same =
-              λ t.
               d.same
               ∙ ap (λ (n : ℕ). prefixed (scan_elements values elements i 0) (elements_of_rows values elements n at)) z
               ∙ ap some (append-nil (scan_elements values elements i 0))
               ∙ ap (λ (n : ℕ). some (scan_elements values elements n 0)) e;
-          good = λ t. record { few = most; room = omega (arith, d.room); good = λ j l. d.good j (omega (arith, d.high)) };
-          left = λ t. d.left ∙ ap (λ (n : ℕ). row_answer n (0 ∷ sizes_at elements n 0)) e;
+          good = record { few = most; room = omega (arith, d.room); good = λ j l. d.good j (omega (arith, d.high)) };
+          left = d.left ∙ ap (λ (n : ℕ). row_answer n (0 ∷ sizes_at elements n 0)) e;
         }
 
 -- how many rows there are, by their bytes
@@ -223,19 +234,33 @@ pub count_most : (elements : List ℕ) → length elements ≤ 240 → row_count
 unfolding row_count scan_row_size
 count_most elements h = omega arith
 
--- the pattern is none: the call is turned down
-pub call_bad : (reference values elements answer : List ℕ) (number : ℕ) → pattern_of_rows values elements ≡ none → number ≡ 24
-    → answer ≡ split_numbers none 0 0 → CallSays (scan_with (pattern_of_rows values elements) reference) number answer
-unfolding scan_with scan_turned_down no_answer
-call_bad reference values elements answer number e n a =
-    subst (λ (o : Option (List Splits.Element)). CallSays (scan_with o reference) number answer) (sym e) (record { result = n; left = a })
+-- what the call is, by what it was lent
+module _ (reference values elements : List ℕ) where
+  pub call_long : longest_reference < length reference → scan_call reference values elements ≡ scan_turned_down 22
+  unfolding scan_call
+  call_long h = rw (lt-ltb longest_reference (length reference) h)
 
--- the pattern is p: the call scans
-pub call_scans : (reference values elements answer : List ℕ) (p : List Splits.Element) → pattern_of_rows values elements ≡ some p
-    → answer ≡ answer_numbers 0 (scan p reference) → CallSays (scan_with (pattern_of_rows values elements) reference) 0 answer
-unfolding scan_with
-call_scans reference values elements answer p e a =
-    subst (λ (o : Option (List Splits.Element)). CallSays (scan_with o reference) 0 answer) (sym e) (record { result = refl; left = a })
+  pub call_many : length reference ≤ longest_reference → most_elements < row_count elements
+      → scan_call reference values elements ≡ scan_turned_down 23
+  unfolding scan_call
+  call_many h g = rw (le-ltb longest_reference (length reference) h, lt-ltb most_elements (row_count elements) g)
+
+  module _ (short : length reference ≤ longest_reference) (few : row_count elements ≤ most_elements) where
+    call_judged : scan_call reference values elements ≡ scan_with (pattern_of_rows values elements) reference
+    unfolding scan_call
+    call_judged = rw (le-ltb longest_reference (length reference) short, le-ltb most_elements (row_count elements) few)
+
+    pub call_bad : pattern_of_rows values elements ≡ none → scan_call reference values elements ≡ scan_turned_down 24
+    unfolding scan_with
+    call_bad e = call_judged ∙ ap (λ (o : Option (List Splits.Element)). scan_with o reference) e
+
+    pub call_scans : {answer : List ℕ} {p : List Splits.Element} → pattern_of_rows values elements ≡ some p → answer ≡ answer_numbers 0 (scan p reference)
+        → scan_call reference values elements ≡ record { number = 0; answer = answer }
+    unfolding scan_with
+    call_scans e a =
+        call_judged
+        ∙ ap (λ (o : Option (List Splits.Element)). scan_with o reference) e
+        ∙ ap (λ (l : List ℕ). record { number = 0; answer = l }) (sym a)
 
 -- the split read back from an answer's numbers
 split-back : (o : Option Split) (trials n : ℕ) → ((s : Split) → o ≡ some s → length s.lengths ≡ n) → split_in n (split_numbers o trials 0) ≡ o
@@ -275,25 +300,11 @@ module _ (reference values elements : List ℕ) (number : ℕ) (answer : List �
           (λ s is. fits_count p reference s ((told.first s is s).0 refl).0) in
           subst (AnswersFirstFit p reference) (sym back) told
 
-  pub promise_long : longest_reference < length reference → number ≡ 22 → answer ≡ split_numbers none 0 0
+  pub promise_kept : scan_call reference values elements ≡ record { number = number; answer = answer }
       → ScanPromise reference values elements number answer
-  unfolding scan_call scan_turned_down no_answer
-  promise_long h n a =
-      let t = lt-ltb longest_reference (length reference) h in
-      promise (rw t n) (rw t a)
+  promise_kept e = promise (sym (ap (λ (c : Called). c.number) e)) (sym (ap (λ (c : Called). c.answer) e))
 
-  pub promise_many : length reference ≤ longest_reference → most_elements < row_count elements → number ≡ 23 → answer ≡ split_numbers none 0 0
+  pub promise_refused : {n : ℕ} → scan_call reference values elements ≡ scan_turned_down n → number ≡ n → answer ≡ split_numbers none 0 0
       → ScanPromise reference values elements number answer
-  unfolding scan_call scan_turned_down no_answer
-  promise_many h g n a =
-      let t = le-ltb longest_reference (length reference) h in
-      let u = lt-ltb most_elements (row_count elements) g in
-      promise (rw (t, u) n) (rw (t, u) a)
-
-  pub promise_kept : length reference ≤ longest_reference → row_count elements ≤ most_elements
-      → CallSays (scan_with (pattern_of_rows values elements) reference) number answer → ScanPromise reference values elements number answer
-  unfolding scan_call
-  promise_kept h g s =
-      let t = le-ltb longest_reference (length reference) h in
-      let u = le-ltb most_elements (row_count elements) g in
-      promise (rw (t, u) s.result) (rw (t, u) s.left)
+  unfolding scan_turned_down no_answer
+  promise_refused e n a = promise (n ∙ sym (ap (λ (c : Called). c.number) e)) (a ∙ sym (ap (λ (c : Called). c.answer) e))

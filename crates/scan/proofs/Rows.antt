@@ -1,5 +1,5 @@
 -- Rows of a pattern one after the other, and what the test of one element says of the scan. Assumes nothing.
-use mathlib.Core.Bool.{Bool, true, false, true≢false}
+use mathlib.Core.Bool.{Bool, true, false, cond, true≢false}
 use mathlib.Core.List.{List, [], ◌∷◌, ◌++◌, append_assoc}
 use mathlib.Core.Path.{◌≡◌, refl, sym, ◌∙◌, ap, subst}
 use Prim.Native.Nat.{ℕ, zero, suc, ◌+◌, ◌-◌, ◌≤◌, ◌<◌}
@@ -13,10 +13,12 @@ use Rattle.scanning.specs.Splits as Splits
 use Rattle.scanning.specs.Splits.{string, fixed, free}
 use Rattle.scanning.specs.Trials.{Tried, found, other, few, element_passed, tested, match}
 use Rattle.scan.specs.Rows.{row_element, scan_element, scan_elements, size_of, sizes_at, RowSized, RowGood}
-use Rattle.scan.specs.Steps.{judged, test_of, passed_behind, group_at, Reached}
+use Rattle.scan.specs.Steps.{judged, test_of, passed_behind, tried_as, group_at, Reached}
 use Rattle.scan.specs.declared.Element.{Element}
 use Rattle.scan.specs.declared.Element.TheVariants.{Part, Fixed, Free}
-use Rattle.scan.specs.declared.Test.TheVariants.{Piece, Other, Few, Filler}
+use Rattle.scan.specs.declared.Failure.{Failure}
+use Rattle.scan.specs.declared.Failure.TheVariants.{Other, Few}
+use Rattle.std.specs.Prelude.{Some, None, Ok, Err}
 
 -- a good element's length can be told
 pub good_sized : (values : List ℕ) (e : Element) → RowGood values e → RowSized e
@@ -89,19 +91,19 @@ module _ (rows : List ℕ) where
       ∙ ap (λ (k : ℕ). sizes_at rows (j - g) g ++ sizes_at rows (count - j) k) f
 
 -- the outcomes of a test by what was tested
-judged-piece : (a b : Bool) (l n : ℕ) → judged a b l ≡ Piece n → (a ≡ true) × (b ≡ true) × (n ≡ l)
+judged-piece : (a b : Bool) (l n : ℕ) → judged a b l ≡ Ok (Some n) → (a ≡ true) × (b ≡ true) × (n ≡ l)
 unfolding judged
 judged-piece false b l n e = let z : ◌≡◌ {A = ℕ} 0 1 = cc in absurd (omega arith)
 judged-piece true false l n e = let z : ◌≡◌ {A = ℕ} 0 1 = cc in absurd (omega arith)
 judged-piece true true l n e = (refl, refl, cc)
 
-judged-other : (a b : Bool) (l : ℕ) → judged a b l ≡ Other → (a ≡ true) × (b ≡ false)
+judged-other : (a b : Bool) (l : ℕ) → judged a b l ≡ Err Other → (a ≡ true) × (b ≡ false)
 unfolding judged
 judged-other false b l e = let z : ◌≡◌ {A = ℕ} 0 1 = cc in absurd (omega arith)
 judged-other true false l e = (refl, refl)
 judged-other true true l e = let z : ◌≡◌ {A = ℕ} 0 1 = cc in absurd (omega arith)
 
-judged_few : (a b : Bool) (l : ℕ) → judged a b l ≡ Few → a ≡ false
+judged_few : (a b : Bool) (l : ℕ) → judged a b l ≡ Err Few → a ≡ false
 unfolding judged
 judged_few false b l e = refl
 judged_few true false l e = let z : ◌≡◌ {A = ℕ} 0 1 = cc in absurd (omega arith)
@@ -109,7 +111,7 @@ judged_few true true l e = let z : ◌≡◌ {A = ℕ} 0 1 = cc in absurd (omega
 
 module _ (p : List Splits.Element) (s : List ℕ) where
   -- an element that takes n bytes passes, and the row goes on behind them
-  pub match-piece : (e : Splits.Element) (n : ℕ) → test_of e s ≡ Piece n → match (e ∷ p) s ≡ element_passed n (match p (drop n s))
+  pub match-piece : (e : Splits.Element) (n : ℕ) → test_of e s ≡ Ok (Some n) → match (e ∷ p) s ≡ element_passed n (match p (drop n s))
   unfolding match test_of tested
   match-piece (string w) n h =
       let t = judged-piece (leb (length w) (length s)) (begins w s) (length w) n h in
@@ -118,7 +120,7 @@ module _ (p : List Splits.Element) (s : List ℕ) where
   match-piece free n h = let z : ◌≡◌ {A = ℕ} 0 1 = cc in absurd (omega arith)
 
   -- other bytes: one trial
-  pub match-other : (e : Splits.Element) → test_of e s ≡ Other → match (e ∷ p) s ≡ other 1
+  pub match-other : (e : Splits.Element) → test_of e s ≡ Err Other → match (e ∷ p) s ≡ other 1
   unfolding match test_of tested
   match-other (string w) h =
       let t = judged-other (leb (length w) (length s)) (begins w s) (length w) h in
@@ -127,14 +129,14 @@ module _ (p : List Splits.Element) (s : List ℕ) where
   match-other free h = let z : ◌≡◌ {A = ℕ} 0 1 = cc in absurd (omega arith)
 
   -- too few bytes: one trial
-  pub match_few : (e : Splits.Element) → test_of e s ≡ Few → match (e ∷ p) s ≡ few 1
+  pub match_few : (e : Splits.Element) → test_of e s ≡ Err Few → match (e ∷ p) s ≡ few 1
   unfolding match test_of tested
   match_few (string w) h = rw (judged_few (leb (length w) (length s)) (begins w s) (length w) h)
   match_few (fixed m) h = rw (judged_few (leb m (length s)) true m h)
   match_few free h = let z : ◌≡◌ {A = ℕ} 0 1 = cc in absurd (omega arith)
 
 -- the piece that a good element takes has its length, and ends inside
-pub piece_size : (values s : List ℕ) (e : Element) (n : ℕ) → RowGood values e → test_of (scan_element values e) s ≡ Piece n
+pub piece_size : (values s : List ℕ) (e : Element) (n : ℕ) → RowGood values e → test_of (scan_element values e) s ≡ Ok (Some n)
     → (n ≡ size_of e) × (n ≤ length s)
 unfolding RowGood test_of scan_element size_of
 piece_size values s (Part from to) n good h =
@@ -148,14 +150,14 @@ piece_size values s (Fixed m) n good h =
 piece_size values s Free n good h = let z : ◌≡◌ {A = ℕ} 0 1 = cc in absurd (omega arith)
 
 -- what is tested is no filler
-judged-filler : (a b : Bool) (l : ℕ) → judged a b l ≡ Filler → ⊥
+judged-filler : (a b : Bool) (l : ℕ) → judged a b l ≡ Ok None → ⊥
 unfolding judged
 judged-filler false b l e = let z : ◌≡◌ {A = ℕ} 0 1 = cc in omega arith
 judged-filler true false l e = let z : ◌≡◌ {A = ℕ} 0 1 = cc in omega arith
 judged-filler true true l e = let z : ◌≡◌ {A = ℕ} 0 1 = cc in omega arith
 
 -- only a free filler is not tested
-pub filler_free : (values s : List ℕ) (e : Element) → test_of (scan_element values e) s ≡ Filler → e ≡ Free
+pub filler_free : (values s : List ℕ) (e : Element) → test_of (scan_element values e) s ≡ Ok None → e ≡ Free
 unfolding test_of scan_element
 filler_free values s (Part from to) h =
     let w : List ℕ = take (to - from) (drop from values) in
@@ -211,7 +213,7 @@ module _ {reference values rows : List ℕ} {count g place : ℕ} where
         ∙ ap (λ (p : List Splits.Element). passed_behind (sizes_at rows (i - g) g) (match p (drop at reference))) (elements_cons values rows count i more)
         ∙ ap (passed_behind (sizes_at rows (i - g) g)) e
 
-    pub group_piece : {n : ℕ} → RowGood values (row_element rows i) → test_of here (drop at reference) ≡ Piece n
+    pub group_piece : {n : ℕ} → RowGood values (row_element rows i) → test_of here (drop at reference) ≡ Ok (Some n)
         → Reached reference values rows count g place (i + 1) (at + n)
     group_piece {n} good h =
         let size = piece_size values (drop at reference) (row_element rows i) n good h in
@@ -229,25 +231,31 @@ module _ {reference values rows : List ℕ} {count g place : ℕ} where
               ∙ ap (λ (ls : List ℕ). passed_behind ls t) (sym (sizes-more rows g i r.low));
         }
 
-    pub group_other : test_of here (drop at reference) ≡ Other → group_at values rows count g (drop place reference) ≡ other (i - g + 1)
+    group_other : test_of here (drop at reference) ≡ Err Other → group_at values rows count g (drop place reference) ≡ other (i - g + 1)
     unfolding passed_behind
     group_other h =
         reach (other 1) (match-other rest (drop at reference) here h) ∙ ap (λ (n : ℕ). other (n + 1)) (sizes-length rows (i - g) g)
 
-    pub group_few : test_of here (drop at reference) ≡ Few → group_at values rows count g (drop place reference) ≡ few (i - g + 1)
+    group_few : test_of here (drop at reference) ≡ Err Few → group_at values rows count g (drop place reference) ≡ few (i - g + 1)
     unfolding passed_behind
     group_few h =
         reach (few 1) (match_few rest (drop at reference) here h) ∙ ap (λ (n : ℕ). few (n + 1)) (sizes-length rows (i - g) g)
 
+    pub group_failed : (failure : Failure) → test_of here (drop at reference) ≡ Err failure
+        → group_at values rows count g (drop place reference) ≡ tried_as failure (i - g + 1)
+    unfolding tried_as
+    group_failed Other h = group_other h
+    group_failed Few h = group_few h
+
 -- the first element may be known to pass with a byte
-pub group_known : (reference values rows : List ℕ) (count g place known : ℕ) → g < count → place ≤ length reference
-    → RowGood values (row_element rows g) → known ≤ 1 → (known ≡ 1 → test_of (scan_element values (row_element rows g)) (drop place reference) ≡ Piece 1)
-    → Reached reference values rows count g place (g + known) (place + known)
-group_known reference values rows count g place zero more inside good most passes =
+pub group_known : (reference values rows : List ℕ) (count g place : ℕ) (known : Bool) → g < count → place ≤ length reference
+    → RowGood values (row_element rows g)
+    → (known ≡ true → test_of (scan_element values (row_element rows g)) (drop place reference) ≡ Ok (Some 1))
+    → Reached reference values rows count g place (g + cond known 1 0) (place + cond known 1 0)
+group_known reference values rows count g place false more inside good passes =
     let e : g ≡ g + 0 = omega arith in
     let f : place ≡ place + 0 = omega arith in
     subst (λ (n : ℕ). Reached reference values rows count g place n (place + 0)) e
     (subst (Reached reference values rows count g place g) f (group_begins (omega arith) inside))
-group_known reference values rows count g place (suc zero) more inside good most passes =
+group_known reference values rows count g place true more inside good passes =
     group_piece (group_begins (omega arith) inside) more good (passes refl)
-group_known reference values rows count g place (suc (suc k)) more inside good most passes = absurd (omega arith)

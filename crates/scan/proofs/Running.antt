@@ -10,7 +10,11 @@ use Rattle.scanning.specs.Splits.{free}
 use Rattle.scanning.specs.Trials.{Tried, found, other, few, match, slide}
 use Rattle.scan.specs.Rows.{row_element, scan_element, scan_elements, pattern_of, sizes_at}
 use Rattle.scan.specs.Rows.{row_answer}
-use Rattle.scan.specs.Steps.{test_of, passed_behind, resumed_trial, group_at, WholeGroup, FailedGroup, outcome, RunFound, RunFailed, SkipSays}
+use Rattle.std.specs.Prelude.{◌⊎◌}
+use Rattle.std.proofs.Common.{inl, inr}
+use Rattle.scan.specs.declared.Failure.{Failure}
+use Rattle.scan.specs.declared.Failure.TheVariants.{Other, Few}
+use Rattle.scan.specs.Steps.{test_of, tried_as, passed_behind, resumed_trial, group_at, WholeGroup, FailedGroup, outcome, RunFound, RunFailed, SkipSays}
 use Rattle.scan.specs.declared.Element.{Element}
 use Rattle.scan.proofs.Answers.{row-set, row_settled}
 use Rattle.scan.proofs.Rows.{elements_cons, elements_none, sizes-length, match-other}
@@ -34,6 +38,10 @@ pub record Running (reference values rows : List ℕ) (count : ℕ) (answer : Li
 pub run_less : (size count place g end j : ℕ) → place ≤ end → end ≤ size → g ≤ j → j + 1 < count
     → 21 * (size - end) + (count - (j + 1)) < 21 * (size - place) + (count - g)
 run_less size count place g end j forth inside low more = omega arith
+
+-- the two failures differ
+e_differs : Other ≡ Few → ⊥
+e_differs e = let z : ◌≡◌ {A = ℕ} 0 1 = cc in absurd (omega arith)
 
 module _ {reference values rows : List ℕ} {count : ℕ} where
   pub run-begins : {answer : List ℕ} → length reference ≤ 1024 → count ≤ 20 → 0 < count → answer ≡ row_answer count (0 ∷ sizes_at rows count 0)
@@ -100,7 +108,7 @@ module _ {reference values rows : List ℕ} {count : ℕ} where
         ∙ ap (λ (l : List ℕ). resumed_trial r.pre (place - from + k) (trials + k) (slide row l)) (drop-drop k place reference)
         ∙ ap (λ (n : ℕ). resumed_trial r.pre n (trials + k) (slide row (drop (place + k) reference))) gap)
 
-    pub run_moves : {n : ℕ} → FailedGroup reference values rows count g place n (other n) → place < length reference
+    run_moves : {n : ℕ} → FailedGroup reference values rows count g place n (other n) → place < length reference
         → Running reference values rows count answer g from (place + 1) (trials + n)
     run_moves {n} f h =
         let gap : place - from + 1 ≡ place + 1 - from = omega (arith, r.low) in
@@ -110,7 +118,7 @@ module _ {reference values rows : List ℕ} {count : ℕ} where
         ∙ ap (λ (l : List ℕ). resumed_trial r.pre (place - from + 1) (trials + n) (slide row l)) (drop-drop 1 place reference)
         ∙ ap (λ (m : ℕ). resumed_trial r.pre m (trials + n) (slide row (drop (place + 1) reference))) gap)
 
-    pub run_stops : {n : ℕ} → FailedGroup reference values rows count g place n (other n) → place ≡ length reference
+    run_stops : {n : ℕ} → FailedGroup reference values rows count g place n (other n) → place ≡ length reference
         → RunFailed reference values rows count (trials + n)
     run_stops {n} f h =
         record {
@@ -120,12 +128,26 @@ module _ {reference values rows : List ℕ} {count : ℕ} where
           small = omega (arith, r.bound, f.few, r.more, r.inside, r.short, r.most);
         }
 
-    pub run_ends : {n : ℕ} → FailedGroup reference values rows count g place n (few n) → RunFailed reference values rows count (trials + n)
+    run_ends : {n : ℕ} → FailedGroup reference values rows count g place n (few n) → RunFailed reference values rows count (trials + n)
     run_ends {n} f =
         record {
           same = r.same ∙ slides_few r.pre row (drop place reference) (place - from) trials n f.same;
           small = omega (arith, r.bound, f.few, r.more, r.inside, r.short, r.most);
         }
+
+    -- a group that failed ends the run where too few bytes are left or no place, and moves on elsewhere
+    pub run_over : (failure : Failure) {n : ℕ} → FailedGroup reference values rows count g place n (tried_as failure n)
+        → (failure ≡ Few) ⊎ (place ≡ length reference) → RunFailed reference values rows count (trials + n)
+    unfolding tried_as
+    run_over Few f why = run_ends f
+    run_over Other f (inl e) = absurd (e_differs e)
+    run_over Other f (inr at) = run_stops f at
+
+    pub run_on : (failure : Failure) {n : ℕ} → FailedGroup reference values rows count g place n (tried_as failure n)
+        → (failure ≡ Few → ⊥) → place < length reference → Running reference values rows count answer g from (place + 1) (trials + n)
+    unfolding tried_as
+    run_on Few f differs h = absurd (differs refl)
+    run_on Other f differs h = run_moves f h
 
     module _ {j end : ℕ} (w : WholeGroup reference values rows count g place j end) where
       abbrev gap : ℕ

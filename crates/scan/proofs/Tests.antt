@@ -1,36 +1,52 @@
 -- What the code's cases say: a row read as an element, an element tested, its length told, places passed over. Assumes nothing.
-use mathlib.Core.Bool.{true, false}
+use mathlib.Core.Bool.{Bool, true, false, cond}
+use lib.Dec.{eqb}
+use Rattle.std.proofs.lemmas.Option.{none-some}
+use Rattle.scanning.specs.Kinds.{row_kind_of}
+use Rattle.scanning.specs.declared.RowKind.{RowKind}
 use mathlib.Core.List.{List, [], ◌∷◌}
-use mathlib.Core.Path.{◌≡◌, sym, ◌∙◌, ap, subst}
+use mathlib.Core.Path.{◌≡◌, refl, sym, ◌∙◌, ap, subst}
 use Prim.Native.Nat.{ℕ, suc, ◌-◌, ◌≤◌, ◌<◌, ◌^◌}
 use native.Mathlib.Omega.{arith}
 use lib.ListN.{length, take, drop, length-drop, get_or}
 use lib.Seq.{drop-cons}
-use borrow.Author.Tests.{eq-eqb, ne_eqb, le-leb, lt-leb}
+use borrow.Author.Tests.{eq-eqb, le-leb, lt-leb}
 use Rattle.base.specs.ListLaws.{stretch_end}
 use Rattle.base.specs.Lists.{same, begins}
 use Rattle.scanning.specs.Splits as Splits
 use Rattle.scanning.specs.Splits.{string}
 use Rattle.search.specs.Passing.{WordPasses}
 use Rattle.scan.specs.Rows.{scan_row, scan_element, size_of, RowSized, SizedPart, RowGood, GoodPart}
-use Rattle.scan.specs.Steps.{judged, test_of, SkipSays, StandsSays}
+use Rattle.scan.specs.Steps.{Test, judged, test_of, SkipSays, StandsSays}
+use Rattle.std.specs.Prelude.{Some, None, Ok, Err}
 use Rattle.scan.specs.declared.Element.{Element}
 use Rattle.scan.specs.declared.Element.TheVariants.{Part, Fixed, Free}
-use Rattle.scan.specs.declared.Test.{Test}
-use Rattle.scan.specs.declared.Test.TheVariants.{Piece, Other, Few, Filler}
+use Rattle.scan.specs.declared.Failure.TheVariants.{Other, Few}
 
 module _ (a b : ℕ) where
   pub row_part : (kind : ℕ) → kind ≡ 1 → Part a b ≡ scan_row kind a b
   unfolding scan_row
   row_part kind e = rw (eq-eqb kind 1 e)
 
-  pub row_fixed : (kind : ℕ) → (kind ≡ 1 → ⊥) → kind ≡ 2 → Fixed a ≡ scan_row kind a b
+  pub row_fixed : (kind : ℕ) → kind ≡ 2 → Fixed a ≡ scan_row kind a b
   unfolding scan_row
-  row_fixed kind h e = rw (ne_eqb kind 1 h, eq-eqb kind 2 e)
+  row_fixed kind e = rw e
 
-  pub row_free : (kind : ℕ) → (kind ≡ 1 → ⊥) → (kind ≡ 2 → ⊥) → Free ≡ scan_row kind a b
+  pub row_free : (kind : ℕ) → kind ≡ 3 → Free ≡ scan_row kind a b
   unfolding scan_row
-  row_free kind h g = rw (ne_eqb kind 1 h, ne_eqb kind 2 g)
+  row_free kind e = rw e
+
+  -- a row of no known kind is read as a free filler
+  pub row_unknown : (kind : ℕ) → row_kind_of kind ≡ None → Free ≡ scan_row kind a b
+  unfolding scan_row
+  row_unknown kind e = by (eqb kind 1) (eqb kind 2) (eqb kind 3) e
+    where
+      by : (x y z : Bool) → cond x (Some RowKind.String) (cond y (Some RowKind.Fixed) (cond z (Some RowKind.Free) None)) ≡ None
+          → Free ≡ cond x (Part a b) (cond y (Fixed a) Free)
+      by true y z f = absurd (none-some _ (sym f))
+      by false true z f = absurd (none-some _ (sym f))
+      by false false true f = refl
+      by false false false f = refl
 
 module _ (e : Element) where
   pub sized_part : (from to : ℕ) → e ≡ Part from to → RowSized e → (from ≤ to) × (to - from ≡ size_of e) × (to - from < 2 ^ 32)
@@ -52,15 +68,15 @@ module _ (e : Element) where
   good_part values from to h g = subst (RowGood values) h g
 
 module _ (word rest : List ℕ) where
-  pub test_few : length rest < length word → Few ≡ test_of (string word) rest
+  pub test_few : length rest < length word → Err Few ≡ test_of (string word) rest
   unfolding test_of judged
   test_few h = rw (lt-leb (length word) (length rest) h)
 
-  pub test-piece : length word ≤ length rest → begins word rest ≡ true → Piece (length word) ≡ test_of (string word) rest
+  pub test-piece : length word ≤ length rest → begins word rest ≡ true → Ok (Some (length word)) ≡ test_of (string word) rest
   unfolding test_of judged
   test-piece h e = rw (le-leb (length word) (length rest) h, e)
 
-  pub test-other : length word ≤ length rest → begins word rest ≡ false → Other ≡ test_of (string word) rest
+  pub test-other : length word ≤ length rest → begins word rest ≡ false → Err Other ≡ test_of (string word) rest
   unfolding test_of judged
   test-other h e = rw (le-leb (length word) (length rest) h, e)
 
@@ -74,17 +90,17 @@ module _ (values s : List ℕ) (at : ℕ) (e : Element) where
       ∙ ap (λ (k : ℕ). test_of (string (take k (drop from values))) (drop at s)) en
       ∙ sym (ap (λ (x : Element). test_of (scan_element values x) (drop at s)) h)
 
-  pub test_fixed_few : (n : ℕ) → e ≡ Fixed n → length s - at < n → Few ≡ test_of (scan_element values e) (drop at s)
+  pub test_fixed_few : (n : ℕ) → e ≡ Fixed n → length s - at < n → Err Few ≡ test_of (scan_element values e) (drop at s)
   unfolding scan_element test_of judged
   test_fixed_few n h l =
       rw (h, lt-leb n (length (drop at s)) (omega (arith, length-drop at s)))
 
-  pub test_fixed_piece : (n : ℕ) → e ≡ Fixed n → n ≤ length s - at → Piece n ≡ test_of (scan_element values e) (drop at s)
+  pub test_fixed_piece : (n : ℕ) → e ≡ Fixed n → n ≤ length s - at → Ok (Some n) ≡ test_of (scan_element values e) (drop at s)
   unfolding scan_element test_of judged
   test_fixed_piece n h l =
       rw (h, le-leb n (length (drop at s)) (omega (arith, length-drop at s)))
 
-  pub test_free : e ≡ Free → Filler ≡ test_of (scan_element values e) (drop at s)
+  pub test_free : e ≡ Free → Ok None ≡ test_of (scan_element values e) (drop at s)
   unfolding scan_element test_of
   test_free h = rw h
 
@@ -107,28 +123,20 @@ module _ (values s : List ℕ) (at : ℕ) (e : Element) where
   skip_none = record { inside = omega arith; fails = λ j l. absurd (omega arith) }
 
 -- a string of one byte that stands there
-single_piece : (x y : ℕ) (l : List ℕ) → y ≡ x → test_of (string (x ∷ [])) (y ∷ l) ≡ Piece 1
+single_piece : (x y : ℕ) (l : List ℕ) → y ≡ x → test_of (string (x ∷ [])) (y ∷ l) ≡ Ok (Some 1)
 unfolding test_of judged begins same
 single_piece x y l e = rw (le-leb 1 (suc (length l)) (omega arith), eq-eqb y x e)
 
 module _ (values s : List ℕ) (at : ℕ) (e : Element) where
-  pub stands_not : StandsSays (drop at s) (scan_element values e) 0
-  stands_not = record { few = omega arith; passes = λ h. absurd (omega arith) }
-
   pub stands_one : (from to : ℕ) → e ≡ Part from to → RowGood values e → to - from ≡ 1 → at < length s → get_or s at 0 ≡ get_or values from 0
-      → StandsSays (drop at s) (scan_element values e) 1
+      → StandsSays (drop at s) (scan_element values e) true
   unfolding scan_element
-  stands_one from to h good one inside same =
+  stands_one from to h good one inside same _ =
       let part = good_part e values from to h good in
       let x : ℕ = get_or values from 0 in
       let word : take (to - from) (drop from values) ≡ x ∷ [] =
       ap (λ (n : ℕ). take n (drop from values)) one ∙ ap (take 1) (drop-cons values from 0 (omega (arith, part.inside, part.order))) in
-      record {
-        few = omega arith;
-        passes =
-            λ k.
-            ap (λ (y : Element). test_of (scan_element values y) (drop at s)) h
-            ∙ ap (λ (w : List ℕ). test_of (string w) (drop at s)) word
-            ∙ ap (test_of (string (x ∷ []))) (drop-cons s at 0 inside)
-            ∙ single_piece x (get_or s at 0) (drop (suc at) s) same;
-      }
+      ap (λ (y : Element). test_of (scan_element values y) (drop at s)) h
+      ∙ ap (λ (w : List ℕ). test_of (string w) (drop at s)) word
+      ∙ ap (test_of (string (x ∷ []))) (drop-cons s at 0 inside)
+      ∙ single_piece x (get_or s at 0) (drop (suc at) s) same

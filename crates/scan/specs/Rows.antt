@@ -1,10 +1,12 @@
 -- A pattern as rows of 12 bytes, laid out as the scan call's: which elements the rows are, and when the scan can go through them.
 -- Assumes nothing.
-use Rattle.std.specs.Prelude.{Bool, true, false, cond, List, [], ◌∷◌, ◌++◌, ◌≡◌, ℕ, zero, suc, ◌+◌, ◌*◌, ◌-◌, ◌≤◌, ◌<◌, ◌^◌, eqb, length, take, drop, get_or, replicate}
+use Rattle.std.specs.Prelude.{Option, Some, None, Result, Ok, Err, cond, List, [], ◌∷◌, ◌++◌, ◌≡◌, ℕ, zero, suc, ◌+◌, ◌*◌, ◌-◌, ◌≤◌, ◌<◌, ◌^◌, eqb, length, take, drop, get_or, replicate}
 use Rattle.std.proofs.Math.Option.{none, some}
 use Rattle.scanning.specs.Splits as Splits
 use Rattle.scanning.specs.Splits.{string, fixed, free}
 use Rattle.scanning.specs.Call.{number4, element_of_row, pattern_of_rows}
+use Rattle.scanning.specs.declared.Refusal.{Refusal}
+use Rattle.scanning.specs.declared.Refusal.TheVariants.{NoElement}
 use Rattle.scan.specs.declared.Element.{Element}
 use Rattle.scan.specs.declared.Element.TheVariants.{Part, Fixed, Free}
 
@@ -75,20 +77,33 @@ pub record GoodRows (values rows : List ℕ) (count : ℕ) : Type 0 where
   pub room : 12 * count ≤ length rows
   pub good : (i : ℕ) → i < count → RowGood values (row_element rows i)
 
+-- the element that a row of bytes is
+pub record RowIs (values elements : List ℕ) (at : ℕ) (e : Element) : Type 0 where
+  pub read : e ≡ scan_row_at elements at
+  pub same : element_of_row values elements at ≡ some (scan_element values e)
+  pub good : RowGood values e
+  pub room : at + 12 ≤ length elements
+
 -- whether a row of bytes is an element, and which
-pub record RowSays (values elements : List ℕ) (at : ℕ) (is : Bool) : Type 0 where
-  pub bad : is ≡ false → element_of_row values elements at ≡ none
-  pub same : is ≡ true → element_of_row values elements at ≡ some (scan_element values (scan_row_at elements at))
-  pub good : is ≡ true → RowGood values (scan_row_at elements at)
-  pub room : is ≡ true → at + 12 ≤ length elements
+unfoldable pub RowSays : (values elements : List ℕ) → ℕ → Option Element → Type 0
+RowSays values elements at None = element_of_row values elements at ≡ none
+RowSays values elements at (Some e) = RowIs values elements at e
 
 -- the lengths of an answer, the start first, filled with zeros behind three numbers that are still 0
 unfoldable pub row_answer : ℕ → List ℕ → List ℕ
 row_answer count row = 0 ∷ (0 ∷ (0 ∷ (row ++ replicate (20 - count) 0)))
 
--- whether all rows are elements, and which; their lengths stand in the answer then
-pub record RowsSay (values elements : List ℕ) (count : ℕ) (answer : List ℕ) (are : Bool) : Type 0 where
-  pub bad : are ≡ false → pattern_of_rows values elements ≡ none
-  pub same : are ≡ true → pattern_of_rows values elements ≡ some (pattern_of values elements count)
-  pub good : are ≡ true → GoodRows values elements count
-  pub left : are ≡ true → answer ≡ row_answer count (0 ∷ sizes_at elements count 0)
+-- all rows are elements, and which; their lengths stand in the answer
+pub record RowsAre (values elements : List ℕ) (count : ℕ) (answer : List ℕ) : Type 0 where
+  pub same : pattern_of_rows values elements ≡ some (pattern_of values elements count)
+  pub good : GoodRows values elements count
+  pub left : answer ≡ row_answer count (0 ∷ sizes_at elements count 0)
+
+-- one is no element
+pub record RowsRefused (values elements : List ℕ) (refusal : Refusal) : Type 0 where
+  pub bad : pattern_of_rows values elements ≡ none
+  pub why : refusal ≡ NoElement
+
+unfoldable pub RowsSay : (values elements : List ℕ) → ℕ → List ℕ → Result Unit Refusal → Type 0
+RowsSay values elements count answer (Ok _) = RowsAre values elements count answer
+RowsSay values elements count answer (Err refusal) = RowsRefused values elements refusal

@@ -1,30 +1,33 @@
 -- What the parts of the scan say of the definition of the scan: one test, one group, the whole run. Assumes nothing.
-use Rattle.std.specs.Prelude.{Bool, true, false, List, [], ◌∷◌, ◌++◌, ◌≡◌, ℕ, suc, ◌+◌, ◌-◌, ◌≤◌, ◌<◌, ◌^◌, leb, length, drop}
+use Rattle.std.specs.Prelude.{Bool, true, false, Option, Some, None, Result, Ok, Err, List, [], ◌∷◌, ◌++◌, ◌≡◌, ℕ, suc, ◌+◌, ◌-◌, ◌≤◌, ◌<◌, ◌^◌, leb, length, drop}
 use Rattle.base.specs.Lists.{begins}
 use Rattle.scanning.specs.Splits as Splits
 use Rattle.scanning.specs.Splits.{string, fixed, free}
 use Rattle.scanning.specs.Trials.{Tried, found, other, few, match, slide}
-use Rattle.scanning.specs.Call.{Called}
+use Rattle.scanning.specs.Call.{Called, scan_turned_down}
+use Rattle.scanning.specs.Kinds.{refusal_number}
+use Rattle.scanning.specs.declared.Refusal.{Refusal}
 use Rattle.scan.specs.Rows.{row_element, scan_elements, pattern_of, sizes_at, row_answer}
 use Rattle.scan.specs.declared.Element.TheVariants.{Free}
-use Rattle.scan.specs.declared.Test.{Test}
-use Rattle.scan.specs.declared.Test.TheVariants.{Piece, Other, Few, Filler}
-use Rattle.scan.specs.declared.Group.{Group}
-use Rattle.scan.specs.declared.Group.TheVariants.{Whole, Moves, Ends}
-use Rattle.scan.specs.declared.Ran.{Ran}
-use Rattle.scan.specs.declared.Ran.TheVariants.{Found, Fails}
+use Rattle.scan.specs.declared.Failure.{Failure}
+use Rattle.scan.specs.declared.Failure.TheVariants.{Other, Few}
+use Rattle.scan.specs.declared.Failed.{Failed}
+
+-- how an element fared at a place: its piece's length, or none for a free filler, which is not tested; or why it fails
+abbrev pub Test : Type 0
+Test = Result (Option ℕ) Failure
 
 -- too few bytes are looked at before other bytes
 unfoldable pub judged : (enough equal : Bool) → ℕ → Test
-judged false equal l = Few
-judged true false l = Other
-judged true true l = Piece l
+judged false equal l = Err Few
+judged true false l = Err Other
+judged true true l = Ok (Some l)
 
 -- the test of one element at a place
 unfoldable pub test_of : Splits.Element → List ℕ → Test
 test_of (string w) rest = judged (leb (length w) (length rest)) (begins w rest) (length w)
 test_of (fixed n) rest = judged (leb n (length rest)) true n
-test_of free rest = Filler
+test_of free rest = Ok None
 
 -- elements passed with pieces of these lengths, one trial each, then the rest of the row
 unfoldable pub passed_behind : List ℕ → Tried → Tried
@@ -62,15 +65,19 @@ pub record FailedGroup (reference values rows : List ℕ) (count g place n : ℕ
   pub few : n ≤ 20
   pub same : group_at values rows count g (drop place reference) ≡ t
 
-unfoldable pub GroupSays : (reference values rows : List ℕ) → (count g place : ℕ) → Group → Type 0
-GroupSays reference values rows count g place (Whole j end) = WholeGroup reference values rows count g place j end
-GroupSays reference values rows count g place (Moves n) = FailedGroup reference values rows count g place n (other n)
-GroupSays reference values rows count g place (Ends n) = FailedGroup reference values rows count g place n (few n)
+-- a failure after so many trials
+unfoldable pub tried_as : Failure → ℕ → Tried
+tried_as Other n = other n
+tried_as Few n = few n
+
+unfoldable pub GroupSays : (reference values rows : List ℕ) → (count g place : ℕ) → Result (ℕ × ℕ) Failed → Type 0
+GroupSays reference values rows count g place (Ok whole) = WholeGroup reference values rows count g place whole.0 whole.1
+GroupSays reference values rows count g place (Err failed) =
+    FailedGroup reference values rows count g place failed.trials (tried_as failed.failure failed.trials)
 
 -- where a group can be tested, its first elements, as many as known, having passed with a byte each
 pub record GroupReady (reference values rows : List ℕ) (count g place known : ℕ) : Type 0 where
   pub short : length reference ≤ 1024
-  pub few : known ≤ 1
   pub reached : Reached reference values rows count g place (g + known) (place + known)
 
 -- the scan's outcome
@@ -90,21 +97,20 @@ pub record RunFailed (reference values rows : List ℕ) (count n : ℕ) : Type 0
   pub same : outcome reference values rows count ≡ few n
   pub small : n < 2 ^ 32
 
-unfoldable pub RunSays : (reference values rows : List ℕ) → ℕ → List ℕ → Ran → Type 0
-RunSays reference values rows count answer (Found n) = RunFound reference values rows count answer n
-RunSays reference values rows count answer (Fails n) = RunFailed reference values rows count n
+unfoldable pub RunSays : (reference values rows : List ℕ) → ℕ → List ℕ → Result ℕ ℕ → Type 0
+RunSays reference values rows count answer (Ok n) = RunFound reference values rows count answer n
+RunSays reference values rows count answer (Err n) = RunFailed reference values rows count n
 
 -- n places at each of which the element has enough bytes and fails
 pub record SkipSays (rest : List ℕ) (e : Splits.Element) (n : ℕ) : Type 0 where
   pub inside : n ≤ length rest
-  pub fails : (j : ℕ) → j < n → test_of e (drop j rest) ≡ Other
+  pub fails : (j : ℕ) → j < n → test_of e (drop j rest) ≡ Err Other
 
--- 1 only where the element passes with a piece of one byte
-pub record StandsSays (rest : List ℕ) (e : Splits.Element) (known : ℕ) : Type 0 where
-  pub few : known ≤ 1
-  pub passes : known ≡ 1 → test_of e rest ≡ Piece 1
+-- true only where the element passes with a piece of one byte
+abbrev pub StandsSays : (rest : List ℕ) → Splits.Element → Bool → Type 0
+StandsSays rest e stands = stands ≡ true → test_of e rest ≡ Ok (Some 1)
 
--- the number and the numbers left are those of a call
-pub record CallSays (called : Called) (number : ℕ) (answer : List ℕ) : Type 0 where
-  pub result : number ≡ called.number
-  pub left : answer ≡ called.answer
+-- the number and the numbers left are those of a call; of one turned down the number alone: what is left of it, strigol_scan puts
+unfoldable pub CallSays : Called → Result Unit Refusal → List ℕ → Type 0
+CallSays called (Ok _) answer = called ≡ record { number = 0; answer = answer }
+CallSays called (Err refusal) answer = called ≡ scan_turned_down (refusal_number refusal)

@@ -2,26 +2,23 @@
 // of a row where it is matched. The contracts cite the definitions of crate scanning. Assumes nothing.
 #![tactic(auto)]
 
-ghost use Rattle.std.specs.Prelude.{◌≡◌, ◌∷◌, ℕ, ◌+◌, ◌*◌, ◌≤◌, ◌<◌, ◌^◌, length, drop, get_or, set};
+ghost use Rattle.std.specs.Prelude.{cond, ◌≡◌, ◌∷◌, ℕ, ◌+◌, ◌*◌, ◌≤◌, ◌<◌, ◌^◌, length, drop, get_or, set};
 ghost use Rattle.std.proofs.Math.Option.{none};
 ghost use Rattle.scanning.specs.Splits.{string};
 ghost use Rattle.scanning.specs.Trials.{scan};
-ghost use Rattle.scanning.specs.Call.{number4 as Call·number4, split_numbers, answer_numbers, row_count, scan_with, pattern_of_rows, ScanPromise};
+ghost use Rattle.scanning.specs.Call.{number4 as Call·number4, split_numbers, answer_numbers, row_count, scan_call, ScanPromise};
 ghost use Rattle.scan.specs.Rows.{row_element, scan_element, pattern_of, size_of, sizes_at, RowSized, RowGood, GoodRows, RowSays, row_answer, RowsSay};
 ghost use Rattle.scan.specs.Steps.{test_of, SkipSays, StandsSays, CallSays, GroupSays, GroupReady, RunSays};
 
-use base::{LONGEST, wide};
+use base::LONGEST;
 use scanning::{
-    ANSWER_SIZE, FIXED, FOUND_AT, FREE, LENGTHS_AT, NOTES_AT, ROW_SIZE, START_AT, STRING, TRIALS_AT,
+    ANSWER_SIZE, FOUND_AT, LENGTHS_AT, NOTES_AT, ROW_SIZE, Refusal, RowKind, START_AT, TRIALS_AT,
 };
 
 // the most bytes of a pattern, and the first fixed length that is negative
 const MOST: usize = ROW_SIZE * base::ROW;
 
 const NEGATIVE: usize = 2147483648;
-
-// the bytes of the longest row that lacks some: it counts as a row too
-const SHORT_ROW: usize = ROW_SIZE - 1;
 
 // where the gap before a first group stands while the scan runs: the start, before the lengths
 const GAP_AT: usize = LENGTHS_AT - 1;
@@ -34,29 +31,26 @@ pub enum Element {
     Free,
 }
 
-// How one element fared at a place: its piece has this length; other bytes; too few bytes; a free filler, which is not tested.
+// A pattern of so many rows, the strings of which are parts of the values.
 #[derive(Clone, Copy)]
-pub enum Test {
-    Piece(usize),
+struct Pattern<'a> {
+    values: &'a [u8],
+    rows: &'a [u8],
+    count: usize,
+}
+
+// Why an element fails at a place: other bytes stand there, so that its group moves on; or too few bytes are left, so that the scan ends.
+#[derive(Clone, Copy, PartialEq, Eq)]
+pub enum Failure {
     Other,
     Few,
-    Filler,
 }
 
-// How a group fared at a place: all of it passed, up to this row, its last piece ending here; other bytes after so many trials, so it moves on;
-// too few bytes after so many trials, so the scan ends.
+// A group that failed at a place: why, and after how many trials.
 #[derive(Clone, Copy)]
-pub enum Group {
-    Whole(usize, usize),
-    Moves(usize),
-    Ends(usize),
-}
-
-// How the scan went, with its trials.
-#[derive(Clone, Copy)]
-pub enum Ran {
-    Found(usize),
-    Fails(usize),
+pub struct Failed {
+    failure: Failure,
+    trials: usize,
 }
 
 // four bytes as a number, low byte first
@@ -64,7 +58,7 @@ fn number4(b: &[u8], at: usize) -> usize
     requires { at + 3 < length b.now }
     ensures { (result ≡ Call·number4 b.now at) × (result < 2 ^ 32) }
 {
-    wide(b[at]) + 256 * (wide(b[at + 1]) + 256 * (wide(b[at + 2]) + 256 * wide(b[at + 3])))
+    u32::from_le_bytes([b[at], b[at + 1], b[at + 2], b[at + 3]]) as usize
 }
 
 // the element of row i
@@ -73,33 +67,37 @@ fn row_element(rows: &[u8], i: usize) -> Element
     ensures { result ≡ row_element rows.now i }
 {
     let at = ROW_SIZE * i;
-    let kind = rows[at];
-    if kind == STRING {
-        let from = number4(rows, at + 4);
-        return Element::Part(from, number4(rows, at + 8));
+    let Some(kind) = RowKind::of(rows[at]) else {
+        return Element::Free;
+    };
+    match kind {
+        RowKind::String => Element::Part(number4(rows, at + 4), number4(rows, at + 8)),
+        RowKind::Fixed => Element::Fixed(number4(rows, at + 4)),
+        RowKind::Free => Element::Free,
     }
-    if kind == FIXED {
-        return Element::Fixed(number4(rows, at + 4));
-    }
-    Element::Free
 }
 
 // the test of a string at the start of rest
-fn test_string(rest: &[u8], word: &[u8]) -> Test
+fn test_string(rest: &[u8], word: &[u8]) -> Result<Option<usize>, Failure>
     ensures { result ≡ test_of (string word.now) rest.now }
 {
     if rest.len() < word.len() {
-        return Test::Few;
+        return Err(Failure::Few);
     }
     if search::begins_with(rest, word) {
-        Test::Piece(word.len())
+        Ok(Some(word.len()))
     } else {
-        Test::Other
+        Err(Failure::Other)
     }
 }
 
-// the test of an element at a place
-fn test_element(reference: &[u8], values: &[u8], e: Element, at: usize) -> Test
+// The test of an element at a place: the length of its piece, or none for a free filler, which is not tested.
+fn test_element(
+    reference: &[u8],
+    values: &[u8],
+    e: Element,
+    at: usize,
+) -> Result<Option<usize>, Failure>
     requires at_in_bounds { at ≤ length reference.now }
     requires row_good { RowGood values.now e }
     ensures { result ≡ test_of (scan_element values.now e) (drop at reference.now) }
@@ -108,51 +106,44 @@ fn test_element(reference: &[u8], values: &[u8], e: Element, at: usize) -> Test
         Element::Part(from, to) => test_string(&reference[at..], &values[from..to]),
         Element::Fixed(n) => {
             if reference.len() - at < n {
-                Test::Few
+                Err(Failure::Few)
             } else {
-                Test::Piece(n)
+                Ok(Some(n))
             }
         }
-        Element::Free => Test::Filler,
+        Element::Free => Ok(None),
     }
 }
 
-// The test of a group at a place: the elements from row g on, one after the other, up to a free filler or the pattern's end. Where known is 1, the
-// first of them, of one byte, is known to pass.
+// The test of a group at a place: the elements from row g on, one after the other, up to a free filler or the pattern's end. Where the first of
+// them, of one byte, is known to pass, it isn't tested again. A group that passed answers that filler's row or the end, and where its last piece
+// ends.
 fn test_group(
     reference: &[u8],
-    values: &[u8],
-    rows: &[u8],
-    count: usize,
+    pattern: Pattern,
     g: usize,
     place: usize,
-    known: usize,
-) -> Group
-    requires good_rows { GoodRows values.now rows.now count }
-    requires group_ready { GroupReady reference.now values.now rows.now count g place known }
-    ensures { GroupSays reference.now values.now rows.now count g place result }
+    known: bool,
+) -> Result<(usize, usize), Failed>
+    requires good_rows { GoodRows pattern.values.now pattern.rows.now pattern.count }
+    requires group_ready { GroupReady reference.now pattern.values.now pattern.rows.now pattern.count g place (cond known 1 0) }
+    ensures { let p = pattern.entry in GroupSays reference.now p.values.now p.rows.now p.count g place result }
 {
-    let mut i = g + known;
-    let mut at = place + known;
-    while i < count {
-        let e = row_element(rows, i);
-        match test_element(reference, values, e, at) {
-            Test::Piece(n) => {
-                at += n;
-                i += 1;
-            }
-            Test::Other => {
-                return Group::Moves(i - g + 1);
-            }
-            Test::Few => {
-                return Group::Ends(i - g + 1);
-            }
-            Test::Filler => {
-                return Group::Whole(i, at);
+    let passed = if known { 1 } else { 0 };
+    let mut at = place + passed;
+    for i in g + passed..pattern.count {
+        match test_element(reference, pattern.values, row_element(pattern.rows, i), at) {
+            Ok(Some(n)) => at += n,
+            Ok(None) => return Ok((i, at)),
+            Err(failure) => {
+                return Err(Failed {
+                    failure,
+                    trials: i - g + 1,
+                });
             }
         }
     }
-    Group::Whole(i, at)
+    Ok((pattern.count, at))
 }
 
 // how many places from one on a group can pass over because its first element, a string, fails there: each is one trial
@@ -163,77 +154,64 @@ fn pass_places(reference: &[u8], values: &[u8], e: Element, at: usize) -> usize
 {
     match e {
         Element::Part(from, to) => search::passed(&reference[at..], &values[from..to]),
-        Element::Fixed(_) => 0,
-        Element::Free => 0,
+        Element::Fixed(_) | Element::Free => 0,
     }
 }
 
-// 1 where the element is a string of one byte that stands at the place, else 0: the quick way through the commonest groups
-fn stands(reference: &[u8], values: &[u8], e: Element, at: usize) -> usize
+// whether the element is a string of one byte that stands at the place: the quick way through the commonest groups
+fn stands(reference: &[u8], values: &[u8], e: Element, at: usize) -> bool
     requires at_in_bounds { at ≤ length reference.now }
     requires row_good { RowGood values.now e }
     ensures { StandsSays (drop at reference.now) (scan_element values.now e) result }
 {
     match e {
         Element::Part(from, to) => {
-            if to - from != 1 {
-                return 0;
+            if to - from != 1 || at == reference.len() {
+                return false;
             }
-            if at == reference.len() {
-                return 0;
-            }
-            if reference[at] == values[from] { 1 } else { 0 }
+            reference[at] == values[from]
         }
-        Element::Fixed(_) => 0,
-        Element::Free => 0,
+        Element::Fixed(_) | Element::Free => false,
     }
 }
 
 // The scan, group by group. The answer holds the lengths that don't depend on the place; each turn passes over places, tests a group and, where all
-// of it passed, writes the gap before it, the start at first and then the length of a free filler. A last free filler reaches the end.
-fn run(
-    reference: &[u8],
-    values: &[u8],
-    rows: &[u8],
-    count: usize,
-    answer: &mut [u32; ANSWER_SIZE],
-) -> Ran
-    requires good_rows { GoodRows values.now rows.now count }
-    requires reference_len_bound { (length reference.now ≤ 1024) × (0 < count) }
-    requires answer_value { answer.old ≡ row_answer count (0 ∷ sizes_at rows.now count 0) }
-    ensures { RunSays reference.now values.now rows.now count answer.new result }
+// of it passed, writes the gap before it, the start at first and then the length of a free filler. A last free filler reaches the end. What it
+// answers are the trials, of a split found or of none.
+fn run(reference: &[u8], pattern: Pattern, answer: &mut [u32; ANSWER_SIZE]) -> Result<usize, usize>
+    requires good_rows { GoodRows pattern.values.now pattern.rows.now pattern.count }
+    requires reference_len_bound { (length reference.now ≤ 1024) × (0 < pattern.count) }
+    requires answer_value { answer.old ≡ row_answer pattern.count (0 ∷ sizes_at pattern.rows.now pattern.count 0) }
+    ensures { let p = pattern.entry in RunSays reference.now p.values.now p.rows.now p.count answer.new result }
 {
     let mut g: usize = 0;
     let mut from: usize = 0;
     let mut place: usize = 0;
     let mut trials: usize = 0;
     loop {
-        let e = row_element(rows, g);
-        let k = pass_places(reference, values, e, place);
+        let e = row_element(pattern.rows, g);
+        let k = pass_places(reference, pattern.values, e, place);
         place += k;
         trials += k;
-        let known = stands(reference, values, e, place);
-        match test_group(reference, values, rows, count, g, place, known) {
-            Group::Ends(n) => {
-                return Ran::Fails(trials + n);
-            }
-            Group::Moves(n) => {
-                trials += n;
-                if place == reference.len() {
-                    return Ran::Fails(trials);
+        let known = stands(reference, pattern.values, e, place);
+        match test_group(reference, pattern, g, place, known) {
+            Err(failed) => {
+                trials += failed.trials;
+                if failed.failure == Failure::Few || place == reference.len() {
+                    return Err(trials);
                 }
                 place += 1;
             }
-            Group::Whole(j, end) => {
+            Ok((j, end)) => {
                 answer[GAP_AT + g] = (place - from) as u32;
                 trials += j - g;
-                if j == count {
-                    return Ran::Found(trials);
+                if j == pattern.count {
+                    return Ok(trials);
                 }
                 g = j + 1;
-                if g == count {
+                if g == pattern.count {
                     answer[GAP_AT + g] = (reference.len() - end) as u32;
-                    return Ran::Found(trials);
+                    return Ok(trials);
                 }
                 from = end;
                 place = end;
@@ -261,11 +239,8 @@ fn fill(rows: &[u8], count: usize, answer: &mut [u32; ANSWER_SIZE])
     ensures { answer.new ≡ row_answer count (0 ∷ sizes_at rows.now count 0) }
 {
     *answer = [0u32; ANSWER_SIZE];
-    let mut i: usize = 0;
-    while i < count {
-        let e = row_element(rows, i);
-        answer[LENGTHS_AT + i] = length_of(e) as u32;
-        i += 1;
+    for i in 0..count {
+        answer[LENGTHS_AT + i] = length_of(row_element(rows, i)) as u32;
     }
 }
 
@@ -291,25 +266,19 @@ fn finish(trials: usize, answer: &mut [u32; ANSWER_SIZE])
 }
 
 // the scan by rows whose lengths stand in the answer
-fn scan_filled(
-    reference: &[u8],
-    values: &[u8],
-    rows: &[u8],
-    count: usize,
-    answer: &mut [u32; ANSWER_SIZE],
-)
-    requires good_rows { GoodRows values.now rows.now count }
+fn scan_filled(reference: &[u8], pattern: Pattern, answer: &mut [u32; ANSWER_SIZE])
+    requires good_rows { GoodRows pattern.values.now pattern.rows.now pattern.count }
     requires reference_len_bound { length reference.now ≤ 1024 }
-    requires answer_value { answer.old ≡ row_answer count (0 ∷ sizes_at rows.now count 0) }
-    ensures { answer.new ≡ answer_numbers 0 (scan (pattern_of values.now rows.now count) reference.now) }
+    requires answer_value { answer.old ≡ row_answer pattern.count (0 ∷ sizes_at pattern.rows.now pattern.count 0) }
+    ensures { let p = pattern.entry in answer.new ≡ answer_numbers 0 (scan (pattern_of p.values.now p.rows.now p.count) reference.now) }
 {
-    if count == 0 {
+    if pattern.count == 0 {
         finish(0, answer);
         return;
     }
-    match run(reference, values, rows, count, answer) {
-        Ran::Found(trials) => finish(trials, answer),
-        Ran::Fails(trials) => fail(trials, answer),
+    match run(reference, pattern, answer) {
+        Ok(trials) => finish(trials, answer),
+        Err(trials) => fail(trials, answer),
     }
 }
 
@@ -326,73 +295,88 @@ pub fn scan_into(
     ensures { answer.new ≡ answer_numbers 0 (scan (pattern_of values.now rows.now count) reference.now) }
 {
     fill(rows, count, answer);
-    scan_filled(reference, values, rows, count, answer);
+    let pattern = Pattern {
+        values,
+        rows,
+        count,
+    };
+    scan_filled(reference, pattern, answer);
 }
 
-// whether the row of bytes at a place is an element
-fn is_element(values: &[u8], elements: &[u8], at: usize) -> bool
+// the element whose row of bytes starts at a place, if it is one
+fn read_element(values: &[u8], elements: &[u8], at: usize) -> Option<Element>
     requires { (at ≤ length elements.now) × (length elements.now ≤ 240) }
     ensures { RowSays values.now elements.now at result }
 {
     if elements.len() - at < ROW_SIZE {
-        return false;
+        return None;
     }
-    let kind = elements[at];
-    if kind == STRING {
-        let from = number4(elements, at + 4);
-        let to = number4(elements, at + 8);
-        if to < from {
-            return false;
+    let first = number4(elements, at + 4);
+    match RowKind::of(elements[at])? {
+        RowKind::String => {
+            let to = number4(elements, at + 8);
+            if first <= to && to <= values.len() {
+                Some(Element::Part(first, to))
+            } else {
+                None
+            }
         }
-        return to <= values.len();
+        RowKind::Fixed => {
+            if first < NEGATIVE {
+                Some(Element::Fixed(first))
+            } else {
+                None
+            }
+        }
+        RowKind::Free => Some(Element::Free),
     }
-    if kind == FIXED {
-        return number4(elements, at + 4) < NEGATIVE;
-    }
-    kind == FREE
 }
 
-// whether all rows are elements; their lengths stand in the answer then
-fn read_rows(values: &[u8], elements: &[u8], count: usize, answer: &mut [u32; ANSWER_SIZE]) -> bool
-    requires { (length elements.now ≤ 240) × (count ≡ row_count elements.now) }
-    ensures { RowsSay values.now elements.now count answer.new result }
-{
-    *answer = [0u32; ANSWER_SIZE];
-    let mut i: usize = 0;
-    let mut at: usize = 0;
-    while i < count {
-        if !is_element(values, elements, at) {
-            return false;
-        }
-        let e = row_element(elements, i);
-        answer[LENGTHS_AT + i] = length_of(e) as u32;
-        i += 1;
-        at += ROW_SIZE;
-    }
-    true
-}
-
-// the call on a reference and a pattern that are not too long
-fn scan_rows(
-    reference: &[u8],
+// Reads all rows as elements: their lengths stand in the answer then.
+fn read_rows(
     values: &[u8],
     elements: &[u8],
     count: usize,
     answer: &mut [u32; ANSWER_SIZE],
-) -> u32
-    requires reference_len_bound { (length reference.now ≤ 1024) × (length elements.now ≤ 240) }
-    requires count_value { count ≡ row_count elements.now }
-    ensures { CallSays (scan_with (pattern_of_rows values.now elements.now) reference.now) result answer.new }
+) -> Result<(), Refusal>
+    requires { (length elements.now ≤ 240) × (count ≡ row_count elements.now) }
+    ensures { RowsSay values.now elements.now count answer.new result }
 {
-    if read_rows(values, elements, count, answer) {
-        scan_filled(reference, values, elements, count, answer);
-        return 0;
+    *answer = [0u32; ANSWER_SIZE];
+    for i in 0..count {
+        let e = read_element(values, elements, ROW_SIZE * i).ok_or(Refusal::NoElement)?;
+        answer[LENGTHS_AT + i] = length_of(e) as u32;
     }
-    fail(0, answer);
-    24
+    Ok(())
 }
 
-// The scan call: 0 and the scan's answer, or 22, 23 or 24 and no split.
+// the scan on what a call was lent, unless it is turned down
+fn scan_rows(
+    reference: &[u8],
+    values: &[u8],
+    elements: &[u8],
+    answer: &mut [u32; ANSWER_SIZE],
+) -> Result<(), Refusal>
+    ensures { CallSays (scan_call reference.now values.now elements.now) result answer.new }
+{
+    if LONGEST < reference.len() {
+        return Err(Refusal::LongReference);
+    }
+    if MOST < elements.len() {
+        return Err(Refusal::ManyElements);
+    }
+    let count = elements.len().div_ceil(ROW_SIZE);
+    read_rows(values, elements, count, answer)?;
+    let pattern = Pattern {
+        values,
+        rows: elements,
+        count,
+    };
+    scan_filled(reference, pattern, answer);
+    Ok(())
+}
+
+// The scan call: 0 and the scan's answer, or the number of why it is turned down and no split.
 pub fn strigol_scan(
     reference: &[u8],
     values: &[u8],
@@ -401,19 +385,11 @@ pub fn strigol_scan(
 ) -> u32
     ensures { ScanPromise reference.now values.now elements.now result answer.new }
 {
-    if LONGEST < reference.len() {
-        fail(0, answer);
-        return 22;
+    match scan_rows(reference, values, elements, answer) {
+        Ok(()) => 0,
+        Err(refusal) => {
+            fail(0, answer);
+            refusal.number()
+        }
     }
-    if MOST < elements.len() {
-        fail(0, answer);
-        return 23;
-    }
-    scan_rows(
-        reference,
-        values,
-        elements,
-        (elements.len() + SHORT_ROW) / ROW_SIZE,
-        answer,
-    )
 }

@@ -1,65 +1,35 @@
 -- Four bytes written one after the other, and a row of a kind and two numbers. Assumes nothing.
-use mathlib.Core.List.{List}
+use mathlib.Core.List.{List, [], ◌∷◌, ◌++◌}
 use mathlib.Core.Logic.{inl, ⊎_elim}
-use mathlib.Core.Path.{◌≡◌, ◌∙◌}
-use Prim.Native.Nat.{ℕ, ◌+◌, ◌*◌, ◌≤◌, ◌<◌, ◌/◌, ◌%◌}
+use mathlib.Core.Path.{◌≡◌, ap, sym, ◌∙◌}
+use Prim.Native.Nat.{ℕ, ◌+◌, ◌*◌, ◌≤◌, ◌<◌}
 use native.Mathlib.Omega.{arith}
-use lib.ListN.{length, get_or, set, length-set}
+use lib.ListN.{length, drop, get_or, set, length-set}
+use Rattle.std.proofs.Common.{add-zero}
+use Rattle.std.proofs.lemmas.List.{get_or-drop}
+use Rattle.encoding.specs.Splices.{splice, drop-splice, get_or-splice-before, get_or-splice-behind, length-splice}
 use lib.Seq.{get_or-set_same, get_or-set_other}
 use Rattle.scanning.specs.Call.{number4}
 use Rattle.scan.specs.Rows.{scan_row_at, row_element}
 use Rattle.scan_statement.specs.Putting.{Put4, PutRow}
 
--- the four bytes of a number make it up
-pub digits4 : (n : ℕ) → n % 256 + 256 * (n / 256 % 256 + 256 * (n / 256 / 256 % 256 + 256 * (n / 256 / 256 / 256))) ≡ n
-digits4 n = omega arith
-
-module _ (old : List ℕ) (at w x y z : ℕ) (room : at + 3 < length old) where
-  abbrev one : List ℕ
-  one = set old at w
-
-  abbrev two : List ℕ
-  two = set one (at + 1) x
-
-  abbrev three : List ℕ
-  three = set two (at + 2) y
-
-  abbrev four : List ℕ
-  four = set three (at + 3) z
-
-  unchanged : (m : ℕ) → (m ≡ at → ⊥) → (m ≡ at + 1 → ⊥) → (m ≡ at + 2 → ⊥) → (m ≡ at + 3 → ⊥) → get_or four m 0 ≡ get_or old m 0
-  unchanged m a b c d =
-      get_or-set_other three (at + 3) m z 0 d
-      ∙ get_or-set_other two (at + 2) m y 0 c
-      ∙ get_or-set_other one (at + 1) m x 0 b
-      ∙ get_or-set_other old at m w 0 a
-
-  pub put-bytes : (n : ℕ) → w + 256 * (x + 256 * (y + 256 * z)) ≡ n → Put4 old four at n
-  unfolding number4
-  put-bytes n e =
-      let first : get_or four at 0 ≡ w =
-      get_or-set_other three (at + 3) at z 0 (λ h. omega arith)
-      ∙ get_or-set_other two (at + 2) at y 0 (λ h. omega arith)
-      ∙ get_or-set_other one (at + 1) at x 0 (λ h. omega arith)
-      ∙ get_or-set_same old at w 0 (omega arith) in
-      let second : get_or four (at + 1) 0 ≡ x =
-      get_or-set_other three (at + 3) (at + 1) z 0 (λ h. omega arith)
-      ∙ get_or-set_other two (at + 2) (at + 1) y 0 (λ h. omega arith)
-      ∙ get_or-set_same one (at + 1) x 0 (simp length-set (omega arith)) in
-      let third : get_or four (at + 2) 0 ≡ y =
-      get_or-set_other three (at + 3) (at + 2) z 0 (λ h. omega arith)
-      ∙ get_or-set_same two (at + 2) y 0 (simp length-set (omega arith)) in
-      let fourth : get_or four (at + 3) 0 ≡ z = get_or-set_same three (at + 3) z 0 (simp length-set (omega arith)) in
-      record {
-        size = simp length-set;
-        here = rw (first, second, third, fourth) e;
-        other =
-            λ m h.
-            ⊎_elim
-            (λ (l : m < at). unchanged m (λ g. omega arith) (λ g. omega arith) (λ g. omega arith) (λ g. omega arith))
-            (λ (l : at + 4 ≤ m). unchanged m (λ g. omega arith) (λ g. omega arith) (λ g. omega arith) (λ g. omega arith))
-            h;
-      }
+-- four bytes written among others, and the number that they make up
+pub put-bytes : (old : List ℕ) (at w x y z n : ℕ) → at + 3 < length old → w + 256 * (x + 256 * (y + 256 * z)) ≡ n
+    → Put4 old (splice old at (w ∷ x ∷ y ∷ z ∷ [])) at n
+unfolding number4
+put-bytes old at w x y z n room e =
+    let v : List ℕ = w ∷ x ∷ y ∷ z ∷ [] in
+    let there : (j : ℕ) → get_or (splice old at v) (at + j) 0 ≡ get_or (v ++ drop (at + length v) old) j 0 =
+    λ j. sym (get_or-drop at (splice old at v) j 0) ∙ ap (λ (l : List ℕ). get_or l j 0) (drop-splice old at v (omega arith)) in
+    let first : get_or (splice old at v) at 0 ≡ w = ap (λ (i : ℕ). get_or (splice old at v) i 0) (sym (add-zero at)) ∙ there 0 in
+    record {
+      size = length-splice old at v (omega arith);
+      here = rw (first, there 1, there 2, there 3) e;
+      other =
+          λ m h.
+          ⊎_elim (λ (l : m < at). get_or-splice-before old at v m 0 (omega arith) l)
+          (λ (l : at + 4 ≤ m). get_or-splice-behind old at v m 0 (omega arith) l) h;
+    }
 
 -- a number that no byte of has changed
 number_kept : (old new : List ℕ) (at : ℕ) → ((m : ℕ) → at ≤ m → m < at + 4 → get_or new m 0 ≡ get_or old m 0) → number4 new at ≡ number4 old at

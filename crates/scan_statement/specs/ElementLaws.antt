@@ -1,5 +1,5 @@
 -- Laws of the row of each kind of element, with the place that its piece is to name. Assumes nothing.
-use Rattle.std.specs.Prelude.{true, false, ◌≡◌, refl, ℤ, nat_abs, set}
+use Rattle.std.specs.Prelude.{true, false, ◌≡◌, refl, ℤ, Ok, Err, nat_abs, set}
 use mathlib.Core.List.{List, [], ◌++◌}
 use Rattle.std.proofs.Math.Option.{none, some}
 use Rattle.std.proofs.Common.{sym, ◌∙◌, add-zero, drop-drop, lt-ltb}
@@ -16,12 +16,11 @@ use Rattle.machine.specs.Scanning.{Valued, fixed_at, valued_in}
 use Rattle.machine.specs.State.{Memory}
 use Rattle.scanning.specs.Splits.{string, fixed, free}
 use Rattle.effects.specs.Fillers.{named_string}
-use Rattle.effects.specs.Leaving.{BufferSpells}
-use Rattle.effects.specs.declared.Completion.{Completion}
-use Rattle.effects.specs.declared.Completion.TheVariants as did
+use Rattle.effects.specs.Leaving.{BufferSpells, Completion}
 use Rattle.values.specs.Numbers.{is_negative}
 use Rattle.values.specs.Result.{Result, done, with_notes, pure, ◌>>=◌}
 use Rattle.values.specs.ResultLaws.{stopped}
+use Rattle.values.specs.Stops.{stop_number}
 use Rattle.scan_statement.specs.PatternLaws.{row_fixed, row_free, row_null}
 use Rattle.scan_statement.specs.Patterns.{ElementRowPut, ElementRowPutBy, Stands, ValueBy}
 use Rattle.scan_statement.specs.Putting.{PutRow}
@@ -98,7 +97,7 @@ module _ (values rows rows_left names : List ℕ) (i : ℕ) where
     pub value_put : (r : Completion) (left : List ℕ) (x : Program.Element) → ValueBy r values left rows rows_left i (element_in current m x)
         → ElementRowPutBy r values left rows rows_left names (set names i 32) i (valued_in current m (Program.value x))
     unfolding valued_in named_string pure ◌>>=◌ with_notes
-    value_put (did.Done notes) left x p =
+    value_put (Ok notes) left x p =
         let v : List ℕ → Valued = λ w. record { names = none; element = string w } in
         record {
           valued = v p.value;
@@ -108,4 +107,4 @@ module _ (values rows rows_left names : List ℕ) (i : ℕ) where
           places = refl;
           name = refl;
         }
-    value_put (did.Stops k) left x p = stopped (element_in current m x) (λ w. pure (record { names = none; element = string w })) k p
+    value_put (Err s) left x p = stopped (element_in current m x) (λ w. pure (record { names = none; element = string w })) (stop_number s) p

@@ -1,5 +1,5 @@
 -- A pattern's values as rows for the scan: what a row more leaves, and what all of them stand for. Assumes nothing.
-use Rattle.std.specs.Prelude.{cond, false, List, map, ◌≡◌, ℕ, ◌+◌, ◌*◌, ◌≤◌, ◌<◌, ltb, length, take, set}
+use Rattle.std.specs.Prelude.{cond, false, List, Ok, Err, map, ◌≡◌, ℕ, ◌+◌, ◌*◌, ◌≤◌, ◌<◌, ltb, length, take, set}
 use Rattle.base.specs.Current.{table_size}
 use Rattle.encoding.specs.Splices.{splice}
 use Rattle.numbers.specs.Numbers.{IntInRange}
@@ -14,10 +14,9 @@ use Rattle.decoder.specs.declared.Stretch.{Stretch}
 use Rattle.scan.specs.Rows.{scan_row, scan_element, pattern_of, RowGood, GoodRows}
 use Rattle.scanning.specs.Splits.{Element, string, fixed, free}
 use Rattle.effects.specs.Fillers.{is_filler, named_string, PlacesNamed}
-use Rattle.effects.specs.Leaving.{BufferSpells}
-use Rattle.effects.specs.declared.Completion.{Completion}
-use Rattle.effects.specs.declared.Completion.TheVariants as did
+use Rattle.effects.specs.Leaving.{BufferSpells, Completion}
 use Rattle.values.specs.Result.{Result, done, stop}
+use Rattle.values.specs.Stops.{stop_number}
 use Rattle.scan_statement.specs.Putting.{PutRow}
 
 -- an element as its row has it: of a string that is longer than any reference only the length counts, so it is a fixed filler
@@ -79,8 +78,8 @@ pub record ValueDone (values left rows rows_left : List ℕ) (i notes : ℕ) (w 
   pub row : RowPut values left rows rows_left i (string value)
 
 abbrev pub ValueBy : Completion → (values left rows rows_left : List ℕ) → ℕ → Result (List ℕ) → Type 0
-ValueBy (did.Done notes) values left rows rows_left i w = ValueDone values left rows rows_left i notes w
-ValueBy (did.Stops k) values left rows rows_left i w = w ≡ stop k
+ValueBy (Ok notes) values left rows rows_left i w = ValueDone values left rows rows_left i notes w
+ValueBy (Err s) values left rows rows_left i w = w ≡ stop (stop_number s)
 
 pub record ValuePut (r : Completion) (values left rows rows_left : List ℕ) (i : ℕ) (w : Result (List ℕ)) : Type 0 where
   pub put : ValueBy r values left rows rows_left i w
@@ -120,8 +119,8 @@ pub record ElementPutting (table store state : List ℕ) (x : PatternElement) (i
   pub buffers : PatternBuffers values rows names
 
 abbrev pub ElementRowPutBy : Completion → (values left rows rows_left names names_left : List ℕ) → ℕ → Result Valued → Type 0
-ElementRowPutBy (did.Done notes) values left rows rows_left names names_left i w = ElementRowPut values left rows rows_left names names_left i notes w
-ElementRowPutBy (did.Stops k) values left rows rows_left names names_left i w = w ≡ stop k
+ElementRowPutBy (Ok notes) values left rows rows_left names names_left i w = ElementRowPut values left rows rows_left names names_left i notes w
+ElementRowPutBy (Err s) values left rows rows_left names names_left i w = w ≡ stop (stop_number s)
 
 pub record ElementPut (r : Completion) (values left rows rows_left names names_left : List ℕ) (i : ℕ) (w : Result Valued) : Type 0 where
   pub put : ElementRowPutBy r values left rows rows_left names names_left i w
@@ -155,8 +154,8 @@ pub record AllPut (table values rows names : List ℕ) (s : Stretch) (notes : �
   pub clear : Clear table s
 
 abbrev pub AllBy : Completion → (table values rows names : List ℕ) → Stretch → Result (List Valued) → Type 0
-AllBy (did.Done notes) table values rows names s w = AllPut table values rows names s notes w
-AllBy (did.Stops k) table values rows names s w = w ≡ stop k
+AllBy (Ok notes) table values rows names s w = AllPut table values rows names s notes w
+AllBy (Err why) table values rows names s w = w ≡ stop (stop_number why)
 
 pub record PatternPut (r : Completion) (table values rows names : List ℕ) (s : Stretch) (w : Result (List Valued)) : Type 0 where
   pub put : AllBy r table values rows names s w

@@ -1,6 +1,7 @@
 -- What a SCAN or BACKSCAN asks for and leaves in the buffers, as the machine's definitions have it. Assumes nothing.
-use Rattle.std.specs.Prelude.{List, ◌≡◌, ℕ, ◌≤◌, length}
-use Rattle.std.proofs.Math.Option.{none, some}
+use Rattle.std.specs.Prelude as std
+use Rattle.std.specs.Prelude.{Bool, true, false, List, Ok, Err, ◌≡◌, ℕ, ◌≤◌, length}
+use Rattle.std.proofs.Math.Option.{Option, none, some}
 use Rattle.base.specs.Current.{current, table_size}
 use Rattle.encoding.specs.BufferLaws.{StoreGood}
 use Rattle.evaluator.specs.Memory.{MemoryReady, memory_in}
@@ -13,8 +14,9 @@ use Rattle.scanning.specs.Splits.{Split}
 use Rattle.scanning.specs.Trials as Trials
 use Rattle.effects.specs.Leaving.{StoreStays}
 use Rattle.values.specs.Result.{Result, done, stop}
-use Rattle.scan_statement.specs.declared.Scanned.{Scanned}
-use Rattle.scan_statement.specs.declared.Scanned.TheVariants as scans
+use Rattle.values.specs.Stops.{stop_number}
+use Rattle.values.specs.declared.Noted.{Noted}
+use Rattle.values.specs.declared.Stop.{Stop}
 
 -- a scan of a table that can be carried out
 pub record Scannable (table store state : List ℕ) (s : Scan) : Type 0 where
@@ -54,20 +56,23 @@ pub record Ended (store left state answer : List ℕ) (notes : ℕ) (w : Result 
   pub work : w ≡ done (record { memory = memory_in left state; scanned = scanned }) notes
   pub answer_is : answer ≡ answer_numbers 0 scanned
 
-pub record WithSplit (store left state answer : List ℕ) (notes : ℕ) (w : Result ScanLeft) : Type 0 where
-  pub ended : Ended store left state answer notes w
-  pub split : Split
-  pub found : ended.scanned.split ≡ some split
+abbrev pub is_split : Option Split → Bool
+is_split (some split) = true
+is_split none = false
 
-pub record WithoutSplit (store left state answer : List ℕ) (notes : ℕ) (w : Result ScanLeft) : Type 0 where
+-- with a split or without one
+pub record SplitEnds (is : Bool) (store left state answer : List ℕ) (notes : ℕ) (w : Result ScanLeft) : Type 0 where
   pub ended : Ended store left state answer notes w
-  pub failed : ended.scanned.split ≡ none
+  pub found : is_split ended.scanned.split ≡ is
+
+-- whether there is a split, with the notes, or what stops the work
+abbrev pub Scanned : Type 0
+Scanned = std.Result (Noted Bool) Stop
 
 -- what the work comes to; where it stops, the store is as it was
 abbrev pub ScanDone : Scanned → (store left state answer : List ℕ) → Result ScanLeft → Type 0
-ScanDone (scans.Splits notes) store left state answer w = WithSplit store left state answer notes w
-ScanDone (scans.Fails notes) store left state answer w = WithoutSplit store left state answer notes w
-ScanDone (scans.Stops k) store left state answer w = (left ≡ store) × (w ≡ stop k)
+ScanDone (Ok split) store left state answer w = SplitEnds split.value store left state answer split.notes w
+ScanDone (Err s) store left state answer w = (left ≡ store) × (w ≡ stop (stop_number s))
 
 -- a scan carried out
 pub record ScanLeaves (r : Scanned) (store left state answer : List ℕ) (w : Result ScanLeft) : Type 0 where

@@ -2,10 +2,10 @@
 use Rattle.std.specs.Prelude.{Bool, true, false, ◌≡◌, refl, ℕ, ◌+◌, ◌-◌, ◌≤◌, ◌<◌, length, drop, set, replicate}
 use mathlib.Core.List.{List, [], ◌∷◌, ◌++◌, map, map-map}
 use Rattle.std.proofs.Math.Option.{Option, none, some}
-use Rattle.std.proofs.Common.{sym, ap, ap₂, ◌∙◌, arith, length-append, length-drop, drop_of_length-le, length-take-le, take_at}
+use Rattle.std.proofs.Common.{sym, ap, ap₂, ◌∙◌, arith, length-append, length-drop, drop_of_length-le, take_at}
 use Rattle.std.proofs.Math.Path.{subst}
 use Rattle.std.proofs.Math.ListN.{get_or}
-use Rattle.std.proofs.lemmas.List.{length-replicate}
+use Rattle.std.proofs.lemmas.List.{drop_more, length-replicate}
 use Rattle.encoding.specs.ReadingLaws.{rows_length}
 use Rattle.base.specs.Lists.{total}
 use Rattle.machine.specs.Scanning.{Valued, naming}
@@ -16,7 +16,7 @@ use Rattle.scanning.specs.FirstFit.{scan_first_fit}
 use Rattle.scanning.specs.Laws.{fits_count}
 use Rattle.scanning.specs.Splits.{Element, FirstFit, Fits, PiecesFit, Split}
 use Rattle.scanning.specs.Trials.{Scanned, scan}
-use Rattle.effects.specs.FillerLaws.{next-length, stays_on}
+use Rattle.effects.specs.FillerLaws.{stays_on}
 use Rattle.effects.specs.Fillers.{Nameable, PiecesNamed, Nulled, lengths_in}
 use Rattle.effects.specs.Leaving.{memory_of}
 use Rattle.effects.specs.OtherLaws.{others_stay}
@@ -24,18 +24,14 @@ use Rattle.scan_statement.specs.LongLaws.{scan-rowed}
 use Rattle.scan_statement.specs.Patterns.{Rowed, rowed}
 use Rattle.scan_statement.specs.Searches.{SplitFound, RowsSearchable, SplitSearched, scan_of}
 
--- the sum of a split's lengths from one on
-pub total-next : (answer : List ℕ) (count i : ℕ) → length answer ≡ 24 → count ≤ 20 → i < count
-    → total (λ l. l) (drop i (lengths_in answer count)) ≡ get_or answer (4 + i) 0 + total (λ l. l) (drop (i + 1) (lengths_in answer count))
+-- the sum of the numbers of a list from one on, and from its end on
+pub total-next : (ls : List ℕ) (i : ℕ) → i < length ls → total (λ l. l) (drop i ls) ≡ get_or ls i 0 + total (λ l. l) (drop (i + 1) ls)
 unfolding total
-total-next answer count i size few h = ap (total (λ l. l)) (next-length answer count i size few h)
+total-next ls i h = ap (total (λ l. l)) (drop_more ls i 0 h)
 
-pub total_end : (answer : List ℕ) (count i : ℕ) → length answer ≡ 24 → count ≤ 20 → count ≤ i
-    → total (λ l. l) (drop i (lengths_in answer count)) ≡ 0
+pub total_end : (ls : List ℕ) (i : ℕ) → length ls ≤ i → total (λ l. l) (drop i ls) ≡ 0
 unfolding total
-total_end answer count i size few h =
-    let long : length (lengths_in answer count) ≡ count = length-take-le count (drop 4 answer) (omega (arith, length-drop 4 answer)) in
-    ap (total (λ l. l)) (drop_of_length-le (lengths_in answer count) {i = i} (omega arith))
+total_end ls i h = ap (total (λ l. l)) (drop_of_length-le ls {i = i} h)
 
 -- an answer with other notes
 split-noted : (o : Option Split) (trials n k : ℕ) → set (split_numbers o trials n) 3 k ≡ split_numbers o trials k

@@ -1,5 +1,5 @@
 -- Laws of a scan whose pattern's values are known: no split, or one and what its replacement comes to. Assumes nothing.
-use Rattle.std.specs.Prelude.{true, false, ℕ, ◌+◌, ◌-◌, ◌≤◌, leb, take, drop, get_or}
+use Rattle.std.specs.Prelude.{true, false, Ok, Err, ℕ, ◌+◌, ◌-◌, ◌≤◌, leb, take, drop, get_or}
 use mathlib.Core.List.{List, ◌++◌}
 use Rattle.std.proofs.Math.Option.{Option, some}
 use Rattle.std.proofs.Math.Path.{◌≡◌, refl, sym, ap, ap₂}
@@ -35,14 +35,13 @@ use Rattle.effects.specs.OtherLaws.{pattern_names}
 use Rattle.effects.specs.References.{reference_of, searched_at, stretch_of}
 use Rattle.effects.specs.ReplacingLaws.{found_from, found_to, replacing-found}
 use Rattle.effects.specs.Valued.{Between}
-use Rattle.effects.specs.declared.Completion.TheVariants as did
 use Rattle.effects.specs.declared.Span.{Span}
 use Rattle.values.specs.Conversion.{longest_string}
 use Rattle.values.specs.Result.{Result, done, with_notes, pure, ◌>>=◌}
-use Rattle.scan_statement.specs.Scans.{ScanDone}
+use Rattle.values.specs.declared.Stop.{Stop}
+use Rattle.scan_statement.specs.Scans.{ScanDone, is_split}
 use Rattle.scan_statement.specs.Searches.{SplitFound, PiecesFound, RowsSearchable, scan_of}
 use Rattle.scan_statement.specs.Stages.{LengthsCounted, Findable, Saved, pieces_in, replaced_by, searched_rest, valued_rest}
-use Rattle.scan_statement.specs.declared.Scanned.TheVariants as scans
 
 -- a stretch is as long as its ends say
 pub reference_length : (store : List ℕ) (at : Span) → Between store at.place at.from at.to
@@ -115,7 +114,7 @@ module _ {table store state : List ℕ} {d : Direction} {at : Span} {pattern : S
 
     -- no split
     pub missed_scans : {left answer : List ℕ} → StoreStays store left → SplitFound false table store left pattern reference answer vs
-        → ScanDone (scans.Fails notes) store left state answer (searched_rest table store state d at pattern r)
+        → ScanDone (Ok (record { value = false; notes = notes })) store left state answer (searched_rest table store state d at pattern r)
     unfolding leaving pure with_notes
     missed_scans {left} stays f =
         let end : Memory → ScanLeft = λ m. record { memory = m; scanned = answered } in
@@ -131,7 +130,7 @@ module _ {table store state : List ℕ} {d : Direction} {at : Span} {pattern : S
                     ∙ ap (done (end (memory_in left state))) (add-zero notes);
                 answer_is = f.numbers;
               };
-          failed = f.by.failed;
+          found = ap is_split f.by.failed;
         }
 
     -- a split: its pieces are named, and the replacement is left
@@ -208,7 +207,7 @@ module _ {table store state : List ℕ} {d : Direction} {at : Span} {pattern : S
 
     -- with few notes
     pub few_stored : (x : Replacement) → ReplacementHolds table x → {more : ℕ} {left : List ℕ}
-        → LeavesStore (did.Done more) named left (numbers_in state) (stored x) → more ≤ 20
+        → LeavesStore (Ok more) named left (numbers_in state) (stored x) → more ≤ 20
     unfolding pure
     few_stored replacements.Nothing holds l =
         let none : FewNotes 0 (pure (memory_in named state)) = omega arith in
@@ -224,8 +223,8 @@ module _ {table store state : List ℕ} {d : Direction} {at : Span} {pattern : S
     abbrev rest : Result Memory → Result ScanLeft
     rest w = with_notes notes (w >>= λ m. pure (record { memory = m; scanned = answered }))
 
-    pub replaced_scans : (x : Replacement) {more : ℕ} {left : List ℕ} → LeavesStore (did.Done more) named left (numbers_in state) (stored x)
-        → ScanDone (scans.Splits (notes + more)) store left state answer (searched_rest table store state d at pattern (replacement_meaning table x))
+    pub replaced_scans : (x : Replacement) {more : ℕ} {left : List ℕ} → LeavesStore (Ok more) named left (numbers_in state) (stored x)
+        → ScanDone (Ok (record { value = true; notes = notes + more })) store left state answer (searched_rest table store state d at pattern (replacement_meaning table x))
     unfolding ◌>>=◌ with_notes pure
     replaced_scans x {more} {left} l =
         let all : notes + (more + 0) ≡ notes + more = omega arith in
@@ -240,21 +239,20 @@ module _ {table store state : List ℕ} {d : Direction} {at : Span} {pattern : S
                     ∙ ap (done (record { memory = memory_in left state; scanned = answered })) all;
                 answer_is = f.numbers;
               };
-          split = n.split;
-          found = n.found;
+          found = ap is_split n.found;
         }
 
     -- what stops it puts the fillers back
-    pub stopped_scans : (x : Replacement) {k : ℕ} {left back saved keeping : List ℕ}
-        → LeavesStore (did.Stops k) named left (numbers_in state) (stored x) → Saved x table pattern store saved keeping
+    pub stopped_scans : (x : Replacement) (why : Stop) {left back saved keeping : List ℕ}
+        → LeavesStore (Err why) named left (numbers_in state) (stored x) → Saved x table pattern store saved keeping
         → Copied table pattern keeping left back
-        → ScanDone (scans.Stops k) store back state answer (searched_rest table store state d at pattern (replacement_meaning table x))
+        → ScanDone (Err why) store back state answer (searched_rest table store state d at pattern (replacement_meaning table x))
     unfolding ◌>>=◌ with_notes pure
-    stopped_scans replacements.Nothing l save restore =
+    stopped_scans replacements.Nothing why l save restore =
         let never = l.1 in
         let z : ◌≡◌ {A = ℕ} 0 1 = cc in
         absurd (omega arith)
-    stopped_scans (replacements.By by) {back = back} {saved} {keeping} l save restore = (
+    stopped_scans (replacements.By by) why {back = back} {saved} {keeping} l save restore = (
       put_back table pattern store saved keeping named back q.ready.strings (save.copied by refl) stays
           (λ i h e.
           n.others i e

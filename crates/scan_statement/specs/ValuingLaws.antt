@@ -1,5 +1,5 @@
 -- A pattern's values, element by element: the whole comes to the values so far and what the elements left come to. Assumes nothing.
-use Rattle.std.specs.Prelude.{false, ◌||◌, ◌≡◌, refl, ℕ, ◌+◌, ◌*◌, ◌-◌, ◌≤◌, ◌<◌, eqb}
+use Rattle.std.specs.Prelude.{false, Ok, Err, ◌||◌, ◌≡◌, refl, ℕ, ◌+◌, ◌*◌, ◌-◌, ◌≤◌, ◌<◌, eqb}
 use mathlib.Core.List.{List, [], ◌∷◌, ◌++◌, append_assoc, append-nil}
 use Rattle.std.proofs.Math.Path.{sym, ap, subst}
 use Rattle.std.proofs.Common.{ap₂, ◌∙◌, add-zero, ne_eqb}
@@ -21,11 +21,12 @@ use Rattle.decoder.specs.Reading.{PatternRead}
 use Rattle.decoder.specs.declared.PatternElement.{PatternElement}
 use Rattle.decoder.specs.declared.PatternElement.TheVariants.{Value, Free, Fixed}
 use Rattle.effects.specs.Fillers.{filler_of, is_filler}
-use Rattle.effects.specs.declared.Completion.{Completion}
-use Rattle.effects.specs.declared.Completion.TheVariants as did
+use Rattle.effects.specs.Leaving.{Completion}
 use Rattle.values.specs.Numbers.{is_negative}
 use Rattle.values.specs.Result.{Result, done, stop, with_notes, pure, ◌>>=◌}
 use Rattle.values.specs.ResultLaws.{notes_none, notes_more, bind_notes, pure-done}
+use Rattle.values.specs.Stops.{stop_number}
+use Rattle.values.specs.declared.Stop.{Stop}
 use Rattle.scan_statement.specs.PatternLaws.{rowed-all, rowed-more, rowed_none}
 use Rattle.scan_statement.specs.Patterns.{AllPut, PatternBuffers, ElementPut, ElementRowPutBy, Rowed, values_of}
 
@@ -158,13 +159,13 @@ module _ {m : Memory} {t : List ℕ} {from count : ℕ} {values rows names : Lis
       abbrev PutAs : Completion → Type 0
       PutAs d = ElementRowPutBy d values left rows rows_left names names_left i (valued_in current m (pattern_meaning t x))
 
-      pub valuing_noted : {more : ℕ} → r ≡ did.Done more → more ≤ 1
+      pub valuing_noted : {more : ℕ} → r ≡ Ok more → more ≤ 1
       valuing_noted e = few_done (few_valued m (pattern_meaning t x)) (subst PutAs e p.put).work
 
-      pub valuing_stops : {k : ℕ} → r ≡ did.Stops k → pattern_in current m (read_pattern t from count) ≡ stop k
-      valuing_stops {k} e = here ∙ values_stop m notes k v.valued (pattern_meaning t x) rest (subst PutAs e p.put)
+      pub valuing_stops : {s : Stop} → r ≡ Err s → pattern_in current m (read_pattern t from count) ≡ stop (stop_number s)
+      valuing_stops {s} e = here ∙ values_stop m notes (stop_number s) v.valued (pattern_meaning t x) rest (subst PutAs e p.put)
 
-      pub valuing_more : {more : ℕ} → r ≡ did.Done more
+      pub valuing_more : {more : ℕ} → r ≡ Ok more
           → RowsValued m t from count left rows_left names_left (notes + more) (i + 1)
       valuing_more {more} e =
           let q = subst PutAs e p.put in

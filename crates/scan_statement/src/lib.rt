@@ -13,13 +13,14 @@ ghost use Rattle.scan_statement.specs.Stages.{Referred, searched_rest};
 
 use base::{LONGEST, ROW};
 use decoder::Scan;
+use effects::Span;
 use effects::fillers::copy_fillers;
-use effects::reference::{Reference, copy_reference, reference_ends};
-use effects::{Completion, Span};
+use effects::reference::{copy_reference, reference_ends};
 use encoding::STATE_SIZE;
 use finding::find_split;
 use replacing::{keep_fillers, replace_pieces};
 use scanning::{ANSWER_SIZE, ROW_SIZE};
+use values::{Noted, Stop};
 use valuing::pattern_rows;
 
 // the bytes of a pattern's values, rows and names
@@ -29,16 +30,9 @@ const ROWS_SIZE: usize = ROW_SIZE * ROW;
 
 const NAMES_SIZE: usize = ROW;
 
-// how a scan went: with a split or without one, each with so many notes, or what stops it
-#[derive(Clone, Copy)]
-pub enum Scanned {
-    Splits(u32),
-    Fails(u32),
-    Stops(u32),
-}
-
-// A scan of the bytes of a span. The fillers are kept for a replacement that stops, which puts them back; its value may be written over
-// those of the pattern, which aren't needed any more.
+// A scan of the bytes of a span: whether there is a split, with the notes. The fillers are kept for a replacement that stops, which puts them
+// back; its value may be written over those of the pattern, which aren't needed any more.
+// kept: tried, and the proof didn't close: values and kept as fields of a struct that has ScanLent as its invariant can't be lent as `&mut`.
 fn scan_span(
     table: &[u8],
     store: &mut [u8],
@@ -48,7 +42,7 @@ fn scan_span(
     values: &mut [u8],
     kept: &mut [u8],
     answer: &mut [u32; ANSWER_SIZE],
-) -> Scanned
+) -> Result<Noted<bool>, Stop>
     requires referred { Referred table.now store.old state.now s at }
     requires scan_lent { ScanLent values.old kept.old }
     ensures scan_leaves { ScanLeaves result store.old store.new state.now answer.new
@@ -63,34 +57,37 @@ fn scan_span(
     let pattern = s.pattern;
     let n = at.to - at.from;
     copy_reference(store, at, d, &mut reference);
-    match pattern_rows(table, store, state, pattern, values, &mut rows, &mut names) {
-        Completion::Done(notes) => {
-            keep_fillers(table, store, kept, s);
-            if !find_split(
-                table,
-                store,
-                pattern,
-                &reference[..n],
-                values,
-                &rows,
-                &names,
-                answer,
-            ) {
-                return Scanned::Fails(notes);
-            }
-            match replace_pieces(table, store, state, s, at, answer, &mut values[..LONGEST]) {
-                Completion::Done(more) => Scanned::Splits(notes + more),
-                Completion::Stops(k) => {
-                    copy_fillers(table, kept, store, pattern);
-                    Scanned::Stops(k)
-                }
-            }
+    let notes = pattern_rows(table, store, state, pattern, values, &mut rows, &mut names)?;
+    keep_fillers(table, store, kept, s);
+    if !find_split(
+        table,
+        store,
+        pattern,
+        &reference[..n],
+        values,
+        &rows,
+        &names,
+        answer,
+    ) {
+        return Ok(Noted {
+            value: false,
+            notes,
+        });
+    }
+    match replace_pieces(table, store, state, s, at, answer, &mut values[..LONGEST]) {
+        Ok(more) => Ok(Noted {
+            value: true,
+            notes: notes + more,
+        }),
+        Err(stop) => {
+            copy_fillers(table, kept, store, pattern);
+            Err(stop)
         }
-        Completion::Stops(k) => Scanned::Stops(k),
     }
 }
 
-// SCAN or BACKSCAN. What stops it leaves the store as it was; the answer has all numbers of the scan but the notes, if it isn't stopped.
+// SCAN or BACKSCAN: whether there is a split, with the notes. What stops it leaves the store as it was; the answer has all numbers of the scan
+// but the notes, if it isn't stopped.
 pub fn scan_step(
     table: &[u8],
     store: &mut [u8],
@@ -99,20 +96,13 @@ pub fn scan_step(
     values: &mut [u8],
     kept: &mut [u8],
     answer: &mut [u32; ANSWER_SIZE],
-) -> Scanned
+) -> Result<Noted<bool>, Stop>
     requires scannable { Scannable table.now store.old state.now s }
     requires scan_lent { ScanLent values.old kept.old }
     ensures scan_leaves { ScanLeaves result store.old store.new state.now answer.new
         (scanning_of table.now store.old state.now s) }
     ensures scan_lent_2 { ScanLent values.new kept.new }
 {
-    let d = s.direction;
-    let part = s.part;
-    match reference_ends(store, state, d, part) {
-        Reference::At { place, from, to } => {
-            let at = Span { place, from, to };
-            scan_span(table, store, state, s, at, values, kept, answer)
-        }
-        Reference::Stops(k) => Scanned::Stops(k),
-    }
+    let at = reference_ends(store, state, s.direction, s.part)?;
+    scan_span(table, store, state, s, at, values, kept, answer)
 }

@@ -8,32 +8,23 @@ ghost use Rattle.effects.specs.ReplacingLaws.{found_from, found_to};
 ghost use Rattle.effects.specs.Valued.{ValueStored};
 ghost use Rattle.scan_statement.specs.Stages.{LengthsCounted, Replaceable, Saved, replaced_pieces};
 
-use base::number;
 use decoder::{Direction, Replacement, Scan};
+use effects::Span;
 use effects::fillers::copy_fillers;
 use effects::replacing::replace_found;
-use effects::{Completion, Span};
 use encoding::STATE_SIZE;
 use scanning::{LENGTHS_AT, START_AT};
-
-// the start of a split
-fn start_of(answer: &[u32]) -> usize
-    requires { length answer.now ≡ 24 }
-    ensures { result ≡ get_or answer.now 1 0 }
-{
-    number(answer[START_AT])
-}
+use values::Stop;
 
 // how long the pieces of a split are together
 fn pieces_length(answer: &[u32], count: usize) -> usize
     requires { LengthsCounted answer.now count }
     ensures { result ≡ total (λ l. l) (lengths_in answer.now count) }
 {
+    let lengths = &answer[LENGTHS_AT..LENGTHS_AT + count];
     let mut sum: usize = 0;
-    let mut i: usize = 0;
-    while i < count {
-        sum += number(answer[LENGTHS_AT + i]);
-        i += 1;
+    for n in lengths {
+        sum += *n as usize;
     }
     sum
 }
@@ -60,19 +51,18 @@ pub fn replace_pieces(
     at: Span,
     answer: &[u32],
     out: &mut [u8],
-) -> Completion
+) -> Result<u32, Stop>
     requires replaceable { Replaceable table.now store.old state.now s at answer.now }
     requires out_len { length out.old ≡ 1024 }
     ensures { ValueStored result store.old store.new state.now
         (replaced_pieces table.now store.old state.now s at answer.now) }
 {
-    let replacement = s.replacement;
-    match replacement {
-        Replacement::Nothing => Completion::Done(0),
+    match s.replacement {
+        Replacement::Nothing => Ok(0),
         Replacement::By(by) => {
             let d = s.direction;
             let n = pieces_length(answer, s.pattern.count);
-            let from = found_from(d, at, start_of(answer), n);
+            let from = found_from(d, at, answer[START_AT] as usize, n);
             let found = Span {
                 place: at.place,
                 from,
@@ -88,9 +78,7 @@ pub fn keep_fillers(table: &[u8], store: &[u8], kept: &mut [u8], s: Scan)
     requires { Copying table.now store.now kept.old s.pattern }
     ensures { Saved s.replacement table.now s.pattern store.now kept.old kept.new }
 {
-    let replacement = s.replacement;
-    match replacement {
-        Replacement::Nothing => {}
-        Replacement::By(_) => copy_fillers(table, store, kept, s.pattern),
+    if let Replacement::By(_) = s.replacement {
+        copy_fillers(table, store, kept, s.pattern);
     }
 }

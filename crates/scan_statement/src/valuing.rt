@@ -11,10 +11,10 @@ ghost use Rattle.scan_statement.specs.Patterns.{ElementPutting, ElementPut, Patt
 use crate::putting::put_row;
 use base::LONGEST;
 use decoder::{Element, PatternElement, Stretch};
-use effects::Completion;
 use encoding::STATE_SIZE;
-use numbers::{Int, Text};
-use scanning::{FIXED, FREE, STRING};
+use numbers::Int;
+use scanning::RowKind;
+use values::Stop;
 
 // as the place that a piece is to name: none
 const NONE: u8 = base::STRINGS as u8;
@@ -26,11 +26,11 @@ fn put_string(rows: &mut [u8], i: usize, n: usize)
     ensures { StringPut rows.old rows.new i n }
 {
     if LONGEST < n {
-        put_row(rows, i, FIXED, n, 0);
+        put_row(rows, i, RowKind::Fixed, n, 0);
         return;
     }
     let at = LONGEST * i;
-    put_row(rows, i, STRING, at, at + n);
+    put_row(rows, i, RowKind::String, at, at + n);
 }
 
 // Row i is the value of an element of a string expression.
@@ -42,19 +42,15 @@ fn put_value(
     i: usize,
     values: &mut [u8],
     rows: &mut [u8],
-) -> Completion
+) -> Result<u32, Stop>
     requires { ValuePutting table.now store.now state.now x i values.old rows.old }
     ensures { ValuePut result values.old values.new rows.old rows.new i
         (element_in current (memory_in store.now state.now) (element_meaning table.now x)) }
 {
     let at = LONGEST * i;
-    match evaluator::append_element(table, store, state, x, &mut values[at..at + LONGEST], 0) {
-        Text::Is { length, notes } => {
-            put_string(rows, i, length);
-            Completion::Done(notes)
-        }
-        Text::Stops(k) => Completion::Stops(k),
-    }
+    let text = evaluator::append_element(table, store, state, x, &mut values[at..at + LONGEST], 0)?;
+    put_string(rows, i, text.value);
+    Ok(text.notes)
 }
 
 // Row i is a fixed filler of length z, or a null string that names nothing if z is negative. Gives the notes.
@@ -64,11 +60,11 @@ fn put_fixed(z: Int, s: usize, i: usize, rows: &mut [u8], names: &mut [u8]) -> u
 {
     if numbers::is_negative(z) {
         names[i] = NONE;
-        put_row(rows, i, STRING, 0, 0);
+        put_row(rows, i, RowKind::String, 0, 0);
         return 1;
     }
     names[i] = s as u8;
-    put_row(rows, i, FIXED, numbers::size(z) as usize, 0);
+    put_row(rows, i, RowKind::Fixed, numbers::size(z) as usize, 0);
     0
 }
 
@@ -82,7 +78,7 @@ fn put_element(
     values: &mut [u8],
     rows: &mut [u8],
     names: &mut [u8],
-) -> Completion
+) -> Result<u32, Stop>
     requires { ElementPutting table.now store.now state.now x i values.old rows.old names.old }
     ensures { ElementPut result values.old values.new rows.old rows.new names.old names.new i
         (valued_in current (memory_in store.now state.now) (pattern_meaning table.now x)) }
@@ -94,12 +90,12 @@ fn put_element(
         }
         PatternElement::Free(s) => {
             names[i] = s as u8;
-            put_row(rows, i, FREE, 0, 0);
-            Completion::Done(0)
+            put_row(rows, i, RowKind::Free, 0, 0);
+            Ok(0)
         }
         PatternElement::Fixed(s, n) => {
             let z = evaluator::length_value(state, n);
-            Completion::Done(put_fixed(z, s, i, rows, names))
+            Ok(put_fixed(z, s, i, rows, names))
         }
     }
 }
@@ -113,22 +109,16 @@ pub fn pattern_rows(
     values: &mut [u8],
     rows: &mut [u8],
     names: &mut [u8],
-) -> Completion
+) -> Result<u32, Stop>
     requires { PatternPutting table.now store.now state.now pattern values.old rows.old names.old }
     ensures { PatternPut result table.now values.new rows.new names.new pattern
         (pattern_in current (memory_in store.now state.now) (patterns_meaning table.now pattern)) }
 {
     let from = pattern.from;
-    let count = pattern.count;
     let mut notes: u32 = 0;
-    let mut i: usize = 0;
-    while i < count {
+    for i in 0..pattern.count {
         let x = decoder::pattern_at(table, from + i);
-        match put_element(table, store, state, x, i, values, rows, names) {
-            Completion::Done(more) => notes += more,
-            Completion::Stops(k) => return Completion::Stops(k),
-        }
-        i += 1;
+        notes += put_element(table, store, state, x, i, values, rows, names)?;
     }
-    Completion::Done(notes)
+    Ok(notes)
 }

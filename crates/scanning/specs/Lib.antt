@@ -1,7 +1,8 @@
 -- The scan: splits, when one fits, which is first (Splits), the scan step by step with its trials (Trials), the laws of both (Laws,
--- FirstFit), and the call (Call).
+-- FirstFit), the call (Call), and its numbers for code (Kinds).
 pub mod Call
 pub mod FirstFit
+pub mod Kinds
 pub mod Laws
 pub mod Splits
 pub mod Trials

@@ -1,15 +1,58 @@
-// Definitions: the scan of document 01, what it must answer and how many trials it makes. For code: the layouts of specs/Call.
+// Definitions: the scan of document 01, what it must answer and how many trials it makes. For code: the layouts of specs/Call, the kinds of
+// rows and what the scan call turns down.
 #![tactic(auto)]
+
+ghost use Rattle.std.specs.Prelude.{◌≡◌};
+ghost use Rattle.scanning.specs.Kinds.{row_kind_number, row_kind_of, refusal_number};
 
 // the bytes of an element's row
 pub const ROW_SIZE: usize = 12;
 
-// the kinds of rows
-pub const STRING: u8 = 1;
+// The kinds of rows: a string, a fixed filler, a free filler.
+#[derive(Clone, Copy, PartialEq, Eq)]
+pub enum RowKind {
+    String = 1,
+    Fixed = 2,
+    Free = 3,
+}
 
-pub const FIXED: u8 = 2;
+impl RowKind {
+    // the number that a row has for its kind
+    pub fn number(self) -> u8
+        ensures { result ≡ row_kind_number self }
+    {
+        self as u8
+    }
 
-pub const FREE: u8 = 3;
+    // the kind that a row's number says, if one is known by it
+    pub fn of(number: u8) -> Option<RowKind>
+        ensures { result ≡ row_kind_of number }
+    {
+        match number {
+            1 => Some(RowKind::String),
+            2 => Some(RowKind::Fixed),
+            3 => Some(RowKind::Free),
+            _ => None,
+        }
+    }
+}
+
+// Why the scan call turns down what it was lent: the reference is too long, the pattern has too many elements, or a row is no element.
+#[derive(Clone, Copy, PartialEq, Eq)]
+pub enum Refusal {
+    LongReference = 22,
+    ManyElements = 23,
+    NoElement = 24,
+}
+
+impl Refusal {
+    // the number that the call answers then
+    pub fn number(self) -> u32
+        ensures { result ≡ refusal_number self }
+    {
+        self as u32
+    }
+}
 
 // an answer's numbers, and where it has whether there is a split, the start, the trials, the notes and the lengths
 pub const ANSWER_SIZE: usize = 24;

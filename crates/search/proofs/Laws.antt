@@ -9,10 +9,11 @@ use lib.Dec.{eqb}
 use lib.ListN.{length, take, drop, get_or, length-drop}
 use lib.Seq.{length-take-le, get_or-take, get_or-drop, ext_get_or}
 use borrow.Author.Count.{below_more}
-use borrow.Author.Tests.{eq-eqb, ne_eqb}
+use borrow.Author.Tests.{eq-eqb, ne_eqb, eqb-true}
+use Rattle.memchr.specs.Find.{Nowhere, NoneBefore, Passes, is_byte}
 use Rattle.base.specs.Choice.{both_pass, neither_true}
 use Rattle.base.specs.Lists.{begins}
-use Rattle.base.specs.ListLaws.{begins_iff, get_or_stretch, stretch_end}
+use Rattle.base.specs.ListLaws.{begins_iff, length_stretch, get_or_stretch, stretch_end}
 use Rattle.search.specs.Passing.{AgreesUntil, Both, Without, NextPlace, NextByte, WordPasses}
 
 -- a test that can't hold fails
@@ -77,12 +78,6 @@ module _ {text : List ℕ} {first last span places from : ℕ} where
   pub without_none : from ≤ places → Without text first last span places from from
   without_none h = record { low = omega arith; high = h; differ = λ j low high. absurd (omega arith) }
 
-  -- of places passed, those from a later one on
-  pub without_later : {start to : ℕ} → Without text first last span places start to → start ≤ from → from ≤ to
-      → Without text first last span places from to
-  without_later w above below =
-      record { low = below; high = w.high; differ = λ j low high. w.differ j (omega arith) high }
-
   module _ {k : ℕ} (w : Without text first last span places from k) where
     -- the places from k to k' as well
     pub without_join : {k' : ℕ} → Without text first last span places k k' → Without text first last span places from k'
@@ -129,19 +124,37 @@ pub next-behind : {text : List ℕ} {first last span places from b k : ℕ} → 
     → NextPlace text first last span places b k → NextPlace text first last span places from k
 next-behind w n = record { passed = without_join w n.passed; here = n.here }
 
--- both bytes the same, and at the same place
-pub next-byte : {text : List ℕ} {byte from at : ℕ} → NextPlace text byte byte 0 (length text) from at → NextByte text byte from at
-next-byte {text} n =
-    let w = n.passed in
-    record {
-      low = w.low;
-      high = w.high;
-      none =
-          λ j low high e.
-          let here : j ≡ j + 0 = omega arith in
-          w.differ j low high e (ap (λ (i : ℕ). get_or text i 0) (sym here) ∙ e);
-      here = λ h. (n.here h).0;
-    }
+-- a byte looked for from a place on
+module _ (text : List ℕ) (byte from m : ℕ) (whole : from + m ≡ length text) where
+  abbrev rest : List ℕ
+  rest = take m (drop from text)
+
+  -- none up to a place behind it
+  none_until : (i : ℕ) → i ≤ m → Nowhere (Passes (is_byte byte) rest) 0 i → (j : ℕ) → from ≤ j → j < from + i → get_or text j 0 ≡ byte → ⊥
+  none_until i few none j low high e =
+      let k : ℕ = j - from in
+      let place : from + k ≡ j = omega arith in
+      none k (omega arith) (omega arith)
+      (eq-eqb (get_or rest k 0) byte (get_or_stretch text from m k (omega arith) ∙ ap (λ (n : ℕ). get_or text n 0) place ∙ e))
+
+  pub byte_found : {i : ℕ} → NoneBefore (Passes (is_byte byte) rest) 0 (length rest) i × Passes (is_byte byte) rest i → NextByte text byte from (from + i)
+  byte_found {i} found =
+      let below : i < m = omega (arith, found.0.high, length_stretch text from m (omega arith)) in
+      record {
+        low = omega arith;
+        high = omega arith;
+        none = none_until i (omega arith) found.0.before;
+        here = λ _. sym (get_or_stretch text from m i below) ∙ eqb-true (get_or rest i 0) byte found.1;
+      }
+
+  pub byte_missing : Nowhere (Passes (is_byte byte) rest) 0 (length rest) → NextByte text byte from (length text)
+  byte_missing none =
+      record {
+        low = omega arith;
+        high = omega arith;
+        none = λ j low high. none_until m (omega arith) (λ k l h. none k l (omega (arith, length_stretch text from m (omega arith)))) j low (omega arith);
+        here = λ h. absurd (omega arith);
+      }
 
 module _ {text word : List ℕ} where
   -- no place is passed

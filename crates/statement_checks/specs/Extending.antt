@@ -1,5 +1,5 @@
 -- Where a kind may not stand, by numbers; what extending the environment by a statement does. Assumes nothing.
-use Rattle.std.specs.Prelude.{Bool, not, ◌&&◌, ◌||◌, List, ◌++◌, ◌≡◌, ℕ, ◌+◌, ◌≤◌, eqb, take, get_or}
+use Rattle.std.specs.Prelude.{Bool, not, ◌&&◌, ◌||◌, List, ◌++◌, ◌≡◌, ℕ, ◌+◌, ◌≤◌, eqb, take, get_or, Option}
 use Rattle.symbols.specs.Entries.{NameEntry, name_of}
 use Rattle.symbols.specs.Holding.{Arrays}
 use Rattle.symbols.specs.Environment.{labels_in, routines_in, label_count_at, routine_count_at, statement_count_at, step_count_at, ended_at, scope_at}
@@ -11,7 +11,6 @@ use Rattle.statement_checks.specs.Labels.{labels_by}
 use Rattle.statement_checks.specs.Listing.{NamesListed, Listing}
 use Rattle.statement_checks.specs.Routines.{routine_names, routines_behind, scope_behind, Opens}
 use Rattle.statement_checks.specs.Uses.{held_uses, Spacious, Used}
-use Rattle.statement_checks.specs.declared.routines.Opened.{Opened}
 
 -- 9 by a kind's number and the key of the scope
 unfoldable pub wrong_in : (kind scope : ℕ) → Bool
@@ -30,7 +29,7 @@ pub record Extendable (a : Arrays) (keys tags : List ℕ) (met count : ℕ) : Ty
 
 -- the environment is extended by all of a statement, and the names stay
 pub record Extended (a : Arrays) (es : List NameEntry) (c : Cursor) (kind count : ℕ) (a' : Arrays) : Type 0 where
-  pub opened : Opened
+  pub opened : Option ℕ
   pub opens : Opens (routine_names es) opened
   pub name_keys : a'.name_keys ≡ a.name_keys
   pub name_purposes : a'.name_purposes ≡ a.name_purposes

@@ -1,5 +1,5 @@
 -- The parts of extending the environment by a statement put together. Assumes nothing.
-use Rattle.std.specs.Prelude.{List, ◌++◌, map, ◌≡◌, refl, ℕ, ◌+◌, ◌≤◌, ◌<◌, length, take, get_or}
+use Rattle.std.specs.Prelude.{List, ◌++◌, map, ◌≡◌, refl, ℕ, ◌+◌, ◌≤◌, ◌<◌, length, take, get_or, Option}
 use Rattle.std.proofs.Common.{sym, ◌∙◌, ap, ap₂, subst, arith}
 use Rattle.std.proofs.lemmas.List.Edits.{sets}
 use Rattle.std.proofs.Math.Seq.{length-sets}
@@ -20,7 +20,6 @@ use Rattle.statement_checks.specs.Listing.{NamesListed, Listed}
 use Rattle.statement_checks.specs.RoutineLaws.{routines-kept, routine_kept}
 use Rattle.statement_checks.specs.Routines.{routine_names, Opens, routines_behind, scope_behind, Routed}
 use Rattle.statement_checks.specs.Uses.{UseArrays, held_uses, uses_put, Used}
-use Rattle.statement_checks.specs.declared.routines.Opened.{Opened}
 
 -- labels and routines are kept where their numbers are
 pub labels-same : (l m : List ℕ) → get_or l label_count_at 0 ≤ 65 → get_or m label_count_at 0 ≡ get_or l label_count_at 0
@@ -58,7 +57,7 @@ shows_same l m keys purposes i size f s =
 
 -- names, labels, uses, routines and counts, one after the other
 module _ (a : Arrays) (known₁ known₂ known₃ known₄ : List ℕ) (v : UseArrays) (es : List NameEntry) (c : Cursor) (kind count behind uses : ℕ)
-    (opened : Opened) (few : get_or a.known label_count_at 0 ≤ 65) (m₁ : Listed a.known known₁ a.name_keys a.name_purposes count)
+    (opened : Option ℕ) (few : get_or a.known label_count_at 0 ≤ 65) (m₁ : Listed a.known known₁ a.name_keys a.name_purposes count)
     (m₂ : Labelled known₁ es known₂) (u : Used (held_uses a) (get_or a.known use_count_at 0) (get_or a.known scope_at 0) es v uses)
     (o : Opens (routine_names es) opened) (m₃ : Routed known₂ opened kind known₃) (b : behind ≡ scope_behind (get_or a.known scope_at 0) opened kind)
     (m₄ : known₄ ≡ counts_after known₃ c kind behind count uses) where

@@ -1,8 +1,8 @@
 -- The number that the code finds and the environment that it leaves are what document 01 says. Assumes nothing.
-use Rattle.std.specs.Prelude.{Bool, true, false, ◌&&◌, ◌||◌, ◌≡◌, refl, ℕ, suc, ◌+◌, ◌≤◌, leb, get_or}
+use Rattle.std.specs.Prelude.{Bool, true, false, ◌&&◌, ◌||◌, ◌≡◌, refl, ℕ, suc, ◌+◌, ◌≤◌, leb, get_or, Option, Some, None, Ok}
 use Rattle.std.proofs.Math.Bool.{cond, not}
 use Rattle.std.specs.Bool.{beq}
-use mathlib.Core.List.{List, [], ◌∷◌, ◌++◌, map}
+use mathlib.Core.List.{List, [], ◌++◌, map}
 use Rattle.std.proofs.Math.Path.{sym, ap, ap₂, subst}
 use Rattle.std.proofs.Common.{◌∙◌, arith, length-take-le, take_all}
 use Rattle.std.proofs.Math.Dec.{eqb, ltb}
@@ -27,15 +27,13 @@ use Rattle.symbols.specs.declared.Cursor.{Cursor}
 use Rattle.name_checks.specs.Arrays.{entry_in, entries_from, names_put}
 use Rattle.name_checks.specs.Declaring.{declared_in, undeclared_in}
 use Rattle.name_checks.specs.Judged.{names_of, names_number, NamesJudged}
-use Rattle.name_checks.specs.declared.Verdict.{Verdict}
 use Rattle.statement_checks.specs.Cells.{cell_in, cells, cells_part, cut_whole}
 use Rattle.statement_checks.specs.Counts.{steps_behind, ended_behind, is_over}
 use Rattle.statement_checks.specs.Judged.{Tallied}
 use Rattle.statement_checks.specs.Labels.{labels_by}
 use Rattle.statement_checks.specs.Extending.{wrong_in, Extended}
-use Rattle.statement_checks.specs.Routines.{routine_names, Opens, routines_behind, scope_behind}
+use Rattle.statement_checks.specs.Routines.{routine_names, Opens, with_opened, routines_behind, scope_behind}
 use Rattle.statement_checks.specs.Uses.{uses_by}
-use Rattle.statement_checks.specs.declared.routines.Opened.{Opened}
 
 -- 6, 7 or 8 with what comes behind them
 pick_some : (a b c : Bool) (rest n : ℕ) → n ≡ cond a 6 (cond b 7 (cond c 8 0)) → (n ≡ 0 → ⊥) → n ≡ cond a 6 (cond b 7 (cond c 8 rest))
@@ -70,28 +68,18 @@ cut_over cap l n e =
     ap (ltb cap) (sym e ∙ ap length (take_all (suc cap) l (omega arith)))) refl
 
 -- names that are opened
-opened_is : (k : Environment) (names : List (List ℕ)) (o : Opened) → Opens names o
-    → cond o.found (record { name = name_of o.key; entry = suc k.steps; exit = 0 } ∷ k.routines) k.routines ≡ open_routine k names
+opened_is : (k : Environment) (names : List (List ℕ)) (o : Option ℕ) → Opens names o → with_opened k.steps k.routines o ≡ open_routine k names
 unfolding open_routine
-opened_is k names o p =
-    test_cases
-    (λ t.
-    names ≡ cond t (name_of o.key ∷ p.others) []
-    → cond t (record { name = name_of o.key; entry = suc k.steps; exit = 0 } ∷ k.routines) k.routines ≡ open_routine k names)
-    o.found (λ _ e. sym (ap (open_routine k) e)) (λ _ e. sym (ap (open_routine k) e)) p.is
+opened_is k names None p = sym (ap (open_routine k) p.is)
+opened_is k names (Some key) p = sym (ap (open_routine k) p.is)
 
-scope-is : (s : ℕ) (names : List (List ℕ)) (o : Opened) (kind : Keywords.StatementKind) → Opens names o
+scope-is : (s : ℕ) (names : List (List ℕ)) (o : Option ℕ) (kind : Keywords.StatementKind) → Opens names o
     → name_of (scope_behind s o (statement_kind_number kind)) ≡ scope_after kind names (name_of s)
 unfolding scope_after scope_behind same_kind statement_kind_number name_of name_from
-scope-is s names o kind p =
-    test_cases
-    (λ t.
-    names ≡ cond t (name_of o.key ∷ p.others) []
-    → name_of (cond t o.key (cond (eqb (statement_kind_number kind) 14) 0 s)) ≡ scope_after kind names (name_of s))
-    o.found (λ _ e. sym (ap (λ l. scope_after kind l (name_of s)) e))
-    (λ _ e.
+scope-is s names (Some key) kind p = sym (ap (λ l. scope_after kind l (name_of s)) p.is)
+scope-is s names None kind p =
     test_cases (λ t. name_of (cond t 0 s) ≡ cond t [] (name_of s)) (eqb (statement_kind_number kind) 14) (λ _. refl) (λ _. refl)
-    ∙ sym (ap (λ l. scope_after kind l (name_of s)) e)) p.is
+    ∙ sym (ap (λ l. scope_after kind l (name_of s)) p.is)
 
 steps-is : (s : ℕ) (kind : Keywords.StatementKind) → steps_behind s (statement_kind_number kind) ≡ cond (is_step kind) (suc s) s
 unfolding steps_behind is_step same_kind statement_kind_number
@@ -167,9 +155,9 @@ module _ (a : Arrays) (taken : ℕ) (k : Environment) (h : ArraysHold a taken k)
 
 -- behind a statement by which the environment is extended
 module _ (a : Arrays) (taken : ℕ) (k : Environment) (h : ArraysHold a taken k) (kind : Keywords.StatementKind) (keys tags : List ℕ) (c : Cursor)
-    (items : ℕ) (rows : List ℕ) (literals : ℕ) (counts : Tallied k c items rows literals) (name_keys' name_purposes' : List ℕ) (v : Verdict)
-    (names : NamesJudged a.known a.name_keys a.name_purposes keys tags c.names name_keys' name_purposes' v) (zero_is : v.number ≡ 0)
-    (a' : Arrays) (l : Extended (names_put a name_keys' name_purposes') (entries_from keys tags 0 c.names) c (statement_kind_number kind) v.count a') where
+    (items : ℕ) (rows : List ℕ) (literals : ℕ) (counts : Tallied k c items rows literals) (name_keys' name_purposes' : List ℕ) (count : ℕ)
+    (names : NamesJudged a.known a.name_keys a.name_purposes keys tags c.names name_keys' name_purposes' (Ok count))
+    (a' : Arrays) (l : Extended (names_put a name_keys' name_purposes') (entries_from keys tags 0 c.names) c (statement_kind_number kind) count a') where
   abbrev known' : List ℕ
   known' = a'.known
 
@@ -182,9 +170,9 @@ module _ (a : Arrays) (taken : ℕ) (k : Environment) (h : ArraysHold a taken k)
   abbrev behind : Environment
   behind = extend k kind met
 
-  names_are : names_from name_keys' name_purposes' 0 v.count ≡ behind.names
+  names_are : names_from name_keys' name_purposes' 0 count ≡ behind.names
   unfolding extend mentions_in names_in
-  names_are = names.extended zero_is ∙ ap (λ l. with_names l (names_of es)) h.names
+  names_are = names.extended ∙ ap (λ l. with_names l (names_of es)) h.names
 
   labels_are : labels_in a.known ++ labels_by (get_or a.known step_count_at 0) (name_of (get_or a.known scope_at 0)) es ≡ behind.labels
   unfolding extend mentions_in labels_at labels_by
@@ -340,5 +328,5 @@ module _ (a : Arrays) (taken : ℕ) (k : Environment) (h : ArraysHold a taken k)
         elements = elements_are;
         items = items_are;
         literals = literals_are;
-        single = subst (λ ns. any (has_other_purpose ns) ns ≡ false) names_are (names.single zero_is);
+        single = subst (λ ns. any (has_other_purpose ns) ns ≡ false) names_are names.single;
       }

@@ -1,5 +1,5 @@
 -- The contracts of judging, put together. Assumes nothing.
-use Rattle.std.specs.Prelude.{Bool, true, false, cond, not, ◌||◌, List, ◌++◌, map, ◌≡◌, refl, ℕ, ◌+◌, ◌≤◌, eqb, length, take, drop, get_or}
+use Rattle.std.specs.Prelude.{Bool, true, false, cond, not, ◌||◌, List, ◌++◌, map, ◌≡◌, refl, ℕ, ◌+◌, ◌≤◌, eqb, length, take, drop, get_or, Ok, Err}
 use Rattle.std.specs.Bool.{beq}
 use Rattle.std.proofs.Math.Bool.{or-true}
 use Rattle.std.proofs.Common.{sym, ◌∙◌, ap, subst, arith, take_all, eq-eqb, ne_eqb}
@@ -18,7 +18,9 @@ use Rattle.symbols.specs.declared.Cursor.{Cursor}
 use Rattle.name_checks.specs.ArrayLaws.{names_put_lem, names_kept}
 use Rattle.name_checks.specs.Arrays.{environment_in, entries_from, arrays, names_put}
 use Rattle.name_checks.specs.Judged.{names_number, NamesReady, NamesJudged}
-use Rattle.name_checks.specs.declared.Verdict.{Verdict}
+use Rattle.validation.specs.RefusalNumbers.{refusal_number, refusal_number_some}
+use Rattle.validation.specs.declared.Refusal.{Refusal}
+use Rattle.statement_checks.specs.KindNumbers.{kind_number}
 use Rattle.lexer.specs.Kinds.{kind_of}
 use Rattle.lexer.specs.declared.keywords.Kind.{Kind}
 use Rattle.statement_checks.specs.Cells.{cell_in, cells, cells_part}
@@ -37,7 +39,7 @@ later_is true = refl
 later_is false = refl
 
 module _ (known : List ℕ) (kind : Kind) where
-  misplaced_by : (r : Bool) → r ≡ (not (beq (eqb (get_or known statement_count_at 0) 0) (eqb (statement_kind_number (kind_of kind)) 2)) || eqb (get_or known ended_at 0) 1)
+  pub misplaced_by : (r : Bool) → r ≡ (not (beq (eqb (get_or known statement_count_at 0) 0) (eqb (statement_kind_number (kind_of kind)) 2)) || eqb (get_or known ended_at 0) 1)
       → Misplaced known kind r
   misplaced_by r e =
       record {
@@ -82,8 +84,20 @@ names_ready a keys tags c r =
       single = r.held.single;
     }
 
-module _ (a : Arrays) (keys tags : List ℕ) (c : Cursor) (ready : Judgeable a keys tags c) (name_keys' name_purposes' : List ℕ) (v : Verdict)
-    (names : NamesJudged a.known a.name_keys a.name_purposes keys tags c.names name_keys' name_purposes' v) where
+-- the names are refused
+pub judged_names : (a : Arrays) (keys tags : List ℕ) (c : Cursor) (name_keys' name_purposes' : List ℕ) {e : Refusal}
+    → NamesJudged a.known a.name_keys a.name_purposes keys tags c.names name_keys' name_purposes' (Err e) → (kind : Kind) (a' : Arrays)
+    → StatementJudged a keys tags c kind a' (refusal_number e)
+unfolding names_in
+judged_names a keys tags c name_keys' name_purposes' {e} names kind a' =
+    record {
+      number = λ taken k h items rows literals b.
+          number_some a taken k h (kind_of kind) (entries_from keys tags 0 c.names) items rows literals (refusal_number e) names.number (refusal_number_some e);
+      extended = λ z taken k h items rows literals b taken' room. absurd (refusal_number_some e z);
+    }
+
+module _ (a : Arrays) (keys tags : List ℕ) (c : Cursor) (ready : Judgeable a keys tags c) (name_keys' name_purposes' : List ℕ) (count' : ℕ)
+    (names : NamesJudged a.known a.name_keys a.name_purposes keys tags c.names name_keys' name_purposes' (Ok count')) where
   abbrev known : List ℕ
   known = a.known
 
@@ -105,7 +119,7 @@ module _ (a : Arrays) (keys tags : List ℕ) (c : Cursor) (ready : Judgeable a k
       is ∙ sym (take_all 33 (names_for q (names_in a)) (omega arith)) ∙ ap (λ ns. take 33 (names_for q ns)) (sym names_same)
 
   -- and can be extended by the statement
-  pub extendable : Extendable (names_put a name_keys' name_purposes') keys tags c.names v.count
+  pub extendable : Extendable (names_put a name_keys' name_purposes') keys tags c.names count'
   unfolding environment_in string_keys number_keys Environment.strings_of Environment.numbers_of
   extendable =
       let h = ready.held in
@@ -143,68 +157,56 @@ module _ (a : Arrays) (keys tags : List ℕ) (c : Cursor) (ready : Judgeable a k
     abbrev es : List NameEntry
     es = entries_from keys tags 0 c.names
 
-    number_is : v.number ≡ names_number known (names_in a) es
+    number_is : 0 ≡ names_number known (names_in a) es
     unfolding names_in
     number_is = names.number
 
-    pub judged_names : (a' : Arrays) → (v.number ≡ 0 → ⊥) → StatementJudged a keys tags c kind a' v.number
-    judged_names a' f =
+    abbrev n : ℕ
+    n = kind_number kind
+
+    pub judged_nine : (a' : Arrays) → wrong_in n (get_or known scope_at 0) ≡ true → StatementJudged a keys tags c kind a' 9
+    judged_nine a' w =
         record {
-          number = λ taken k h items rows literals b. number_some a taken k h (kind_of kind) es items rows literals v.number number_is f;
-          extended = λ z taken k h items rows literals b taken' room. absurd (f z);
+          number = λ taken k h items rows literals b.
+              number_nine a taken k h (kind_of kind) es items rows literals 0 number_is refl w;
+          extended = λ e taken k h items rows literals b taken' room. absurd (omega arith);
         }
 
-    module _ (z : v.number ≡ 0) (n : ℕ) (is : n ≡ statement_kind_number (kind_of kind)) where
-      pub judged_nine : (a' : Arrays) → wrong_in n (get_or known scope_at 0) ≡ true → StatementJudged a keys tags c kind a' 9
-      judged_nine a' w =
+    module _ (w : wrong_in n (get_or known scope_at 0) ≡ false) (a' : Arrays) (l : Extended (names_put a name_keys' name_purposes') es c n count' a') where
+      ten : (t : Bool) → is_over a'.known c.longest ≡ t → (taken : ℕ) (k : Environment) → ArraysHold a taken k → (items : ℕ) (rows : List ℕ) (literals : ℕ)
+          → Tallied k c items rows literals → cond t 10 0 ≡ mentions_number k (kind_of kind) (mentions_in es items rows literals)
+      ten t e taken k h items rows literals b =
+          ap (λ x. cond x 10 0)
+          (sym e ∙ over_is a taken k h (kind_of kind) keys tags c items rows literals b name_keys' name_purposes' count' names a' l)
+          ∙ number_rest a taken k h (kind_of kind) es items rows literals 0 number_is refl w
+
+      pub judged_over : is_over a'.known c.longest ≡ true → StatementJudged a keys tags c kind a' 10
+      judged_over e =
+          record { number = ten true e; extended = λ f taken k h items rows literals b taken' room. absurd (omega arith) }
+
+      pub judged_zero : is_over a'.known c.longest ≡ false → StatementJudged a keys tags c kind a' 0
+      judged_zero e =
           record {
-            number = λ taken k h items rows literals b.
-                number_nine a taken k h (kind_of kind) es items rows literals v.number number_is z
-                (ap (λ x. wrong_in x (get_or known scope_at 0)) (sym is) ∙ w);
-            extended = λ e taken k h items rows literals b taken' room. absurd (omega arith);
+            number = ten false e;
+            extended = λ f taken k h items rows literals b taken' room.
+                extended_holds a taken k h (kind_of kind) keys tags c items rows literals b name_keys' name_purposes' count' names a' l e taken' room;
           }
-
-      module _ (w : wrong_in n (get_or known scope_at 0) ≡ false) (a' : Arrays) (l : Extended (names_put a name_keys' name_purposes') es c n v.count a') where
-        right : wrong_in (statement_kind_number (kind_of kind)) (get_or known scope_at 0) ≡ false
-        right = ap (λ x. wrong_in x (get_or known scope_at 0)) (sym is) ∙ w
-
-        extended' : Extended (names_put a name_keys' name_purposes') es c (statement_kind_number (kind_of kind)) v.count a'
-        extended' = subst (λ x. Extended (names_put a name_keys' name_purposes') es c x v.count a') is l
-
-        ten : (t : Bool) → is_over a'.known c.longest ≡ t → (taken : ℕ) (k : Environment) → ArraysHold a taken k → (items : ℕ) (rows : List ℕ) (literals : ℕ)
-            → Tallied k c items rows literals → cond t 10 0 ≡ mentions_number k (kind_of kind) (mentions_in es items rows literals)
-        ten t e taken k h items rows literals b =
-            ap (λ x. cond x 10 0)
-            (sym e ∙ over_is a taken k h (kind_of kind) keys tags c items rows literals b name_keys' name_purposes' v names z a' extended')
-            ∙ number_rest a taken k h (kind_of kind) es items rows literals v.number number_is z right
-
-        pub judged_over : is_over a'.known c.longest ≡ true → StatementJudged a keys tags c kind a' 10
-        judged_over e =
-            record { number = ten true e; extended = λ f taken k h items rows literals b taken' room. absurd (omega arith) }
-
-        pub judged_zero : is_over a'.known c.longest ≡ false → StatementJudged a keys tags c kind a' 0
-        judged_zero e =
-            record {
-              number = ten false e;
-              extended = λ f taken k h items rows literals b taken' room.
-                  extended_holds a taken k h (kind_of kind) keys tags c items rows literals b name_keys' name_purposes' v names z a' extended' e taken' room;
-            }
 
 -- the names put in front of two arrays
 module _ (known symbols purposes keys tags : List ℕ) (c : Cursor) (ready : Judgeable (arrays known symbols purposes) keys tags c)
-    (name_keys' name_purposes' : List ℕ) (v : Verdict)
-    (names : NamesJudged known (take names_room symbols) (take names_room purposes) keys tags c.names name_keys' name_purposes' v) where
+    (name_keys' name_purposes' : List ℕ) (count' : ℕ)
+    (names : NamesJudged known (take names_room symbols) (take names_room purposes) keys tags c.names name_keys' name_purposes' (Ok count')) where
   abbrev put : Arrays
   put = arrays known (name_keys' ++ drop names_room symbols) (name_purposes' ++ drop names_room purposes)
 
   named' : put ≡ names_put (arrays known symbols purposes) name_keys' name_purposes'
   named' = names_put_lem known symbols purposes name_keys' name_purposes' names.keys_size names.purposes_size
 
-  pub put_learnable : Extendable put keys tags c.names v.count
+  pub put_learnable : Extendable put keys tags c.names count'
   put_learnable =
-      subst (λ b. Extendable b keys tags c.names v.count) (sym named')
-      (extendable (arrays known symbols purposes) keys tags c ready name_keys' name_purposes' v names)
+      subst (λ b. Extendable b keys tags c.names count') (sym named')
+      (extendable (arrays known symbols purposes) keys tags c ready name_keys' name_purposes' count' names)
 
-  pub put_learnt : {kind : ℕ} {a' : Arrays} → Extended put (entries_from keys tags 0 c.names) c kind v.count a'
-      → Extended (names_put (arrays known symbols purposes) name_keys' name_purposes') (entries_from keys tags 0 c.names) c kind v.count a'
-  put_learnt {kind} {a'} l = subst (λ b. Extended b (entries_from keys tags 0 c.names) c kind v.count a') named' l
+  pub put_learnt : {kind : ℕ} {a' : Arrays} → Extended put (entries_from keys tags 0 c.names) c kind count' a'
+      → Extended (names_put (arrays known symbols purposes) name_keys' name_purposes') (entries_from keys tags 0 c.names) c kind count' a'
+  put_learnt {kind} {a'} l = subst (λ b. Extended b (entries_from keys tags 0 c.names) c kind count' a') named' l

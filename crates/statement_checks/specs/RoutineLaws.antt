@@ -1,5 +1,5 @@
 -- Routines opened and closed in their array. Assumes nothing.
-use Rattle.std.specs.Prelude.{true, false, cond, ◌≡◌, refl, eqb, length}
+use Rattle.std.specs.Prelude.{cond, ◌≡◌, refl, eqb, length, Option, Some, None}
 use mathlib.Core.List.{List, [], ◌∷◌, ◌++◌}
 use Rattle.std.proofs.Math.Path.{sym, ap, ap₂, subst}
 use Rattle.std.proofs.Common.{◌∙◌, arith}
@@ -20,7 +20,6 @@ use Rattle.name_checks.specs.Arrays.{entry_in, entries_from, entries_left}
 use Rattle.statement_checks.specs.Cells.{four}
 use Rattle.statement_checks.specs.NamesFor.{names_append, declared_routine}
 use Rattle.statement_checks.specs.Routines.{routine_names, Opens, routine_opened, routine_closed, routines_behind, scope_behind, Routed}
-use Rattle.statement_checks.specs.declared.routines.Opened.{Opened}
 
 pub routines-kept : (l m : List ℕ) (n : ℕ) → ((j : ℕ) → j < n → routine_in m j ≡ routine_in l j) → routines_down m n ≡ routines_down l n
 unfolding routines_down
@@ -34,16 +33,16 @@ unfolding routine_in
 routine_kept l m i d e f = λ t. record { name = name_of (d t); entry = e t; exit = f t }
 
 -- what is behind opening, closing or neither
-module _ (known : List ℕ) (size : length known ≡ environment_size) (few : get_or known routine_count_at 0 ≤ 16) (o : Opened) (kind : ℕ) where
+module _ (known : List ℕ) (size : length known ≡ environment_size) (few : get_or known routine_count_at 0 ≤ 16) (kind : ℕ) where
   abbrev n : ℕ
   n = get_or known routine_count_at 0
 
-  pub routed_open : (kind ≡ 14 → ⊥) → o.found ≡ true → (known' : List ℕ) → known' ≡ routine_opened known o.key → Routed known o kind known'
+  pub routed_open : (kind ≡ 14 → ⊥) → (key : ℕ) (known' : List ℕ) → known' ≡ routine_opened known key → Routed known (Some key) kind known'
   unfolding routines_in routine_in routines_down routines_behind routine_opened
-  routed_open e f known' is =
-      let m = routine_opened known o.key in
+  routed_open e key known' is =
+      let m = routine_opened known key in
       let s =
-      four known (routine_keys_at + n) (routine_entries_at + n) (routine_exits_at + n) routine_count_at o.key (get_or known step_count_at 0 + 1) 0 (n + 1)
+      four known (routine_keys_at + n) (routine_entries_at + n) (routine_exits_at + n) routine_count_at key (get_or known step_count_at 0 + 1) 0 (n + 1)
       (omega arith) (omega arith) (omega arith) (omega arith)
       (λ e. omega arith) (λ e. omega arith) (λ e. omega arith) (λ e. omega arith) (λ e. omega arith) (λ e. omega arith)
       in
@@ -56,36 +55,36 @@ module _ (known : List ℕ) (size : length known ≡ environment_size) (few : ge
       (s.kept (routine_entries_at + j) (λ e. omega arith) (λ e. omega arith) (λ e. omega arith) (λ e. omega arith))
       (s.kept (routine_exits_at + j) (λ e. omega arith) (λ e. omega arith) (λ e. omega arith) (λ e. omega arith)))
       in
-      let new : routine_in m n ≡ record { name = name_of o.key; entry = suc (get_or known step_count_at 0); exit = 0 } =
+      let new : routine_in m n ≡ record { name = name_of key; entry = suc (get_or known step_count_at 0); exit = 0 } =
       λ t. record { name = name_of (s.first t); entry = step t; exit = s.third t }
       in
-      subst (Routed known o kind) (sym is)
+      subst (Routed known (Some key) kind) (sym is)
       (record {
         size = s.size ∙ size;
         few = omega arith;
         routines =
             ap (routines_down m) next
             ∙ ap₂ {C = List Routine} ◌∷◌ new old
-            ∙ sym (rw (ne_eqb kind 14 e, f));
+            ∙ sym (rw (ne_eqb kind 14 e));
         low = λ j g. s.kept j (λ e. omega arith) (λ e. omega arith) (λ e. omega arith) (λ e. omega arith);
         middle = λ j g d. s.kept j (λ e. omega arith) (λ e. omega arith) (λ e. omega arith) (λ e. omega arith);
       })
 
-  pub routed_same : (kind ≡ 14 → ⊥) → o.found ≡ false → Routed known o kind known
+  pub routed_same : (kind ≡ 14 → ⊥) → Routed known None kind known
   unfolding routines_behind
-  routed_same e f =
+  routed_same e =
       record {
         size = size;
         few = omega arith;
-        routines = sym (rw (ne_eqb kind 14 e, f));
+        routines = sym (rw (ne_eqb kind 14 e));
         low = λ j g. refl;
         middle = λ j g d. refl;
       }
 
   -- the latest closed
-  shut : (k : ℕ) → n ≡ suc k → kind ≡ 14 → Routed known o kind (set known (routine_exits_at + k) (get_or known step_count_at 0 + 1))
+  shut : (o : Option ℕ) (k : ℕ) → n ≡ suc k → kind ≡ 14 → Routed known o kind (set known (routine_exits_at + k) (get_or known step_count_at 0 + 1))
   unfolding routines_in routine_in routines_down routines_behind close_routine
-  shut k is e =
+  shut o k is e =
       let step = get_or known step_count_at 0 in
       let m = set known (routine_exits_at + k) (step + 1) in
       let other : (j : ℕ) → (j ≡ routine_exits_at + k → ⊥) → get_or m j 0 ≡ get_or known j 0 = λ j f. get_or-set_other known (routine_exits_at + k) j (step + 1) 0 f in
@@ -112,12 +111,12 @@ module _ (known : List ℕ) (size : length known ≡ environment_size) (few : ge
         middle = λ j g d. other j (λ z. omega arith);
       }
 
-  pub routed_close : kind ≡ 14 → (known' : List ℕ) → known' ≡ routine_closed known → Routed known o kind known'
+  pub routed_close : (o : Option ℕ) → kind ≡ 14 → (known' : List ℕ) → known' ≡ routine_closed known → Routed known o kind known'
   unfolding routine_closed routines_in routines_down routines_behind close_routine
-  routed_close e known' is =
+  routed_close o e known' is =
       subst (Routed known o kind) (sym is)
       (test_cases (λ t. ltb 0 n ≡ t → Routed known o kind (cond t (set known (routine_exits_at + (n - 1)) (get_or known step_count_at 0 + 1)) known)) (ltb 0 n)
-      (λ _ h. let some = ltb-true 0 n h in shut (n - 1) (omega arith) e)
+      (λ _ h. let some = ltb-true 0 n h in shut o (n - 1) (omega arith) e)
       (λ _ h.
       let none : n ≡ 0 = omega (arith, ltb-false 0 n h) in
       record {
@@ -161,10 +160,10 @@ module _ (keys tags : List ℕ) (met : ℕ) where
   pub routine_whole : routines_left 0 ≡ routine_names (entries_from keys tags 0 met)
   routine_whole = let all : met - 0 ≡ met = omega arith in ap (λ m. routine_names (entries_from keys tags 0 m)) all
 
-pub opens_one : (names others : List (List ℕ)) (key : ℕ) → names ≡ name_of key ∷ others → Opens names (record { found = true; key = key })
+pub opens_one : (names others : List (List ℕ)) (key : ℕ) → names ≡ name_of key ∷ others → Opens names (Some key)
 opens_one names others key e = record { others = others; is = e }
 
-pub opens_none : (names : List (List ℕ)) → names ≡ [] → Opens names (record { found = false; key = 0 })
+pub opens_none : (names : List (List ℕ)) → names ≡ [] → Opens names None
 opens_none names e = record { others = []; is = e }
 
 -- what the code does
@@ -178,15 +177,14 @@ module _ (known : List ℕ) where
   unfolding routine_closed
   closed_none h = rw (le-ltb 0 (get_or known routine_count_at 0) h)
 
-module _ (scope : ℕ) (o : Opened) (kind : ℕ) where
-  pub scope_opened : o.found ≡ true → o.key ≡ scope_behind scope o kind
-  unfolding scope_behind
-  scope_opened f = rw f
+pub scope_opened : (scope : ℕ) (o : Option ℕ) (kind key : ℕ) → o ≡ Some key → key ≡ scope_behind scope o kind
+unfolding scope_behind
+scope_opened scope o kind key e = rw e
 
-  pub scope_closed : o.found ≡ false → kind ≡ 14 → 0 ≡ scope_behind scope o kind
-  unfolding scope_behind
-  scope_closed f e = rw (f, eq-eqb kind 14 e)
+pub scope_closed : (scope kind : ℕ) → kind ≡ 14 → 0 ≡ scope_behind scope None kind
+unfolding scope_behind
+scope_closed scope kind e = rw (eq-eqb kind 14 e)
 
-  pub scope-same : o.found ≡ false → (kind ≡ 14 → ⊥) → scope ≡ scope_behind scope o kind
-  unfolding scope_behind
-  scope-same f e = rw (f, ne_eqb kind 14 e)
+pub scope-same : (scope kind : ℕ) → (kind ≡ 14 → ⊥) → scope ≡ scope_behind scope None kind
+unfolding scope_behind
+scope-same scope kind e = rw (ne_eqb kind 14 e)

@@ -44,9 +44,7 @@ pub fn list_labels(known: &mut [u64; KNOWN], keys: &[u64; NAMES], tags: &[u8; NA
     requires { (length known.old ≡ environment_size) × ((get_or known.old label_count_at 0 ≤ 65) × NamesSized keys.now tags.now met) }
     ensures { Labelled known.old (entries_from keys.now tags.now 0 met) known.new }
 {
-    let mut i: usize = 0;
-    while i < met {
+    for i in 0..met {
         list_label(known, keys[i], tags[i]);
-        i += 1;
     }
 }

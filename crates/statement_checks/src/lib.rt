@@ -12,11 +12,13 @@ pub mod uses;
 ghost use Rattle.std.specs.Prelude.{◌≡◌, length};
 ghost use Rattle.statement_checks.specs.Judged.{Judgeable, StatementJudged, Misplaced};
 ghost use Rattle.statement_checks.specs.Extending.{Extendable, Extended};
+ghost use Rattle.statement_checks.specs.KindNumbers.{kind_number};
 ghost use Rattle.symbols.specs.Environment.{environment_size};
+ghost use Rattle.validation.specs.RefusalNumbers.{judged_number};
 ghost use Rattle.name_checks.specs.Arrays.{arrays, entries_from};
 
 use counts::{is_over, put_counts};
-use kinds::{PROGRAM, kind_number, stands_wrong};
+use kinds::stands_wrong;
 use labels::list_labels;
 use lexer::keywords::Kind;
 use listing::list_names;
@@ -25,20 +27,16 @@ use routines::{extend_routines, first_routine, scope_behind};
 use symbols::places::{ENDED, SCOPE, STATEMENTS, USE_COUNT};
 use symbols::{Cursor, KNOWN, NAMES};
 use uses::note_uses;
+use validation::Refusal;
 
 // 4: PROGRAM isn't first or comes twice, or a statement follows END
 pub fn is_misplaced(known: &[u64; KNOWN], kind: Kind) -> bool
     requires { length known.now ≡ environment_size }
     ensures { Misplaced known.now kind result }
 {
-    if known[ENDED] == 1 {
-        return true;
-    }
-    let number = kind_number(kind);
-    if known[STATEMENTS] == 0 {
-        return number != PROGRAM;
-    }
-    number == PROGRAM
+    let is_program = matches!(kind, Kind::Program);
+    let is_first = known[STATEMENTS] == 0;
+    is_first != is_program || known[ENDED] == 1
 }
 
 // extends the environment by a statement: the names are there already
@@ -49,12 +47,12 @@ fn extend(
     keys: &[u64; NAMES],
     tags: &[u8; NAMES],
     c: Cursor,
-    kind: u8,
+    kind: Kind,
     count: usize,
 )
     requires { Extendable (arrays known.old symbols.old purposes.old) keys.now tags.now c.names count }
     ensures { Extended (arrays known.old symbols.old purposes.old)
-        (entries_from keys.now tags.now 0 c.names) c kind count
+        (entries_from keys.now tags.now 0 c.names) c (kind_number kind) count
         (arrays known.new symbols.new purposes.new) }
 {
     let met = c.names;
@@ -77,7 +75,7 @@ fn extend(
     put_counts(known, c, kind, behind, count, uses);
 }
 
-// 6 to 10 of a statement with the names mentioned so far, or 0: then the arrays hold the environment behind it
+// 6 to 10 of a statement with the names mentioned so far; where none applies the arrays hold the environment behind it
 pub fn judge_statement(
     known: &mut [u64; KNOWN],
     symbols: &mut [u64],
@@ -86,29 +84,25 @@ pub fn judge_statement(
     tags: &[u8; NAMES],
     c: Cursor,
     kind: Kind,
-) -> u32
+) -> Result<(), Refusal>
     requires { Judgeable (arrays known.old symbols.old purposes.old) keys.now tags.now c }
     ensures { StatementJudged (arrays known.old symbols.old purposes.old) keys.now tags.now c kind
-        (arrays known.new symbols.new purposes.new) result }
+        (arrays known.new symbols.new purposes.new) (judged_number result) }
 {
-    let names = judge_names(
+    let count = judge_names(
         known,
         &mut symbols[..NAMES],
         &mut purposes[..NAMES],
         keys,
         tags,
         c.names,
-    );
-    if names.number != 0 {
-        return names.number;
+    )?;
+    if stands_wrong(kind, known[SCOPE]) {
+        return Err(Refusal::BadNesting);
     }
-    let number = kind_number(kind);
-    if stands_wrong(number, known[SCOPE]) {
-        return 9;
-    }
-    extend(known, symbols, purposes, keys, tags, c, number, names.count);
+    extend(known, symbols, purposes, keys, tags, c, kind, count);
     if is_over(known, c.longest) {
-        return 10;
+        return Err(Refusal::TooMany);
     }
-    0
+    Ok(())
 }

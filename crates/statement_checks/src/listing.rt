@@ -29,14 +29,11 @@ fn list_name(known: &mut [u64; KNOWN], key: u64, p: u8)
     requires { length known.old ≡ environment_size }
     ensures { known.new ≡ listed known.old key p }
 {
-    if p == NUMBER {
-        push(known, NUMBER_COUNT, NUMBER_KEYS, key);
-        return;
+    match p {
+        NUMBER => push(known, NUMBER_COUNT, NUMBER_KEYS, key),
+        STRING.. => push(known, STRING_COUNT, STRING_KEYS, key),
+        _ => {}
     }
-    if p < STRING {
-        return;
-    }
-    push(known, STRING_COUNT, STRING_KEYS, key);
 }
 
 // notes the strings and numbers among the names behind those known before
@@ -44,9 +41,8 @@ pub fn list_names(known: &mut [u64; KNOWN], name_keys: &[u64], name_purposes: &[
     requires { Listing known.old name_keys.now name_purposes.now (get_or known.old name_count_at 0) count }
     ensures { Listed known.old known.new name_keys.now name_purposes.now count }
 {
-    let mut i = known[NAME_COUNT] as usize;
-    while i < count {
+    let before = known[NAME_COUNT] as usize;
+    for i in before..count {
         list_name(known, name_keys[i], name_purposes[i]);
-        i += 1;
     }
 }

@@ -1,42 +1,28 @@
 // The routines declared: ROUTINE opens one, ENDROUTINE closes the latest.
 // Assumes nothing.
 ghost use Rattle.std.specs.Prelude.{◌≡◌, ◌≤◌, length, get_or};
+ghost use Rattle.statement_checks.specs.KindNumbers.{kind_number};
 ghost use Rattle.statement_checks.specs.Routines.{routine_names, routine_opened, routine_closed, scope_behind, Opens, Routed};
 ghost use Rattle.symbols.specs.Environment.{routine_count_at, step_count_at, environment_size};
 ghost use Rattle.name_checks.specs.Arrays.{entries_from};
 ghost use Rattle.name_checks.specs.Names.{NamesSized};
 
-use crate::kinds::ENDROUTINE;
+use lexer::keywords::Kind;
 use symbols::places::{ENTRIES, EXITS, ROUTINE_COUNT, ROUTINE_KEYS, STEPS};
 use symbols::tags::ROUTINE_DECLARED;
 use symbols::{KNOWN, NAMES};
 
-// the routine that a statement declares, if any
-#[derive(Clone, Copy)]
-pub struct Opened {
-    pub found: bool,
-    pub key: u64,
-}
-
-// the first routine that a statement declares
-pub fn first_routine(keys: &[u64; NAMES], tags: &[u8; NAMES], met: usize) -> Opened
+// the key of the first routine that a statement declares, if any
+pub fn first_routine(keys: &[u64; NAMES], tags: &[u8; NAMES], met: usize) -> Option<u64>
     requires { NamesSized keys.now tags.now met }
     ensures { Opens (routine_names (entries_from keys.now tags.now 0 met)) result }
 {
-    let mut i: usize = 0;
-    while i < met {
+    for i in 0..met {
         if tags[i] % 16 == ROUTINE_DECLARED {
-            return Opened {
-                found: true,
-                key: keys[i],
-            };
+            return Some(keys[i]);
         }
-        i += 1;
     }
-    Opened {
-        found: false,
-        key: 0,
-    }
+    None
 }
 
 // opens a routine behind the others
@@ -65,28 +51,26 @@ fn close(known: &mut [u64; KNOWN])
 }
 
 // what a statement of a kind makes of the routines
-pub fn extend_routines(known: &mut [u64; KNOWN], opened: Opened, kind: u8)
+pub fn extend_routines(known: &mut [u64; KNOWN], opened: Option<u64>, kind: Kind)
     requires { (length known.old ≡ environment_size) × ((get_or known.old routine_count_at 0 ≤ 16) × (get_or known.old step_count_at 0 ≤ 256)) }
-    ensures { Routed known.old opened kind known.new }
+    ensures { Routed known.old opened (kind_number kind) known.new }
 {
-    if kind == ENDROUTINE {
-        close(known);
-        return;
-    }
-    if opened.found {
-        open(known, opened.key);
+    match (kind, opened) {
+        (Kind::EndRoutine, _) => close(known),
+        (_, Some(key)) => open(known, key),
+        (_, None) => {}
     }
 }
 
 // the key of the routine that is open behind a statement
-pub fn scope_behind(scope: u64, opened: Opened, kind: u8) -> u64
-    ensures { result ≡ scope_behind scope opened kind }
+pub fn scope_behind(scope: u64, opened: Option<u64>, kind: Kind) -> u64
+    ensures { result ≡ scope_behind scope opened (kind_number kind) }
 {
-    if opened.found {
-        return opened.key;
+    match opened {
+        Some(key) => key,
+        None => match kind {
+            Kind::EndRoutine => 0,
+            _ => scope,
+        },
     }
-    if kind == ENDROUTINE {
-        return 0;
-    }
-    scope
 }

@@ -7,24 +7,22 @@ ghost use Rattle.name_checks.specs.Arrays.{entries_from};
 ghost use Rattle.name_checks.specs.Names.{NamesSized};
 
 use symbols::NAMES;
-use symbols::tags::ROUTINE;
+use symbols::tags::{LABEL, ROUTINE};
 
 // notes a name mentioned if it is a label or a routine used
 fn note_use(uses: &mut [u64], purposes: &mut [u8], n: usize, key: u64, scope: u64, tag: u8) -> usize
     requires { Spacious (in_parts uses.old purposes.old) (n + 1) }
     ensures { UsedOne (in_parts uses.old purposes.old) n key scope tag (in_parts uses.new purposes.new) result }
 {
-    let p = tag % 16;
-    if p == 0 {
-        return n;
+    match tag % 16 {
+        p @ (LABEL | ROUTINE) => {
+            uses[n] = key;
+            uses[NAMES + n] = scope;
+            purposes[n] = p;
+            n + 1
+        }
+        _ => n,
     }
-    if p > ROUTINE {
-        return n;
-    }
-    uses[n] = key;
-    uses[NAMES + n] = scope;
-    purposes[n] = p;
-    n + 1
 }
 
 // notes the labels and routines that a statement uses behind n
@@ -42,10 +40,8 @@ pub fn note_uses(
         (in_parts uses.new purposes.new) result }
 {
     let mut count = n;
-    let mut i: usize = 0;
-    while i < met {
+    for i in 0..met {
         count = note_use(uses, purposes, count, keys[i], scope, tags[i]);
-        i += 1;
     }
     count
 }

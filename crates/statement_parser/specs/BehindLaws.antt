@@ -1,5 +1,5 @@
 -- A form behind names or behind skipped bytes; numbers that are set; statements that are no steps; the form of a kind. Assumes nothing.
-use Rattle.std.specs.Prelude.{Bool, cond, ◌&&◌, ◌||◌, ◌≡◌, refl, ltb}
+use Rattle.std.specs.Prelude.{Some, None, Bool, cond, ◌&&◌, ◌||◌, ◌≡◌, refl, ltb}
 use Rattle.std.proofs.Math.Bool.{true, false, and-eq-true_iff, or-false}
 use mathlib.Core.List.{List, [], ◌∷◌, ◌++◌}
 use Rattle.std.proofs.Math.Option.{Option, none, some}
@@ -37,7 +37,7 @@ use Rattle.symbols.specs.Items.{with_items}
 use Rattle.symbols.specs.Environment.{places_in}
 use Rattle.symbols.specs.ParsingLaws.{succeed_then, expect_then, expect_broken, got_broken, bind_assoc, bind_same}
 use Rattle.symbols.specs.declared.Cursor.{Cursor}
-use Rattle.numeric_parser.specs.OperandLaws.{noting_more, mentions_nothing, then_broken, chosen, ready_moved, skipped, drop-moved, named_by, name_mentioned, name_as_broken}
+use Rattle.numeric_parser.specs.OperandLaws.{onward_none, noting_more, mentions_nothing, then_broken, chosen, ready_moved, skipped, drop-moved, named_by, name_mentioned, name_as_broken}
 use Rattle.numeric_parser.specs.Operands.{ReaderReady, Gets, NameParsed, Noting, Skips, cursor_moved, meaning}
 use Rattle.numeric_parser.specs.Reads.{GetsItems}
 use Rattle.numeric_parser.specs.declared.operands.Cell.{Cell}
@@ -49,14 +49,13 @@ use Rattle.lexer.specs.Kinds.{kind_of, leads}
 use Rattle.lexer.specs.Laws.{name_keys_lem}
 use Rattle.lexer.specs.Places.{NameAt}
 use Rattle.lexer.specs.declared.keywords.Keyword.{Keyword}
+use Rattle.statement_parser.specs.Drafts.{Form}
 use Rattle.statement_parser.specs.Clauses.{statement_items, elements_in, FormWritten, FormRead}
 use Rattle.statement_parser.specs.Ends.{unstepped_at}
 use Rattle.statement_parser.specs.FormLaws.{step-here, step_not, no_step_here, no_step_not, formed_elements}
 use Rattle.statement_parser.specs.Rows.{range_in}
 use Rattle.statement_parser.specs.StageLaws.{form-same}
 use Rattle.statement_parser.specs.Steps.{FormAt, BehindUnit, string_set, assigned_to, number_set, more_numbers}
-use Rattle.statement_parser.specs.declared.Form as FormCode
-use Rattle.statement_parser.specs.declared.Form.{Form}
 
 -- ---- a form behind names
 -- these are noted before it, and nothing else is read
@@ -98,9 +97,9 @@ module _ {es : List NameEntry} {table keys tags : List ℕ} {c : Cursor} {x : Pa
   pub form-noted : (q : Form) → FormRead most table k g d x q t k' g'
       → FormRead most' table keys tags c (mentioning (mentions_in es 0 [] 0) x) q t k' g'
   unfolding mentioning
-  form-noted FormCode.TheVariants.Broken f = record { answer = ap (mentioning (mentions_in es 0 [] 0)) f.answer }
-  form-noted (FormCode.TheVariants.NoStep e) f = record { answer = formed_noted f.answer }
-  form-noted (FormCode.TheVariants.Step row e) f =
+  form-noted None f = record { answer = ap (mentioning (mentions_in es 0 [] 0)) f.answer }
+  form-noted (Some (None, e)) f = record { answer = formed_noted f.answer }
+  form-noted (Some (Some row, e)) f =
       let s = f.answer in
       record {
         answer =
@@ -162,7 +161,7 @@ module _ (known : List ℕ) (place : ℕ) where
 
     pub assigned_case : (right : Cell) → right ≡ range_in c.items (d.items - c.items) 0 → (b : Bool) → ltb d.at (length text) ≡ b
         → FormAt (assigned_to known place (drop c.at text)) text table keys tags c
-        (elim b [ true ↦ FormCode.TheVariants.Broken | false ↦ FormCode.TheVariants.Step (number_row right) d ]) t k g
+        (elim b [ true ↦ None | false ↦ Some (Some (number_row right), d) ]) t k g
     unfolding mentioning succeed statement_items elements_in items_of elements_of all_literals with_elements any total statement_row operand_cell range_cell range_value Table.row_with
     assigned_case right e true h =
         record { answer = assigned_is broken (step_not text d.at (ltb-true d.at (length text) h) (set_number place a.items)) }
@@ -264,23 +263,20 @@ module _ (text unit : List ℕ) {c d : Cursor} where
         inside = omega (arith, begins_room unit (drop c.at text) e, length-drop c.at text);
       }
 
-  pub unit_none : begins unit (drop c.at text) ≡ false → c.at ≤ length text → d ≡ cursor_moved c 0 → BehindUnit text unit c d
-  unfolding without_unit
-  unit_none e inside s =
-      let at : d.at ≡ c.at = ap (λ (z : Cursor). z.at) s ∙ add-zero c.at in
-      record {
-        size = 0;
-        skips = skipped c 0 s;
-        is =
-            ap {B = List ℕ} (λ b. elim b [ true ↦ drop 4 (drop c.at text) | false ↦ drop c.at text ]) e
-            ∙ ap (λ n. drop n text) (sym at);
-        inside = omega arith;
-      }
+pub unit_none : (text unit : List ℕ) (c : Cursor) → begins unit (drop c.at text) ≡ false → c.at ≤ length text → BehindUnit text unit c c
+unfolding without_unit
+unit_none text unit c e inside =
+    record {
+      size = 0;
+      skips = record { at = sym (add-zero c.at); goes = onward_none c };
+      is = ap {B = List ℕ} (λ b. elim b [ true ↦ drop 4 (drop c.at text) | false ↦ drop c.at text ]) e;
+      inside = inside;
+    }
 
 -- ---- statements that are no steps
 unstepped_case : {text table keys tags : List ℕ} {c : Cursor} → ReaderReady text keys tags c → (b : Bool) → ltb c.at (length text) ≡ b
     → FormAt (no_step_form (drop c.at text)) text table keys tags c
-    (elim b [ true ↦ FormCode.TheVariants.Broken | false ↦ FormCode.TheVariants.NoStep c ]) table keys tags
+    (elim b [ true ↦ None | false ↦ Some (None, c) ]) table keys tags
 unfolding statement_items elements_in total
 unstepped_case {text} {c = c} ready true e = record { answer = no_step_not text c.at (ltb-true c.at (length text) e) }
 unstepped_case {text} {table} {keys} {tags} {c} ready false e =

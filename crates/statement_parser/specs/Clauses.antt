@@ -1,5 +1,5 @@
 -- What the readers of statements do: the row made, the names noted, the items and elements written. Assumes nothing.
-use Rattle.std.specs.Prelude.{Bool, ◌||◌, List, [], ◌≡◌, ℕ, ◌+◌, ◌≤◌, ◌<◌, ltb, length}
+use Rattle.std.specs.Prelude.{Some, None, Bool, ◌||◌, List, [], ◌≡◌, ℕ, ◌+◌, ◌≤◌, ◌<◌, ltb, length}
 use Rattle.std.proofs.Math.Option.{Option, none, some}
 use Rattle.base.specs.Current.{current}
 use Rattle.base.specs.Limits as Limits
@@ -20,11 +20,10 @@ use Rattle.symbols.specs.Items.{with_items}
 use Rattle.symbols.specs.Environment.{places_in}
 use Rattle.symbols.specs.declared.Cursor.{Cursor}
 use Rattle.numeric_parser.specs.Operands.{Noting}
-use Rattle.statement_parser.specs.declared.Form as FormCode
-use Rattle.statement_parser.specs.declared.Form.{Form}
 use Rattle.card_reader.specs.Keys.{LabelKey}
 use Rattle.card_reader.specs.Letters.{letters}
 use Rattle.card_reader.specs.Packs.{longest_text}
+use Rattle.statement_parser.specs.Drafts.{Form}
 
 -- the arrays have their sizes, and the cursor stands before a statement: at most its label is noted, with room for a name for each letter
 pub record Starts (text keys tags : List ℕ) (c : Cursor) : Type 0 where
@@ -74,10 +73,10 @@ pub record StepWritten (row : Row) (most : ℕ) (table keys tags : List ℕ) (c 
 
 abbrev pub FormAnswer : (most : ℕ) (table keys tags : List ℕ) (c : Cursor) → Parsed (Option Statement) → Form
     → (table' keys' tags' : List ℕ) → Type 0
-FormAnswer most table keys tags c x FormCode.TheVariants.Broken table' keys' tags' = x ≡ broken
-FormAnswer most table keys tags c x (FormCode.TheVariants.NoStep d) table' keys' tags' =
+FormAnswer most table keys tags c x None table' keys' tags' = x ≡ broken
+FormAnswer most table keys tags c x (Some (None, d)) table' keys' tags' =
     FormWritten none most table keys tags c x table' keys' tags' d
-FormAnswer most table keys tags c x (FormCode.TheVariants.Step row d) table' keys' tags' =
+FormAnswer most table keys tags c x (Some (Some row, d)) table' keys' tags' =
     StepWritten row most table keys tags c x table' keys' tags' d
 
 pub record FormRead (most : ℕ) (table keys tags : List ℕ) (c : Cursor) (x : Parsed (Option Statement)) (r : Form)

@@ -1,5 +1,5 @@
 -- Forms read part by part: what is read so far and what is still to be read, up to the end of the statement. Assumes nothing.
-use Rattle.std.specs.Prelude.{Bool, ◌≡◌, refl, ℕ, ◌+◌, ◌≤◌, ◌<◌, ltb, length, drop}
+use Rattle.std.specs.Prelude.{Some, None, Bool, ◌≡◌, refl, ℕ, ◌+◌, ◌≤◌, ◌<◌, ltb, length, drop}
 use Rattle.std.proofs.Math.Bool.{true, false}
 use mathlib.Core.List.{List, [], ◌∷◌, ◌++◌}
 use Rattle.std.proofs.Math.Option.{Option, none, some}
@@ -8,8 +8,6 @@ use Rattle.std.proofs.Math.Path.{ap, subst}
 use borrow.Author.Tests.{ltb-true, ltb-false}
 use Rattle.base.specs.Lists.{total}
 use Rattle.branch_parser.specs.Rows.{draft_meaning}
-use Rattle.branch_parser.specs.declared.Draft as DraftCode
-use Rattle.branch_parser.specs.declared.Draft.{Draft}
 use Rattle.branch_parser.specs.declared.Row.{Row}
 use Rattle.encoding.specs.Table as Table
 use Rattle.encoding.specs.Table.{statement_row, items_of, elements_of, all_literals}
@@ -27,10 +25,10 @@ use Rattle.numeric_parser.specs.Operands.{ReaderReady, Skips}
 use Rattle.card_reader.specs.Letters.{letters}
 use Rattle.string_parser.specs.ElementLaws.{elements_none, elements-succeed, elements_then, elements_broken, elements_skip}
 use Rattle.string_parser.specs.Elements.{GetsElements}
+use Rattle.statement_parser.specs.Drafts.{Draft}
 use Rattle.statement_parser.specs.Clauses.{statement_items, elements_in, FormWritten, FormRead}
 use Rattle.statement_parser.specs.Ends.{ended_by}
 use Rattle.statement_parser.specs.Stages.{Drawn, StageRead}
-use Rattle.statement_parser.specs.declared.Form as FormCode
 
 -- ---- a form so far
 pub record FormGoing {A S : Type 0} (form : Parsed S) (left : A → List ℕ → Parsed S) (mk : A → Table.Row) (es : A → List PatternElement)
@@ -45,9 +43,9 @@ pub record FormGoing {A S : Type 0} (form : Parsed S) (left : A → List ℕ →
 
 abbrev pub GoingAnswer : {A S : Type 0} (form : Parsed S) (left : A → List ℕ → Parsed S) (mk : A → Table.Row) (es : A → List PatternElement)
     (text table keys tags : List ℕ) (c : Cursor) → Draft → (table' keys' tags' : List ℕ) → Type 0
-GoingAnswer form left mk es text table keys tags c (DraftCode.TheVariants.Got row d) table' keys' tags' =
+GoingAnswer form left mk es text table keys tags c (Some (row, d)) table' keys' tags' =
     FormGoing form left mk es text table keys tags c row table' keys' tags' d
-GoingAnswer form left mk es text table keys tags c DraftCode.TheVariants.Broken table' keys' tags' = form ≡ broken
+GoingAnswer form left mk es text table keys tags c None table' keys' tags' = form ≡ broken
 
 -- of the form this is left to be read; the row so far is what mk makes of the values so far, and es are their elements
 pub record FormGoesOn {A S : Type 0} (form : Parsed S) (left : A → List ℕ → Parsed S) (mk : A → Table.Row) (es : A → List PatternElement)
@@ -57,7 +55,7 @@ pub record FormGoesOn {A S : Type 0} (form : Parsed S) (left : A → List ℕ �
 -- nothing is read yet
 pub going_start : {S : Type 0} {form : Parsed S} (left : List ℕ → Parsed S) {text table keys tags : List ℕ} {c : Cursor} (n : ℕ) {row : Row}
     {d : Cursor} → Skips c n d → ReaderReady text keys tags d → form ≡ left (drop d.at text)
-    → FormGoesOn {A = Unit {0}} form (λ _ rest. left rest) (λ _. draft_meaning row) (λ _. []) text table keys tags c (DraftCode.TheVariants.Got row d)
+    → FormGoesOn {A = Unit {0}} form (λ _ rest. left rest) (λ _. draft_meaning row) (λ _. []) text table keys tags c (Some (row, d))
     table keys tags
 unfolding total
 going_start left {text} n {d = d} s ready e =
@@ -123,16 +121,16 @@ module _ {A U S : Type 0} {form : Parsed S} {left : A → List ℕ → Parsed S}
 
   pub going_more : (r q : Draft) {t k g : List ℕ} {t' k' g' : List ℕ} → FormGoesOn form left mk es text table keys tags c r t k g
       → StageRead y puts eu text t k g r q t' k' g' → FormGoesOn form left' mk' es' text table keys tags c q t' k' g'
-  going_more (DraftCode.TheVariants.Got row b) (DraftCode.TheVariants.Got row' d) a s = record { answer = more-got a.answer s.answer }
-  going_more (DraftCode.TheVariants.Got row b) DraftCode.TheVariants.Broken a s =
+  going_more (Some (row, b)) (Some (row', d)) a s = record { answer = more-got a.answer s.answer }
+  going_more (Some (row, b)) None a s =
       let going = a.answer in
       record {
         answer =
             going.whole
             ∙ elements_broken going.gets _ (next going.value (drop b.at text) ∙ then_broken _ s.answer);
       }
-  going_more DraftCode.TheVariants.Broken (DraftCode.TheVariants.Got row' d) a s = absurd s.answer
-  going_more DraftCode.TheVariants.Broken DraftCode.TheVariants.Broken a s = record { answer = a.answer }
+  going_more None (Some (row', d)) a s = absurd s.answer
+  going_more None None a s = record { answer = a.answer }
 
 -- ---- the end of a statement
 drop_something : (n : ℕ) (bs : List ℕ) → n < length bs → end_of_text (drop n bs) ≡ broken
@@ -208,7 +206,7 @@ module _ {A : Type 0} {form : Parsed (Option Statement)} {left : A → List ℕ 
     (same : (a : A) → es a ≡ elements_of (step a)) (none' : (a : A) → [] ≡ items_of (step a)) where
   ended_case : (row : Row) (d : Cursor) (b : Bool) → ltb d.at (length text) ≡ b → FormGoing form left mk es text table keys tags c row t k g d
       → FormRead (letters (drop c.at text)) table keys tags c form
-      (elim b [ true ↦ FormCode.TheVariants.Broken | false ↦ FormCode.TheVariants.Step row d ]) t k g
+      (elim b [ true ↦ None | false ↦ Some (Some row, d) ]) t k g
   unfolding statement_items elements_in
   ended_case row d true e a =
       record {
@@ -235,5 +233,5 @@ module _ {A : Type 0} {form : Parsed (Option Statement)} {left : A → List ℕ 
 
   pub going_ended : (r : Draft) → FormGoesOn form left mk es text table keys tags c r t k g
       → FormRead (letters (drop c.at text)) table keys tags c form (ended_by text r) t k g
-  going_ended (DraftCode.TheVariants.Got row d) a = ended_case row d (ltb d.at (length text)) refl a.answer
-  going_ended DraftCode.TheVariants.Broken a = record { answer = a.answer }
+  going_ended (Some (row, d)) a = ended_case row d (ltb d.at (length text)) refl a.answer
+  going_ended None a = record { answer = a.answer }

@@ -35,11 +35,11 @@ use Rattle.card_reader.specs.Keys.{key_of, is_key_byte, LabelKey}
 use Rattle.card_reader.specs.Letters.{letters}
 use Rattle.lexer.specs.Kinds.{kind_of, leads}
 use Rattle.lexer.specs.declared.keywords.Keyword.{Keyword}
+use Rattle.statement_parser.specs.Drafts.{Form}
 use Rattle.statement_parser.specs.BehindLaws.{form-noted, lead_fits, of_kind}
 use Rattle.statement_parser.specs.StageLaws.{form-same}
 use Rattle.statement_parser.specs.Steps.{FormAt}
 use Rattle.statement_parser.specs.Clauses.{Starts, FormRead}
-use Rattle.statement_parser.specs.declared.Form.{Form}
 
 -- ---- the bytes of a key, one by one
 unfoldable pub name_shown : ℕ → Bool

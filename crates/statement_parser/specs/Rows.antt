@@ -1,8 +1,6 @@
 -- Rows that are filled part by part. Assumes nothing.
-use Rattle.std.specs.Prelude.{List, ℕ, ◌+◌, ◌-◌, ◌*◌, length}
+use Rattle.std.specs.Prelude.{Some, List, ℕ, ◌+◌, ◌-◌, ◌*◌, length}
 use Rattle.std.proofs.Math.Option.{Option, none, some}
-use Rattle.branch_parser.specs.declared.Draft as DraftCode
-use Rattle.branch_parser.specs.declared.Draft.{Draft}
 use Rattle.branch_parser.specs.declared.Row.{Row}
 use Rattle.encoding.specs.Kinds.{range_number, replace_kind}
 use Rattle.encoding.specs.Table as Table
@@ -10,16 +8,17 @@ use Rattle.encoding.specs.Table.{range_cell}
 use Rattle.syntax.specs.Program.{Branch, Element}
 use Rattle.symbols.specs.declared.Cursor.{Cursor}
 use Rattle.numeric_parser.specs.declared.operands.Cell.{Cell}
+use Rattle.statement_parser.specs.Drafts.{Draft}
 
 -- the code's rows: one of which only the kind and the flag are known, and a row with steps, a left and a right cell
 abbrev pub empty_cell : Cell
 empty_cell = record { kind = 0; place = 0; value = 0 }
 
+abbrev pub begun_row : (kind flag : ℕ) → Row
+begun_row kind flag = record { kind = kind; flag = flag; success = 0; failure = 0; left = empty_cell; right = empty_cell }
+
 abbrev pub begun_as : (kind flag : ℕ) → Cursor → Draft
-begun_as kind flag c =
-    DraftCode.TheVariants.Got
-    (record { kind = kind; flag = flag; success = 0; failure = 0; left = empty_cell; right = empty_cell })
-    c
+begun_as kind flag c = Some (begun_row kind flag, c)
 
 abbrev pub draft_steps : Row → (success failure : ℕ) → Row
 draft_steps r s f = record { kind = r.kind; flag = r.flag; success = s; failure = f; left = r.left; right = r.right }

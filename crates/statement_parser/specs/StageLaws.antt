@@ -1,5 +1,5 @@
 -- How the parts of forms answer: by the case of the draft they go on from, and of what they read. Assumes nothing.
-use Rattle.std.specs.Prelude.{Bool, true, false, ◌≡◌, refl, ℕ, ◌+◌, ◌-◌, ◌*◌, drop}
+use Rattle.std.specs.Prelude.{Some, None, Bool, true, false, ◌≡◌, refl, ℕ, ◌+◌, ◌-◌, ◌*◌, drop}
 use mathlib.Core.List.{List, [], ◌∷◌, map}
 use Rattle.std.proofs.Math.Option.{Option, none, some}
 use Rattle.std.proofs.Math.Path.{sym, ap, subst}
@@ -11,8 +11,7 @@ use Rattle.base.specs.Lists.{begins, total}
 use Rattle.base.specs.Text.{bytes}
 use Rattle.branch_parser.specs.Places.{is_number_known}
 use Rattle.branch_parser.specs.Rows.{draft_meaning}
-use Rattle.branch_parser.specs.declared.Draft as DraftCode
-use Rattle.branch_parser.specs.declared.Draft.{Draft}
+use Rattle.branch_parser.specs.Tests.{rowed_at}
 use Rattle.branch_parser.specs.declared.Row.{Row}
 use Rattle.encoding.specs.Kinds.{range_number, replace_kind}
 use Rattle.encoding.specs.Table as Table
@@ -28,20 +27,10 @@ use Rattle.numeric_parser.specs.Operands.{ReaderReady, Gets, cursor_moved, meani
 use Rattle.numeric_parser.specs.declared.operands.Cell.{Cell}
 use Rattle.string_parser.specs.ElementLaws.{names_elements, elements_none, elements-succeed, elements_skip, rows_total}
 use Rattle.string_parser.specs.Elements.{GetsElements, GetsRow, rows_of, RowElement, shown_row}
+use Rattle.statement_parser.specs.Drafts.{Draft, Form}
 use Rattle.statement_parser.specs.Clauses.{FormRead}
-use Rattle.statement_parser.specs.declared.Form.{Form}
 use Rattle.statement_parser.specs.Rows.{with_steps, with_branch, with_left, with_range, with_replacement, draft_steps, draft_left, draft_right, range_in}
-use Rattle.statement_parser.specs.Stages.{Inward, DraftStanding, Following, marked_by, Drawn, StageRead}
-
--- a draft that may go on is inside the text
-pub standing_inward : (text keys tags : List ℕ) (r : Draft) → DraftStanding text keys tags r → Inward text r
-standing_inward text keys tags (DraftCode.TheVariants.Got row c) s = (s.inside, s.text_size)
-standing_inward text keys tags DraftCode.TheVariants.Broken s = tt
-
--- and by its case its cursor is ready
-pub standing_case : {text keys tags : List ℕ} {r : Draft} {row : Row} {c : Cursor} → r ≡ DraftCode.TheVariants.Got row c
-    → DraftStanding text keys tags r → ReaderReady text keys tags c
-standing_case {text} {keys} {tags} e s = subst (DraftStanding text keys tags) e s
+use Rattle.statement_parser.specs.Stages.{DraftStanding, marked_by, Drawn, StageRead}
 
 -- a stage from the same draft
 pub from_draft : {U : Type 0} {y : List ℕ → Parsed U} {puts : ℕ → U → Table.Row → Table.Row} {es : U → List PatternElement}
@@ -50,19 +39,23 @@ pub from_draft : {U : Type 0} {y : List ℕ → Parsed U} {puts : ℕ → U → 
 from_draft {U} {y} {puts} {es} {text} {table} {keys} {tags} {q = q} {t = t} {k = k} {g = g} e a =
     subst (λ z. StageRead y puts es text table keys tags z q t k g) e a
 
+-- a stage to the same draft
+pub to_draft : {U : Type 0} {y : List ℕ → Parsed U} {puts : ℕ → U → Table.Row → Table.Row} {es : U → List PatternElement}
+    {text table keys tags : List ℕ} {r q q' : Draft} {t k g : List ℕ} → q ≡ q' → StageRead y puts es text table keys tags r q' t k g
+    → StageRead y puts es text table keys tags r q t k g
+to_draft {U} {y} {puts} {es} {text} {table} {keys} {tags} {r} {t = t} {k = k} {g = g} e a =
+    subst (λ z. StageRead y puts es text table keys tags r z t k g) (sym e) a
+
 -- by the case of its draft
 module _ {U : Type 0} (y : List ℕ → Parsed U) (puts : ℕ → U → Table.Row → Table.Row) (es : U → List PatternElement) {text table keys tags : List ℕ}
     {r : Draft} where
-  pub stage_none : r ≡ DraftCode.TheVariants.Broken → StageRead y puts es text table keys tags r DraftCode.TheVariants.Broken table keys tags
-  stage_none e = from_draft (sym e) (record { stands = tt; answer = tt })
-
-  module _ {row : Row} {c : Cursor} (e : r ≡ DraftCode.TheVariants.Got row c) {t k g : List ℕ} where
-    pub stage_broken : y (drop c.at text) ≡ broken → StageRead y puts es text table keys tags r DraftCode.TheVariants.Broken t k g
+  module _ {row : Row} {c : Cursor} (e : r ≡ Some (row, c)) {t k g : List ℕ} where
+    pub stage_broken : y (drop c.at text) ≡ broken → StageRead y puts es text table keys tags r None t k g
     stage_broken h = from_draft (sym e) (record { stands = tt; answer = h })
 
     pub stage_got : {row' : Row} {d : Cursor}
         → Drawn (y (drop c.at text)) (puts c.elements) es text table keys tags row c row' t k g d
-        → StageRead y puts es text table keys tags r (DraftCode.TheVariants.Got row' d) t k g
+        → StageRead y puts es text table keys tags r (Some (row', d)) t k g
     stage_got a = from_draft (sym e) (record { stands = a.gets.ready; answer = a })
 
 -- names alone are drawn with any table
@@ -77,8 +70,8 @@ drawn_names puts table a made =
 -- a mark
 marked_case : (text : List ℕ) (mark : ℕ) {table keys tags : List ℕ} (row : Row) (c : Cursor) (b : Bool) → ReaderReady text keys tags c
     → begins (mark ∷ []) (drop c.at text) ≡ b
-    → StageRead (expect (mark ∷ [])) (λ _ _ z. z) (λ _. []) text table keys tags (DraftCode.TheVariants.Got row c)
-    (elim b [ true ↦ DraftCode.TheVariants.Got row (cursor_moved c 1) | false ↦ DraftCode.TheVariants.Broken ]) table keys tags
+    → StageRead (expect (mark ∷ [])) (λ _ _ z. z) (λ _. []) text table keys tags (Some (row, c))
+    (rowed_at row (elim b [ true ↦ Some (cursor_moved c 1) | false ↦ None ])) table keys tags
 unfolding expect total
 marked_case text mark {table} {keys} {tags} row c true ready e =
     let on = ready_moved (mark ∷ []) ready refl e in
@@ -103,30 +96,25 @@ marked_case text mark row c false ready e =
 
 pub marked_stage : (text : List ℕ) (mark : ℕ) {table keys tags : List ℕ} (r : Draft) → DraftStanding text keys tags r
     → StageRead (expect (mark ∷ [])) (λ _ _ z. z) (λ _. []) text table keys tags r (marked_by text mark r) table keys tags
-marked_stage text mark (DraftCode.TheVariants.Got row c) ready = marked_case text mark row c (begins (mark ∷ []) (drop c.at text)) ready refl
-marked_stage text mark DraftCode.TheVariants.Broken ready = record { stands = tt; answer = tt }
+marked_stage text mark (Some (row, c)) ready = marked_case text mark row c (begins (mark ∷ []) (drop c.at text)) ready refl
+marked_stage text mark None ready = record { stands = tt; answer = tt }
 
--- the code's answer at a mark, and where there is none
-module _ (text : List ℕ) (mark : ℕ) {r : Draft} {row : Row} {c : Cursor} (e : r ≡ DraftCode.TheVariants.Got row c) where
-  pub marked-here : begins (mark ∷ []) (drop c.at text) ≡ true → {d : Cursor} → d ≡ cursor_moved c 1
-      → DraftCode.TheVariants.Got row d ≡ marked_by text mark r
-  marked-here h g =
-      ap (DraftCode.TheVariants.Got row) g ∙ sym (chosen _ _ h) ∙ ap (marked_by text mark) (sym e)
-
-  pub marked_not : begins (mark ∷ []) (drop c.at text) ≡ false → DraftCode.TheVariants.Broken ≡ marked_by text mark r
-  marked_not h = sym (chosen _ _ h) ∙ ap (marked_by text mark) (sym e)
+-- a broken draft stays so
+pub unread : {U : Type 0} {y : List ℕ → Parsed U} {puts : ℕ → U → Table.Row → Table.Row} {es : U → List PatternElement}
+    {text table keys tags t k g : List ℕ} → StageRead y puts es text table keys tags None None t k g
+unread = record { stands = tt; answer = tt }
 
 -- a stage of one reader is that of another that reads the same here
 pub stage_same : {U : Type 0} {y z : List ℕ → Parsed U} {puts : ℕ → U → Table.Row → Table.Row} {es : U → List PatternElement}
     {text table keys tags : List ℕ} {row : Row} {c : Cursor} (q : Draft) {t k g : List ℕ} → z (drop c.at text) ≡ y (drop c.at text)
-    → StageRead y puts es text table keys tags (DraftCode.TheVariants.Got row c) q t k g
-    → StageRead z puts es text table keys tags (DraftCode.TheVariants.Got row c) q t k g
-stage_same {U} {puts = puts} {es = es} {text} {table} {keys} {tags} {row} {c} (DraftCode.TheVariants.Got row' d) {t} {k} {g} h a =
+    → StageRead y puts es text table keys tags (Some (row, c)) q t k g
+    → StageRead z puts es text table keys tags (Some (row, c)) q t k g
+stage_same {U} {puts = puts} {es = es} {text} {table} {keys} {tags} {row} {c} (Some (row', d)) {t} {k} {g} h a =
     record {
       stands = a.stands;
       answer = subst (λ (x : Parsed U). Drawn x (puts c.elements) es text table keys tags row c row' t k g d) (sym h) a.answer;
     }
-stage_same DraftCode.TheVariants.Broken h a = record { stands = tt; answer = h ∙ a.answer }
+stage_same None h a = record { stands = tt; answer = h ∙ a.answer }
 
 -- a branch field, if there is one
 module _ (known : List ℕ) where
@@ -251,34 +239,18 @@ module _ (row : Row) {row' : Row} where
   unfolding Table.row_with
   left-made e = ap draft_meaning e
 
--- a mark keeps a draft that may go on
-pub marked-standing : (text : List ℕ) (mark : ℕ) (keys tags : List ℕ) (r : Draft) → DraftStanding text keys tags r
-    → DraftStanding text keys tags (marked_by text mark r)
-marked-standing text mark keys tags r s = (marked_stage text mark {table = []} r s).stands
-
 -- a form that ends in the same way or reads the same
 pub form_ends : {most : ℕ} {table keys tags : List ℕ} {c : Cursor} {x : Parsed (Option Statement)} {q r : Form} {t k g : List ℕ} → q ≡ r
     → FormRead most table keys tags c x r t k g → FormRead most table keys tags c x q t k g
 form_ends {most} {table} {keys} {tags} {c} {x} {t = t} {k = k} {g = g} e a =
     subst (λ z. FormRead most table keys tags c x z t k g) (sym e) a
 
+pub form_lost : {most : ℕ} {table keys tags : List ℕ} {c : Cursor} {x : Parsed (Option Statement)} {r : Form} {t k g : List ℕ} → r ≡ None
+    → x ≡ broken → FormRead most table keys tags c x r t k g
+form_lost {most} {table} {keys} {tags} {c} {x} {t = t} {k = k} {g = g} e h =
+    subst (λ z. FormRead most table keys tags c x z t k g) (sym e) (record { answer = h })
+
 pub form-same : {most : ℕ} {table keys tags : List ℕ} {c : Cursor} {x y : Parsed (Option Statement)} {q : Form} {t k g : List ℕ} → x ≡ y
     → FormRead most table keys tags c y q t k g → FormRead most table keys tags c x q t k g
 form-same {most} {table} {keys} {tags} {c} {q = q} {t = t} {k = k} {g = g} e a =
     subst (λ z. FormRead most table keys tags c z q t k g) (sym e) a
-
--- behind a reading from a cursor on, a draft stands behind the cursor's elements
-pub following : {U : Type 0} {y : List ℕ → Parsed U} {puts : ℕ → U → Table.Row → Table.Row} {es : U → List PatternElement}
-    {text table keys tags : List ℕ} (from : ℕ) (r q : Draft) {t k g : List ℕ} → Following text keys tags from r
-    → StageRead y puts es text table keys tags r q t k g → Following text k g from q
-following from (DraftCode.TheVariants.Got row c) (DraftCode.TheVariants.Got row' d) f a =
-    (a.stands, omega (arith, f.1, a.answer.gets.goes.elements))
-following from (DraftCode.TheVariants.Got row c) DraftCode.TheVariants.Broken f a = tt
-following from DraftCode.TheVariants.Broken (DraftCode.TheVariants.Got row' d) f a = absurd a.answer
-following from DraftCode.TheVariants.Broken DraftCode.TheVariants.Broken f a = tt
-
-pub marked_following : (text : List ℕ) (mark : ℕ) (keys tags : List ℕ) (from : ℕ) (r : Draft) → Following text keys tags from r
-    → Following text keys tags from (marked_by text mark r)
-marked_following text mark keys tags from (DraftCode.TheVariants.Got row c) f =
-    following from (DraftCode.TheVariants.Got row c) _ f (marked_stage text mark {table = []} (DraftCode.TheVariants.Got row c) f.0)
-marked_following text mark keys tags from DraftCode.TheVariants.Broken f = tt

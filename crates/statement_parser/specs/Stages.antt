@@ -1,13 +1,13 @@
 -- What the parts of forms do: each goes on from the row so far. Assumes nothing.
-use Rattle.std.specs.Prelude.{Bool, true, false, List, [], ◌∷◌, map, ◌≡◌, ℕ, ◌/◌, ◌≤◌, length, drop}
+use Rattle.std.specs.Prelude.{Some, None, Bool, true, false, List, [], ◌∷◌, map, ◌≡◌, ℕ, ◌/◌, ◌≤◌, length, drop}
+use Rattle.std.specs.Prelude as std
 use Rattle.base.specs.Current.{current}
-use Rattle.base.specs.Lists.{begins, total}
+use Rattle.base.specs.Lists.{total}
 use Rattle.branch_parser.specs.Branches.{target_in}
 use Rattle.branch_parser.specs.Places.{is_number_known}
 use Rattle.branch_parser.specs.Rows.{draft_meaning}
-use Rattle.branch_parser.specs.Tests.{test_alone}
-use Rattle.branch_parser.specs.declared.Draft as DraftCode
-use Rattle.branch_parser.specs.declared.Draft.{Draft}
+use Rattle.branch_parser.specs.Tests.{test_alone, rowed_at}
+use Rattle.branch_parser.specs.declared.Branch.{Branch}
 use Rattle.branch_parser.specs.declared.Row.{Row}
 use Rattle.encoding.specs.Kinds.{parts}
 use Rattle.encoding.specs.Table as Table
@@ -20,31 +20,38 @@ use Rattle.syntax.specs.Lexemes.{part_name}
 use Rattle.symbols.specs.Entries.{role_of}
 use Rattle.symbols.specs.Environment.{places_in}
 use Rattle.symbols.specs.declared.Cursor.{Cursor}
-use Rattle.numeric_parser.specs.Operands.{ReaderReady, cursor_moved}
-use Rattle.card_reader.specs.Packs.{longest_text}
+use Rattle.numeric_parser.specs.Operands.{ReaderReady, behind_mark}
+use Rattle.numeric_parser.specs.declared.operands.Cell.{Cell}
 use Rattle.string_parser.specs.Elements.{GetsElements, shown_row, parse_row}
-use Rattle.statement_parser.specs.Rows.{with_steps, with_branch, with_left, with_range, with_replacement}
+use Rattle.statement_parser.specs.Drafts.{Draft}
+use Rattle.statement_parser.specs.Rows.{draft_steps, draft_left, draft_right, with_steps, with_branch, with_left, with_range, with_replacement}
 
--- a draft's cursor is inside the text; it may go on; and it stands behind an element's place
-abbrev pub Inward : List ℕ → Draft → Type 0
-Inward text (DraftCode.TheVariants.Got row c) = (c.at ≤ length text) × (length text ≤ longest_text)
-Inward text DraftCode.TheVariants.Broken = Unit {0}
-
+-- a draft's cursor may go on
 abbrev pub DraftStanding : (text keys tags : List ℕ) → Draft → Type 0
-DraftStanding text keys tags (DraftCode.TheVariants.Got row c) = ReaderReady text keys tags c
-DraftStanding text keys tags DraftCode.TheVariants.Broken = Unit {0}
-
-abbrev pub Following : (text keys tags : List ℕ) (from : ℕ) → Draft → Type 0
-Following text keys tags from (DraftCode.TheVariants.Got row c) = ReaderReady text keys tags c × (from ≤ c.elements)
-Following text keys tags from DraftCode.TheVariants.Broken = Unit {0}
+DraftStanding text keys tags (Some (row, c)) = ReaderReady text keys tags c
+DraftStanding text keys tags None = Unit {0}
 
 -- a draft before a mark, its cursor behind it
 abbrev pub marked_by : List ℕ → ℕ → Draft → Draft
-marked_by text mark (DraftCode.TheVariants.Got row c) = elim (begins (mark ∷ []) (drop c.at text)) [
-  | true ↦ DraftCode.TheVariants.Got row (cursor_moved c 1)
-  | false ↦ DraftCode.TheVariants.Broken
-]
-marked_by text mark DraftCode.TheVariants.Broken = DraftCode.TheVariants.Broken
+marked_by text mark (Some (row, c)) = rowed_at row (behind_mark text mark c)
+marked_by text mark None = None
+
+-- a row with what was read, if something was: a step, a branch, a cell on the left, a stretch of elements on the right
+abbrev pub stepped : Row → std.Option (ℕ × Cursor) → Draft
+stepped row (Some (step, d)) = Some (draft_steps row step 0, d)
+stepped row None = None
+
+abbrev pub branching : Row → std.Option (Branch × Cursor) → Draft
+branching row (Some (b, d)) = Some (draft_steps row b.success b.failure, d)
+branching row None = None
+
+abbrev pub parted : Row → std.Option (Cell × Cursor) → Draft
+parted row (Some (v, d)) = Some (draft_left row v, d)
+parted row None = None
+
+abbrev pub ranged : Row → std.Option (Cell × Cursor) → Draft
+ranged row (Some (v, d)) = Some (draft_right row row.kind v, d)
+ranged row None = None
 
 -- The reading y at c gives a value, with its elements written; the row is that of before with what puts does of the value.
 pub record Drawn {U : Type 0} (y : Parsed U) (puts : U → Table.Row → Table.Row) (es : U → List PatternElement) (text table keys tags : List ℕ)
@@ -57,12 +64,12 @@ pub record Drawn {U : Type 0} (y : Parsed U) (puts : U → Table.Row → Table.R
 
 abbrev pub StageAnswer : {U : Type 0} (y : List ℕ → Parsed U) (puts : ℕ → U → Table.Row → Table.Row) (es : U → List PatternElement)
     (text table keys tags : List ℕ) → Draft → Draft → (table' keys' tags' : List ℕ) → Type 0
-StageAnswer y puts es text table keys tags (DraftCode.TheVariants.Got row c) (DraftCode.TheVariants.Got row' d) table' keys' tags' =
+StageAnswer y puts es text table keys tags (Some (row, c)) (Some (row', d)) table' keys' tags' =
     Drawn (y (drop c.at text)) (puts c.elements) es text table keys tags row c row' table' keys' tags' d
-StageAnswer y puts es text table keys tags (DraftCode.TheVariants.Got row c) DraftCode.TheVariants.Broken table' keys' tags' =
+StageAnswer y puts es text table keys tags (Some (row, c)) None table' keys' tags' =
     y (drop c.at text) ≡ broken
-StageAnswer y puts es text table keys tags DraftCode.TheVariants.Broken (DraftCode.TheVariants.Got row' d) table' keys' tags' = ⊥
-StageAnswer y puts es text table keys tags DraftCode.TheVariants.Broken DraftCode.TheVariants.Broken table' keys' tags' = Unit {0}
+StageAnswer y puts es text table keys tags None (Some (row', d)) table' keys' tags' = ⊥
+StageAnswer y puts es text table keys tags None None table' keys' tags' = Unit {0}
 
 -- the reader y goes on from the draft r to the draft q
 pub record StageRead {U : Type 0} (y : List ℕ → Parsed U) (puts : ℕ → U → Table.Row → Table.Row) (es : U → List PatternElement)
@@ -100,3 +107,13 @@ abbrev pub ReplacedStage : (text known table keys tags : List ℕ) (from : ℕ) 
 ReplacedStage text known table keys tags from =
     StageRead (replacement_if_any current (is_number_known known) (places_in known)) (λ n o. with_replacement from n o)
     (λ o. map value (replacement_of o)) text table keys tags
+
+-- a branch field, if there is one, and a row of elements, behind any row so far
+abbrev pub BranchIfAnyRead : (text known keys tags : List ℕ) (c : Cursor) → std.Option (Branch × Cursor) → (keys' tags' : List ℕ) → Type 0
+BranchIfAnyRead text known keys tags c r keys' tags' =
+    (row : Row) → BranchIfAnyStage text known keys tags (Some (row, c)) (branching row r) keys' tags'
+
+abbrev pub StretchRead : (text known : List ℕ) (b : Bool) (table keys tags : List ℕ) (c : Cursor) → std.Option (Cell × Cursor)
+    → (table' keys' tags' : List ℕ) → Type 0
+StretchRead text known b table keys tags c r table' keys' tags' =
+    (row : Row) → RowStage text known b table keys tags (Some (row, c)) (ranged row r) table' keys' tags'

@@ -11,7 +11,6 @@ use Rattle.branch_parser.specs.BranchLaws.{target_then}
 use Rattle.branch_parser.specs.Branches.{target_in}
 use Rattle.branch_parser.specs.Places.{is_number_known}
 use Rattle.branch_parser.specs.Tests.{nowhere, test_alone}
-use Rattle.branch_parser.specs.declared.Draft.{Draft}
 use Rattle.encoding.specs.Kinds.{parts, set_string_kind, goto_kind, execute_kind, null_kind, scan_kind, replace_kind, read_kind, write_kind}
 use Rattle.encoding.specs.RowLaws.{test-elements, test-items, scan-elements, scan-items}
 use Rattle.encoding.specs.Table as Table
@@ -29,6 +28,7 @@ use Rattle.symbols.specs.Environment.{places_in}
 use Rattle.symbols.specs.declared.Cursor.{Cursor}
 use Rattle.numeric_parser.specs.OperandLaws.{onward_none}
 use Rattle.numeric_parser.specs.Operands.{ReaderReady, Skips}
+use Rattle.statement_parser.specs.Drafts.{Draft}
 use Rattle.statement_parser.specs.Ends.{ended_by}
 use Rattle.statement_parser.specs.FormLaws.{going_start, going_more, going_ended}
 use Rattle.statement_parser.specs.Rows.{begun_as, bare, with_steps, with_branch, with_left, with_range, with_replacement}

@@ -17,9 +17,9 @@ use Rattle.symbols.specs.Environment.{places_in}
 use Rattle.symbols.specs.declared.Cursor.{Cursor}
 use Rattle.numeric_parser.specs.Operands.{Skips}
 use Rattle.card_reader.specs.Letters.{letters}
+use Rattle.statement_parser.specs.Drafts.{Form}
 use Rattle.statement_parser.specs.Clauses.{FormRead}
 use Rattle.statement_parser.specs.Rows.{bare, with_steps}
-use Rattle.statement_parser.specs.declared.Form.{Form}
 
 -- a form at a cursor: no more names than letters are left; and one that mentions names alone, with any table
 abbrev pub FormAt : Parsed (Option Statement) → (text table keys tags : List ℕ) (c : Cursor) → Form → (table' keys' tags' : List ℕ) → Type 0

@@ -23,15 +23,7 @@ use steps::{
 use symbols::tags::{LABEL, LABEL_DECLARED, ROUTINE, ROUTINE_DECLARED};
 use symbols::{Cursor, KNOWN, NAMES, note_name};
 
-// the form is broken; or the statement is no step, or a step with its row, read up to this cursor
-#[derive(Clone, Copy)]
-pub enum Form {
-    Broken,
-    NoStep(Cursor),
-    Step(Row, Cursor),
-}
-
-// the statement that a packed text is
+// the statement that a packed text is: its row, if it is a step
 pub fn read_form(
     text: &[u8],
     known: &[u64; KNOWN],
@@ -39,7 +31,7 @@ pub fn read_form(
     keys: &mut [u64; NAMES],
     tags: &mut [u8; NAMES],
     c: Cursor,
-) -> Form
+) -> Option<(Option<Row>, Cursor)>
     requires starts { Starts text.now keys.old tags.old c }
     requires counts_in_range { CountsInRange known.now }
     requires table_size_in_bounds { table_size ≤ length table.old }
@@ -74,7 +66,7 @@ pub fn read_form(
         Kind::Execute => target_form(text, known, keys, tags, d, step_kinds::EXECUTE, ROUTINE),
         Kind::EndRoutine => plain_form(text, d, step_kinds::RETURN),
         Kind::Return => plain_form(text, d, step_kinds::RETURN),
-        Kind::Unknown => Form::Broken,
+        Kind::Unknown => None,
     }
 }
 
@@ -105,7 +97,7 @@ pub fn read_statement(
     keys: &mut [u64; NAMES],
     tags: &mut [u8; NAMES],
     c: Cursor,
-) -> Form
+) -> Option<(Option<Row>, Cursor)>
     requires starts { Starts text.now keys.old tags.old c }
     requires names_value { c.names ≡ 0 }
     requires counts_in_range { CountsInRange known.now }
@@ -114,13 +106,13 @@ pub fn read_statement(
         table.new keys.new tags.new }
 {
     if !whole {
-        return Form::Broken;
+        return None;
     }
     if label == 0 {
         return read_form(text, known, table, keys, tags, c);
     }
     if !is_name(label) {
-        return Form::Broken;
+        return None;
     }
     let d = note_name(keys, tags, c, label, LABEL_DECLARED);
     read_form(text, known, table, keys, tags, d)

@@ -1,15 +1,16 @@
 -- Laws of the store's cells: how they keep their rules, how a store is started, and that the writes of a string are its cell.
 -- Assumes nothing.
-use Rattle.std.specs.Prelude.{true, false, ◌&&◌, ◌≡◌, refl, eqb, get_or}
+use Rattle.std.specs.Prelude.{false, ◌&&◌, ◌≡◌, refl, eqb, get_or}
 use mathlib.Core.List.{List, ◌++◌, append_assoc}
 use Rattle.std.proofs.Math.Path.{sym, ap, ap₂}
-use Rattle.std.proofs.Common.{◌∙◌, zero-add, not-suc-le-zero, length-append, drop_at, drop-drop, take-add, take-take, le-leb, le-ltb, lt-ltb}
+use Rattle.std.proofs.Common.{◌∙◌, zero-add, length-append, drop_at, drop-drop, take-add, take-take, le-leb, le-ltb, lt-ltb}
 use Prim.Native.Nat.{ℕ, zero, suc, ◌+◌, ◌*◌, ◌-◌, ◌≤◌, ◌<◌}
 use native.Mathlib.Omega.{arith}
 use Rattle.std.proofs.Math.ListN.{length, take, drop, replicate, length-drop}
 use Rattle.std.proofs.lemmas.List.{length-replicate, replicate-append-replicate}
 use Rattle.std.proofs.Math.Seq.{length-take-le}
 use Rattle.std.proofs.lemmas.Bool.{lt-leb}
+use Rattle.std.specs.List.{list_all, range_with_len}
 use Rattle.base.specs.Lists.{all}
 use Rattle.encoding.specs.BufferLaws.{StoreGood, good_cell, good_short, store_with, number_two, string-count, string_part, with-splice, zeros-behind}
 use Rattle.encoding.specs.Buffers.{cell_image, cells_keep, cell_keeps, cell_size, store_keeps, store_size}
@@ -36,16 +37,13 @@ cell-zeros store at n low e h =
     ∙ rw (lt-ltb _ _ low, le-leb m 1024 (omega arith)) refl
 
 -- the cells of a store, one by one
-pub cells-more : (store : List ℕ) (at n : ℕ) → 0 < n → cells_keep store at n ≡ (cell_keeps store at && cells_keep store (at + 1026) (n - 1))
+pub cells-listed : (store : List ℕ) (place n : ℕ)
+    → list_all (λ p. cell_keeps store (1026 * p)) (range_with_len place n) ≡ cells_keep store (1026 * place) n
 unfolding cells_keep cell_size
-cells-more store at zero h = absurd (not-suc-le-zero h)
-cells-more store at (suc n) h =
-    let back : suc n - 1 ≡ n = omega arith in
-    ap (λ (j : ℕ). cell_keeps store at && cells_keep store (at + 1026) j) (sym back)
-
-pub cells_none : (store : List ℕ) (at : ℕ) → cells_keep store at 0 ≡ true
-unfolding cells_keep
-cells_none store at = refl
+cells-listed store place zero = refl
+cells-listed store place (suc n) =
+    let next : 1026 * (place + 1) ≡ 1026 * place + 1026 = omega arith in
+    ap (λ t. cell_keeps store (1026 * place) && t) (cells-listed store (place + 1) n ∙ ap (λ (at : ℕ). cells_keep store at n) next)
 
 pub keeps_small : (store : List ℕ) → length store < store_size → store_keeps store ≡ false
 unfolding store_keeps

@@ -1,5 +1,5 @@
 -- What the store's functions ask for and leave. Assumes nothing.
-use Rattle.std.specs.Prelude.{List, [], ◌++◌, ◌≡◌, ℕ, ◌+◌, ◌*◌, ◌-◌, ◌<◌, ◌≤◌, length, take, drop, get_or, replicate}
+use Rattle.std.specs.Prelude.{Option, Some, None, List, [], ◌++◌, ◌≡◌, ℕ, ◌+◌, ◌*◌, ◌-◌, ◌<◌, ◌≤◌, length, take, drop, get_or, replicate}
 use Rattle.encoding.specs.BufferLaws.{StoreGood}
 use Rattle.encoding.specs.Buffers.{strings_in}
 use Rattle.calls.specs.Calls.{start_call}
@@ -31,6 +31,11 @@ pub record Replacing (store : List ℕ) (place from to : ℕ) (v : List ℕ) : T
   pub order : from ≤ to
   pub within : to ≤ length (string_of store place)
   pub fits : from + length v + (length (string_of store place) - to) ≤ 1024
+
+-- the number that the starting call answers: 14 where the store was not started
+abbrev pub started_number : Option Unit → ℕ
+started_number None = 14
+started_number (Some _) = 0
 
 -- the number and the store that starting leaves
 pub record Started (store : List ℕ) (number : ℕ) (left : List ℕ) : Type 0 where

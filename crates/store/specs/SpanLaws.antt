@@ -1,18 +1,17 @@
 -- Laws of spans: bytes written one by one from either end, a stretch of bytes, a list turned round, zeros seen, where a record ends.
 -- Assumes nothing.
-use Rattle.std.specs.Prelude.{true, false, ◌&&◌, ◌≡◌, refl, ℕ, zero, suc, ◌+◌, ◌-◌, ◌≤◌, ◌<◌, eqb, ltb, length, take, drop, get_or, set, replicate}
+use Rattle.std.specs.Prelude.{true, false, ◌&&◌, ◌≡◌, refl, ℕ, zero, suc, ◌+◌, ◌-◌, ◌≤◌, ◌<◌, eqb, length, take, drop, get_or, set, replicate}
 use Rattle.std.proofs.Math.Bool.{and_assoc, and-true}
-use mathlib.Core.List.{List, [], ◌∷◌, ◌++◌, reverse, reverse-cons}
-use Rattle.std.proofs.Common.{sym, ap, ap₂, ◌∙◌, add-zero, not-suc-le-zero, add-one, arith, length-set, drop_of_length-le, drop-cons, length-take-le, take_all, ne_eqb, ltb-false, ltb-true}
+use mathlib.Core.List.{List, [], ◌∷◌, ◌++◌}
+use Rattle.std.proofs.Common.{sym, ap, ap₂, ◌∙◌, add-zero, zero-add, add-one, arith, length-set, drop_of_length-le, drop-cons, length-take-le, take_all, ne_eqb}
 use Rattle.std.specs.Int.Bits.{bit_or, or_zero_l, or_add_and}
 use Rattle.std.proofs.lemmas.Nat.{and_le_r}
-use Rattle.std.proofs.lemmas.List.{get_or-replicate, length-reverse}
-use Rattle.std.proofs.Math.ListN.{get_or-append}
-use Rattle.std.proofs.Math.Seq.{get_or-append_seam, paste, paste-suc, paste-zero}
-use Rattle.base.specs.Choice.{test_cases}
+use Rattle.std.proofs.lemmas.List.{get_or-replicate}
+use Rattle.std.proofs.Math.Seq.{drop-drop, paste, paste-suc, paste-zero}
+use borrow.Rule.Slice.PartMut.{put_mid}
 use Rattle.base.specs.ListLaws.{all-next, all_end}
 use Rattle.base.specs.Lists.{all}
-use Rattle.encoding.specs.Splices.{splice, get_or-splice-before, get_or-splice-behind, paste_splice, set-splice, splice-before, splice-behind, splice_nil}
+use Rattle.encoding.specs.Splices.{splice, get_or-splice-before, get_or-splice-behind, paste_splice, set-splice, splice-before, splice_nil}
 use Rattle.cards.specs.Bytes.{newline}
 use Rattle.machine.specs.Step.{record_length}
 use Rattle.search.specs.NextLaws.{next-until, until_within}
@@ -111,36 +110,15 @@ module _ (d : List ℕ) (at : ℕ) (x : List ℕ) (n : ℕ) where
   hung_before k out i p fits h =
       ap (λ (l : List ℕ). get_or l i 0) p.bytes ∙ get_or-splice-before d (at + k) (drop k x) i 0 (omega (arith, p.count)) h
 
--- an element of a list turned round
-pub get_d_reverse : (l : List ℕ) (i : ℕ) → i < length l → get_or (reverse l) i 0 ≡ get_or l (length l - 1 - i) 0
-get_d_reverse [] i h = absurd (not-suc-le-zero h)
-get_d_reverse (x ∷ l) i h =
-    ap (λ (r : List ℕ). get_or r i 0) (reverse-cons x l)
-    ∙ test_cases (λ _. get_or (reverse l ++ (x ∷ [])) i 0 ≡ get_or (x ∷ l) (suc (length l) - 1 - i) 0) (ltb i (length l))
-    (λ e. before (get_d_reverse l i) (ltb-true i (length l) e)) (λ e. last (ltb-false i (length l) e))
-  where
-    before : (i < length l → get_or (reverse l) i 0 ≡ get_or l (length l - 1 - i) 0) → i < length l
-        → get_or (reverse l ++ (x ∷ [])) i 0 ≡ get_or (x ∷ l) (suc (length l) - 1 - i) 0
-    before rest k =
-        let place : suc (length l - 1 - i) ≡ suc (length l) - 1 - i = omega arith in
-        get_or-append (reverse l) (x ∷ []) 0 i (omega (arith, length-reverse l))
-        ∙ rest k
-        ∙ ap (λ (j : ℕ). get_or (x ∷ l) j 0) place
+-- a part of a list put anew is a splice, and so is a front put before what lies behind
+pub put_mid-splice : (d : List ℕ) (at k : ℕ) (v : List ℕ) → k ≡ length v → put_mid at k d v ≡ splice d at v
+unfolding splice
+put_mid-splice d at k v e =
+    ap (λ (l : List ℕ). take at d ++ (v ++ l)) (drop-drop k at d ∙ ap (λ (n : ℕ). drop (at + n) d) e)
 
-    last : length l ≤ i → get_or (reverse l ++ (x ∷ [])) i 0 ≡ get_or (x ∷ l) (suc (length l) - 1 - i) 0
-    last k =
-        let place : i ≡ length (reverse l) = omega (arith, length-reverse l) in
-        let first : suc (length l) - 1 - i ≡ 0 = omega arith in
-        ap (λ (j : ℕ). get_or (reverse l ++ (x ∷ [])) j 0) place
-        ∙ get_or-append_seam (reverse l) x [] 0
-        ∙ ap (λ (j : ℕ). get_or (x ∷ l) j 0) (sym first)
-
--- two elements set
-pub set-two : (d : List ℕ) (at x y : ℕ) → at + 1 < length d → set (set d at x) (at + 1) y ≡ splice d at (x ∷ y ∷ [])
-set-two d at x y h =
-    set-splice (set d at x) (at + 1) y (omega (arith, length-set d at x))
-    ∙ ap (λ (l : List ℕ). splice l (at + 1) (y ∷ [])) (set-splice d at x (omega arith))
-    ∙ splice-behind d at (x ∷ []) (y ∷ []) (omega arith)
+pub front-splice : (d v : List ℕ) (n : ℕ) → n ≡ length v → v ++ drop n d ≡ splice d 0 v
+unfolding splice
+front-splice d v n e = ap (λ (m : ℕ). v ++ drop m d) (e ∙ sym (zero-add (length v)))
 
 -- two bytes together are zero where each is
 or_test : (a b : ℕ) → eqb (bit_or a b) 0 ≡ (eqb a 0 && eqb b 0)

@@ -9,7 +9,7 @@ ghost use Rattle.encoding.specs.BufferLaws.{StoreGood, store_with};
 ghost use Rattle.encoding.specs.Buffers.{store_size, cell_keeps, store_keeps};
 ghost use Rattle.encoding.specs.Numerals.{in_bytes};
 ghost use Rattle.encoding.specs.Splices.{splice};
-ghost use Rattle.store.specs.Clauses.{string_of, string_replaced, ended_anew, Putting, Replacing, Started};
+ghost use Rattle.store.specs.Clauses.{string_of, string_replaced, ended_anew, Putting, Replacing, Started, started_number};
 
 use base::{LONGEST, STRINGS};
 use encoding::{CELL_SIZE, STORE_SIZE};
@@ -35,16 +35,7 @@ pub fn keeps(store: &[u8]) -> bool
     if store.len() < STORE_SIZE {
         return false;
     }
-    let mut at = 0;
-    let mut left = STRINGS;
-    while 0 < left {
-        if !cell_keeps(store, at) {
-            return false;
-        }
-        at += CELL_SIZE;
-        left -= 1;
-    }
-    true
+    (0..STRINGS).all(|place| cell_keeps(store, CELL_SIZE * place))
 }
 
 // Where the string with this place in the memory begins.
@@ -69,8 +60,7 @@ fn set_length(store: &mut [u8], at: usize, n: usize)
     requires { (at + 1 < length store.old) × (n ≤ 1024) }
     ensures { store.new ≡ splice store.old at (in_bytes 2 n) }
 {
-    store[at] = (n % 256) as u8;
-    store[at + 1] = (n / 256 % 256) as u8;
+    store[at..at + 2].copy_from_slice(&(n as u16).to_le_bytes());
 }
 
 // Ends a string anew: zeros where it was longer, and its length.
@@ -116,13 +106,13 @@ pub fn clear(store: &mut [u8])
     spans::blank(store, 0, STORE_SIZE);
 }
 
-// Starts a store: zeroes it, or answers 14 if it is too small.
-pub fn start_store(store: &mut [u8]) -> u32
-    ensures { Started store.old result store.new }
+// Starts a store: zeroes it, unless it is too small. None then, and it stays as it was.
+pub fn start_store(store: &mut [u8]) -> Option<()>
+    ensures { Started store.old (started_number result) store.new }
 {
     if store.len() < STORE_SIZE {
-        return 14;
+        return None;
     }
     clear(store);
-    0
+    Some(())
 }

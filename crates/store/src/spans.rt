@@ -6,25 +6,23 @@ ghost use Rattle.encoding.specs.Numerals.{numeral_at};
 ghost use Rattle.encoding.specs.Splices.{splice};
 ghost use Rattle.machine.specs.Step.{record_length};
 
-use base::{LONGEST, wide};
+use base::LONGEST;
 
 // The number in the two bytes at a place, low byte first.
 pub fn number2(s: &[u8], at: usize) -> usize
     requires { at + 2 ≤ length s.now }
     ensures { (result ≡ numeral_at 2 s.now at) × (result < 2 ^ 16) }
 {
-    wide(s[at]) + 256 * wide(s[at + 1])
+    u16::from_le_bytes([s[at], s[at + 1]]) as usize
 }
 
 // The bits that any byte of s has: 0 if all bytes are.
 pub fn marks(s: &[u8]) -> u8
     ensures { eqb result 0 ≡ all (λ b. eqb b 0) s.now }
 {
-    let mut seen: u8 = 0;
-    let mut i = 0;
-    while i < s.len() {
-        seen = seen | s[i];
-        i += 1;
+    let mut seen = 0;
+    for b in s {
+        seen |= *b;
     }
     seen
 }
@@ -34,11 +32,7 @@ pub fn write(out: &mut [u8], at: usize, v: &[u8])
     requires { at + length v.now ≤ length out.old }
     ensures { out.new ≡ splice out.old at v.now }
 {
-    let mut i = 0;
-    while i < v.len() {
-        out[at + i] = v[i];
-        i += 1;
-    }
+    out[at..at + v.len()].copy_from_slice(v);
 }
 
 // Zeroes the bytes from..to; none if to is not above from.
@@ -46,10 +40,8 @@ pub fn blank(out: &mut [u8], from: usize, to: usize)
     requires { (from ≤ length out.old) × (to ≤ length out.old) }
     ensures { out.new ≡ splice out.old from (replicate (to - from) 0) }
 {
-    let mut i = from;
-    while i < to {
-        out[i] = 0;
-        i += 1;
+    if from < to {
+        out[from..to].fill(0);
     }
 }
 
@@ -58,10 +50,8 @@ fn slide_down(out: &mut [u8], from: usize, to: usize, n: usize)
     requires { (to ≤ from) × (from + n ≤ length out.old) }
     ensures { out.new ≡ splice out.old to (take n (drop from out.old)) }
 {
-    let mut i = 0;
-    while i < n {
+    for i in 0..n {
         out[to + i] = out[from + i];
-        i += 1;
     }
 }
 
@@ -70,9 +60,7 @@ fn slide_up(out: &mut [u8], from: usize, to: usize, n: usize)
     requires { (from ≤ to) × (to + n ≤ length out.old) }
     ensures { out.new ≡ splice out.old to (take n (drop from out.old)) }
 {
-    let mut i = n;
-    while 0 < i {
-        i -= 1;
+    for i in (0..n).rev() {
         out[to + i] = out[from + i];
     }
 }
@@ -94,19 +82,7 @@ pub fn copy(s: &[u8], out: &mut [u8; LONGEST], at: usize)
     requires { at + length s.now ≤ 1024 }
     ensures { out.new ≡ splice out.old at s.now }
 {
-    write(out, at, s);
-}
-
-// Writes v, last byte first, over the first bytes.
-fn turn(out: &mut [u8], v: &[u8])
-    requires { length v.now ≤ length out.old }
-    ensures { out.new ≡ splice out.old 0 (reverse v.now) }
-{
-    let mut i = 0;
-    while i < v.len() {
-        out[i] = v[v.len() - 1 - i];
-        i += 1;
-    }
+    out[at..at + s.len()].copy_from_slice(s);
 }
 
 // Copies s, last byte first, to the front of a string's buffer.
@@ -114,7 +90,9 @@ pub fn copy_turned(s: &[u8], out: &mut [u8; LONGEST])
     requires { length s.now ≤ 1024 }
     ensures { out.new ≡ splice out.old 0 (reverse s.now) }
 {
-    turn(out, s);
+    let front = &mut out[..s.len()];
+    front.copy_from_slice(s);
+    front.reverse();
 }
 
 // How long the record is that begins at a place of the input: to byte 10 or the end.

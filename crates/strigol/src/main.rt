@@ -13,13 +13,6 @@ use std::fs::File;
 use std::io;
 use std::io::{ErrorKind, Read, Write};
 
-// what became of keeping a file: so many bytes, or it could not be read, and why has been said
-#[derive(Clone, Copy)]
-enum Keeping {
-    Bytes(usize),
-    Failed,
-}
-
 // what the system says of an error, without the number that stands behind it
 fn reason(said: &str) -> &str {
     match said.split_once(" (os error ") {
@@ -40,46 +33,42 @@ fn fail(rt: &HostRuntime, name: &str, error: io::Error) {
 }
 
 // Keeps the first bytes that a reader gives: as many as there are, and as there is room for.
-fn keep<R: Read>(rt: &HostRuntime, from: &mut R, name: &str, to: &mut [u8]) -> Keeping
+fn keep<R: Read>(from: &mut R, to: &mut [u8]) -> io::Result<usize>
     ensures { FileKept result to.new }
 {
     let mut kept = 0;
     while kept < to.len() {
-        match from.read(&mut to[kept..]) {
-            Ok(0) => return Keeping::Bytes(kept),
-            Ok(got) => kept += got,
-            Err(error) => {
-                fail(rt, name, error);
-                return Keeping::Failed;
-            }
+        let got = from.read(&mut to[kept..])?;
+        if got == 0 {
+            break;
         }
+        kept += got;
     }
-    Keeping::Bytes(kept)
+    Ok(kept)
 }
 
 // Keeps the deck; a missing file counts as empty.
-fn keep_deck(rt: &HostRuntime, to: &mut [u8]) -> Keeping
+fn keep_deck(rt: &HostRuntime, to: &mut [u8]) -> io::Result<usize>
     requires { length to.old ≡ kept_deck }
     ensures { FileKept result to.new }
 {
     match File::open(rt, "deck") {
-        Ok(mut file) => keep(rt, &mut file, "strigol: deck", to),
+        Ok(mut file) => keep(&mut file, to),
         Err(error) => {
             if error.kind() == ErrorKind::NotFound {
-                return Keeping::Bytes(0);
+                return Ok(0);
             }
-            fail(rt, "strigol: deck", error);
-            Keeping::Failed
+            Err(error)
         }
     }
 }
 
 // Keeps standard input.
-fn keep_input(rt: &HostRuntime, to: &mut [u8]) -> Keeping
+fn keep_input(rt: &HostRuntime, to: &mut [u8]) -> io::Result<usize>
     requires { length to.old ≡ kept_input }
     ensures { FileKept result to.new }
 {
-    keep(rt, &mut rt.stdin(), "strigol: standard input", to)
+    keep(&mut rt.stdin(), to)
 }
 
 // Runs a deck on an input and prints.
@@ -107,12 +96,14 @@ fn main(rt: HostRuntime) {
         return;
     }
     let mut deck = [0u8; KEPT_DECK];
-    let Keeping::Bytes(deck_length) = keep_deck(&rt, &mut deck) else {
-        return;
+    let deck_length = match keep_deck(&rt, &mut deck) {
+        Ok(kept) => kept,
+        Err(error) => return fail(&rt, "strigol: deck", error),
     };
     let mut input = [0u8; KEPT_INPUT];
-    let Keeping::Bytes(input_length) = keep_input(&rt, &mut input) else {
-        return;
+    let input_length = match keep_input(&rt, &mut input) {
+        Ok(kept) => kept,
+        Err(error) => return fail(&rt, "strigol: standard input", error),
     };
     run(&rt, &deck[..deck_length], &input[..input_length]);
 }

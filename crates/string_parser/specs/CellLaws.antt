@@ -1,5 +1,5 @@
 -- How STRING calls and fillers are put together from names, constants and marks. Assumes nothing.
-use Rattle.std.specs.Prelude.{Bool, true, false, ◌||◌, ◌≡◌, refl, ℤ, pos, drop, get_or}
+use Rattle.std.specs.Prelude.{Option, Some, Bool, true, false, ◌||◌, ◌≡◌, refl, ℤ, pos, drop, get_or}
 use mathlib.Core.List.{List, [], ◌∷◌}
 use Rattle.std.proofs.Math.Path.{sym, ap}
 use Rattle.std.proofs.Common.{◌∙◌}
@@ -20,12 +20,9 @@ use Rattle.syntax.specs.Lexemes.{Resolution, signed, is_sign, number_name, bound
 use Rattle.symbols.specs.Entries.{role_of, mentions_in}
 use Rattle.symbols.specs.ParsingLaws.{succeed_then, expect_then, expect_broken}
 use Rattle.symbols.specs.declared.Cursor.{Cursor}
+use Rattle.numeric_parser.specs.declared.operands.Cell.{Cell}
 use Rattle.numeric_parser.specs.OperandLaws.{skipped, drop-moved, then_broken, cell_same, place-cell, cell_skip, cell_then, chosen, closed_cell}
 use Rattle.numeric_parser.specs.Operands.{cursor_moved, ReaderReady, Gets, OperandRead, PlaceRead, length_cell, placed_in, behind_parenthesis}
-use Rattle.numeric_parser.specs.declared.operands.Operand as OperandCode
-use Rattle.numeric_parser.specs.declared.operands.Operand.{Operand}
-use Rattle.numeric_parser.specs.declared.operands.Place as PlaceCode
-use Rattle.numeric_parser.specs.declared.operands.Place.{Place}
 use Rattle.string_parser.specs.Cells.{bare_cell, number_end, number_follows, constant_call, number_or_end, number_call, LengthCell}
 
 -- two ways to go on are the same where they are the same behind a reading
@@ -41,14 +38,14 @@ module _ {A B C : Type 0} {f : A → C} {v : C} {text keys tags : List ℕ} {c :
 
 module _ (p : Resolution) {text keys tags : List ℕ} {c : Cursor} where
   -- the m of STRING with its `)`
-  pub number_ends : (kind v : ℕ) (q : Place) {k t : List ℕ} → PlaceRead text keys tags c (number_name current p (drop c.at text)) q k t
+  pub number_ends : (kind v : ℕ) (q : Option (ℕ × Cursor)) {k t : List ℕ} → PlaceRead text keys tags c (number_name current p (drop c.at text)) q k t
       → (n : Length) → LengthCell n kind v
       → OperandRead bare_cell text keys tags c (number_end p n (drop c.at text)) (behind_parenthesis text (placed_in kind v q)) k t
   number_ends kind v q a n same =
       closed_cell (Program.string_call n) bare_cell same (placed_in kind v q) (place-cell kind v q a)
 
   -- behind a comma
-  pub number_follows_lem : (kind v : ℕ) (q : Operand) {d : Cursor} {k t : List ℕ} → d ≡ cursor_moved c 1 → begins (44 ∷ []) (drop c.at text) ≡ true
+  pub number_follows_lem : (kind v : ℕ) (q : Option (Cell × Cursor)) {d : Cursor} {k t : List ℕ} → d ≡ cursor_moved c 1 → begins (44 ∷ []) (drop c.at text) ≡ true
       → ((n : Length) → LengthCell n kind v → OperandRead bare_cell text keys tags d (number_end p n (drop d.at text)) q k t) → (n : Length)
       → LengthCell n kind v → OperandRead bare_cell text keys tags c (number_follows p n (drop c.at text)) q k t
   unfolding bytes
@@ -58,7 +55,7 @@ module _ (p : Resolution) {text keys tags : List ℕ} {c : Cursor} where
       (cell_skip 1 q (skipped c 1 s) (a n same))
 
   -- STRING with a constant
-  pub constant_called : (q : Operand) (z : ℤ) (n next : ℕ) {d : Cursor} {k t : List ℕ} → d ≡ cursor_moved c n → c.at + n ≡ next
+  pub constant_called : (q : Option (Cell × Cursor)) (z : ℤ) (n next : ℕ) {d : Cursor} {k t : List ℕ} → d ≡ cursor_moved c n → c.at + n ≡ next
       → signed current (drop c.at text) ≡ succeed z (drop next text)
       → OperandRead bare_cell text keys tags d (number_follows p (constantly z) (drop d.at text)) q k t
       → OperandRead bare_cell text keys tags c (constant_call p (drop c.at text)) q k t
@@ -92,7 +89,7 @@ filler-length s (numbered i) = refl
 module _ (p : Resolution) {text keys tags : List ℕ} {c : Cursor} (ready : ReaderReady text keys tags c) {place : ℕ} {k t : List ℕ} {d : Cursor} where
   -- STRING with a number n, and with m alone
   module _ (a : Gets (λ j. j) place text keys tags c (number_name current p (drop c.at text)) k t d) where
-    pub number_comma : (q : Operand) {e : Cursor} {k' t' : List ℕ} → e ≡ cursor_moved d 1 → begins (44 ∷ []) (drop d.at text) ≡ true
+    pub number_comma : (q : Option (Cell × Cursor)) {e : Cursor} {k' t' : List ℕ} → e ≡ cursor_moved d 1 → begins (44 ∷ []) (drop d.at text) ≡ true
         → ((n : Length) → LengthCell n text_by_kind.number place → OperandRead bare_cell text k t e (number_end p n (drop e.at text)) q k' t')
         → OperandRead bare_cell text keys tags c (number_call p (drop c.at text)) q k' t'
     unfolding bytes
@@ -105,19 +102,19 @@ module _ (p : Resolution) {text keys tags : List ℕ} {c : Cursor} (ready : Read
 
     pub number_only : begins (44 ∷ []) (drop d.at text) ≡ false
         → OperandRead bare_cell text keys tags c (number_call p (drop c.at text))
-        (behind_parenthesis text (OperandCode.TheVariants.Got (record { kind = text_kind.number; place = place; value = 140_737_488_355_328 }) d)) k t
+        (behind_parenthesis text (Some ((record { kind = text_kind.number; place = place; value = 140_737_488_355_328 }), d))) k t
     unfolding bytes pattern_cell biased bias
     number_only none =
-        let v : Operand = OperandCode.TheVariants.Got (record { kind = text_kind.number; place = place; value = 140_737_488_355_328 }) d in
+        let v : Option (Cell × Cursor) = Some ((record { kind = text_kind.number; place = place; value = 140_737_488_355_328 }), d) in
         let only : ℕ × List ℕ → Parsed Element =
         λ (i, rest). expect (bytes ")") rest >>= λ (_, rest). succeed (Program.string_call (constantly (pos 0)) i) rest in
         cell_same (then_same a (λ (i, rest). number_or_end p i rest) only (chosen _ _ none))
         (closed_cell (Program.string_call (constantly (pos 0))) bare_cell (λ _. refl) v
-        (place-cell text_kind.number 140_737_488_355_328 (PlaceCode.TheVariants.Got place d) (record { answer = a })))
+        (place-cell text_kind.number 140_737_488_355_328 (Some (place, d)) (record { answer = a })))
 
   -- a filler: fixed where `$` and a length follow
   module _ (a : Gets (λ j. j) place text keys tags c (string_name current p (role_of 3) (drop c.at text)) k t d) where
-    pub filler_fixed : (q : Operand) {e : Cursor} {k' t' : List ℕ} → e ≡ cursor_moved d 1 → begins (36 ∷ []) (drop d.at text) ≡ true
+    pub filler_fixed : (q : Option (Cell × Cursor)) {e : Cursor} {k' t' : List ℕ} → e ≡ cursor_moved d 1 → begins (36 ∷ []) (drop d.at text) ≡ true
         → OperandRead (length_cell fixed_kind.number place) text k t e (bound current p (drop e.at text)) q k' t'
         → OperandRead (pattern_cell 0) text keys tags c (filler_at current p (drop c.at text)) (behind_parenthesis text q) k' t'
     unfolding bytes filler_at role_of
@@ -132,22 +129,22 @@ module _ (p : Resolution) {text keys tags : List ℕ} {c : Cursor} (ready : Read
 
     pub filler_free : begins (36 ∷ []) (drop d.at text) ≡ false
         → OperandRead (pattern_cell 0) text keys tags c (filler_at current p (drop c.at text))
-        (behind_parenthesis text (OperandCode.TheVariants.Got (record { kind = free_kind.number; place = place; value = 0 }) d)) k t
+        (behind_parenthesis text (Some ((record { kind = free_kind.number; place = place; value = 0 }), d))) k t
     unfolding bytes pattern_cell filler_at role_of
     filler_free none =
-        let v : Operand = OperandCode.TheVariants.Got (record { kind = free_kind.number; place = place; value = 0 }) d in
+        let v : Option (Cell × Cursor) = Some ((record { kind = free_kind.number; place = place; value = 0 }), d) in
         let free : ℕ × List ℕ → Parsed PatternElement =
         λ (s, rest). expect (bytes ")") rest >>= λ (_, rest). succeed (free_filler s) rest in
         cell_same (then_same a _ free (chosen _ _ none))
         (closed_cell free_filler (pattern_cell 0) (λ _. refl) v
-        (place-cell free_kind.number 0 (PlaceCode.TheVariants.Got place d) (record { answer = a })))
+        (place-cell free_kind.number 0 (Some (place, d)) (record { answer = a })))
 
 pub filler_broken : (p : Resolution) (bs : List ℕ) → string_name current p (role_of 3) bs ≡ broken → filler_at current p bs ≡ broken
 unfolding filler_at role_of
 filler_broken p bs e = then_broken _ e
 
 -- a STRING call by its first byte
-module _ (p : Resolution) {text keys tags : List ℕ} {c : Cursor} {q : Operand} {k t : List ℕ} where
+module _ (p : Resolution) {text keys tags : List ℕ} {c : Cursor} {q : Option (Cell × Cursor)} {k t : List ℕ} where
   pub text_constant : (is_digit (get_or (drop c.at text) 0 0) || is_sign (drop c.at text)) ≡ true
       → OperandRead bare_cell text keys tags c (constant_call p (drop c.at text)) q k t
       → OperandRead bare_cell text keys tags c (text_call current p (drop c.at text)) q k t

@@ -22,10 +22,8 @@ use Rattle.symbols.specs.ParsingLaws.{got_broken}
 use Rattle.symbols.specs.declared.Cursor.{Cursor}
 use Rattle.numeric_parser.specs.OperandLaws.{noting_more, noting_none, mentions_nothing}
 use Rattle.numeric_parser.specs.Operands.{Skips, ReaderReady, Noting, Gets}
-use Rattle.numeric_parser.specs.declared.Outcome as OutcomeCode
-use Rattle.numeric_parser.specs.declared.Outcome.{Outcome}
 use Rattle.card_reader.specs.Letters.{letters_on}
-use Rattle.string_parser.specs.Elements.{GetsElements, rows_of, GetsRow, RowAnswer, RowRead}
+use Rattle.string_parser.specs.Elements.{GetsElements, rows_of}
 
 pub literals_size : (xs ys : List PatternElement) → length (all_literals (xs ++ ys)) ≡ length (all_literals xs) + length (all_literals ys)
 literals_size xs ys = ap length (all-literals-append xs ys) ∙ length-append (all_literals xs) (all_literals ys)
@@ -35,15 +33,6 @@ pub rows_total : (n : ℕ) → total (λ k. k) (rows_of n) ≡ n
 unfolding rows_of total
 rows_total n =
     cond_cases (λ rows. total (λ k. k) rows ≡ n) (eqb n 0) (λ e. sym (eqb-true n 0 e)) (λ _. add-zero n)
-
--- the row's outcome by its case
-module _ {A : Type 0} {f : List A → List PatternElement} {text table keys tags : List ℕ} {c : Cursor} {x : Parsed (List A)} {r : Outcome}
-    {t k g : List ℕ} (a : RowRead f text table keys tags c x r t k g) where
-  pub row_case : {d : Cursor} → r ≡ OutcomeCode.TheVariants.Got d → GetsRow f text table keys tags c x t k g d
-  row_case e = subst (λ z. RowAnswer f text table keys tags c x z t k g) e a.answer
-
-  pub row_none : r ≡ OutcomeCode.TheVariants.Broken → x ≡ broken
-  row_none e = subst (λ z. RowAnswer f text table keys tags c x z t k g) e a.answer
 
 -- names alone are no elements
 pub names_elements : {A C : Type 0} {f : A → C} {v : C} {text keys tags : List ℕ} {c : Cursor} {x : Parsed A} {k t : List ℕ} {d : Cursor}

@@ -1,6 +1,6 @@
 -- What the readers of string expressions and patterns do: the elements read stand written in the table, with their literal bytes.
 -- Assumes nothing.
-use Rattle.std.specs.Prelude.{Bool, true, false, cond, ◌||◌, List, [], ◌∷◌, map, ◌≡◌, ℕ, ◌+◌, ◌*◌, ◌-◌, ◌/◌, ◌≤◌, ◌<◌, eqb, ltb, length, take, drop}
+use Rattle.std.specs.Prelude.{Option, Some, None, Bool, true, false, cond, ◌||◌, List, [], ◌∷◌, map, ◌≡◌, ℕ, ◌+◌, ◌*◌, ◌-◌, ◌/◌, ◌≤◌, ◌<◌, eqb, ltb, length, take, drop}
 use Rattle.base.specs.Current.{current, table_size}
 use Rattle.base.specs.Limits as Limits
 use Rattle.base.specs.Lists.{any}
@@ -16,11 +16,8 @@ use Rattle.symbols.specs.Elements.{with_element, with_literals, with_elements}
 use Rattle.symbols.specs.Entries.{NameEntry, role_of, mentions_in}
 use Rattle.symbols.specs.Environment.{places_in}
 use Rattle.symbols.specs.declared.Cursor.{Cursor}
+use Rattle.numeric_parser.specs.declared.operands.Cell.{Cell}
 use Rattle.numeric_parser.specs.Operands.{ReaderReady, Noting, meaning}
-use Rattle.numeric_parser.specs.declared.operands.Operand as OperandCode
-use Rattle.numeric_parser.specs.declared.operands.Operand.{Operand}
-use Rattle.numeric_parser.specs.declared.Outcome as OutcomeCode
-use Rattle.numeric_parser.specs.declared.Outcome.{Outcome}
 use Rattle.card_reader.specs.Letters.{letters}
 use Rattle.card_reader.specs.Packs.{longest_text}
 
@@ -55,14 +52,14 @@ pub record GetsRow {A : Type 0} (f : List A → List PatternElement) (text table
   pub gets : GetsElements text table keys tags c x values (f values) (rows_of (length values)) table' keys' tags' d
   pub size : d.elements ≡ c.elements + length values
 
-abbrev pub RowAnswer : {A : Type 0} (f : List A → List PatternElement) (text table keys tags : List ℕ) (c : Cursor) → Parsed (List A) → Outcome
+abbrev pub RowAnswer : {A : Type 0} (f : List A → List PatternElement) (text table keys tags : List ℕ) (c : Cursor) → Parsed (List A) → Option Cursor
     → (table' keys' tags' : List ℕ) → Type 0
-RowAnswer f text table keys tags c x (OutcomeCode.TheVariants.Got d) table' keys' tags' =
+RowAnswer f text table keys tags c x (Some d) table' keys' tags' =
     GetsRow f text table keys tags c x table' keys' tags' d
-RowAnswer f text table keys tags c x OutcomeCode.TheVariants.Broken table' keys' tags' = x ≡ broken
+RowAnswer f text table keys tags c x None table' keys' tags' = x ≡ broken
 
 pub record RowRead {A : Type 0} (f : List A → List PatternElement) (text table keys tags : List ℕ) (c : Cursor) (x : Parsed (List A))
-    (r : Outcome) (table' keys' tags' : List ℕ) : Type 0 where
+    (r : Option Cursor) (table' keys' tags' : List ℕ) : Type 0 where
   pub answer : RowAnswer f text table keys tags c x r table' keys' tags'
 
 -- the cursor one element further
@@ -77,19 +74,14 @@ one_more c =
       longest = c.longest;
     }
 
--- there are few elements before a cell that was read
-abbrev pub CellRoomy : Operand → Type 0
-CellRoomy (OperandCode.TheVariants.Got v d) = d.elements ≤ far_enough
-CellRoomy OperandCode.TheVariants.Broken = Unit {0}
-
 -- the outcome once a cell that was read is written, and the table with it
-abbrev pub cell_written : Operand → Outcome
-cell_written (OperandCode.TheVariants.Got v d) = OutcomeCode.TheVariants.Got (one_more d)
-cell_written OperandCode.TheVariants.Broken = OutcomeCode.TheVariants.Broken
+abbrev pub cell_written : Option (Cell × Cursor) → Option Cursor
+cell_written (Some (v, d)) = Some (one_more d)
+cell_written None = None
 
-abbrev pub celled : List ℕ → Operand → List ℕ
-celled table (OperandCode.TheVariants.Got v d) = with_element table d.elements (meaning v)
-celled table OperandCode.TheVariants.Broken = table
+abbrev pub celled : List ℕ → Option (Cell × Cursor) → List ℕ
+celled table (Some (v, d)) = with_element table d.elements (meaning v)
+celled table None = table
 
 -- n literal bytes behind the quote at the cursor can be written
 pub record LiteralWritable (text table : List ℕ) (c : Cursor) (n size : ℕ) : Type 0 where
@@ -132,21 +124,21 @@ abbrev pub LiteralRead : (text table keys tags : List ℕ) (c : Cursor) (table' 
 LiteralRead text table keys tags c table' d =
     GetsOne (λ w. value (literal w)) text table keys tags c (Strings.literal_at (drop (c.at + 1) text)) table' keys tags d
 
-abbrev pub OneAnswer : {A : Type 0} (f : A → PatternElement) (text table keys tags : List ℕ) (c : Cursor) → Parsed A → Outcome
+abbrev pub OneAnswer : {A : Type 0} (f : A → PatternElement) (text table keys tags : List ℕ) (c : Cursor) → Parsed A → Option Cursor
     → (table' keys' tags' : List ℕ) → Type 0
-OneAnswer f text table keys tags c x (OutcomeCode.TheVariants.Got d) table' keys' tags' =
+OneAnswer f text table keys tags c x (Some d) table' keys' tags' =
     GetsOne f text table keys tags c x table' keys' tags' d
-OneAnswer f text table keys tags c x OutcomeCode.TheVariants.Broken table' keys' tags' = x ≡ broken
+OneAnswer f text table keys tags c x None table' keys' tags' = x ≡ broken
 
-pub record ReadsOne {A : Type 0} (f : A → PatternElement) (text table keys tags : List ℕ) (c : Cursor) (x : Parsed A) (r : Outcome)
+pub record ReadsOne {A : Type 0} (f : A → PatternElement) (text table keys tags : List ℕ) (c : Cursor) (x : Parsed A) (r : Option Cursor)
     (table' keys' tags' : List ℕ) : Type 0 where
   pub answer : OneAnswer f text table keys tags c x r table' keys' tags'
 
-abbrev pub ElementRead : (text known table keys tags : List ℕ) (c : Cursor) (tag : ℕ) → Outcome → (table' keys' tags' : List ℕ) → Type 0
+abbrev pub ElementRead : (text known table keys tags : List ℕ) (c : Cursor) (tag : ℕ) → Option Cursor → (table' keys' tags' : List ℕ) → Type 0
 ElementRead text known table keys tags c tag =
     ReadsOne value text table keys tags c (Strings.element current (places_in known) (role_of (tag / 16)) (drop c.at text))
 
-abbrev pub PatternElementRead : (text known table keys tags : List ℕ) (c : Cursor) → Outcome → (table' keys' tags' : List ℕ) → Type 0
+abbrev pub PatternElementRead : (text known table keys tags : List ℕ) (c : Cursor) → Option Cursor → (table' keys' tags' : List ℕ) → Type 0
 PatternElementRead text known table keys tags c =
     ReadsOne (λ x. x) text table keys tags c (Strings.pattern_element current (places_in known) (drop c.at text))
 
@@ -163,7 +155,7 @@ abbrev pub read_one : (b : Bool) → Resolution → List ℕ → Parsed (RowElem
 read_one true p = Strings.pattern_element current p
 read_one false p = Strings.element current p no_role
 
-abbrev pub OneRead : (text known table keys tags : List ℕ) (c : Cursor) (b : Bool) → Outcome → (table' keys' tags' : List ℕ) → Type 0
+abbrev pub OneRead : (text known table keys tags : List ℕ) (c : Cursor) (b : Bool) → Option Cursor → (table' keys' tags' : List ℕ) → Type 0
 OneRead text known table keys tags c b =
     ReadsOne (shown b) text table keys tags c (read_one b (places_in known) (drop c.at text))
 
@@ -173,43 +165,38 @@ pub record GetsMany {A : Type 0} (f : A → PatternElement) (text table keys tag
   pub values : List A
   pub gets : GetsElements text table keys tags c x values (map f values) [] table' keys' tags' d
 
-abbrev pub ManyAnswer : {A : Type 0} (f : A → PatternElement) (text table keys tags : List ℕ) (c : Cursor) → Parsed (List A) → Outcome
+abbrev pub ManyAnswer : {A : Type 0} (f : A → PatternElement) (text table keys tags : List ℕ) (c : Cursor) → Parsed (List A) → Option Cursor
     → (table' keys' tags' : List ℕ) → Type 0
-ManyAnswer f text table keys tags c x (OutcomeCode.TheVariants.Got d) table' keys' tags' =
+ManyAnswer f text table keys tags c x (Some d) table' keys' tags' =
     GetsMany f text table keys tags c x table' keys' tags' d
-ManyAnswer f text table keys tags c x OutcomeCode.TheVariants.Broken table' keys' tags' = x ≡ broken
+ManyAnswer f text table keys tags c x None table' keys' tags' = x ≡ broken
 
-pub record ReadsMany {A : Type 0} (f : A → PatternElement) (text table keys tags : List ℕ) (c : Cursor) (x : Parsed (List A)) (r : Outcome)
+pub record ReadsMany {A : Type 0} (f : A → PatternElement) (text table keys tags : List ℕ) (c : Cursor) (x : Parsed (List A)) (r : Option Cursor)
     (table' keys' tags' : List ℕ) : Type 0 where
   pub answer : ManyAnswer f text table keys tags c x r table' keys' tags'
 
 -- more of them behind commas, whatever more than enough turns are allowed
-abbrev pub MoreFollow : {A : Type 0} (f : A → PatternElement) (one : List ℕ → Parsed A) (text table keys tags : List ℕ) (c : Cursor) → Outcome
+abbrev pub MoreFollow : {A : Type 0} (f : A → PatternElement) (one : List ℕ → Parsed A) (text table keys tags : List ℕ) (c : Cursor) → Option Cursor
     → (table' keys' tags' : List ℕ) → Type 0
 MoreFollow f one text table keys tags c r table' keys' tags' =
     (n : ℕ) → length text ≤ n + c.at
     → ReadsMany f text table keys tags c (Strings.more_of one n (drop c.at text)) r table' keys' tags'
 
-abbrev pub MoreRead : (text known table keys tags : List ℕ) (c : Cursor) (b : Bool) → Outcome → (table' keys' tags' : List ℕ) → Type 0
+abbrev pub MoreRead : (text known table keys tags : List ℕ) (c : Cursor) (b : Bool) → Option Cursor → (table' keys' tags' : List ℕ) → Type 0
 MoreRead text known table keys tags c b = MoreFollow (shown b) (read_one b (places_in known)) text table keys tags c
-
--- an outcome behind an element
-abbrev pub PastElements : ℕ → Outcome → Type 0
-PastElements from (OutcomeCode.TheVariants.Got d) = from ≤ d.elements
-PastElements from OutcomeCode.TheVariants.Broken = Unit {0}
 
 -- the cursor with a longest row
 abbrev pub longer : Cursor → ℕ → Cursor
 longer c n =
     record { at = c.at; names = c.names; items = c.items; elements = c.elements; literals = c.literals; longest = n }
 
--- a row ends that started with this element
-abbrev pub row_ended : ℕ → Outcome → Outcome
-row_ended from (OutcomeCode.TheVariants.Got d) = elim (ltb d.longest (d.elements - from)) [
-  | true ↦ OutcomeCode.TheVariants.Got (longer d (d.elements - from))
-  | false ↦ OutcomeCode.TheVariants.Got d
-]
-row_ended from OutcomeCode.TheVariants.Broken = OutcomeCode.TheVariants.Broken
+-- the cursor behind a row that started with this element: the longest row so far may be this one
+abbrev pub ended_row : ℕ → Cursor → Cursor
+ended_row from d = elim (ltb d.longest (d.elements - from)) [ true ↦ longer d (d.elements - from) | false ↦ d ]
+
+abbrev pub row_ended : ℕ → Option Cursor → Option Cursor
+row_ended from (Some d) = Some (ended_row from d)
+row_ended from None = None
 
 -- a row of them: a pattern, or a string expression
 abbrev pub shown_row : (b : Bool) → List (RowElement b) → List PatternElement
@@ -220,6 +207,6 @@ abbrev pub parse_row : (b : Bool) → Resolution → List ℕ → Parsed (List (
 parse_row true p = Strings.pattern current p
 parse_row false p = Strings.string_expression current p
 
-abbrev pub RowsRead : (text known table keys tags : List ℕ) (c : Cursor) (b : Bool) → Outcome → (table' keys' tags' : List ℕ) → Type 0
+abbrev pub RowsRead : (text known table keys tags : List ℕ) (c : Cursor) (b : Bool) → Option Cursor → (table' keys' tags' : List ℕ) → Type 0
 RowsRead text known table keys tags c b =
     RowRead (shown_row b) text table keys tags c (parse_row b (places_in known) (drop c.at text))

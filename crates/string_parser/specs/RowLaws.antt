@@ -1,5 +1,5 @@
 -- Literals, elements and rows of them: how each is read and written. Assumes nothing.
-use Rattle.std.specs.Prelude.{Bool, true, false, cond, not, ◌||◌, ◌≡◌, eqb, ltb, drop}
+use Rattle.std.specs.Prelude.{Option, Some, None, Bool, true, false, cond, not, ◌||◌, ◌≡◌, eqb, ltb, drop}
 use Rattle.std.proofs.Math.Bool.{or-false}
 use mathlib.Core.List.{List, [], ◌∷◌, ◌++◌, map, append-nil, map-id}
 use Rattle.std.proofs.Math.Path.{refl, sym, ap, subst}
@@ -27,30 +27,18 @@ use Rattle.symbols.specs.Entries.{NameEntry, role_of, gather, mentions_in}
 use Rattle.symbols.specs.EntryLaws.{mentions_more}
 use Rattle.symbols.specs.Environment.{places_in}
 use Rattle.symbols.specs.declared.Cursor.{Cursor}
+use Rattle.numeric_parser.specs.declared.operands.Cell.{Cell}
 use Rattle.numeric_parser.specs.OperandLaws.{noting_none, skipped, drop-moved, ready_here, then_broken, cell-made, cell_skip, chosen, role_none}
 use Rattle.numeric_parser.specs.Operands.{cursor_moved, ReaderReady, OperandRead}
-use Rattle.numeric_parser.specs.declared.operands.Operand as OperandCode
-use Rattle.numeric_parser.specs.declared.operands.Operand.{Operand}
-use Rattle.numeric_parser.specs.declared.Outcome as OutcomeCode
-use Rattle.numeric_parser.specs.declared.Outcome.{Outcome}
 use Rattle.card_reader.specs.Letters.{letters_on}
 use Rattle.string_parser.specs.CellLaws.{Bare, Always, always_got, text_bare, part_bare, filler-bare}
 use Rattle.string_parser.specs.Cells.{bare_cell}
 use Rattle.string_parser.specs.ElementLaws.{elements_none, elements-succeed, elements_then, elements_broken, elements_skip}
-use Rattle.string_parser.specs.Elements.{GetsElements, rows_of, GetsRow, RowRead, CellRoomy, cell_written, celled, LiteralWritten, LiteralRead}
-use Rattle.string_parser.specs.Elements.{GetsOne, OneAnswer, ReadsOne, ElementRead, PatternElementRead, OneRead, ReadsMany, MoreFollow, PastElements, longer, row_ended, shown, read_one, RowsRead}
-
--- the outcome by its case
-module _ {A : Type 0} {f : A → PatternElement} {text table keys tags : List ℕ} {c : Cursor} {x : Parsed A} {r : Outcome} {t k g : List ℕ}
-    (a : ReadsOne f text table keys tags c x r t k g) where
-  pub one_case : {d : Cursor} → r ≡ OutcomeCode.TheVariants.Got d → GetsOne f text table keys tags c x t k g d
-  one_case e = subst (λ z. OneAnswer f text table keys tags c x z t k g) e a.answer
-
-  pub one_none : r ≡ OutcomeCode.TheVariants.Broken → x ≡ broken
-  one_none e = subst (λ z. OneAnswer f text table keys tags c x z t k g) e a.answer
+use Rattle.string_parser.specs.Elements.{GetsElements, rows_of, GetsRow, RowRead, cell_written, celled, LiteralWritten, LiteralRead}
+use Rattle.string_parser.specs.Elements.{GetsOne, ReadsOne, ElementRead, PatternElementRead, OneRead, ReadsMany, MoreFollow, longer, row_ended, shown, read_one, RowsRead}
 
 -- by the same reading, and of a value made of another
-pub one_same : {A : Type 0} {f : A → PatternElement} {text table keys tags : List ℕ} {c : Cursor} {x y : Parsed A} {r : Outcome}
+pub one_same : {A : Type 0} {f : A → PatternElement} {text table keys tags : List ℕ} {c : Cursor} {x y : Parsed A} {r : Option Cursor}
     {t k g : List ℕ} → x ≡ y → ReadsOne f text table keys tags c y r t k g → ReadsOne f text table keys tags c x r t k g
 one_same {f = f} {text} {table} {keys} {tags} {c} {r = r} {t} {k} {g} e a = subst (λ z. ReadsOne f text table keys tags c z r t k g) (sym e) a
 
@@ -149,11 +137,11 @@ module _ (text : List ℕ) (at n : ℕ) where
       (drop-drop (n + 1) (at + 1) text ∙ drop_of_length-le text behind ∙ sym (drop_of_length-le text end))
 
 -- a cell that was read is one element with no literal bytes
-pub cell-element : {A : Type 0} (f : A → PatternElement) {text : List ℕ} (table : List ℕ) {keys tags : List ℕ} {c : Cursor} {x : Parsed A} (r : Operand)
+pub cell-element : {A : Type 0} (f : A → PatternElement) {text : List ℕ} (table : List ℕ) {keys tags : List ℕ} {c : Cursor} {x : Parsed A} (r : Option (Cell × Cursor))
     {k t : List ℕ} → ReaderReady text keys tags c → Always (λ a. Bare (f a)) x → OperandRead (λ a. pattern_cell 0 (f a)) text keys tags c x r k t
     → ReadsOne f text table keys tags c x (cell_written r) (celled table r) k t
 unfolding all_literals with_literals any
-cell-element f {text} table {c = c} {x} (OperandCode.TheVariants.Got v d) {k} {t} ready bare a =
+cell-element f {text} table {c = c} {x} (Some (v, d)) {k} {t} ready bare a =
     let r = a.answer in
     let e = f r.value in
     let b = always_got (subst (Always (λ a. Bare (f a))) r.is bare) in
@@ -188,15 +176,10 @@ cell-element f {text} table {c = c} {x} (OperandCode.TheVariants.Got v d) {k} {t
             further = r.further;
           };
     }
-cell-element f table OperandCode.TheVariants.Broken ready bare a = record { answer = a.answer }
+cell-element f table None ready bare a = record { answer = a.answer }
 
--- there is room for it, and the code's outcome is this one
-pub cell_roomy : {A : Type 0} {f : A → Table.Cell} {text keys tags : List ℕ} {c : Cursor} {x : Parsed A} (r : Operand) {k t : List ℕ}
-    → OperandRead f text keys tags c x r k t → CellRoomy r
-cell_roomy (OperandCode.TheVariants.Got v d) a = omega (arith, a.answer.ready)
-cell_roomy OperandCode.TheVariants.Broken a = tt
-
-pub one_written : {A : Type 0} {f : A → PatternElement} {text table keys tags : List ℕ} {c : Cursor} {x : Parsed A} (q : Operand) {r : Outcome}
+-- the code's outcome is this one
+pub one_written : {A : Type 0} {f : A → PatternElement} {text table keys tags : List ℕ} {c : Cursor} {x : Parsed A} (q : Option (Cell × Cursor)) {r : Option Cursor}
     {t k g : List ℕ} → (r ≡ cell_written q) × (t ≡ celled table q) → ReadsOne f text table keys tags c x (cell_written q) (celled table q) k g
     → ReadsOne f text table keys tags c x r t k g
 one_written {f = f} {text} {table} {keys} {tags} {c} {x} q {r} {t} {k} {g} e a =
@@ -206,14 +189,14 @@ one_written {f = f} {text} {table} {keys} {tags} {c} {x} q {r} {t} {k} {g} e a =
 -- an element by its first bytes
 module _ (p : Resolution) (roles : List ℕ → List Role) {text table keys tags : List ℕ} {c : Cursor} (ready : ReaderReady text keys tags c) where
   pub element_literal : {t : List ℕ} {d : Cursor} → begins (34 ∷ []) (drop c.at text) ≡ true → LiteralRead text table keys tags c t d
-      → ReadsOne value text table keys tags c (Strings.element current p roles (drop c.at text)) (OutcomeCode.TheVariants.Got d) t keys tags
+      → ReadsOne value text table keys tags c (Strings.element current p roles (drop c.at text)) (Some d) t keys tags
   unfolding Strings.element bytes
   element_literal e a =
       one_same (chosen _ _ e ∙ ap (λ (l : List ℕ). literal_at l >>= λ (w, rest). succeed (literal w) rest) (drop-drop 1 c.at text))
       (record { answer = one-made literal value a })
 
   module _ (no : begins (34 ∷ []) (drop c.at text) ≡ false) where
-    pub element_text : (q : Operand) {d : Cursor} {k t : List ℕ} → d ≡ cursor_moved c 7 → begins (bytes "STRING(") (drop c.at text) ≡ true
+    pub element_text : (q : Option (Cell × Cursor)) {d : Cursor} {k t : List ℕ} → d ≡ cursor_moved c 7 → begins (bytes "STRING(") (drop c.at text) ≡ true
         → OperandRead bare_cell text keys tags d (text_call current p (drop d.at text)) q k t
         → ReadsOne value text table keys tags c (Strings.element current p roles (drop c.at text)) (cell_written q) (celled table q) k t
     unfolding Strings.element bytes
@@ -221,7 +204,7 @@ module _ (p : Resolution) (roles : List ℕ → List Role) {text table keys tags
         one_same (chosen _ _ no ∙ chosen _ _ e ∙ ap (text_call current p) (sym (drop-moved text c 7 s)))
         (cell-element value table q ready (text_bare p (drop d.at text)) (cell_skip 7 q (skipped c 7 s) a))
 
-    pub element_part : (q : Operand) {k t : List ℕ} → begins (bytes "STRING(") (drop c.at text) ≡ false
+    pub element_part : (q : Option (Cell × Cursor)) {k t : List ℕ} → begins (bytes "STRING(") (drop c.at text) ≡ false
         → OperandRead (part_cell parts) text keys tags c (part_name current p roles (drop c.at text)) q k t
         → ReadsOne value text table keys tags c (Strings.element current p roles (drop c.at text)) (cell_written q) (celled table q) k t
     unfolding Strings.element bytes pattern_cell part_cell
@@ -231,7 +214,7 @@ module _ (p : Resolution) (roles : List ℕ → List Role) {text table keys tags
 
 -- an element of a pattern
 module _ (p : Resolution) {text table keys tags : List ℕ} {c : Cursor} where
-  pub pattern-filler : ReaderReady text keys tags c → (q : Operand) {d : Cursor} {k t : List ℕ} → d ≡ cursor_moved c 1
+  pub pattern-filler : ReaderReady text keys tags c → (q : Option (Cell × Cursor)) {d : Cursor} {k t : List ℕ} → d ≡ cursor_moved c 1
       → begins (40 ∷ []) (drop c.at text) ≡ true
       → OperandRead (pattern_cell 0) text keys tags d (filler_at current p (drop d.at text)) q k t
       → ReadsOne (λ x. x) text table keys tags c (Strings.pattern_element current p (drop c.at text)) (cell_written q) (celled table q) k t
@@ -240,15 +223,15 @@ module _ (p : Resolution) {text table keys tags : List ℕ} {c : Cursor} where
       one_same (chosen _ _ e ∙ ap (filler_at current p) (sym (drop-moved text c 1 s)))
       (cell-element (λ x. x) table q ready (filler-bare p (drop d.at text)) (cell_skip 1 q (skipped c 1 s) a))
 
-  pub pattern_value : (r : Outcome) {t k g : List ℕ} → begins (40 ∷ []) (drop c.at text) ≡ false
+  pub pattern_value : (r : Option Cursor) {t k g : List ℕ} → begins (40 ∷ []) (drop c.at text) ≡ false
       → ReadsOne value text table keys tags c (Strings.element current p (role_of 2) (drop c.at text)) r t k g
       → ReadsOne (λ x. x) text table keys tags c (Strings.pattern_element current p (drop c.at text)) r t k g
   unfolding Strings.pattern_element bytes role_of
-  pattern_value (OutcomeCode.TheVariants.Got d) e a = one_same (chosen _ _ e) (record { answer = one-made value (λ x. x) a.answer })
-  pattern_value OutcomeCode.TheVariants.Broken e a = record { answer = chosen _ _ e ∙ then_broken _ a.answer }
+  pattern_value (Some d) e a = one_same (chosen _ _ e) (record { answer = one-made value (λ x. x) a.answer })
+  pattern_value None e a = record { answer = chosen _ _ e ∙ then_broken _ a.answer }
 
 -- an element of either
-module _ (known : List ℕ) {text table keys tags : List ℕ} {c : Cursor} {b : Bool} {r : Outcome} {t k g : List ℕ} where
+module _ (known : List ℕ) {text table keys tags : List ℕ} {c : Cursor} {b : Bool} {r : Option Cursor} {t k g : List ℕ} where
   pub one-pattern : b ≡ true → PatternElementRead text known table keys tags c r t k g → OneRead text known table keys tags c b r t k g
   one-pattern e a = subst (λ z. OneRead text known table keys tags c z r t k g) (sym e) a
 
@@ -280,7 +263,7 @@ module _ {A : Type 0} (one : List ℕ → Parsed A) where
 -- more behind commas
 module _ {A : Type 0} (f : A → PatternElement) (one : List ℕ → Parsed A) {text table keys tags : List ℕ} {d : Cursor} where
   pub follows_end : ReaderReady text keys tags d → begins (44 ∷ []) (drop d.at text) ≡ false
-      → MoreFollow f one text table keys tags d (OutcomeCode.TheVariants.Got d) table keys tags
+      → MoreFollow f one text table keys tags d (Some d) table keys tags
   unfolding more_of bytes
   follows_end ready e zero h = record { answer = record { values = []; gets = elements_none [] ready } }
   follows_end ready e (suc n) h =
@@ -296,7 +279,7 @@ module _ {A : Type 0} (f : A → PatternElement) (one : List ℕ → Parsed A) {
 
   module _ (ready : ReaderReady text keys tags d) (comma : begins (44 ∷ []) (drop d.at text) ≡ true) {b : Cursor} (s : b ≡ cursor_moved d 1) where
     pub follows_broken : one (drop b.at text) ≡ broken → {t k g : List ℕ}
-        → MoreFollow f one text table keys tags d OutcomeCode.TheVariants.Broken t k g
+        → MoreFollow f one text table keys tags d None t k g
     follows_broken e n h =
         record {
           answer =
@@ -306,10 +289,10 @@ module _ {A : Type 0} (f : A → PatternElement) (one : List ℕ → Parsed A) {
         }
 
     module _ {t k g : List ℕ} {e : Cursor} (a : GetsOne f text table keys tags b (one (drop b.at text)) t k g e) where
-      followed : (r : Outcome) {t₂ k₂ g₂ : List ℕ} (n : ℕ)
+      followed : (r : Option Cursor) {t₂ k₂ g₂ : List ℕ} (n : ℕ)
           → ReadsMany f text t k g e (more_of one n (drop e.at text)) r t₂ k₂ g₂
           → ReadsMany f text table keys tags d (one (drop b.at text) >>= after one n) r t₂ k₂ g₂
-      followed (OutcomeCode.TheVariants.Got z) n m =
+      followed (Some z) n m =
           let q = m.answer in
           record {
             answer =
@@ -320,12 +303,12 @@ module _ {A : Type 0} (f : A → PatternElement) (one : List ℕ → Parsed A) {
                       (elements-succeed q.gets (λ (xs, rest). succeed (a.element ∷ xs) rest) (a.element ∷ q.values) refl);
                 };
           }
-      followed OutcomeCode.TheVariants.Broken n m =
+      followed None n m =
           record {
             answer = elements_broken a.gets (after one n) (then_broken (λ (xs, rest). succeed (a.element ∷ xs) rest) m.answer);
           }
 
-      pub follows_more : (r : Outcome) {t₂ k₂ g₂ : List ℕ} → MoreFollow f one text t k g e r t₂ k₂ g₂
+      pub follows_more : (r : Option Cursor) {t₂ k₂ g₂ : List ℕ} → MoreFollow f one text t k g e r t₂ k₂ g₂
           → MoreFollow f one text table keys tags d r t₂ k₂ g₂
       follows_more r {t₂} {k₂} {g₂} m n h =
           let more = turns text d n comma h in
@@ -339,7 +322,7 @@ pub record RowPassing {A : Type 0} (f : A → PatternElement) (one : List ℕ �
     (table keys tags : List ℕ) (d : Cursor) : Type 0 where
   pub ready : ReaderReady text keys tags d
   pub size : length table ≡ length table₀
-  pub leads : (r : Outcome) (t k g : List ℕ) → MoreFollow f one text table keys tags d r t k g → MoreFollow f one text table₀ keys₀ tags₀ c r t k g
+  pub leads : (r : Option Cursor) (t k g : List ℕ) → MoreFollow f one text table keys tags d r t k g → MoreFollow f one text table₀ keys₀ tags₀ c r t k g
 
 module _ {A : Type 0} (f : A → PatternElement) (one : List ℕ → Parsed A) {text table₀ keys₀ tags₀ : List ℕ} {c : Cursor} where
   pub passing_none : ReaderReady text keys₀ tags₀ c → RowPassing f one text table₀ keys₀ tags₀ c table₀ keys₀ tags₀ c
@@ -357,12 +340,17 @@ module _ {A : Type 0} (f : A → PatternElement) (one : List ℕ → Parsed A) {
         }
 
     pub passing_broken : begins (44 ∷ []) (drop d.at text) ≡ true → {b : Cursor} → b ≡ cursor_moved d 1 → one (drop b.at text) ≡ broken
-        → {t k g : List ℕ} → MoreFollow f one text table₀ keys₀ tags₀ c OutcomeCode.TheVariants.Broken t k g
-    passing_broken comma s e = p.leads OutcomeCode.TheVariants.Broken _ _ _ (follows_broken f one p.ready comma s e)
+        → {t k g : List ℕ} → MoreFollow f one text table₀ keys₀ tags₀ c None t k g
+    passing_broken comma s e = p.leads None _ _ _ (follows_broken f one p.ready comma s e)
 
     pub passing_end : begins (44 ∷ []) (drop d.at text) ≡ false
-        → MoreFollow f one text table₀ keys₀ tags₀ c (OutcomeCode.TheVariants.Got d) table keys tags
-    passing_end e = p.leads (OutcomeCode.TheVariants.Got d) table keys tags (follows_end f one p.ready e)
+        → MoreFollow f one text table₀ keys₀ tags₀ c (Some d) table keys tags
+    passing_end e = p.leads (Some d) table keys tags (follows_end f one p.ready e)
+
+pub more_lost : {A : Type 0} (f : A → PatternElement) (one : List ℕ → Parsed A) {text table keys tags : List ℕ} {c : Cursor} {r : Option Cursor}
+    {t k g : List ℕ} → r ≡ None → MoreFollow f one text table keys tags c None t k g → MoreFollow f one text table keys tags c r t k g
+more_lost f one {text} {table} {keys} {tags} {c} {t = t} {k} {g} e a =
+    subst (λ z. MoreFollow f one text table keys tags c z t k g) (sym e) a
 
 -- which of two rows is the longer
 longest-row : (l n : ℕ) → ltb Limits.row_elements (cond (ltb l n) n l) ≡ (ltb Limits.row_elements l || (ltb Limits.row_elements n || false))
@@ -429,7 +417,7 @@ module _ {A : Type 0} (f : A → PatternElement) (one : List ℕ → Parsed A) {
           size = a.goes.elements ∙ ap (λ i. c.elements + i) (length-map (x ∷ xs) f);
         }
 
-    row_ended_lem : RowRead (map f) text table keys tags c (row_parser one (drop c.at text)) (row_ended c.elements (OutcomeCode.TheVariants.Got z)) t k g
+    row_ended_lem : RowRead (map f) text table keys tags c (row_parser one (drop c.at text)) (row_ended c.elements (Some z)) t k g
     row_ended_lem =
         let count : z.elements - c.elements ≡ length (x ∷ xs) = omega (arith, a.goes.elements, length-map (x ∷ xs) f) in
         let longest = longest-row z.longest (length (x ∷ xs)) in
@@ -437,10 +425,7 @@ module _ {A : Type 0} (f : A → PatternElement) (one : List ℕ → Parsed A) {
         (λ b.
         ltb z.longest (z.elements - c.elements) ≡ b
         → RowRead (map f) text table keys tags c (row_parser one (drop c.at text))
-        (elim b [
-          | true ↦ OutcomeCode.TheVariants.Got (longer z (z.elements - c.elements))
-          | false ↦ OutcomeCode.TheVariants.Got z
-        ])
+        (Some (elim b [ true ↦ longer z (z.elements - c.elements) | false ↦ z ]))
         t k g)
         (ltb z.longest (z.elements - c.elements))
         (λ _ e.
@@ -460,16 +445,16 @@ module _ {A : Type 0} (f : A → PatternElement) (one : List ℕ → Parsed A) {
         refl
 
   pub row-got : ReaderReady text keys tags c → {t k g : List ℕ} {d : Cursor} → GetsOne f text table keys tags c (one (drop c.at text)) t k g d
-      → (r : Outcome) {t₂ k₂ g₂ : List ℕ} → MoreFollow f one text t k g d r t₂ k₂ g₂
+      → (r : Option Cursor) {t₂ k₂ g₂ : List ℕ} → MoreFollow f one text t k g d r t₂ k₂ g₂
       → RowRead (map f) text table keys tags c (row_parser one (drop c.at text)) (row_ended c.elements r) t₂ k₂ g₂
   unfolding row_parser list_of
-  row-got ready {d = d} a (OutcomeCode.TheVariants.Got z) m =
+  row-got ready {d = d} a (Some z) m =
       let far : length text ≤ length (drop d.at text) + d.at = omega (arith, length-drop d.at text) in
       let q = (m (length (drop d.at text)) far).answer in
       row_ended_lem a.element q.values z
       (elements_then a.gets (λ (x, rest). more_of one (length rest) rest >>= λ (xs, rest). succeed (x ∷ xs) rest) ready
       (elements-succeed q.gets (λ (xs, rest). succeed (a.element ∷ xs) rest) (a.element ∷ q.values) refl))
-  row-got ready {d = d} a OutcomeCode.TheVariants.Broken m =
+  row-got ready {d = d} a None m =
       let far : length text ≤ length (drop d.at text) + d.at = omega (arith, length-drop d.at text) in
       record {
         answer =
@@ -479,13 +464,12 @@ module _ {A : Type 0} (f : A → PatternElement) (one : List ℕ → Parsed A) {
             (then_broken (λ (xs, rest). succeed (a.element ∷ xs) rest) (m (length (drop d.at text)) far).answer));
       }
 
-  -- up to more elements the code counts on
-  pub row-behind : {t k g : List ℕ} {d : Cursor} → GetsOne f text table keys tags c (one (drop c.at text)) t k g d → (r : Outcome)
-      {t₂ k₂ g₂ : List ℕ} → MoreFollow f one text t k g d r t₂ k₂ g₂ → PastElements c.elements r
-  row-behind {d = d} a (OutcomeCode.TheVariants.Got z) m =
+  -- more elements stand behind the first of the row
+  pub row-behind : {t k g : List ℕ} {d : Cursor} → GetsOne f text table keys tags c (one (drop c.at text)) t k g d → {z : Cursor}
+      {t₂ k₂ g₂ : List ℕ} → MoreFollow f one text t k g d (Some z) t₂ k₂ g₂ → c.elements ≤ z.elements
+  row-behind {d = d} a m =
       let q = (m (length text) (omega arith)).answer in
       omega (arith, a.gets.goes.elements, q.gets.goes.elements)
-  row-behind a OutcomeCode.TheVariants.Broken m = tt
 
 pub row_broken : {A : Type 0} (one : List ℕ → Parsed A) (bs : List ℕ) → nothing_here bs ≡ false → one bs ≡ broken → row_parser one bs ≡ broken
 unfolding row_parser list_of
@@ -494,7 +478,7 @@ row_broken one bs some e = chosen _ _ some ∙ then_broken _ (then_broken _ e)
 -- nothing stands there
 pub row_nothing : {A : Type 0} (f : A → PatternElement) (one : List ℕ → Parsed A) {text table keys tags : List ℕ} {c : Cursor}
     → ReaderReady text keys tags c → nothing_here (drop c.at text) ≡ true
-    → RowRead (map f) text table keys tags c (row_parser one (drop c.at text)) (OutcomeCode.TheVariants.Got c) table keys tags
+    → RowRead (map f) text table keys tags c (row_parser one (drop c.at text)) (Some c) table keys tags
 unfolding row_parser rows_of
 row_nothing {A} f one {text} {table} {keys} {tags} {c} ready e =
     record {
@@ -508,17 +492,18 @@ row_nothing {A} f one {text} {table} {keys} {tags} {c} ready e =
           };
     }
 
--- the end of a row, as the code has it
-pub ended_by : (from : ℕ) (b : Bool) {r : Outcome} {d : Cursor} → r ≡ OutcomeCode.TheVariants.Got d → ltb d.longest (d.elements - from) ≡ b
-    → elim b [ true ↦ OutcomeCode.TheVariants.Got (longer d (d.elements - from)) | false ↦ OutcomeCode.TheVariants.Got d ] ≡ row_ended from r
-ended_by from b e h = sym (chosen _ _ h) ∙ ap (row_ended from) (sym e)
+-- a broken row, and a broken element
+pub rows_lost : (b : Bool) (known : List ℕ) {text table keys tags : List ℕ} {c : Cursor} {r : Option Cursor} {t k g : List ℕ} → r ≡ None
+    → RowsRead text known table keys tags c b None t k g → RowsRead text known table keys tags c b r t k g
+rows_lost b known {text} {table} {keys} {tags} {c} {t = t} {k} {g} e a =
+    subst (λ z. RowsRead text known table keys tags c b z t k g) (sym e) a
 
 -- a row of elements is a pattern, whose elements are its values, or a string expression
-pub row-whole : (b : Bool) (known : List ℕ) {text table keys tags : List ℕ} {c : Cursor} (r : Outcome) {t k g : List ℕ}
+pub row-whole : (b : Bool) (known : List ℕ) {text table keys tags : List ℕ} {c : Cursor} (r : Option Cursor) {t k g : List ℕ}
     → RowRead (map (shown b)) text table keys tags c (row_parser (read_one b (places_in known)) (drop c.at text)) r t k g
     → RowsRead text known table keys tags c b r t k g
 unfolding Strings.pattern Strings.string_expression
-row-whole true known {text} {table} {keys} {tags} {c} (OutcomeCode.TheVariants.Got d) {t} {k} {g} a =
+row-whole true known {text} {table} {keys} {tags} {c} (Some d) {t} {k} {g} a =
     let q = a.answer in
     let x = row_parser (read_one true (places_in known)) (drop c.at text) in
     record {
@@ -531,5 +516,5 @@ row-whole true known {text} {table} {keys} {tags} {c} (OutcomeCode.TheVariants.G
             size = q.size;
           };
     }
-row-whole true known OutcomeCode.TheVariants.Broken a = record { answer = a.answer }
+row-whole true known None a = record { answer = a.answer }
 row-whole false known r a = a

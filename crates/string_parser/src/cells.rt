@@ -5,11 +5,9 @@ ghost use Rattle.numeric_parser.specs.Operands.{ReaderReady};
 ghost use Rattle.string_parser.specs.Cells.{NumberEnds, NumberFollows, ConstantCalled, NumberCalled, TextCalled, FillerRead};
 
 use encoding::cell_kinds::{FIXED, FREE, TEXT};
-use lexer::constants::{SignedConstant, signed};
+use lexer::constants::signed;
 use lexer::{constant_at, stands_at};
-use numeric_parser::operands::{
-    Cell, Operand, Place, closed, placed, read_bound, read_number, read_string, skip,
-};
+use numeric_parser::operands::{Cell, closed, marked, read_bound, read_number, read_string, skip};
 use symbols::tags::FILLER;
 use symbols::{BIAS, Cursor, KNOWN, NAMES, with_bias};
 
@@ -22,15 +20,13 @@ fn number_end(
     c: Cursor,
     kind: u8,
     value: usize,
-) -> Operand
+) -> Option<(Cell, Cursor)>
     requires reader_ready { ReaderReady text.now keys.old tags.old c }
     requires counts_in_range { CountsInRange known.now }
     ensures { NumberEnds text.now known.now keys.old tags.old c kind value result keys.new tags.new }
 {
-    closed(
-        text,
-        placed(kind, value, read_number(text, known, keys, tags, c)),
-    )
+    let (place, d) = read_number(text, known, keys, tags, c)?;
+    closed(text, Cell { kind, place, value }, d)
 }
 
 // the m of STRING behind a comma
@@ -42,15 +38,13 @@ fn number_behind(
     c: Cursor,
     kind: u8,
     value: usize,
-) -> Operand
+) -> Option<(Cell, Cursor)>
     requires reader_ready { ReaderReady text.now keys.old tags.old c }
     requires counts_in_range { CountsInRange known.now }
     ensures { NumberFollows text.now known.now keys.old tags.old c kind value result keys.new tags.new }
 {
-    if stands_at(text, c.at, b',') {
-        return number_end(text, known, keys, tags, skip(c, 1), kind, value);
-    }
-    Operand::Broken
+    let d = marked(text, c, b',')?;
+    number_end(text, known, keys, tags, d, kind, value)
 }
 
 // STRING with a constant n
@@ -60,24 +54,15 @@ fn constant_call(
     keys: &mut [u64; NAMES],
     tags: &mut [u8; NAMES],
     c: Cursor,
-) -> Operand
+) -> Option<(Cell, Cursor)>
     requires reader_ready { ReaderReady text.now keys.old tags.old c }
     requires counts_in_range { CountsInRange known.now }
     ensures { ConstantCalled text.now known.now keys.old tags.old c result keys.new tags.new }
 {
     let at = c.at;
-    match signed(text, at) {
-        SignedConstant::Broken => Operand::Broken,
-        SignedConstant::Is { value, next } => number_behind(
-            text,
-            known,
-            keys,
-            tags,
-            skip(c, next - at),
-            TEXT,
-            with_bias(value),
-        ),
-    }
+    let number = signed(text, at)?;
+    let d = skip(c, number.next - at);
+    number_behind(text, known, keys, tags, d, TEXT, with_bias(number.value))
 }
 
 // STRING with a number n, or with m alone: its n is 0
@@ -87,38 +72,22 @@ fn number_call(
     keys: &mut [u64; NAMES],
     tags: &mut [u8; NAMES],
     c: Cursor,
-) -> Operand
+) -> Option<(Cell, Cursor)>
     requires reader_ready { ReaderReady text.now keys.old tags.old c }
     requires counts_in_range { CountsInRange known.now }
     ensures { NumberCalled text.now known.now keys.old tags.old c result keys.new tags.new }
 {
-    match read_number(text, known, keys, tags, c) {
-        Place::Broken => Operand::Broken,
-        Place::Got(place, d) => {
-            if stands_at(text, d.at, b',') {
-                return number_end(
-                    text,
-                    known,
-                    keys,
-                    tags,
-                    skip(d, 1),
-                    TEXT + 1,
-                    place as usize,
-                );
-            }
-            closed(
-                text,
-                Operand::Got(
-                    Cell {
-                        kind: TEXT,
-                        place,
-                        value: BIAS,
-                    },
-                    d,
-                ),
-            )
-        }
+    let (place, d) = read_number(text, known, keys, tags, c)?;
+    if stands_at(text, d.at, b',') {
+        let value = place as usize;
+        return number_end(text, known, keys, tags, skip(d, 1), TEXT + 1, value);
     }
+    let cell = Cell {
+        kind: TEXT,
+        place,
+        value: BIAS,
+    };
+    closed(text, cell, d)
 }
 
 // a STRING call behind its `(`
@@ -128,7 +97,7 @@ pub fn text_call(
     keys: &mut [u64; NAMES],
     tags: &mut [u8; NAMES],
     c: Cursor,
-) -> Operand
+) -> Option<(Cell, Cursor)>
     requires reader_ready { ReaderReady text.now keys.old tags.old c }
     requires counts_in_range { CountsInRange known.now }
     ensures { TextCalled text.now known.now keys.old tags.old c result keys.new tags.new }
@@ -146,31 +115,20 @@ pub fn filler(
     keys: &mut [u64; NAMES],
     tags: &mut [u8; NAMES],
     c: Cursor,
-) -> Operand
+) -> Option<(Cell, Cursor)>
     requires reader_ready { ReaderReady text.now keys.old tags.old c }
     requires counts_in_range { CountsInRange known.now }
     ensures { FillerRead text.now known.now keys.old tags.old c result keys.new tags.new }
 {
-    match read_string(text, known, keys, tags, c, FILLER) {
-        Place::Broken => Operand::Broken,
-        Place::Got(place, d) => {
-            if stands_at(text, d.at, b'$') {
-                return closed(
-                    text,
-                    read_bound(text, known, keys, tags, skip(d, 1), FIXED, place),
-                );
-            }
-            closed(
-                text,
-                Operand::Got(
-                    Cell {
-                        kind: FREE,
-                        place,
-                        value: 0,
-                    },
-                    d,
-                ),
-            )
-        }
+    let (place, d) = read_string(text, known, keys, tags, c, FILLER)?;
+    if stands_at(text, d.at, b'$') {
+        let (cell, e) = read_bound(text, known, keys, tags, skip(d, 1), FIXED, place)?;
+        return closed(text, cell, e);
     }
+    let cell = Cell {
+        kind: FREE,
+        place,
+        value: 0,
+    };
+    closed(text, cell, d)
 }

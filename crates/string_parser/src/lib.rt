@@ -13,14 +13,13 @@ ghost use Rattle.symbols.specs.Bounds.{far_enough};
 ghost use Rattle.symbols.specs.Elements.{with_element};
 ghost use Rattle.symbols.specs.Environment.{CountsInRange};
 ghost use Rattle.numeric_parser.specs.Operands.{ReaderReady, StringTag, meaning};
-ghost use Rattle.string_parser.specs.Elements.{one_more, CellRoomy, cell_written, celled, ElementRead, PatternElementRead, OneRead, MoreRead, PastElements, row_ended, RowsRead};
+ghost use Rattle.string_parser.specs.Elements.{one_more, ElementRead, PatternElementRead, OneRead, MoreRead, ended_row, RowsRead};
 
 use cells::{filler, text_call};
 use encoding::cell_kinds;
 use lexer::{begins_at, stands_at};
 use literals::literal;
-use numeric_parser::Outcome;
-use numeric_parser::operands::{Cell, Operand, read_part, skip};
+use numeric_parser::operands::{Cell, read_part, skip};
 use symbols::tags::{SOUGHT, STRING};
 use symbols::{Cursor, KNOWN, NAMES, put_element};
 
@@ -31,23 +30,8 @@ fn put(table: &mut [u8], c: Cursor, v: Cell) -> Cursor
 {
     put_element(table, c.elements, v.kind, v.place, v.value);
     Cursor {
-        at: c.at,
-        names: c.names,
-        items: c.items,
         elements: c.elements + 1,
-        literals: c.literals,
-        longest: c.longest,
-    }
-}
-
-// writes the cell that was read, if one was
-fn write_cell(table: &mut [u8], r: Operand) -> Outcome
-    requires { (table_size ≤ length table.old) × CellRoomy r }
-    ensures { (result ≡ cell_written r) × (table.new ≡ celled table.old r) }
-{
-    match r {
-        Operand::Broken => Outcome::Broken,
-        Operand::Got(v, d) => Outcome::Got(put(table, d, v)),
+        ..c
     }
 }
 
@@ -60,7 +44,7 @@ fn element(
     tags: &mut [u8; NAMES],
     c: Cursor,
     tag: u8,
-) -> Outcome
+) -> Option<Cursor>
     requires reader_ready { ReaderReady text.now keys.old tags.old c }
     requires counts_in_range { CountsInRange known.now }
     requires table_size_in_bounds { (table_size ≤ length table.old) × StringTag tag }
@@ -69,15 +53,14 @@ fn element(
 {
     let at = c.at;
     if stands_at(text, at, b'"') {
-        return Outcome::Got(literal(text, table, c));
+        return Some(literal(text, table, c));
     }
     if begins_at(text, at, b"STRING(") {
-        return write_cell(table, text_call(text, known, keys, tags, skip(c, 7)));
+        let (cell, d) = text_call(text, known, keys, tags, skip(c, 7))?;
+        return Some(put(table, d, cell));
     }
-    write_cell(
-        table,
-        read_part(text, known, keys, tags, c, cell_kinds::STRING, tag),
-    )
+    let (cell, d) = read_part(text, known, keys, tags, c, cell_kinds::STRING, tag)?;
+    Some(put(table, d, cell))
 }
 
 // an element of a pattern
@@ -88,7 +71,7 @@ fn pattern_element(
     keys: &mut [u64; NAMES],
     tags: &mut [u8; NAMES],
     c: Cursor,
-) -> Outcome
+) -> Option<Cursor>
     requires reader_ready { ReaderReady text.now keys.old tags.old c }
     requires counts_in_range { CountsInRange known.now }
     requires table_size_in_bounds { table_size ≤ length table.old }
@@ -96,7 +79,8 @@ fn pattern_element(
         table.new keys.new tags.new }
 {
     if stands_at(text, c.at, b'(') {
-        return write_cell(table, filler(text, known, keys, tags, skip(c, 1)));
+        let (cell, d) = filler(text, known, keys, tags, skip(c, 1))?;
+        return Some(put(table, d, cell));
     }
     element(text, known, table, keys, tags, c, SOUGHT)
 }
@@ -110,7 +94,7 @@ fn one(
     tags: &mut [u8; NAMES],
     c: Cursor,
     patterned: bool,
-) -> Outcome
+) -> Option<Cursor>
     requires reader_ready { ReaderReady text.now keys.old tags.old c }
     requires counts_in_range { CountsInRange known.now }
     requires table_size_in_bounds { table_size ≤ length table.old }
@@ -132,7 +116,7 @@ fn more(
     tags: &mut [u8; NAMES],
     c: Cursor,
     patterned: bool,
-) -> Outcome
+) -> Option<Cursor>
     requires reader_ready { ReaderReady text.now keys.old tags.old c }
     requires counts_in_range { CountsInRange known.now }
     requires table_size_in_bounds { table_size ≤ length table.old }
@@ -141,12 +125,9 @@ fn more(
 {
     let mut d = c;
     while stands_at(text, d.at, b',') {
-        match one(text, known, table, keys, tags, skip(d, 1), patterned) {
-            Outcome::Broken => return Outcome::Broken,
-            Outcome::Got(e) => d = e,
-        }
+        d = one(text, known, table, keys, tags, skip(d, 1), patterned)?;
     }
-    Outcome::Got(d)
+    Some(d)
 }
 
 // whether nothing stands at a place: the end, `/` or `]`
@@ -159,28 +140,19 @@ fn nothing_here(text: &[u8], at: usize) -> bool
     stands_at(text, at, b'/') | stands_at(text, at, b']')
 }
 
-// the end of a row that started with this element: the longest row so far may be this one
-fn row_end(from: usize, r: Outcome) -> Outcome
-    requires { PastElements from r }
-    ensures { result ≡ row_ended from r }
+// the cursor behind a row that started with this element: the longest row so far may be this one
+fn row_end(from: usize, d: Cursor) -> Cursor
+    requires { from ≤ d.elements }
+    ensures { result ≡ ended_row from d }
 {
-    match r {
-        Outcome::Broken => Outcome::Broken,
-        Outcome::Got(d) => {
-            let count = d.elements - from;
-            if d.longest < count {
-                return Outcome::Got(Cursor {
-                    at: d.at,
-                    names: d.names,
-                    items: d.items,
-                    elements: d.elements,
-                    literals: d.literals,
-                    longest: count,
-                });
-            }
-            Outcome::Got(d)
-        }
+    let count = d.elements - from;
+    if d.longest < count {
+        return Cursor {
+            longest: count,
+            ..d
+        };
     }
+    d
 }
 
 // a pattern or a string expression: nothing, or elements parted by commas
@@ -192,7 +164,7 @@ pub fn row(
     tags: &mut [u8; NAMES],
     c: Cursor,
     patterned: bool,
-) -> Outcome
+) -> Option<Cursor>
     requires reader_ready { ReaderReady text.now keys.old tags.old c }
     requires counts_in_range { CountsInRange known.now }
     requires table_size_in_bounds { table_size ≤ length table.old }
@@ -200,13 +172,9 @@ pub fn row(
         table.new keys.new tags.new }
 {
     if nothing_here(text, c.at) {
-        return Outcome::Got(c);
+        return Some(c);
     }
-    match one(text, known, table, keys, tags, c, patterned) {
-        Outcome::Broken => Outcome::Broken,
-        Outcome::Got(d) => row_end(
-            c.elements,
-            more(text, known, table, keys, tags, d, patterned),
-        ),
-    }
+    let d = one(text, known, table, keys, tags, c, patterned)?;
+    let e = more(text, known, table, keys, tags, d, patterned)?;
+    Some(row_end(c.elements, e))
 }

@@ -34,11 +34,9 @@ fn put_literal(text: &[u8], table: &mut [u8], c: Cursor, n: usize, size: usize) 
     put_element(table, c.elements, LITERAL, 0, c.literals + RANGE_STEP * n);
     Cursor {
         at: c.at + size,
-        names: c.names,
-        items: c.items,
         elements: c.elements + 1,
         literals: c.literals + n,
-        longest: c.longest,
+        ..c
     }
 }
 

@@ -1,59 +1,54 @@
--- Looking for a key among others, one by one.
+-- Looking for a key among others.
 -- Assumes nothing.
-use mathlib.Core.Bool.{Bool, true, false}
-use mathlib.Core.List.{List}
-use mathlib.Core.Path.{◌≡◌, sym, ap, ◌∙◌}
-use Prim.Native.Nat.{ℕ, suc, ◌+◌, ◌-◌, ◌≤◌, ◌<◌}
-use native.Mathlib.Omega.{arith}
-use lib.Dec.{eqb}
-use lib.ListN.{length, take, drop, get_or}
-use lib.Seq.{drop-cons}
-use borrow.Author.Tests.{eq-eqb, ne_eqb}
+use Rattle.std.proofs.Common.{Option, Some, None, Bool, true, false, cond, List, [], ◌∷◌, ◌≡◌, refl, sym, ap, ◌∙◌, ℕ, suc, ◌+◌, ◌≤◌, length, take, drop, arith, ◌==◌, nat_lt, eqb, eqb-true, eq-eqb, ne_eqb, ltb-false, length-take-le, length-drop}
+use Rattle.std.proofs.lemmas.List.Recursion.{is_position_or_len}
+use Rattle.std.specs.List.{position, position_or_len}
+use Rattle.std.specs.Option.{unwrap_or}
+use borrow.Author.Tests.{eqb-false}
+use Rattle.base.specs.Choice.{test_cases}
 use Rattle.symbols.specs.Environment.{key_place}
 
--- the first i of count keys are others
-pub record Passed (known : List ℕ) (from count key i : ℕ) : Type 0 where
-  pub inside : i ≤ count
-  pub place : key_place key (take count (drop from known)) ≡ i + key_place key (take (count - i) (drop (from + i) known))
+-- equality of numbers either way round
+eqb_swap : (a b : ℕ) → eqb a b ≡ eqb b a
+eqb_swap a b =
+    test_cases (λ t. eqb a b ≡ t → t ≡ eqb b a) (eqb a b) (λ _ e. sym (eq-eqb b a (sym (eqb-true a b e))))
+    (λ _ e. sym (ne_eqb b a (λ h. eqb-false a b e (sym h)))) refl
 
-module _ (known : List ℕ) (from count key : ℕ) where
-  pub passed_none : Passed known from count key 0
-  passed_none =
-      let whole : count - 0 ≡ count = omega arith in
-      let start : from + 0 ≡ from = omega arith in
-      record { inside = omega arith; place = rw (whole, start) (omega arith) }
+by_test : (b : Bool) (x y : ℕ) → elim b as (λ _. ℕ) [ true ↦ x | false ↦ y ] ≡ cond b x y
+by_test true x y = refl
+by_test false x y = refl
 
-  module _ (i : ℕ) (room : from + count ≤ length known) (more : i < count) where
-    abbrev behind : ℕ
-    behind = key_place key (take (count - (i + 1)) (drop (from + (i + 1)) known))
-
-    turn : key_place key (take (count - i) (drop (from + i) known))
-        ≡ elim (eqb key (get_or known (from + i) 0)) [ true ↦ 0 | false ↦ suc behind ]
-    unfolding key_place
-    turn =
-        let left : count - i ≡ suc (count - (i + 1)) = omega arith in
-        let next : suc (from + i) ≡ from + (i + 1) = omega arith in
-        ap (λ n. key_place key (take n (drop (from + i) known))) left
-        ∙ ap (λ (l : List ℕ). key_place key (take (suc (count - (i + 1))) l)) (drop-cons known (from + i) 0 (omega arith))
-        ∙ ap (λ n. elim (eqb key (get_or known (from + i) 0)) [ true ↦ 0 | false ↦ suc (key_place key (take (count - (i + 1)) (drop n known))) ]) next
-
-    turned : (b : Bool) → eqb key (get_or known (from + i) 0) ≡ b
-        → key_place key (take (count - i) (drop (from + i) known)) ≡ elim b [ true ↦ 0 | false ↦ suc behind ]
-    turned b e = turn ∙ ap {B = ℕ} (λ t. elim t [ true ↦ 0 | false ↦ suc behind ]) e
-
-    pub passed_here : Passed known from count key i → get_or known (from + i) 0 ≡ key → i ≡ key_place key (take count (drop from known))
-    passed_here p e =
-        let here = turned true (eq-eqb key (get_or known (from + i) 0) (sym e)) in
-        omega (arith, p.place)
-
-    pub passed_more : Passed known from count key i → (get_or known (from + i) 0 ≡ key → ⊥) → Passed known from count key (i + 1)
-    passed_more p f =
-        let other = turned false (ne_eqb key (get_or known (from + i) 0) (λ e. f (sym e))) in
-        record { inside = omega arith; place = omega (arith, p.place) }
-
-  pub passed_all : (i : ℕ) → Passed known from count key i → count ≤ i → i ≡ key_place key (take count (drop from known))
+module _ (key : ℕ) where
+  -- the place of a key is that of the first that is equal, and no further than the end
+  place_first : (keys : List ℕ) → key_place key keys ≡ position_or_len (λ k. k == key) keys
   unfolding key_place
-  passed_all i p h =
-      let none : count - i ≡ 0 = omega arith in
-      let end : key_place key (take (count - i) (drop (from + i) known)) ≡ 0 = rw none in
-      omega (arith, p.place)
+  place_first keys =
+      is_position_or_len (key_place key) (λ k. k == key) refl
+      (λ k ks.
+      let n = key_place key ks in
+      let next : suc n ≡ 1 + n = omega arith in
+      ap {B = ℕ} (λ b. elim b [ true ↦ 0 | false ↦ suc n ]) (eqb_swap key k)
+      ∙ by_test (eqb k key) 0 (suc n)
+      ∙ ap (λ (m : ℕ). cond (eqb k key) 0 m) next) keys
+
+  place_within : (keys : List ℕ) → key_place key keys ≤ length keys
+  unfolding key_place
+  place_within [] = omega arith
+  place_within (k ∷ ks) =
+      test_cases (λ b. elim b as (λ _. ℕ) [ true ↦ 0 | false ↦ suc (key_place key ks) ] ≤ length (k ∷ ks)) (eqb key k) (λ _. omega arith)
+      (λ _. omega (arith, place_within ks))
+
+  pub place_or_count : (known : List ℕ) (from count : ℕ) → from + count ≤ length known → {p : Option ℕ} {r : ℕ}
+      → p ≡ position (λ k. k == key) (take count (drop from known)) → r ≡ unwrap_or p count
+      → (r ≡ key_place key (take count (drop from known))) × (r ≤ count)
+  place_or_count known from count room p r =
+      let keys = take count (drop from known) in
+      let n = key_place key keys in
+      let size : length keys ≡ count = length-take-le count (drop from known) (omega (arith, length-drop from known)) in
+      let within = place_within keys in
+      let whole : unwrap_or (cond (nat_lt n (length keys)) (Some n) None) count ≡ n =
+      test_cases (λ b. nat_lt n (length keys) ≡ b → unwrap_or (cond b (Some n) None) count ≡ n) (nat_lt n (length keys)) (λ _ _. refl)
+      (λ _ e. omega (arith, ltb-false n (length keys) e)) refl in
+      let is =
+      r ∙ ap (λ z. unwrap_or z count) (p ∙ ap (λ m. cond (nat_lt m (length keys)) (Some m) None) (sym (place_first keys))) ∙ whole in
+      (is, omega (arith, is))

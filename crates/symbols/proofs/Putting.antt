@@ -1,23 +1,26 @@
 -- A number in bytes written one by one, a cell written in its parts, and literal bytes.
 -- Assumes nothing.
-use mathlib.Core.Bool.{true, false, true≢false}
-use mathlib.Core.List.{List, [], ◌∷◌}
+use mathlib.Core.Bool.{Bool, cond, true, false, true≢false}
+use mathlib.Core.List.{List, [], ◌∷◌, ◌++◌}
 use mathlib.Core.Path.{◌≡◌, refl, sym, ap, ap₂, ◌∙◌}
 use Prim.Native.Nat.{ℕ, suc, ◌+◌, ◌*◌, ◌-◌, ◌/◌, ◌%◌, ◌^◌, ◌≤◌, ◌<◌}
 use native.Mathlib.Nat.{add-zero}
 use native.Mathlib.Omega.{arith}
+use lib.Dec.{ltb}
 use lib.IntN.{ℤ, pos, negsuc, nat_abs}
-use lib.ListN.{length, take, get_or, set, length-set}
-use lib.Seq.{length-take-le, take-suc, take_all}
-use native.Mathlib.Numerals.{add-one}
+use lib.ListN.{length, take, set, length-set, drop, length-drop}
+use Rattle.std.proofs.Common.{take-append-drop}
+use borrow.Rule.Slice.PartMut.{put_mid}
+use Prim.Native.Nat.{min}
+use lib.Seq.{drop-drop, length-take-le}
 use Rattle.base.specs.Current.{limit, table_size}
 use Rattle.encoding.specs.Numerals.{in_bytes, bias, biased}
 use Rattle.encoding.specs.Splices.{splice, set-splice, splice-behind, splice_nil}
-use borrow.Author.Tests.{ltb-true, lt-ltb, le-ltb}
+use borrow.Author.Tests.{ltb-true, ltb-false, lt-ltb, le-ltb}
 use Rattle.encoding.specs.Table.{Cell, cell, cell_bytes, literals_at}
 use Rattle.symbols.specs.Cells.{with_cell}
 use Rattle.symbols.specs.Clauses.{cursor_behind_name, NameNoted}
-use Rattle.symbols.specs.Elements.{with_literals, literals-append}
+use Rattle.symbols.specs.Elements.{with_literals, literals-append, literals_rows}
 use Rattle.symbols.specs.declared.Cursor.{Cursor}
 use Rattle.values.specs.Numbers.{is_negative}
 
@@ -78,44 +81,61 @@ module _ (t : List ℕ) (from most k : ℕ) (c : Cell) where
   unfolding with_cell
   cell-behind h = rw (le-ltb k most h)
 
--- a literal byte, and one behind the last one
-module _ (t : List ℕ) (l b : ℕ) where
-  pub byte_inside : l < 4096 → table_size ≤ length t → set t (22_592 + l) b ≡ with_literals t l (b ∷ [])
-  unfolding with_literals literals_at
-  byte_inside h g = rw (lt-ltb l 4096 h) (set-splice t (22_592 + l) b (omega arith))
+-- bytes behind the last literal byte are not written
+literals-behind : (t : List ℕ) (l : ℕ) (bytes : List ℕ) → 4096 ≤ l → with_literals t l bytes ≡ t
+unfolding with_literals
+literals-behind t l [] h = refl
+literals-behind t l (b ∷ bytes) h =
+    ap (λ (y : List ℕ). with_literals y (suc l) bytes)
+    (ap {B = List ℕ} (λ k. cond k (splice t (literals_at + l) (b ∷ [])) t) (le-ltb l 4096 h))
+    ∙ literals-behind t (suc l) bytes (omega arith)
 
-  pub byte-behind : 4096 ≤ l → t ≡ with_literals t l (b ∷ [])
-  unfolding with_literals
-  byte-behind h = rw (le-ltb l 4096 h)
+-- nothing is left to write, or no room
+literals-left : (t : List ℕ) (l : ℕ) (bytes : List ℕ) → (0 < length bytes → 4096 ≤ l) → with_literals t l bytes ≡ t
+unfolding with_literals
+literals-left t l [] h = refl
+literals-left t l (b ∷ bytes) h = literals-behind t l (b ∷ bytes) (h (omega arith))
 
--- i of some literal bytes are written
-pub record Spelling (t₀ : List ℕ) (l : ℕ) (bytes t : List ℕ) (i : ℕ) : Type 0 where
-  pub inside : i ≤ length bytes
-  pub size : length t ≡ length t₀
-  pub leads : t ≡ with_literals t₀ l (take i bytes)
+-- those that have room are written at their place
+module _ (t : List ℕ) (l : ℕ) (bytes : List ℕ) (g : table_size ≤ length t) where
+  literals_fit : (n : ℕ) → n ≤ length bytes → l + n ≤ 4096 → (n < length bytes → 4096 ≤ l + n)
+      → splice t (22_592 + l) (take n bytes) ≡ with_literals t l bytes
+  unfolding literals_at
+  literals_fit n inside room full =
+      let size : length (take n bytes) ≡ n = length-take-le n bytes inside in
+      let left = length-drop n bytes in
+      sym
+      (ap (with_literals t l) (sym (take-append-drop n bytes))
+      ∙ literals-append t l (take n bytes) (drop n bytes)
+      ∙ literals-left (with_literals t l (take n bytes)) (l + length (take n bytes)) (drop n bytes) (λ h. omega (arith, full (omega arith)))
+      ∙ literals_rows t l (take n bytes) (omega arith) g)
 
-module _ (t₀ : List ℕ) (l : ℕ) (bytes : List ℕ) where
-  pub spelling_none : Spelling t₀ l bytes t₀ 0
-  unfolding with_literals
-  spelling_none = record { inside = omega arith; size = refl; leads = refl }
+  literals_full : 4096 ≤ l → splice t (22_592 + 4096) (take 0 bytes) ≡ with_literals t l bytes
+  literals_full h = splice_nil t (22_592 + 4096) ∙ sym (literals-behind t l bytes h)
 
-  pub spelling_more : {t t' : List ℕ} {i : ℕ} → Spelling t₀ l bytes t i → i < length bytes → length t' ≡ length t
-      → t' ≡ with_literals t (l + i) (get_or bytes i 0 ∷ []) → Spelling t₀ l bytes t' (i + 1)
-  spelling_more {t} {t'} {i} s h same put =
-      let size : length (take i bytes) ≡ i = length-take-le i bytes (omega arith) in
-      record {
-        inside = omega arith;
-        size = same ∙ s.size;
-        leads =
-            put
-            ∙ ap₂ (λ (y : List ℕ) (j : ℕ). with_literals y (l + j) (get_or bytes i 0 ∷ [])) s.leads (sym size)
-            ∙ sym (literals-append t₀ l (take i bytes) (get_or bytes i 0 ∷ []))
-            ∙ ap (with_literals t₀ l) (sym (rw (add-one i) (take-suc bytes i 0 h)));
-      }
+  -- as the code has it
+  module _ (from n : ℕ) (e : from ≡ min l 4096) (h : n ≡ min (length bytes) (4096 - from)) where
+    literals_at_place : (b : Bool) → ltb l 4096 ≡ b → splice t (22_592 + from) (take n bytes) ≡ with_literals t l bytes
+    literals_at_place true c =
+        let less = ltb-true l 4096 c in
+        let at : from ≡ l = omega (arith, e, less) in
+        ap (λ (f : ℕ). splice t (22_592 + f) (take n bytes)) at
+        ∙ literals_fit n (omega (arith, h)) (omega (arith, h, at, less)) (λ more. omega (arith, h, at, more))
+    literals_at_place false c =
+        let behind = ltb-false l 4096 c in
+        let at : from ≡ 4096 = omega (arith, e, behind) in
+        let none : n ≡ 0 = omega (arith, h, at) in
+        ap₂ (λ (f m : ℕ). splice t (22_592 + f) (take m bytes)) at none ∙ literals_full behind
 
-  pub spelling_all : {t : List ℕ} {i : ℕ} → Spelling t₀ l bytes t i → length bytes ≤ i → t ≡ with_literals t₀ l bytes
-  spelling_all {i = i} s h =
-      s.leads ∙ ap (with_literals t₀ l) (take_all i bytes h)
+    pub literals_put : (k : ℕ) → k ≡ n → {v : List ℕ} → v ≡ take n bytes → put_mid (22_592 + from) k t v ≡ with_literals t l bytes
+    unfolding splice
+    literals_put k same is =
+        let at = 22_592 + from in
+        let v = take n bytes in
+        let size : length v ≡ n = length-take-le n bytes (omega (arith, h)) in
+        ap (put_mid at k t) is
+        ∙ ap (λ (w : List ℕ). take at t ++ (v ++ w)) (drop-drop k at t ∙ ap (λ (m : ℕ). drop (at + m) t) (same ∙ sym size))
+        ∙ literals_at_place (ltb l 4096) refl
 
 -- a name behind the others
 pub noted : (keys tags : List ℕ) (c : Cursor) (key tag : ℕ) → c.names < length keys → c.names < length tags

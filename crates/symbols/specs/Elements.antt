@@ -56,7 +56,7 @@ unfolding with_elements
 elements-one t k l x = refl
 
 -- where all have room, literal bytes are written over what was there
-literals_rows : (t : List ℕ) (l : ℕ) (bs : List ℕ) → l + length bs ≤ Limits.literals → table_size ≤ length t
+pub literals_rows : (t : List ℕ) (l : ℕ) (bs : List ℕ) → l + length bs ≤ Limits.literals → table_size ≤ length t
     → with_literals t l bs ≡ splice t (literals_at + l) bs
 unfolding with_literals literals_at
 literals_rows t l [] h g = sym (splice_nil t (22_592 + l))

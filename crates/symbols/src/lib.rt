@@ -6,7 +6,8 @@
 pub mod places;
 pub mod tags;
 
-ghost use Rattle.std.specs.Prelude.{[], ◌∷◌, ◌≡◌, ◌+◌, ◌*◌, ◌≤◌, ◌<◌, length, take, drop};
+ghost use Rattle.std.specs.List.{position};
+ghost use Rattle.std.specs.Prelude.{◌==◌, [], ◌∷◌, ◌≡◌, ◌+◌, ◌*◌, ◌≤◌, ◌<◌, length, take, drop};
 ghost use Rattle.base.specs.Current.{table_size};
 ghost use Rattle.encoding.specs.Numerals.{in_bytes, biased};
 ghost use Rattle.encoding.specs.Splices.{splice};
@@ -64,14 +65,7 @@ pub fn note_name(
     let n = c.names;
     keys[n] = key;
     tags[n] = tag;
-    Cursor {
-        at: c.at,
-        names: n + 1,
-        items: c.items,
-        elements: c.elements,
-        literals: c.literals,
-        longest: c.longest,
-    }
+    Cursor { names: n + 1, ..c }
 }
 
 // a constant as its cell has it
@@ -93,11 +87,9 @@ pub fn put_number(table: &mut [u8], at: usize, size: usize, number: usize)
     ensures { table.new ≡ splice table.old at (in_bytes size number) }
 {
     let mut n = number;
-    let mut i = 0;
-    while i < size {
+    for i in 0..size {
         table[at + i] = (n % 256) as u8;
-        n = n / 256;
-        i += 1;
+        n /= 256;
     }
 }
 
@@ -137,27 +129,23 @@ pub fn put_element(table: &mut [u8], k: usize, kind: u8, place: u8, value: usize
     put_in(table, ELEMENTS_AT, ELEMENTS, k, kind, place, value);
 }
 
-// writes literal byte l; of those behind the last one nothing
-fn put_byte(table: &mut [u8], l: usize, byte: u8)
-    requires { table_size ≤ length table.old }
-    ensures { table.new ≡ with_literals table.old l (byte ∷ []) }
-{
-    if l < LITERALS {
-        table[LITERALS_AT + l] = byte;
-    }
-}
-
 // writes literal bytes from byte l on; of those behind the last one nothing
 pub fn put_literals(table: &mut [u8], l: usize, bytes: &[u8])
     requires table_size_in_bounds { table_size ≤ length table.old }
     requires l_le_far_enough { (l ≤ far_enough) × (length bytes.now ≤ far_enough) }
     ensures { table.new ≡ with_literals table.old l bytes.now }
 {
-    let mut i: usize = 0;
-    while i < bytes.len() {
-        put_byte(table, l + i, bytes[i]);
-        i += 1;
-    }
+    let from = l.min(LITERALS);
+    let n = bytes.len().min(LITERALS - from);
+    let at = LITERALS_AT + from;
+    table[at..at + n].copy_from_slice(&bytes[..n]);
+}
+
+// the place of a key among others, if it is one of them
+pub fn place(keys: &[u64], key: u64) -> Option<usize>
+    ensures { result ≡ position (λ k. k == key) keys.now }
+{
+    keys.iter().position(|k| *k == key)
 }
 
 // the place of a key among so many from a place on
@@ -165,14 +153,7 @@ pub fn key_place(known: &[u64; KNOWN], from: usize, count: usize, key: u64) -> u
     requires { (length known.now ≡ 326) × (from + count ≤ 326) }
     ensures { (result ≡ key_place key (take count (drop from known.now))) × (result ≤ count) }
 {
-    let mut i = 0;
-    while i < count {
-        if known[from + i] == key {
-            return i;
-        }
-        i += 1;
-    }
-    i
+    place(&known[from..from + count], key).unwrap_or(count)
 }
 
 // whether a key stands among n from a place on

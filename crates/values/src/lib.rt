@@ -1,2 +1,58 @@
-// Definitions only: numbers and their range, substrings, conversion between numbers and strings.
+// What work on values gives: a value with the notes made on the way, or what stops the step.
+// The definitions are numbers and their range, substrings, conversion between numbers and strings.
 #![tactic(auto)]
+
+ghost use Rattle.std.specs.Prelude.{◌≡◌, ◌+◌, ◌<◌, ◌^◌};
+ghost use Rattle.values.specs.Stops.{stop_number};
+
+// what stops a step
+#[derive(Clone, Copy, PartialEq, Eq)]
+pub enum Stop {
+    NegativeLength,
+    ZeroDivisor,
+    OutOfRange,
+    TooLong,
+    OutputFull,
+}
+
+impl Stop {
+    // its number in an answer
+    pub fn number(self) -> u32
+        ensures { result ≡ stop_number self }
+    {
+        match self {
+            Stop::NegativeLength => 17,
+            Stop::ZeroDivisor => 18,
+            Stop::OutOfRange => 19,
+            Stop::TooLong => 20,
+            Stop::OutputFull => 21,
+        }
+    }
+}
+
+// a value with the notes made on the way
+#[derive(Clone, Copy)]
+pub struct Noted<T> {
+    pub value: T,
+    pub notes: u32,
+}
+
+impl<T: Copy> Noted<T> {
+    // a value that no note was made for
+    pub fn plain(value: T) -> Noted<T>
+        ensures { result ≡ record { value = value; notes = 0 } }
+    {
+        Noted { value, notes: 0 }
+    }
+
+    // so many notes more, made before its own
+    pub fn behind(self, before: u32) -> Noted<T>
+        requires { before + self.notes < 2 ^ 32 }
+        ensures { result ≡ record { value = self.value; notes = before + self.notes } }
+    {
+        Noted {
+            notes: before + self.notes,
+            ..self
+        }
+    }
+}

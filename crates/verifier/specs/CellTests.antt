@@ -1,6 +1,6 @@
 -- The tests of a cell by its kind, and what they come to in any class of kinds: a cell that passes is read as a thing that holds and is
 -- written the same, and the cell of a thing that holds passes. Assumes nothing.
-use Rattle.std.specs.Prelude.{Bool, false, cond, ◌&&◌, ◌≡◌, ℕ, zero, suc, ◌+◌, ◌-◌, ◌/◌, ◌%◌, ◌^◌, ◌≤◌, ◌<◌, eqb, ltb, ℤ, pos, negsuc, length, drop}
+use Rattle.std.specs.Prelude.{Bool, false, ◌&&◌, ◌≡◌, ℕ, zero, suc, ◌+◌, ◌-◌, ◌^◌, ◌≤◌, ◌<◌, eqb, ltb, ℤ, pos, negsuc, length, drop, Option as Found, Some, None}
 use Rattle.std.proofs.Math.Bool.{true, not}
 use Rattle.std.proofs.Common.{true≢false, ◌∙◌}
 use Rattle.std.proofs.lemmas.Bool.{false≢true}
@@ -25,7 +25,7 @@ use Rattle.encoding.specs.Numerals.{bias, biased, unbiased}
 use Rattle.encoding.specs.Rules.{place_holds, value_holds, holds}
 use Rattle.encoding.specs.Table.{Cell, cell, range_value, payload_value, literal_of, cell_for, literals_at}
 use Rattle.encoding.specs.TableReading.{range_from, range_count, payload_in, read_cell}
-use Rattle.verifier.specs.Codes.{place_digit, value_digit, kind_code, code_among, code_at, code_place, code_value}
+use Rattle.verifier.specs.Asked.{CellAsks, cell_asks, asked_among, cell_asked, same_asks, same_asks_true}
 use Rattle.values.specs.Numbers.{is_negative, is_in_range}
 
 -- the least number that keeps a constant, and the one behind the greatest
@@ -35,122 +35,87 @@ lowest_constant = 140_737_488_355_328 - limit
 abbrev pub behind_highest : ℕ
 behind_highest = 140_737_488_355_328 + limit + 1
 
--- the length of a literal that a kind says the value is the range of
-unfoldable pub own_length : (code value : ℕ) → ℕ
-own_length code v = cond (eqb (code % 10) 4) (range_count v) 0
+-- the length of a literal, where the value is the range of one
+unfoldable pub own_length : Valuing → (value : ℕ) → ℕ
+own_length no_value v = 0
+own_length natural v = 0
+own_length signed v = 0
+own_length placed v = 0
+own_length spelt v = range_count v
 
-unfoldable pub value_low : ℕ → ℕ
-value_low code = cond (eqb (code % 10) 1) 140_737_488_355_328 (cond (eqb (code % 10) 2) lowest_constant 0)
+-- what the value is, nothing where there is no kind
+unfoldable pub value_asked : Found CellAsks → Valuing
+value_asked None = no_value
+value_asked (Some a) = a.valuing
+
+-- the least value
+unfoldable pub value_low : Valuing → ℕ
+value_low no_value = 0
+value_low natural = 140_737_488_355_328
+value_low signed = lowest_constant
+value_low placed = 0
+value_low spelt = 0
 
 -- a program of so many strings and numbers
 module _ (strings numbers : ℕ) where
-  unfoldable pub place_bound : ℕ → ℕ
-  place_bound code = cond (eqb (code / 10) 2) strings (cond (eqb (code / 10) 3) numbers (cond (eqb (code / 10) 1) 1 0))
+  -- what the place and the value lie under
+  unfoldable pub place_bound : Counting → ℕ
+  place_bound no_place = 1
+  place_bound of_string = strings
+  place_bound of_number = numbers
 
-  unfoldable pub value_bound : ℕ → ℕ
-  value_bound code =
-      cond (eqb (code % 10) 1) behind_highest
-      (cond (eqb (code % 10) 2) behind_highest (cond (eqb (code % 10) 3) numbers (cond (eqb (code % 10) 4) 281_474_976_710_656 1)))
+  unfoldable pub value_bound : Valuing → ℕ
+  value_bound no_value = 1
+  value_bound natural = behind_highest
+  value_bound signed = behind_highest
+  value_bound placed = numbers
+  value_bound spelt = 281_474_976_710_656
 
-  -- place and value are as a kind asks for
-  unfoldable pub fit_test : ℕ → Cell → Bool
-  fit_test code c = (ltb c.place (place_bound code) && leb (value_low code) c.value) && ltb c.value (value_bound code)
+  -- place and value are as a kind asks for; no cell is as no kind asks
+  unfoldable pub fit_test : CellAsks → Cell → Bool
+  fit_test a c = (ltb c.place (place_bound a.counting) && leb (value_low a.valuing) c.value) && ltb c.value (value_bound a.valuing)
+
+  unfoldable pub asked_test : Found CellAsks → Cell → Bool
+  asked_test None c = false
+  asked_test (Some a) c = fit_test a c
 
   -- a cell of a kind from low to high
   unfoldable pub cell_test : (low high : ℕ) → Cell → Bool
-  cell_test low high c = (leb low c.kind && leb c.kind high) && fit_test (code_at c.kind) c
-
-  -- the same in the words of the description
-  abbrev below : Counting → ℕ
-  below no_place = 1
-  below of_string = strings
-  below of_number = numbers
-
-  abbrev least : Valuing → ℕ
-  least no_value = 0
-  least natural = 140_737_488_355_328
-  least signed = lowest_constant
-  least placed = 0
-  least spelt = 0
-
-  abbrev bound : Valuing → ℕ
-  bound no_value = 1
-  bound natural = behind_highest
-  bound signed = behind_highest
-  bound placed = numbers
-  bound spelt = 281_474_976_710_656
+  cell_test low high c = (leb low c.kind && leb c.kind high) && asked_test (cell_asked c.kind) c
 
   pub record CellFits {A : Type 0} (k : CellKind A) (p v : ℕ) : Type 0 where
-    pub place : p < below k.counting
-    pub low : least k.valuing ≤ v
-    pub high : v < bound k.valuing
+    pub place : p < place_bound k.counting
+    pub low : value_low k.valuing ≤ v
+    pub high : v < value_bound k.valuing
 
-  -- the digits of a kind say so
-  place_said : (c : Counting)
-      → cond (eqb (place_digit c) 2) strings (cond (eqb (place_digit c) 3) numbers (cond (eqb (place_digit c) 1) 1 0)) ≡ below c
-  unfolding place_digit
-  place_said no_place = refl
-  place_said of_string = refl
-  place_said of_number = refl
-
-  low_said : (v : Valuing) → cond (eqb (value_digit v) 1) 140_737_488_355_328 (cond (eqb (value_digit v) 2) lowest_constant 0) ≡ least v
-  unfolding value_digit
-  low_said no_value = refl
-  low_said natural = refl
-  low_said signed = refl
-  low_said placed = refl
-  low_said spelt = refl
-
-  bound_said : (v : Valuing)
-      → cond (eqb (value_digit v) 1) behind_highest
-      (cond (eqb (value_digit v) 2) behind_highest
-      (cond (eqb (value_digit v) 3) numbers (cond (eqb (value_digit v) 4) 281_474_976_710_656 1)))
-      ≡ bound v
-  unfolding value_digit
-  bound_said no_value = refl
-  bound_said natural = refl
-  bound_said signed = refl
-  bound_said placed = refl
-  bound_said spelt = refl
-
-  -- a cell fits a kind exactly when it passes the test of the kind's number
+  -- a cell fits a kind exactly when it passes the test of what the kind asks
   module _ {A : Type 0} (k : CellKind A) (c : Cell) where
-    fit_said : fit_test (kind_code k) c
-        ≡ (ltb c.place (below k.counting) && leb (least k.valuing) c.value) && ltb c.value (bound k.valuing)
-    unfolding fit_test place_bound value_low value_bound
-    fit_said = rw (code_place k, code_value k, place_said k.counting, low_said k.valuing, bound_said k.valuing)
-
-    fits : fit_test (kind_code k) c ≡ true → CellFits k c.place c.value
+    fits : fit_test (cell_asks k.counting k.valuing) c ≡ true → CellFits k c.place c.value
+    unfolding fit_test
     fits h =
-        let one = ltb c.place (below k.counting) in
-        let two = leb (least k.valuing) c.value in
-        let a = both_true (one && two) (ltb c.value (bound k.valuing)) (sym fit_said ∙ h) in
+        let one = ltb c.place (place_bound k.counting) in
+        let two = leb (value_low k.valuing) c.value in
+        let a = both_true (one && two) (ltb c.value (value_bound k.valuing)) h in
         let b = both_true one two a.0 in
         record { place = ltb-true _ _ b.0; low = leb-true _ _ b.1; high = ltb-true _ _ a.1 }
 
-    fitted : CellFits k c.place c.value → fit_test (kind_code k) c ≡ true
-    fitted f = fit_said ∙ rw (lt-ltb _ _ f.place, le-leb _ _ f.low, lt-ltb _ _ f.high)
-
-  -- where no kind has the number, no cell fits
-  no_kind_fits : (c : Cell) → fit_test 0 c ≡ true → ⊥
-  unfolding fit_test place_bound
-  no_kind_fits c h =
-      let one = both_true (ltb c.place 0 && leb (value_low 0) c.value) (ltb c.value (value_bound 0)) h in
-      not-suc-le-zero (ltb-true c.place 0 (both_true (ltb c.place 0) (leb (value_low 0) c.value) one.0).0)
+    fitted : CellFits k c.place c.value → fit_test (cell_asks k.counting k.valuing) c ≡ true
+    unfolding fit_test
+    fitted f = rw (lt-ltb _ _ f.place, le-leb _ _ f.low, lt-ltb _ _ f.high)
 
 -- the numbers from low on, so many, are told by the kinds of a class
 unfoldable pub told_by_kinds : {A : Type 0} → List (CellKind A) → (low count : ℕ) → Bool
 told_by_kinds ks low zero = true
-told_by_kinds ks low (suc n) = eqb (code_among ks low) (code_at low) && told_by_kinds ks (suc low) n
+told_by_kinds ks low (suc n) = same_asks (asked_among ks low) (cell_asked low) && told_by_kinds ks (suc low) n
 
 pub told_at : {A : Type 0} (ks : List (CellKind A)) (low count k : ℕ) → told_by_kinds ks low count ≡ true → low ≤ k → k < low + count
-    → code_among ks k ≡ code_at k
+    → asked_among ks k ≡ cell_asked k
 unfolding told_by_kinds
 told_at ks low zero k h least most = absurd (omega arith)
 told_at ks low (suc n) k h least most =
-    let both = both_true (eqb (code_among ks low) (code_at low)) (told_by_kinds ks (suc low) n) h in
-    test_cases (λ _. code_among ks k ≡ code_at k) (eqb k low)
-    (λ e. subst (λ (j : ℕ). code_among ks j ≡ code_at j) (sym (eqb-true k low e)) (eqb-true (code_among ks low) (code_at low) both.0))
+    let both = both_true (same_asks (asked_among ks low) (cell_asked low)) (told_by_kinds ks (suc low) n) h in
+    test_cases (λ _. asked_among ks k ≡ cell_asked k) (eqb k low)
+    (λ e. subst (λ (j : ℕ). asked_among ks j ≡ cell_asked j) (sym (eqb-true k low e)) (same_asks_true (asked_among ks low) (cell_asked low) both.0))
     (λ e. told_at ks (suc low) n k both.1 (omega (arith, eqb-false k low e)) (omega arith))
 
 -- a number not under the bias keeps a constant that is not negative, and bytes that are some are not none
@@ -188,9 +153,9 @@ LiteralFits t at spelt v = (1 ≤ range_count v) × (v ≡ range_value at (range
 -- what a cell keeps: x is spelled as the cell, and holds
 module _ (strings numbers steps : ℕ) where
   -- a value that fits is written as it was read, and holds as well as what comes before it
-  value_written : (t : List ℕ) (at : ℕ) (w : Valuing) (v : ℕ) → least strings numbers w ≤ v → v < bound strings numbers w → LiteralFits t at w v
+  value_written : (t : List ℕ) (at : ℕ) (w : Valuing) (v : ℕ) → value_low w ≤ v → v < value_bound strings numbers w → LiteralFits t at w v
       → payload_value at w (payload_in t w v) ≡ v
-  unfolding payload_value payload_in
+  unfolding payload_value payload_in value_low value_bound
   value_written t at no_value v low high l = omega arith
   value_written t at natural v low high l = biased-unbiased v
   value_written t at signed v low high l = biased-unbiased v
@@ -199,9 +164,9 @@ module _ (strings numbers steps : ℕ) where
       let size = length_stretch t (literals_at + range_from v) (range_count v) (omega (arith, l.2, l.3)) in
       ap (λ (n : ℕ). range_value at n 0) size ∙ sym l.1
 
-  value_holds_lem : (b : Bool) (t : List ℕ) (at : ℕ) (w : Valuing) (v : ℕ) → b ≡ true → least strings numbers w ≤ v → v < bound strings numbers w
+  value_holds_lem : (b : Bool) (t : List ℕ) (at : ℕ) (w : Valuing) (v : ℕ) → b ≡ true → value_low w ≤ v → v < value_bound strings numbers w
       → LiteralFits t at w v → value_holds current strings numbers steps b w (payload_in t w v) ≡ true
-  unfolding value_holds payload_in
+  unfolding value_holds payload_in value_low value_bound
   value_holds_lem b t at no_value v h low high l = h
   value_holds_lem b t at natural v h low high l = both_pass h (both_pass (number_between_lem v (omega arith) (omega arith)) (ap not (natural_holds v low)))
   value_holds_lem b t at signed v h low high l = both_pass h (number_between_lem v low (omega arith))
@@ -214,31 +179,30 @@ module _ (strings numbers steps : ℕ) where
   pub record CellSpelt {A : Type 0} (t : List ℕ) (at : ℕ) (c : Cell) (s : Spelled A) : Type 0 where
     pub same : cell_for at s ≡ c
     pub hold : holds current strings numbers steps s ≡ true
-    pub own : length (literal_of s.kind.valuing s.payload) ≡ own_length (code_at c.kind) c.value
+    pub own : length (literal_of s.kind.valuing s.payload) ≡ own_length (value_asked (cell_asked c.kind)) c.value
     pub bytes :
         literal_of s.kind.valuing s.payload
         ≡ take (length (literal_of s.kind.valuing s.payload)) (drop (literals_at + at) t)
 
-  place-written : (k : Counting) (p : ℕ) → p < below strings numbers k → place_for k p ≡ p
-  unfolding place_for
+  place-written : (k : Counting) (p : ℕ) → p < place_bound strings numbers k → place_for k p ≡ p
+  unfolding place_for place_bound
   place-written no_place p h = omega arith
   place-written of_string p h = refl
   place-written of_number p h = refl
 
-  place-holds : (k : Counting) (p : ℕ) → p < below strings numbers k → place_holds current strings numbers steps k (place_for k p) ≡ true
-  unfolding place_for place_holds
+  place-holds : (k : Counting) (p : ℕ) → p < place_bound strings numbers k → place_holds current strings numbers steps k (place_for k p) ≡ true
+  unfolding place_for place_holds place_bound
   place-holds no_place p h = refl
   place-holds of_string p h = lt-ltb p strings h
   place-holds of_number p h = lt-ltb p numbers h
 
-  literal_own : (t : List ℕ) (at : ℕ) (w : Valuing) (v code : ℕ) → code % 10 ≡ value_digit w → LiteralFits t at w v
-      → length (literal_of w (payload_in t w v)) ≡ own_length code v
-  unfolding literal_of payload_in own_length value_digit
-  literal_own t at no_value v code d l = rw d
-  literal_own t at natural v code d l = rw d
-  literal_own t at signed v code d l = rw d
-  literal_own t at placed v code d l = rw d
-  literal_own t at spelt v code d l = rw d (length_stretch t (literals_at + range_from v) (range_count v) (omega (arith, l.2, l.3)))
+  literal_own : (t : List ℕ) (at : ℕ) (w : Valuing) (v : ℕ) → LiteralFits t at w v → length (literal_of w (payload_in t w v)) ≡ own_length w v
+  unfolding literal_of payload_in own_length
+  literal_own t at no_value v l = refl
+  literal_own t at natural v l = refl
+  literal_own t at signed v l = refl
+  literal_own t at placed v l = refl
+  literal_own t at spelt v l = length_stretch t (literals_at + range_from v) (range_count v) (omega (arith, l.2, l.3))
 
   literal_bytes : (t : List ℕ) (at : ℕ) (w : Valuing) (v : ℕ) → LiteralFits t at w v
       → literal_of w (payload_in t w v) ≡ take (length (literal_of w (payload_in t w v))) (drop (literals_at + at) t)
@@ -258,33 +222,33 @@ module _ (strings numbers steps : ℕ) where
     pub record CellFound (c : Cell) : Type 0 where
       pub kind : CellKind A
       pub finds : kind_in ks c.kind ≡ some kind
-      pub code : code_at c.kind ≡ kind_code kind
+      pub asks : cell_asked c.kind ≡ Some (cell_asks kind.counting kind.valuing)
       pub fits_it : CellFits strings numbers kind c.place c.value
 
     pub cell-found : (c : Cell) → cell_test strings numbers low high c ≡ true → CellFound c
-    unfolding cell_test code_among
+    unfolding cell_test asked_test asked_among
     cell-found c h =
         let range = leb low c.kind && leb c.kind high in
-        let both = both_true range (fit_test strings numbers (code_at c.kind) c) h in
+        let both = both_true range (asked_test strings numbers (cell_asked c.kind) c) h in
         let inside = both_true (leb low c.kind) (leb c.kind high) both.0 in
-        let codes = told_at ks low count c.kind tells (leb-true low c.kind inside.0) (omega (arith, leb-true c.kind high inside.1)) in
-        by (kind_in ks c.kind) refl (sym codes) both.1
+        let asks = told_at ks low count c.kind tells (leb-true low c.kind inside.0) (omega (arith, leb-true c.kind high inside.1)) in
+        by (kind_in ks c.kind) refl (sym asks) both.1
       where
-        by : (o : Option (CellKind A)) → kind_in ks c.kind ≡ o → code_at c.kind ≡ elim o [ none ↦ 0 | some x ↦ kind_code x ]
-            → fit_test strings numbers (code_at c.kind) c ≡ true → CellFound c
-        by none e code fit = absurd (no_kind_fits strings numbers c (subst (λ (n : ℕ). fit_test strings numbers n c ≡ true) code fit))
-        by (some k) e code fit =
+        by : (o : Option (CellKind A)) → kind_in ks c.kind ≡ o → cell_asked c.kind ≡ elim o [ none ↦ None | some x ↦ Some (cell_asks x.counting x.valuing) ]
+            → asked_test strings numbers (cell_asked c.kind) c ≡ true → CellFound c
+        by none e asks fit = absurd (false≢true (subst (λ (a : Found CellAsks). asked_test strings numbers a c ≡ true) asks fit))
+        by (some k) e asks fit =
             record {
               kind = k;
               finds = e;
-              code = code;
-              fits_it = fits strings numbers k c (subst (λ (n : ℕ). fit_test strings numbers n c ≡ true) code fit);
+              asks = asks;
+              fits_it = fits strings numbers k c (subst (λ (a : Found CellAsks). asked_test strings numbers a c ≡ true) asks fit);
             }
 
     -- a cell that passes, and whose literal stands at the place, is read as a thing that is spelled as the cell and holds
     pub class_back : (other : A) (t : List ℕ) (at : ℕ) (c : Cell) (f : CellFound c) → LiteralFits t at f.kind.valuing c.value
         → CellSpelt t at c (spell (read_cell other ks t c))
-    unfolding cell_for cell holds
+    unfolding cell_for cell holds value_asked
     class_back other t at c f literal =
         let k = f.kind in
         let fit = f.fits_it in
@@ -294,27 +258,27 @@ module _ (strings numbers steps : ℕ) where
         let number = found_number ks c.kind k f.finds in
         let place = place-written k.counting c.place fit.place in
         let value = value_written t at k.valuing c.value fit.low fit.high literal in
-        let digit : code_at c.kind % 10 ≡ value_digit k.valuing = ap (λ (n : ℕ). n % 10) f.code ∙ code_value k in
+        let asks : k.valuing ≡ value_asked (cell_asked c.kind) = ap value_asked (sym f.asks) in
         subst (CellSpelt t at c) (sym is)
         (record {
           same = λ i. record { kind = sym number i; place = place i; value = value i };
           hold =
               value_holds_lem (place_holds current strings numbers steps k.counting (place_for k.counting c.place)) t at k.valuing c.value
               (place-holds k.counting c.place fit.place) fit.low fit.high literal;
-          own = literal_own t at k.valuing c.value (code_at c.kind) digit literal;
+          own = literal_own t at k.valuing c.value literal ∙ ap (λ (v : Valuing). own_length v c.value) asks;
           bytes = literal_bytes t at k.valuing c.value literal;
         })
 
     -- what holds fits its kind
-    place_fits : (k : Counting) (p : ℕ) → place_holds current strings numbers steps k p ≡ true → p < below strings numbers k
-    unfolding place_holds
+    place_fits : (k : Counting) (p : ℕ) → place_holds current strings numbers steps k p ≡ true → p < place_bound strings numbers k
+    unfolding place_holds place_bound
     place_fits no_place p h = omega (arith, eqb-true p 0 h)
     place_fits of_string p h = ltb-true p strings h
     place_fits of_number p h = ltb-true p numbers h
 
     value_fits : (b : Bool) (at : ℕ) (v : Valuing) (w : Payload v) → value_holds current strings numbers steps b v w ≡ true
-        → at + length (literal_of v w) < 2 ^ 16 → (least strings numbers v ≤ payload_value at v w) × (payload_value at v w < bound strings numbers v)
-    unfolding value_holds payload_value literal_of
+        → at + length (literal_of v w) < 2 ^ 16 → (value_low v ≤ payload_value at v w) × (payload_value at v w < value_bound strings numbers v)
+    unfolding value_holds payload_value literal_of value_low value_bound
     value_fits b at no_value w h small = (omega arith, omega arith)
     value_fits b at natural w h small =
         let g = both_true (is_in_range current w) (not (is_negative w)) (both_true b (is_in_range current w && not (is_negative w)) h).1 in
@@ -327,18 +291,19 @@ module _ (strings numbers steps : ℕ) where
     pub class_forth : all (λ k. leb low k.number && leb k.number high) ks ≡ true → (at : ℕ) (x : A)
         → holds current strings numbers steps (spell x) ≡ true
         → at + length (literal_of (spell x).kind.valuing (spell x).payload) < 2 ^ 16
-        → (cell_test strings numbers low high (cell_for at (spell x)) ≡ true) × (code_at (spell x).kind.number ≡ kind_code (spell x).kind)
-    unfolding cell_test cell_for cell holds code_among
+        → (cell_test strings numbers low high (cell_for at (spell x)) ≡ true)
+        × (cell_asked (spell x).kind.number ≡ Some (cell_asks (spell x).kind.counting (spell x).kind.valuing))
+    unfolding cell_test asked_test cell_for cell holds asked_among
     class_forth within at x h small =
         let s = spell x in
         let k = s.kind in
         let finds = (class.spells x).finds in
         let range = found-passes (λ k. leb low k.number && leb k.number high) ks k.number k within finds in
         let inside = both_true (leb low k.number) (leb k.number high) range in
-        let codes =
+        let told =
         told_at ks low count k.number tells (leb-true low k.number inside.0) (omega (arith, leb-true k.number high inside.1)) in
-        let code : code_at k.number ≡ kind_code k =
-        sym codes ∙ ap (λ (o : Option (CellKind A)). elim o [ none ↦ 0 | some m ↦ kind_code m ]) finds in
+        let asks : cell_asked k.number ≡ Some (cell_asks k.counting k.valuing) =
+        sym told ∙ ap (λ (o : Option (CellKind A)). elim o [ none ↦ None | some m ↦ Some (cell_asks m.counting m.valuing) ]) finds in
         let b = place_holds current strings numbers steps k.counting s.place in
         let value = value_fits b at k.valuing s.payload h small in
         let fit : CellFits strings numbers k s.place (payload_value at k.valuing s.payload) =
@@ -347,7 +312,7 @@ module _ (strings numbers steps : ℕ) where
           low = value.0;
           high = value.1;
         } in
-        (both_pass range (ap (λ (n : ℕ). fit_test strings numbers n (cell_for at s)) code ∙ fitted strings numbers k (cell_for at s) fit), code)
+        (both_pass range (ap (λ (a : Found CellAsks). asked_test strings numbers a (cell_for at s)) asks ∙ fitted strings numbers k (cell_for at s) fit), asks)
 
     -- a kind without literal bytes has none that would have to stand anywhere
     pub plain_fits : all_plain ks ≡ true → {c : Cell} (f : CellFound c) → LiteralFits [] 0 f.kind.valuing c.value

@@ -1,14 +1,15 @@
 -- The numbers of each class are told by its kinds, and lie in its range. Computed. Assumes nothing.
-use Rattle.std.specs.Prelude.{true, ◌&&◌, ◌≡◌, refl, leb}
+use Rattle.std.specs.Prelude.{true, ◌&&◌, ◌≡◌, refl, leb, Some}
 use Rattle.base.specs.Lists.{all}
 use Rattle.encoding.specs.KindLaws.{kind_in}
+use Rattle.encoding.specs.Kinds.{no_place, of_string, of_number, no_value, spelt}
 use Rattle.encoding.specs.Kinds.{part_kinds, operand_kinds, item_kinds, element_kinds, pattern_kinds, parts, operator_number, sign_number}
 use Rattle.verifier.specs.CellTests.{told_by_kinds}
-use Rattle.verifier.specs.Codes.{codes_from, place_digit, value_digit, kind_code, code_among, cell_code, cell_codes, code_at}
+use Rattle.verifier.specs.Asked.{cell_asks, asked_among, cell_asked, counting_number, valuing_number, same_asks}
 
 -- all that these facts compute
 unfoldable pub computed : Unit {0}
-unfolding told_by_kinds codes_from place_digit value_digit kind_code code_among cell_code cell_codes code_at kind_in all part_kinds operand_kinds item_kinds element_kinds
+unfolding told_by_kinds asked_among cell_asked counting_number valuing_number same_asks kind_in all part_kinds operand_kinds item_kinds element_kinds
     pattern_kinds operator_number sign_number
 computed = tt
 
@@ -53,18 +54,18 @@ unfolding computed
 patterns_within = refl
 
 -- what a cell of one kind alone has
-pub nothing_code : code_at 0 ≡ 10
+pub nothing_asks : cell_asked 0 ≡ Some (cell_asks no_place no_value)
 unfolding computed
-nothing_code = refl
+nothing_asks = refl
 
-pub number_code : code_at 33 ≡ 30
+pub number_asks : cell_asked 33 ≡ Some (cell_asks of_number no_value)
 unfolding computed
-number_code = refl
+number_asks = refl
 
-pub string_code : code_at 64 ≡ 20
+pub string_asks : cell_asked 64 ≡ Some (cell_asks of_string no_value)
 unfolding computed
-string_code = refl
+string_asks = refl
 
-pub range_code : code_at 112 ≡ 14
+pub range_asks : cell_asked 112 ≡ Some (cell_asks no_place spelt)
 unfolding computed
-range_code = refl
+range_asks = refl

@@ -1,9 +1,10 @@
 -- The tests of items one behind the other ask for what the rules say: their cells stand at their places, they hold, and they are
 -- balanced. Assumes nothing.
-use Rattle.std.specs.Prelude.{Bool, ◌&&◌, ◌≡◌, ltb, length, get_or}
+use Rattle.std.specs.Prelude.{Bool, ◌&&◌, ◌≡◌, ltb, length, get_or, Option, Some, None, option_and_then}
 use Rattle.std.proofs.Math.Bool.{true, cond}
 use mathlib.Core.List.{List, [], ◌∷◌}
 use Rattle.std.proofs.Math.Path.{refl, sym, ap}
+use Rattle.std.proofs.lemmas.Option.{none-some, same_Some}
 use Rattle.std.proofs.Common.{◌∙◌, arith}
 use Prim.Native.Nat.{ℕ, zero, suc, ◌+◌, ◌*◌, ◌-◌, ◌^◌, ◌≤◌, ◌<◌}
 use Rattle.std.proofs.Math.Dec.{leb}
@@ -25,10 +26,6 @@ use Rattle.verifier.specs.CellTests.{cell_test, cell-found, class_back, class_fo
 use Rattle.verifier.specs.Classes.{items_told, items_within}
 use Rattle.verifier.specs.Same.{ItemSame}
 use Rattle.verifier.specs.Written.{cell-written, piece_stands}
-
--- a count of waiting numbers, or a place among literals, where a rule is broken
-abbrev pub broken_place : ℕ
-broken_place = 65_536
 
 -- how many numbers an item takes: an operator two, a sign one, an operand none
 unfoldable pub item_used : ℕ → ℕ
@@ -83,13 +80,13 @@ module _ (strings numbers steps : ℕ) where
   item_test known c =
       cell_test strings numbers 16 63 c && (leb (item_used c.kind) known && leb (known + 1 - item_used c.kind) 64)
 
-  -- how many numbers wait behind an item, and behind so many, from item k on
-  unfoldable pub item_end : (known : ℕ) → Cell → ℕ
-  item_end known c = cond (item_test known c) (known + 1 - item_used c.kind) broken_place
+  -- how many numbers wait behind an item, and behind so many, from item k on; none where an item breaks a rule
+  unfoldable pub item_end : (known : ℕ) → Cell → Option ℕ
+  item_end known c = cond (item_test known c) (Some (known + 1 - item_used c.kind)) None
 
-  unfoldable pub items_end : List ℕ → (k known count : ℕ) → ℕ
-  items_end t k known zero = known
-  items_end t k known (suc m) = items_end t (k + 1) (item_end known (cell_at t (items_at + 8 * k))) m
+  unfoldable pub items_end : List ℕ → (k known count : ℕ) → Option ℕ
+  items_end t k known zero = Some known
+  items_end t k known (suc m) = option_and_then (λ left. items_end t (k + 1) left m) (item_end known (cell_at t (items_at + 8 * k)))
 
   -- the tests one by one
   pub item_tests : (known : ℕ) (c : Cell) → item_test known c ≡ true
@@ -102,21 +99,6 @@ module _ (strings numbers steps : ℕ) where
       let two = both_true low high one.1 in
       (one.0, leb-true (item_used c.kind) known two.0, leb-true (known + 1 - item_used c.kind) 64 two.1)
 
-  used_small : (k : ℕ) → item_used k ≤ 2
-  unfolding item_used
-  used_small k =
-      test_cases (λ b. cond b 2 (cond (ltb k 32) 1 0) ≤ 2) (ltb k 24) (λ _. omega arith)
-      (λ _. test_cases (λ b. cond b 1 0 ≤ 2) (ltb k 32) (λ _. omega arith) (λ _. omega arith))
-
-  -- broken stays broken
-  items_broken : (t : List ℕ) (k m : ℕ) → items_end t k broken_place m ≡ broken_place
-  unfolding items_end item_end
-  items_broken t k zero = refl
-  items_broken t k (suc m) =
-      let c = cell_at t (items_at + 8 * k) in
-      test_cases (λ b. item_test broken_place c ≡ b → items_end t (k + 1) (cond b (broken_place + 1 - item_used c.kind) broken_place) m ≡ broken_place) (item_test broken_place c)
-      (λ _ e. absurd (omega (arith, (item_tests broken_place c e).2, used_small c.kind))) (λ _ e. items_broken t (k + 1) m) refl
-
   abbrev pub item_ok : Item → Bool
   item_ok = item_holds current strings numbers steps
 
@@ -127,13 +109,14 @@ module _ (strings numbers steps : ℕ) where
     pub whole : balanced known xs ≡ true
 
   module _ (t : List ℕ) (bytes : (i : ℕ) → get_or t i 0 < 256) (room : table_size ≤ length t) where
-    pub items_back : (k known m : ℕ) → k + m ≤ 1024 → items_end t k known m ≡ 1 → ItemsBack t k known (read_items t k m)
+    pub items_back : (k known m : ℕ) → k + m ≤ 1024 → items_end t k known m ≡ Some 1 → ItemsBack t k known (read_items t k m)
     unfolding items_end read_items item_end all balanced items_at item_of_cell item_holds item_cell
-    items_back k known zero inside h = record { same = tt; hold = refl; whole = eq-eqb known 1 h }
+    items_back k known zero inside h = record { same = tt; hold = refl; whole = eq-eqb known 1 (same_Some known 1 h) }
     items_back k known (suc m) inside end =
         let c = cell_at t (items_at + 8 * k) in
         let x = item_of_cell c in
-        test_cases (λ b. item_test known c ≡ b → items_end t (k + 1) (cond b (known + 1 - item_used c.kind) broken_place) m ≡ 1
+        test_cases (λ b. item_test known c ≡ b
+        → option_and_then (λ left. items_end t (k + 1) left m) (cond b (Some (known + 1 - item_used c.kind)) None) ≡ Some 1
         → ItemsBack t k known (x ∷ read_items t (k + 1) m)) (item_test known c)
         (λ _ e h.
         let f = item_tests known c e in
@@ -149,7 +132,7 @@ module _ (strings numbers steps : ℕ) where
               ∙ ap (λ (u : ℕ). balanced (known + 1 - u) (read_items t (k + 1) m)) (sym uses)
               ∙ rest.whole;
         })
-        (λ _ e h. absurd (omega (arith, h, items_broken t (k + 1) m))) refl end
+        (λ _ e h. absurd (none-some 1 h)) refl end
 
   -- the cell of an item that holds passes, and its value has 6 bytes
   item_passes : numbers ≤ 32 → (x : Item) → item_ok x ≡ true → (cell_test strings numbers 16 63 (item_cell x) ≡ true) × ((item_cell x).value < 2 ^ 48)
@@ -162,16 +145,16 @@ module _ (strings numbers steps : ℕ) where
       )
 
   item_passed : (known : ℕ) (c : Cell) → cell_test strings numbers 16 63 c ≡ true → {u : ℕ} → item_used c.kind ≡ u → (u ≤ known) × (known + 1 - u ≤ 64)
-      → item_end known c ≡ known + 1 - u
+      → item_end known c ≡ Some (known + 1 - u)
   unfolding item_end item_test
   item_passed known c h {u} e finds = rw (h, e, le-leb u known finds.0, le-leb (known + 1 - u) 64 finds.1)
 
   -- items that hold and are balanced leave one number
   module _ (few : numbers ≤ 32) (t : List ℕ) where
     pub items_forth : (k known : ℕ) (xs : List Item) → known ≤ 64 → EachFrom (ItemSame t) k xs → all item_ok xs ≡ true
-        → balanced known xs ≡ true → items_end t k known (length xs) ≡ 1
+        → balanced known xs ≡ true → items_end t k known (length xs) ≡ Some 1
     unfolding items_end all balanced
-    items_forth k known [] small same hold h = eqb-true known 1 h
+    items_forth k known [] small same hold h = ap Some (eqb-true known 1 h)
     items_forth k known (x ∷ xs) small same hold h =
         let f = both_true (item_ok x) (all item_ok xs) hold in
         let c = item_cell x in
@@ -181,6 +164,6 @@ module _ (strings numbers steps : ℕ) where
         let uses = item_used_lem x in
         let finds = balanced_finds x known xs small h in
         let next : balanced (known + 1 - used x) xs ≡ true = sym (balanced-more x known xs finds.0 finds.1) ∙ h in
-        let end : item_end known c ≡ known + 1 - used x = item_passed known c own.0 uses finds in
-        ap (λ (m : ℕ). items_end t (k + 1) m (length xs)) (ap (item_end known) read ∙ end)
+        let end : item_end known c ≡ Some (known + 1 - used x) = item_passed known c own.0 uses finds in
+        ap (option_and_then (λ left. items_end t (k + 1) left (length xs))) (ap (item_end known) read ∙ end)
         ∙ items_forth (k + 1) (known + 1 - used x) xs finds.1 same.1 f.1 next

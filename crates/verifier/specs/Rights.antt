@@ -1,9 +1,10 @@
 -- The right cell of a row with its items and elements, and the whole row: the tests ask for what the rules say. Assumes nothing.
-use Rattle.std.specs.Prelude.{Bool, true, ◌&&◌, ◌≡◌, ℕ, ◌+◌, ◌≤◌, ◌<◌, leb, get_or, replicate}
+use Rattle.std.specs.Prelude.{Bool, true, ◌&&◌, ◌≡◌, ℕ, ◌+◌, ◌≤◌, ◌<◌, leb, get_or, replicate, Option, Some, None, option_and_then}
 use Rattle.std.proofs.Math.Bool.{cond}
 use mathlib.Core.List.{List, [], ◌∷◌, ◌++◌, map}
 use Rattle.std.proofs.Math.Path.{refl, sym, ap, subst}
 use Rattle.std.proofs.Common.{◌∙◌, arith}
+use Rattle.std.proofs.lemmas.Option.{none-some, same_Some, option_and_then_some}
 use Rattle.std.proofs.Math.Dec.{eqb}
 use Rattle.std.proofs.Math.ListN.{length, length-append, length-map}
 use borrow.Author.Tests.{leb-true, eqb-true, le-leb, eq-eqb}
@@ -36,7 +37,7 @@ use Rattle.decoder.specs.declared.Counts.{Counts}
 use Rattle.verifier.specs.declared.steps.Places.{Places}
 use Rattle.verifier.specs.declared.steps.Stretches.{Stretches}
 use Rattle.verifier.specs.Tests.{right_test, stretches, stretches_of, start_test, most_more, last_kind, waiting_left, pattern_test, stretches_test}
-use Rattle.verifier.specs.Tests.{places, lost, cells_end, FewCounts}
+use Rattle.verifier.specs.Tests.{places, literals_end, cells_end, FewCounts}
 
 -- a range is made of its three numbers
 range_made : (v : ℕ) → range_value (range_from v) (range_count v) (range_more v) ≡ v
@@ -77,24 +78,24 @@ module _ (n : Counts) (few : FewCounts n) where
       pub same : SameElements t k at ys
       pub last : at + length (all_literals ys) ≡ end
 
-    values-back : (k at m end : ℕ) → k + m ≤ 1024 → elements_end n.strings n.numbers n.steps 95 t k at m ≡ end → end ≤ 4096
+    values-back : (k at m end : ℕ) → k + m ≤ 1024 → elements_end n.strings n.numbers n.steps 95 t k at m ≡ Some end
         → PatternRun k at end (map value (read_elements t k m))
         × (all (element_holds current n.strings n.numbers n.steps) (read_elements t k m) ≡ true)
     unfolding read_elements element_of_cell element_holds pattern_cell literal_in
-    values-back k at m end inside e small =
+    values-back k at m end inside e =
         let back =
         elements-back n.strings n.numbers n.steps element_class 32 95 elements_told (omega arith) (part other_part) value (λ at x. refl)
-        (λ x. refl) t bytes room (read_elements t) (λ k. refl) (λ k m. refl) k at m end inside e small in
+        (λ x. refl) t bytes room (read_elements t) (λ k. refl) (λ k m. refl) k at m end inside e in
         (record { same = back.same; last = back.last }, back.hold)
 
-    patterns_back : (k at m end : ℕ) → k + m ≤ 1024 → elements_end n.strings n.numbers n.steps 111 t k at m ≡ end → end ≤ 4096
+    patterns_back : (k at m end : ℕ) → k + m ≤ 1024 → elements_end n.strings n.numbers n.steps 111 t k at m ≡ Some end
         → PatternRun k at end (read_pattern t k m)
         × (all (pattern_holds current n.strings n.numbers n.steps) (read_pattern t k m) ≡ true)
     unfolding read_pattern pattern_of_cell pattern_holds pattern_cell literal_in
-    patterns_back k at m end inside e small =
+    patterns_back k at m end inside e =
         let back =
         elements-back n.strings n.numbers n.steps pattern_class 48 111 patterns_told (omega arith) (value (part other_part)) (λ x. x)
-        (λ at x. refl) (λ x. refl) t bytes room (read_pattern t) (λ k. refl) (λ k m. refl) k at m end inside e small in
+        (λ at x. refl) (λ x. refl) t bytes room (read_pattern t) (λ k. refl) (λ k m. refl) k at m end inside e in
         let whole : PatternRun k at end (map (λ x. x) (read_pattern t k m)) = record { same = back.same; last = back.last } in
         (subst (PatternRun k at end) (map_same (read_pattern t k m)) whole, back.hold)
 
@@ -109,31 +110,45 @@ module _ (n : Counts) (few : FewCounts n) where
           ≡ places (p.elements + length (right_elements r w)) (p.items + length (right_items r w))
           (p.literals + length (all_literals (right_elements r w)))
 
-    -- places that aren't lost: the items leave what they should, the roles hold, and the places are those behind
+    -- where there are places behind the cells: the items leave what they should, the roles hold, and the literals end somewhere
     module _ (p : Places) (r : Righting) (reference : ℕ) (s : Stretches) where
-      abbrev first_end : ℕ
-      first_end = elements_end n.strings n.numbers n.steps (last_kind r) t p.elements p.literals s.first
-
-      abbrev second_end : ℕ
-      second_end = elements_end n.strings n.numbers n.steps 95 t (p.elements + s.first) first_end s.more
-
       record CellsBack (q : Places) : Type 0 where
-        left : items_end n.strings n.numbers n.steps t p.items 0 s.items ≡ waiting_left r
+        middle : ℕ
+        last : ℕ
+        left : items_end n.strings n.numbers n.steps t p.items 0 s.items ≡ Some (waiting_left r)
         roles : pattern_test r t reference p.elements s.first ≡ true
-        is : q ≡ places (p.elements + s.first + s.more) (p.items + s.items) second_end
+        first : elements_end n.strings n.numbers n.steps (last_kind r) t p.elements p.literals s.first ≡ Some middle
+        second : elements_end n.strings n.numbers n.steps 95 t (p.elements + s.first) middle s.more ≡ Some last
+        is : q ≡ places (p.elements + s.first + s.more) (p.items + s.items) last
 
-      cells-back : (q : Places) → cells_end n t p r reference s ≡ q → q.literals ≤ 4096 → CellsBack q
-      unfolding cells_end
-      cells-back q =
-          let ends = items_end n.strings n.numbers n.steps t p.items 0 s.items in
-          let one = eqb ends (waiting_left r) in
+      cells-back : (q : Places) → cells_end n t p r reference s ≡ Some q → CellsBack q
+      unfolding cells_end literals_end
+      cells-back q e =
           let two = pattern_test r t reference p.elements s.first in
-          let here = places (p.elements + s.first + s.more) (p.items + s.items) second_end in
-          test_cases (λ b. (one && two) ≡ b → cond b here lost ≡ q → q.literals ≤ 4096 → CellsBack q) (one && two)
-          (λ _ h e small.
-          let both = both_true one two h in
-          record { left = eqb-true ends (waiting_left r) both.0; roles = both.1; is = sym e })
-          (λ _ h e small. absurd (omega (arith, ap (λ (x : Places). x.literals) e, small))) refl
+          let here : ℕ → Option Places = λ l. Some (places (p.elements + s.first + s.more) (p.items + s.items) l) in
+          let behind = literals_end n t p (last_kind r) s in
+          option_and_then_some (λ known. cond (eqb known (waiting_left r) && two) (option_and_then here behind) None)
+          (items_end n.strings n.numbers n.steps t p.items 0 s.items) q e
+          (λ known is left.
+          test_cases (λ b. (eqb known (waiting_left r) && two) ≡ b → cond b (option_and_then here behind) None ≡ Some q → CellsBack q)
+          (eqb known (waiting_left r) && two)
+          (λ _ h g.
+          let both = both_true (eqb known (waiting_left r)) two h in
+          option_and_then_some here behind q g
+          (λ l ends made.
+          option_and_then_some (λ middle. elements_end n.strings n.numbers n.steps 95 t (p.elements + s.first) middle s.more)
+          (elements_end n.strings n.numbers n.steps (last_kind r) t p.elements p.literals s.first) l ends
+          (λ middle first second.
+          record {
+            middle = middle;
+            last = l;
+            left = is ∙ ap Some (eqb-true known (waiting_left r) both.0);
+            roles = both.1;
+            first = first;
+            second = second;
+            is = sym (same_Some (places (p.elements + s.first + s.more) (p.items + s.items) l) q made);
+          })))
+          (λ _ h g. absurd (none-some q g)) refl left)
 
     -- a range cell by its numbers
     range_is : (p : Places) (c : Cell) (from count more : ℕ) → cell_test n.strings n.numbers range_number range_number c ≡ true
@@ -153,39 +168,41 @@ module _ (n : Counts) (few : FewCounts n) where
         both_pass (le-leb (length xs) 20 short) (both_pass hold roles)
 
     pub right_back : (p q : Places) (reference : ℕ) (r : Righting) (c : Cell) → right_test n r c ≡ true → start_test p r c.value ≡ true
-        → stretches_test n p r (stretches_of r c.value) ≡ true → cells_end n t p r reference (stretches_of r c.value) ≡ q → q.literals ≤ 4096
+        → stretches_test n p r (stretches_of r c.value) ≡ true → cells_end n t p r reference (stretches_of r c.value) ≡ Some q
         → RightBack p q reference r c (right_in t r c)
     unfolding right_test start_test stretches_of stretches right_in right_cell right_holds right_elements right_items most_more last_kind waiting_left pattern_test
         elements_end items_end all_literals row_holds places
-    right_back p q reference no_right c h start fits e small =
-        let own = cells-back p no_right reference (stretches 0 0 0) q e small in
+    right_back p q reference no_right c h start fits e =
+        let own = cells-back p no_right reference (stretches 0 0 0) q e in
         record {
           same = nothing_written n.strings n.numbers n.steps c h;
           hold = λ b t. t;
           elements = tt;
           items = tt;
-          end = own.is ∙ places_same (omega arith) (omega arith) (omega arith);
+          end = own.is ∙ places_same (omega arith) (omega arith) (omega (arith, same_Some _ _ own.first, same_Some _ _ own.second));
         }
-    right_back p q reference operand_right c h start fits e small =
-        let own = cells-back p operand_right reference (stretches 0 0 0) q e small in
+    right_back p q reference operand_right c h start fits e =
+        let own = cells-back p operand_right reference (stretches 0 0 0) q e in
         let back = operand_written n.strings n.numbers n.steps c h in
         record {
           same = back.0;
           hold = λ b t. both_pass t back.1;
           elements = tt;
           items = tt;
-          end = own.is ∙ places_same (omega arith) (omega arith) (omega arith);
+          end = own.is ∙ places_same (omega arith) (omega arith) (omega (arith, same_Some _ _ own.first, same_Some _ _ own.second));
         }
-    right_back p q reference items_right c h start fits e small =
+    right_back p q reference items_right c h start fits e =
         let v = c.value in
         let s = stretches 0 (range_more v) (range_count v) in
-        let own = cells-back p items_right reference s q e small in
+        let own = cells-back p items_right reference s q e in
         let tests = stretches_tests n p items_right s fits in
         let back = items_back n.strings n.numbers n.steps t bytes room p.items 0 (range_count v) (omega (arith, tests.3, few.items)) own.left in
         let from = eqb-true (range_from v) p.items start in
         let xs = read_items t p.items (range_count v) in
         let count = length-items t p.items (range_count v) in
         let more : range_more v ≡ 0 = omega (arith, tests.0) in
+        let last : own.middle ≡ own.last =
+        same_Some _ _ (ap (elements_end n.strings n.numbers n.steps 95 t (p.elements + 0) own.middle) (sym more) ∙ own.second) in
         let read : xs ≡ read_items t (range_from v) (range_count v) = ap (λ (k : ℕ). read_items t k (range_count v)) (sym from) in
         subst (RightBack p q reference items_right c) read
         (record {
@@ -195,21 +212,18 @@ module _ (n : Counts) (few : FewCounts n) where
           items = back.same;
           end =
               own.is
-              ∙ places_same (omega (arith, more)) (omega (arith, count))
-              (ap (elements_end n.strings n.numbers n.steps 95 t (p.elements + 0) p.literals) more ∙ omega arith);
+              ∙ places_same (omega (arith, more)) (omega (arith, count)) (omega (arith, same_Some _ _ own.first, last));
         })
-    right_back p q reference elements_right c h start fits e small =
+    right_back p q reference elements_right c h start fits e =
         let v = c.value in
         let k = p.elements in
         let s = stretches (range_count v) (range_more v) 0 in
-        let own = cells-back p elements_right reference s q e small in
+        let own = cells-back p elements_right reference s q e in
         let tests = stretches_tests n p elements_right s fits in
         let more : range_more v ≡ 0 = omega (arith, tests.0) in
-        let last : second_end p elements_right reference s ≡ first_end p elements_right reference s =
-        ap (elements_end n.strings n.numbers n.steps 95 t (k + range_count v) (first_end p elements_right reference s)) more in
-        let back =
-        values-back k p.literals (range_count v) (first_end p elements_right reference s) (omega (arith, tests.2, few.elements)) refl
-        (omega (arith, ap (λ (x : Places). x.literals) own.is, last, small)) in
+        let last : own.middle ≡ own.last =
+        same_Some _ _ (ap (elements_end n.strings n.numbers n.steps 95 t (k + range_count v) own.middle) (sym more) ∙ own.second) in
+        let back = values-back k p.literals (range_count v) own.middle (omega (arith, tests.2, few.elements)) own.first in
         let from = eqb-true (range_from v) k start in
         let xs = read_elements t k (range_count v) in
         let count = length-elements t k (range_count v) in
@@ -220,20 +234,18 @@ module _ (n : Counts) (few : FewCounts n) where
           hold = λ b t. both_pass t (both_pass (le-leb (length xs) 20 (omega (arith, count, tests.1))) back.1);
           elements = back.0.same;
           items = tt;
-          end = own.is ∙ places_same (omega (arith, more, count, mapped)) (omega arith) (last ∙ sym back.0.last);
+          end = own.is ∙ places_same (omega (arith, more, count, mapped)) (omega arith) (sym last ∙ sym back.0.last);
         })
-    right_back p q reference pattern_right c h start fits e small =
+    right_back p q reference pattern_right c h start fits e =
         let v = c.value in
         let k = p.elements in
         let s = stretches (range_count v) (range_more v) 0 in
-        let own = cells-back p pattern_right reference s q e small in
+        let own = cells-back p pattern_right reference s q e in
         let tests = stretches_tests n p pattern_right s fits in
         let more : range_more v ≡ 0 = omega (arith, tests.0) in
-        let last : second_end p pattern_right reference s ≡ first_end p pattern_right reference s =
-        ap (elements_end n.strings n.numbers n.steps 95 t (k + range_count v) (first_end p pattern_right reference s)) more in
-        let back =
-        patterns_back k p.literals (range_count v) (first_end p pattern_right reference s) (omega (arith, tests.2, few.elements)) refl
-        (omega (arith, ap (λ (x : Places). x.literals) own.is, last, small)) in
+        let last : own.middle ≡ own.last =
+        same_Some _ _ (ap (elements_end n.strings n.numbers n.steps 95 t (k + range_count v) own.middle) (sym more) ∙ own.second) in
+        let back = patterns_back k p.literals (range_count v) own.middle (omega (arith, tests.2, few.elements)) own.first in
         let from = eqb-true (range_from v) k start in
         let xs = read_pattern t k (range_count v) in
         let count = length_patterns t k (range_count v) in
@@ -243,21 +255,16 @@ module _ (n : Counts) (few : FewCounts n) where
           hold = λ b t. both_pass t (pattern-holds k p.literals reference xs (omega (arith, count, tests.1)) back.1 back.0.same count own.roles);
           elements = back.0.same;
           items = tt;
-          end = own.is ∙ places_same (omega (arith, more, count)) (omega arith) (last ∙ sym back.0.last);
+          end = own.is ∙ places_same (omega (arith, more, count)) (omega arith) (sym last ∙ sym back.0.last);
         })
-    right_back p q reference replacing_right c h start fits e small =
+    right_back p q reference replacing_right c h start fits e =
         let v = c.value in
         let k = p.elements in
         let s = stretches (range_count v) (range_more v) 0 in
-        let own = cells-back p replacing_right reference s q e small in
+        let own = cells-back p replacing_right reference s q e in
         let tests = stretches_tests n p replacing_right s fits in
-        let middle = first_end p replacing_right reference s in
-        let second =
-        values-back (k + range_count v) middle (range_more v) (second_end p replacing_right reference s) (omega (arith, tests.2, few.elements)) refl
-        (omega (arith, ap (λ (x : Places). x.literals) own.is, small)) in
-        let back =
-        patterns_back k p.literals (range_count v) middle (omega (arith, tests.2, few.elements)) refl
-        (omega (arith, second.0.last, ap (λ (x : Places). x.literals) own.is, small)) in
+        let second = values-back (k + range_count v) own.middle (range_more v) own.last (omega (arith, tests.2, few.elements)) own.second in
+        let back = patterns_back k p.literals (range_count v) own.middle (omega (arith, tests.2, few.elements)) own.first in
         let from = eqb-true (range_from v) k start in
         let xs = read_pattern t k (range_count v) in
         let ys = read_elements t (k + range_count v) (range_more v) in
@@ -292,12 +299,13 @@ module _ (n : Counts) (few : FewCounts n) where
       pub fits : stretches_test n p r (stretches_of r (right_cell p.elements p.items r w).value) ≡ true
       pub end :
           cells_end n t p r reference (stretches_of r (right_cell p.elements p.items r w).value)
-          ≡ places (p.elements + length (right_elements r w)) (p.items + length (right_items r w))
-          (p.literals + length (all_literals (right_elements r w)))
+          ≡ Some
+          (places (p.elements + length (right_elements r w)) (p.items + length (right_items r w))
+          (p.literals + length (all_literals (right_elements r w))))
 
     values_forth : (xs : List Element) (k at : ℕ) → SameElements t k at (map value xs)
         → all (element_holds current n.strings n.numbers n.steps) xs ≡ true → at + length (all_literals (map value xs)) ≤ 4096
-        → elements_end n.strings n.numbers n.steps 95 t k at (length xs) ≡ at + length (all_literals (map value xs))
+        → elements_end n.strings n.numbers n.steps 95 t k at (length xs) ≡ Some (at + length (all_literals (map value xs)))
     unfolding element_holds pattern_cell literal_in
     values_forth xs k at same hold inside =
         elements_forth n.strings n.numbers n.steps element_class 32 95 elements_told (omega arith) (part other_part) value (λ at x. refl)
@@ -305,23 +313,25 @@ module _ (n : Counts) (few : FewCounts n) where
 
     patterns_forth : (xs : List PatternElement) (k at : ℕ) → SameElements t k at xs
         → all (pattern_holds current n.strings n.numbers n.steps) xs ≡ true → at + length (all_literals xs) ≤ 4096
-        → elements_end n.strings n.numbers n.steps 111 t k at (length xs) ≡ at + length (all_literals xs)
+        → elements_end n.strings n.numbers n.steps 111 t k at (length xs) ≡ Some (at + length (all_literals xs))
     unfolding pattern_holds pattern_cell literal_in
     patterns_forth xs k at same hold inside =
         let e = map_same xs in
         elements_forth n.strings n.numbers n.steps pattern_class 48 111 patterns_told (omega arith) (value (part other_part)) (λ x. x)
         (λ at x. refl) (λ x. refl) patterns_within few.numbers t xs k at (subst (SameElements t k at) (sym e) same) hold
         (subst (λ (ys : List PatternElement). at + length (all_literals ys) ≤ 4096) (sym e) inside)
-        ∙ ap (λ (ys : List PatternElement). at + length (all_literals ys)) e
+        ∙ ap (λ (ys : List PatternElement). Some (at + length (all_literals ys))) e
 
     -- cells whose items and elements end as they should
-    cells_forth : (p : Places) (r : Righting) (reference : ℕ) (s : Stretches) {e l : ℕ}
-        → items_end n.strings n.numbers n.steps t p.items 0 s.items ≡ waiting_left r
+    cells_forth : (p : Places) (r : Righting) (reference : ℕ) (s : Stretches) {e l middle : ℕ}
+        → items_end n.strings n.numbers n.steps t p.items 0 s.items ≡ Some (waiting_left r)
         → pattern_test r t reference p.elements s.first ≡ true → p.elements + s.first + s.more ≡ e
-        → second_end p r reference s ≡ l → cells_end n t p r reference s ≡ places e (p.items + s.items) l
-    unfolding cells_end
-    cells_forth p r reference s left roles e l =
-        rw (eq-eqb (items_end n.strings n.numbers n.steps t p.items 0 s.items) (waiting_left r) left, roles) (places_same e refl l)
+        → elements_end n.strings n.numbers n.steps (last_kind r) t p.elements p.literals s.first ≡ Some middle
+        → elements_end n.strings n.numbers n.steps 95 t (p.elements + s.first) middle s.more ≡ Some l
+        → cells_end n t p r reference s ≡ Some (places e (p.items + s.items) l)
+    unfolding cells_end literals_end
+    cells_forth p r reference s left roles e first second =
+        rw (left, eq-eqb (waiting_left r) (waiting_left r) refl, roles, first, second) (ap Some (places_same e refl refl))
 
     -- the stretches of a range
     fit_stretches : (p : Places) (r : Righting) (first more items : ℕ) → more ≤ most_more r → first ≤ 20 → p.elements + first + more ≤ n.elements
@@ -363,14 +373,14 @@ module _ (n : Counts) (few : FewCounts n) where
           tested = nothing_passes n.strings n.numbers n.steps;
           starts = refl;
           fits = fit_stretches p no_right 0 0 0 (omega arith) (omega arith) (omega arith) (omega arith);
-          end = cells_forth p no_right reference (stretches 0 0 0) refl refl (omega arith) (omega arith);
+          end = cells_forth p no_right reference (stretches 0 0 0) refl refl (omega arith) refl (ap Some (omega arith));
         }
     right_forth b p reference operand_right w h es is e i l =
         record {
           tested = operand_passes n.strings n.numbers n.steps w (both_true b (operand_holds current n.strings n.numbers n.steps w) h).1;
           starts = refl;
           fits = fit_stretches p operand_right 0 0 0 (omega arith) (omega arith) (omega arith) (omega arith);
-          end = cells_forth p operand_right reference (stretches 0 0 0) refl refl (omega arith) (omega arith);
+          end = cells_forth p operand_right reference (stretches 0 0 0) refl refl (omega arith) refl (ap Some (omega arith));
         }
     right_forth b p reference items_right w h es is e i l =
         let ranges = range_read p.items (length w) 0 (omega (arith, few.items)) (omega (arith, few.items)) (omega arith) in
@@ -380,7 +390,7 @@ module _ (n : Counts) (few : FewCounts n) where
           tested = range_passes n.strings n.numbers n.steps (range_value p.items (length w) 0) ranges.small;
           starts = eq-eqb (range_from (range_value p.items (length w) 0)) p.items ranges.first;
           fits = rw (ranges.second, ranges.third) (fit_stretches p items_right 0 0 (length w) (omega arith) (omega arith) (omega arith) i);
-          end = rw (ranges.second, ranges.third) (cells_forth p items_right reference (stretches 0 0 (length w)) left refl (omega arith) (omega arith));
+          end = rw (ranges.second, ranges.third) (cells_forth p items_right reference (stretches 0 0 (length w)) left refl (omega arith) refl (ap Some (omega arith)));
         }
     right_forth b p reference elements_right w h es is e i l =
         let mapped = length-map w value in
@@ -393,7 +403,7 @@ module _ (n : Counts) (few : FewCounts n) where
           fits = rw (ranges.second, ranges.third) (fit_stretches p elements_right (length w) 0 0 (omega arith) parts.0 (omega arith) (omega arith));
           end =
               rw (ranges.second, ranges.third)
-              (cells_forth p elements_right reference (stretches (length w) 0 0) refl refl (omega (arith, mapped)) walked);
+              (cells_forth p elements_right reference (stretches (length w) 0 0) refl refl (omega (arith, mapped)) walked refl);
         }
     right_forth b p reference pattern_right w h es is e i l =
         let ranges = range_read p.elements (length w) 0 (omega (arith, few.elements)) (omega (arith, few.elements)) (omega arith) in
@@ -405,7 +415,7 @@ module _ (n : Counts) (few : FewCounts n) where
           starts = eq-eqb (range_from (range_value p.elements (length w) 0)) p.elements ranges.first;
           fits = rw (ranges.second, ranges.third) (fit_stretches p pattern_right (length w) 0 0 (omega arith) parts.0 (omega arith) (omega arith));
           end =
-              rw (ranges.second, ranges.third) (cells_forth p pattern_right reference (stretches (length w) 0 0) refl roles (omega arith) walked);
+              rw (ranges.second, ranges.third) (cells_forth p pattern_right reference (stretches (length w) 0 0) refl roles (omega arith) walked refl);
         }
     right_forth b p reference replacing_right w h es is e i l =
         let xs = w.0 in
@@ -426,8 +436,6 @@ module _ (n : Counts) (few : FewCounts n) where
         let roles = roles_pass reference p.elements p.literals xs front parts.2 in
         let all_of : p.literals + length (all_literals xs) + length (all_literals (map value ys)) ≡ p.literals + length (all_literals (xs ++ map value ys)) =
         omega (arith, literals) in
-        let walked =
-        ap (λ (j : ℕ). elements_end n.strings n.numbers n.steps 95 t (p.elements + length xs) j (length ys)) one ∙ two ∙ all_of in
         record {
           tested = range_passes n.strings n.numbers n.steps (range_value p.elements (length xs) (length ys)) ranges.small;
           starts = eq-eqb (range_from (range_value p.elements (length xs) (length ys))) p.elements ranges.first;
@@ -436,5 +444,5 @@ module _ (n : Counts) (few : FewCounts n) where
               (fit_stretches p replacing_right (length xs) (length ys) 0 more.0 parts.0 (omega arith) (omega arith));
           end =
               rw (ranges.second, ranges.third)
-              (cells_forth p replacing_right reference (stretches (length xs) (length ys) 0) refl roles (omega (arith, mapped, sum)) walked);
+              (cells_forth p replacing_right reference (stretches (length xs) (length ys) 0) refl roles (omega (arith, mapped, sum)) one (two ∙ ap Some all_of));
         }

@@ -114,36 +114,38 @@ same-cells t bytes k at (x ∷ xs) same =
     let places = byte-read t (place + 1) c.place value (stands_back t (c.kind ∷ []) (c.place ∷ value) stands) in
     (at, kinds, places, omega (arith, places, bytes (place + 1)), same-cells t bytes (k + 1) (at + length (literal_in x)) xs same.2)
 
--- what the code's loop does: one element more, and none left
-module _ (t : List ℕ) (r : ℕ) where
-  pub roles-turn : (hold role : Bool) (marks after : List ℕ) (k i count kind place : ℕ) → (cell_at t (elements_at + 8 * (k + i))).kind ≡ kind
-      → (cell_at t (elements_at + 8 * (k + i))).place ≡ place → role ≡ role_test r kind place (get_or marks place 0) → after ≡ marks_after marks kind place
-      → i < count
-      → ((hold && role) && roles_test t r after (k + (i + 1)) (count - (i + 1))) ≡ (hold && roles_test t r marks (k + i) (count - i))
-  roles-turn hold role marks after k i count kind place e f is marked h =
-      let size : count - i ≡ suc (count - (i + 1)) = omega arith in
-      let at : k + i + 1 ≡ k + (i + 1) = omega arith in
-      let next = roles-next t r marks (k + i) (count - (i + 1)) e f in
-      let one : (role && roles_test t r after (k + (i + 1)) (count - (i + 1))) ≡ roles_test t r marks (k + i) (count - i) =
-      ap₂ (λ (a : Bool) (l : List ℕ). a && roles_test t r l (k + (i + 1)) (count - (i + 1))) is marked
-      ∙ ap (λ (j : ℕ). role_test r kind place (get_or marks place 0) && roles_test t r (marks_after marks kind place) j (count - (i + 1))) (sym at)
-      ∙ sym next
-      ∙ ap (roles_test t r marks (k + i)) (sym size) in
-      and_assoc hold role (roles_test t r after (k + (i + 1)) (count - (i + 1))) ∙ ap (λ (b : Bool). hold && b) one
-    where
-      and_assoc : (a b c : Bool) → ((a && b) && c) ≡ (a && (b && c))
-      and_assoc true b c = refl
-      and_assoc false b c = refl
+marks_size_lem : (marks : List ℕ) (k p : ℕ) → length (marks_after marks k p) ≡ length marks
+unfolding marks_after
+marks_size_lem marks k p =
+    test_cases (λ b. length (cond b marks (set marks p 1)) ≡ length marks) (ltb k 96) (λ _. refl) (λ _. length-set marks p 1)
 
-  pub roles-done : (hold : Bool) (marks : List ℕ) (k i count : ℕ) → count ≤ i → (hold && roles_test t r marks (k + i) (count - i)) ≡ hold
+-- what the code's loop does up to an end: one element more, one whose role isn't as it should be, and none left
+module _ (t : List ℕ) (r : ℕ) (marks : List ℕ) (i end : ℕ) {x : Bool} (same : x ≡ roles_test t r marks i (end - i)) where
+  roles-turn : {kind place : ℕ} {role : Bool} → (cell_at t (elements_at + 8 * i)).kind ≡ kind → (cell_at t (elements_at + 8 * i)).place ≡ place
+      → role ≡ role_test r kind place (get_or marks place 0) → i < end
+      → x ≡ role && roles_test t r (marks_after marks kind place) (i + 1) (end - (i + 1))
+  roles-turn {kind} {place} e f is h =
+      let size : end - i ≡ suc (end - (i + 1)) = omega arith in
+      same
+      ∙ ap (roles_test t r marks i) size
+      ∙ roles-next t r marks i (end - (i + 1)) e f
+      ∙ ap (λ (b : Bool). b && roles_test t r (marks_after marks kind place) (i + 1) (end - (i + 1))) (sym is)
+
+  pub roles_more : {kind place : ℕ} {after : List ℕ} → (cell_at t (elements_at + 8 * i)).kind ≡ kind → (cell_at t (elements_at + 8 * i)).place ≡ place
+      → true ≡ role_test r kind place (get_or marks place 0) → i < end → length marks ≡ 256 → after ≡ marks_after marks kind place
+      → (length after ≡ 256) × (x ≡ roles_test t r after (i + 1) (end - (i + 1)))
+  roles_more {kind} {place} e f is h size marked = (
+    ap length marked ∙ marks_size_lem marks kind place ∙ size,
+    roles-turn e f is h ∙ ap (λ (l : List ℕ). roles_test t r l (i + 1) (end - (i + 1))) (sym marked),
+  )
+
+  pub roles_stop : {kind place : ℕ} → (cell_at t (elements_at + 8 * i)).kind ≡ kind → (cell_at t (elements_at + 8 * i)).place ≡ place
+      → false ≡ role_test r kind place (get_or marks place 0) → i < end → false ≡ x
+  roles_stop e f is h = sym (roles-turn e f is h)
+
+  pub roles_done : end ≤ i → true ≡ x
   unfolding roles_test
-  roles-done hold marks k i count h =
-      let size : count - i ≡ 0 = omega arith in
-      ap (λ (m : ℕ). hold && roles_test t r marks (k + i) m) size ∙ and-true hold
-    where
-      and-true : (a : Bool) → (a && true) ≡ a
-      and-true true = refl
-      and-true false = refl
+  roles_done h = let size : end - i ≡ 0 = omega arith in sym (same ∙ ap (roles_test t r marks i) size)
 
 -- a filler is marked, anything else isn't
 pub marks-filler : (marks : List ℕ) (k p : ℕ) → 96 ≤ k → set marks p 1 ≡ marks_after marks k p
@@ -153,8 +155,3 @@ marks-filler marks k p h = rw (le-ltb k 96 h)
 pub marks-other : (marks : List ℕ) (k p : ℕ) → k < 96 → marks ≡ marks_after marks k p
 unfolding marks_after
 marks-other marks k p h = rw (lt-ltb k 96 h)
-
-pub marks_size_lem : (marks : List ℕ) (k p : ℕ) → length (marks_after marks k p) ≡ length marks
-unfolding marks_after
-marks_size_lem marks k p =
-    test_cases (λ b. length (cond b marks (set marks p 1)) ≡ length marks) (ltb k 96) (λ _. refl) (λ _. length-set marks p 1)

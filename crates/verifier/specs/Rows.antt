@@ -1,6 +1,6 @@
 -- The tests of a row ask for what the rules say of its statement: each field is written as it is read, and holds; what is written of a
 -- statement that holds passes. Assumes nothing.
-use Rattle.std.specs.Prelude.{Bool, ◌&&◌, ◌≡◌, ℕ, zero, suc, ◌+◌, ◌^◌, ◌≤◌, ◌<◌, eqb}
+use Rattle.std.specs.Prelude.{Bool, ◌&&◌, ◌≡◌, ℕ, zero, suc, ◌+◌, ◌^◌, ◌≤◌, ◌<◌, eqb, Option, Some}
 use Rattle.std.proofs.Math.Bool.{true}
 use mathlib.Core.List.{[]}
 use Rattle.std.proofs.Math.Path.{refl, sym, subst}
@@ -11,6 +11,7 @@ use Rattle.base.specs.Choice.{test_cases, both_true, both_pass}
 use Rattle.base.specs.Current.{current}
 use Rattle.syntax.specs.Program.{Part, Operand, number_of, equal, unequal, less, greater, at_most, at_least, forward, backward}
 use Rattle.encoding.specs.KindLaws.{part_class, operand_class, part_plain, operand_plain, found_plain}
+use Rattle.encoding.specs.Kinds.{no_place, of_string, of_number, no_value, spelt}
 use Rattle.encoding.specs.Kinds.{Flagging, no_flag, of_comparison, of_direction, FlagOf, Stepping, no_step, one_step, both_steps, StepsOf}
 use Rattle.encoding.specs.Kinds.{Lefting, no_left, number_left, string_left, part_left, operand_left, LeftOf}
 use Rattle.encoding.specs.Kinds.{nothing_number, range_number, parts, part_kinds, operand_kinds, spell_part, spell_operand}
@@ -18,9 +19,9 @@ use Rattle.encoding.specs.Rules.{part_holds, operand_holds, branch_holds, left_h
 use Rattle.encoding.specs.Table.{Cell, cell, no_cell, part_cell, operand_cell, Row, flag_number, comparison_number, direction_number}
 use Rattle.encoding.specs.Table.{success_of, failure_of, left_cell}
 use Rattle.encoding.specs.TableReading.{other_part, part_of_cell, operand_of_cell, comparison_of, direction_of, flag_in, steps_in, left_in}
-use Rattle.verifier.specs.CellTests.{cell_test, fit_test, place_bound, value_low, value_bound, cell-found, class_back, class_forth, plain_fits}
-use Rattle.verifier.specs.Classes.{parts_told, operands_told, parts_within, operands_within, nothing_code, number_code, string_code, range_code}
-use Rattle.verifier.specs.Codes.{code_at}
+use Rattle.verifier.specs.Asked.{CellAsks, cell_asks, cell_asked}
+use Rattle.verifier.specs.CellTests.{cell_test, asked_test, fit_test, place_bound, value_low, value_bound, cell-found, class_back, class_forth, plain_fits}
+use Rattle.verifier.specs.Classes.{parts_told, operands_told, parts_within, operands_within, nothing_asks, number_asks, string_asks, range_asks}
 use Rattle.decoder.specs.declared.Counts.{Counts}
 use Rattle.verifier.specs.Tests.{flag_test, steps_test, left_test}
 
@@ -85,28 +86,35 @@ module _ (strings numbers steps : ℕ) where
   steps_pass b both_steps w h = (both_true b (ltb w.success steps && ltb w.failure steps) h).1
 
   -- a cell of one kind alone
-  alone : (k : ℕ) (c : Cell) → cell_test strings numbers k k c ≡ true → (c.kind ≡ k) × (fit_test strings numbers (code_at k) c ≡ true)
+  alone : (k : ℕ) (c : Cell) → cell_test strings numbers k k c ≡ true → (c.kind ≡ k) × (asked_test strings numbers (cell_asked k) c ≡ true)
   unfolding cell_test
   alone k c h =
-      let both = both_true (leb k c.kind && leb c.kind k) (fit_test strings numbers (code_at c.kind) c) h in
+      let both = both_true (leb k c.kind && leb c.kind k) (asked_test strings numbers (cell_asked c.kind) c) h in
       let inside = both_true (leb k c.kind) (leb c.kind k) both.0 in
       let is : c.kind ≡ k = omega (arith, leb-true k c.kind inside.0, leb-true c.kind k inside.1) in
-      (is, subst (λ (j : ℕ). fit_test strings numbers (code_at j) c ≡ true) is both.1)
+      (is, subst (λ (j : ℕ). asked_test strings numbers (cell_asked j) c ≡ true) is both.1)
 
   -- what a place and a value of one kind lie under
-  fit_parts : (k code p v : ℕ) (c : Cell) → code_at k ≡ code → place_bound strings numbers code ≡ p → value_bound strings numbers code ≡ v
-      → cell_test strings numbers k k c ≡ true → (c.kind ≡ k) × (c.place < p) × (c.value < v)
-  unfolding fit_test
-  fit_parts k code p v c told e g h =
+  fit_parts : (k p v : ℕ) (a : CellAsks) (c : Cell) → cell_asked k ≡ Some a → place_bound strings numbers a.counting ≡ p
+      → value_bound strings numbers a.valuing ≡ v → cell_test strings numbers k k c ≡ true → (c.kind ≡ k) × (c.place < p) × (c.value < v)
+  unfolding asked_test fit_test
+  fit_parts k p v a c asks e g h =
       let own = alone k c h in
-      let fit = subst (λ (j : ℕ). fit_test strings numbers j c ≡ true) told own.1 in
-      let one = ltb c.place (place_bound strings numbers code) in
-      let two = leb (value_low code) c.value in
-      let three = ltb c.value (value_bound strings numbers code) in
-      let a = both_true (one && two) three fit in
-      let place = ltb-true c.place (place_bound strings numbers code) (both_true one two a.0).0 in
-      let value = ltb-true c.value (value_bound strings numbers code) a.1 in
+      let fit = subst (λ (o : Option CellAsks). asked_test strings numbers o c ≡ true) asks own.1 in
+      let one = ltb c.place (place_bound strings numbers a.counting) in
+      let two = leb (value_low a.valuing) c.value in
+      let three = ltb c.value (value_bound strings numbers a.valuing) in
+      let both = both_true (one && two) three fit in
+      let place = ltb-true c.place (place_bound strings numbers a.counting) (both_true one two both.0).0 in
+      let value = ltb-true c.value (value_bound strings numbers a.valuing) both.1 in
       (own.0, omega (arith, e, place), omega (arith, g, value))
+
+  -- and that one passes which is as the kind asks
+  one_passes : (a : CellAsks) (c : Cell) → leb c.kind c.kind ≡ true → cell_asked c.kind ≡ Some a → fit_test strings numbers a c ≡ true
+      → cell_test strings numbers c.kind c.kind c ≡ true
+  unfolding cell_test asked_test
+  one_passes a c same asks fit =
+      both_pass (both_pass same same) (subst (λ (o : Option CellAsks). asked_test strings numbers o c ≡ true) (sym asks) fit)
 
   cell-is : {k i v : ℕ} (c : Cell) → c.kind ≡ k → c.place ≡ i → c.value ≡ v → cell k i v ≡ c
   unfolding cell
@@ -116,25 +124,24 @@ module _ (strings numbers steps : ℕ) where
   pub nothing_written : (c : Cell) → cell_test strings numbers nothing_number nothing_number c ≡ true → no_cell ≡ c
   unfolding no_cell place_bound value_bound
   nothing_written c h =
-      let f = fit_parts 0 10 1 1 c nothing_code refl refl h in
+      let f = fit_parts 0 1 1 (cell_asks no_place no_value) c nothing_asks refl refl h in
       cell-is c f.0 (omega (arith, f.1)) (omega (arith, f.2))
 
   pub nothing_passes : cell_test strings numbers nothing_number nothing_number no_cell ≡ true
-  unfolding cell_test no_cell cell fit_test place_bound value_low value_bound
-  nothing_passes = rw nothing_code
+  unfolding no_cell cell fit_test place_bound value_low value_bound
+  nothing_passes = one_passes (cell_asks no_place no_value) no_cell refl nothing_asks refl
 
   pub range_written : (c : Cell) → cell_test strings numbers range_number range_number c ≡ true → (cell range_number 0 c.value ≡ c) × (c.value < 2 ^ 48)
   unfolding place_bound value_bound
   range_written c h =
-      let f = fit_parts 112 14 1 281_474_976_710_656 c range_code refl refl h in
+      let f = fit_parts 112 1 281_474_976_710_656 (cell_asks no_place spelt) c range_asks refl refl h in
       (cell-is c f.0 (omega (arith, f.1)) refl, f.2)
 
   pub range_passes : (v : ℕ) → v < 2 ^ 48 → cell_test strings numbers range_number range_number (cell range_number 0 v) ≡ true
-  unfolding cell_test cell fit_test place_bound value_low value_bound
+  unfolding cell fit_test place_bound value_low value_bound
   range_passes v small =
-      let fit : fit_test strings numbers 14 (cell range_number 0 v) ≡ true =
-      both_pass (both_pass refl (le-leb 0 v (omega arith))) (lt-ltb v 281_474_976_710_656 small) in
-      subst (λ (code : ℕ). fit_test strings numbers code (cell range_number 0 v) ≡ true) (sym range_code) fit
+      one_passes (cell_asks no_place spelt) (cell range_number 0 v) refl range_asks
+      (both_pass (both_pass refl (le-leb 0 v (omega arith))) (lt-ltb v 281_474_976_710_656 small))
 
   -- strings, parts and operands
   pub part_written : (c : Cell) → cell_test strings numbers parts 79 c ≡ true
@@ -176,18 +183,20 @@ module _ (n : Counts) where
   unfolding left_test left_cell left_in left_holds part_cell operand_cell place_bound value_bound
   left-written no_left c h = (nothing_written n.strings n.numbers n.steps c h, refl)
   left-written number_left c h =
-      let f = fit_parts n.strings n.numbers n.steps 33 30 n.numbers 1 c number_code refl refl h in
+      let f = fit_parts n.strings n.numbers n.steps 33 n.numbers 1 (cell_asks of_number no_value) c number_asks refl refl h in
       (cell-is n.strings n.numbers n.steps c f.0 refl (omega (arith, f.2)), lt-ltb c.place n.numbers f.1)
   left-written string_left c h =
-      let f = fit_parts n.strings n.numbers n.steps 64 20 n.strings 1 c string_code refl refl h in
+      let f = fit_parts n.strings n.numbers n.steps 64 n.strings 1 (cell_asks of_string no_value) c string_asks refl refl h in
       (cell-is n.strings n.numbers n.steps c f.0 refl (omega (arith, f.2)), lt-ltb c.place n.strings f.1)
   left-written part_left c h = part_written n.strings n.numbers n.steps c h
   left-written operand_left c h = operand_written n.strings n.numbers n.steps c h
 
   pub left-passes : (l : Lefting) (w : LeftOf l) → left_holds current n.strings n.numbers n.steps l w ≡ true → left_test n l (left_cell l w) ≡ true
-  unfolding left_test left_cell left_holds cell_test part_cell operand_cell cell fit_test place_bound value_low value_bound
+  unfolding left_test left_cell left_holds part_cell operand_cell cell fit_test place_bound value_low value_bound
   left-passes no_left w h = nothing_passes n.strings n.numbers n.steps
-  left-passes number_left w h = rw (number_code, h)
-  left-passes string_left w h = rw (string_code, h)
+  left-passes number_left w h =
+      one_passes n.strings n.numbers n.steps (cell_asks of_number no_value) (cell 33 w 0) refl number_asks (both_pass (both_pass h refl) refl)
+  left-passes string_left w h =
+      one_passes n.strings n.numbers n.steps (cell_asks of_string no_value) (cell parts w 0) refl string_asks (both_pass (both_pass h refl) refl)
   left-passes part_left w h = part_passes n.strings n.numbers n.steps w h
   left-passes operand_left w h = operand_passes n.strings n.numbers n.steps w h

@@ -1,6 +1,6 @@
 -- The tests that the code makes of a table beside those of cells: of a row by what its kind says of each field, of the steps with their
 -- running places, and of the bytes that hold nothing. Assumes nothing.
-use Rattle.std.specs.Prelude.{Bool, true, false, cond, ◌&&◌, List, ℕ, zero, suc, ◌+◌, ◌*◌, ◌-◌, ◌/◌, ◌%◌, ◌≤◌, ◌<◌, ◌^◌, leb, ltb, eqb, take, drop, get_or, replicate}
+use Rattle.std.specs.Prelude.{Bool, true, false, cond, ◌&&◌, List, ℕ, zero, suc, ◌+◌, ◌*◌, ◌-◌, ◌≤◌, ◌<◌, ◌^◌, leb, ltb, eqb, take, drop, get_or, replicate, Option, Some, None, option_and_then}
 use Rattle.base.specs.Current.{table_size}
 use Rattle.base.specs.Limits as Limits
 use Rattle.base.specs.Lists.{all}
@@ -11,7 +11,7 @@ use Rattle.encoding.specs.Kinds.{nothing_number, range_number, parts, finish_kin
 use Rattle.encoding.specs.Table.{Cell, Row, steps_at}
 use Rattle.encoding.specs.TableReading.{read_row_at, range_from, range_count, range_more}
 use Rattle.verifier.specs.CellTests.{cell_test}
-use Rattle.verifier.specs.Codes.{row_code_at, flagging_of, stepping_of, lefting_of, righting_of}
+use Rattle.verifier.specs.Asked.{RowAsks, row_asked}
 use Rattle.verifier.specs.Elements.{elements_end}
 use Rattle.verifier.specs.Items.{items_end}
 use Rattle.verifier.specs.Roles.{roles_test}
@@ -48,9 +48,6 @@ places elements items literals = record { elements = elements; items = items; li
 
 abbrev pub start : Places
 start = record { elements = 0; items = 0; literals = 0 }
-
-abbrev pub lost : Places
-lost = record { elements = 0; items = 0; literals = 65_536 }
 
 -- a row's range starts where the ones before it end
 unfoldable pub start_test : Places → Righting → ℕ → Bool
@@ -120,43 +117,45 @@ module _ (n : Counts) where
       ((leb s.more (most_more right) && leb s.first Limits.row_elements) && leb (p.elements + s.first + s.more) n.elements)
       && leb (p.items + s.items) n.items
 
-  -- the places behind the elements and items of a row
-  unfoldable pub cells_end : List ℕ → Places → Righting → (reference : ℕ) → Stretches → Places
+  -- the place among the literals behind both stretches of elements
+  unfoldable pub literals_end : List ℕ → Places → (high : ℕ) → Stretches → Option ℕ
+  literals_end t p high s =
+      option_and_then (λ middle. elements_end n.strings n.numbers n.steps 95 t (p.elements + s.first) middle s.more)
+      (elements_end n.strings n.numbers n.steps high t p.elements p.literals s.first)
+
+  -- the places behind the elements and items of a row, none where a rule is broken
+  unfoldable pub cells_end : List ℕ → Places → Righting → (reference : ℕ) → Stretches → Option Places
   cells_end t p right r s =
-      cond
-      (eqb (items_end n.strings n.numbers n.steps t p.items 0 s.items) (waiting_left right)
-      && pattern_test right t r p.elements s.first)
-      (places (p.elements + s.first + s.more) (p.items + s.items)
-      (elements_end n.strings n.numbers n.steps 95 t (p.elements + s.first)
-      (elements_end n.strings n.numbers n.steps (last_kind right) t p.elements p.literals s.first) s.more))
-      lost
+      option_and_then (λ known. cond (eqb known (waiting_left right) && pattern_test right t r p.elements s.first)
+      (option_and_then (λ l. Some (places (p.elements + s.first + s.more) (p.items + s.items) l)) (literals_end t p (last_kind right) s)) None)
+      (items_end n.strings n.numbers n.steps t p.items 0 s.items)
 
-  -- a row by its kind's number in the table of rows
-  unfoldable pub row_test : (code : ℕ) → Row → Bool
-  row_test code r =
-      (((leb 1000 code && flag_test (flagging_of (code / 1000)) r.flag)
-      && steps_test n.steps (stepping_of (code / 100 % 10)) r.success r.failure)
-      && left_test (lefting_of (code / 10 % 10)) r.left)
-      && right_test (righting_of (code % 10)) r.right
+  -- a row by what its kind asks
+  unfoldable pub row_test : RowAsks → Row → Bool
+  row_test a r =
+      ((flag_test a.flagging r.flag && steps_test n.steps a.stepping r.success r.failure) && left_test a.lefting r.left)
+      && right_test a.righting r.right
 
-  unfoldable pub step_test : Places → (code : ℕ) → Row → Bool
-  step_test p code r =
-      let right = righting_of (code % 10) in
-      (row_test code r && start_test p right r.right.value) && stretches_test p right (stretches_of right r.right.value)
+  unfoldable pub step_test : Places → RowAsks → Row → Bool
+  step_test p a r =
+      (row_test a r && start_test p a.righting r.right.value) && stretches_test p a.righting (stretches_of a.righting r.right.value)
 
-  -- and behind a step, and so many
-  unfoldable pub places_behind_step : List ℕ → ℕ → Places → Places
+  -- the places behind a row of a kind, behind step k, and behind so many
+  unfoldable pub row_end : List ℕ → Places → Row → RowAsks → Option Places
+  row_end t p r a = cond (step_test p a r) (cells_end t p a.righting r.left.place (stretches_of a.righting r.right.value)) None
+
+  unfoldable pub places_behind_step : List ℕ → ℕ → Places → Option Places
   places_behind_step t k p =
       let r = read_row_at t (steps_at + 24 * k) in
-      let code = row_code_at r.kind in
-      cond (step_test p code r) (cells_end t p (righting_of (code % 10)) r.left.place (stretches_of (righting_of (code % 10)) r.right.value)) lost
+      option_and_then (row_end t p r) (row_asked r.kind)
 
-  unfoldable pub steps_end : List ℕ → (k : ℕ) → Places → (count : ℕ) → Places
-  steps_end t k p zero = p
-  steps_end t k p (suc m) = steps_end t (k + 1) (places_behind_step t k p) m
+  unfoldable pub steps_end : List ℕ → (k : ℕ) → Places → (count : ℕ) → Option Places
+  steps_end t k p zero = Some p
+  steps_end t k p (suc m) = option_and_then (λ q. steps_end t (k + 1) q m) (places_behind_step t k p)
 
-  unfoldable pub totals_test : Places → Bool
-  totals_test p = (eqb p.elements n.elements && eqb p.items n.items) && eqb p.literals n.literals
+  unfoldable pub totals_test : Option Places → Bool
+  totals_test None = false
+  totals_test (Some p) = (eqb p.elements n.elements && eqb p.items n.items) && eqb p.literals n.literals
 
   unfoldable pub counts_test : Bool
   counts_test =
@@ -194,7 +193,7 @@ pub record RangesShort (s : Stretches) : Type 0 where
   pub more : s.more < 2 ^ 32
   pub items : s.items < 2 ^ 16
 
--- places within their regions, or broken
+-- places within their regions
 pub record PlacesRoom (p : Places) : Type 0 where
   pub elements : p.elements ≤ 1024
   pub items : p.items ≤ 1024

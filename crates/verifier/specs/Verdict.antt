@@ -1,5 +1,5 @@
 -- The code's tests of a table, all together, are the rules. Assumes nothing.
-use Rattle.std.specs.Prelude.{Bool, true, false, ◌&&◌, List, ◌∷◌, ◌++◌, ◌≡◌, eqb, replicate}
+use Rattle.std.specs.Prelude.{Bool, true, false, ◌&&◌, List, ◌∷◌, ◌++◌, ◌≡◌, eqb, replicate, Option, Some, None}
 use Rattle.std.proofs.Common.{true≢false, sym, ◌∙◌, arith}
 use Rattle.std.proofs.lemmas.Bool.{false≢true}
 use Rattle.std.proofs.Math.Path.{refl, ap, subst}
@@ -119,10 +119,31 @@ counts_same t n c =
 abbrev all_tests : Counts → List ℕ → Bool
 all_tests n t = (ends_test n t && unused_test n t) && totals_test n (steps_end n t 0 start n.steps)
 
+-- totals that are met are the places behind all steps
+record TotalsMet (n : Counts) (o : Option Places) : Type 0 where
+  end : Places
+  is : o ≡ Some end
+  elements : end.elements ≡ n.elements
+  items : end.items ≡ n.items
+  literals : end.literals ≡ n.literals
+
+totals_met : (n : Counts) (o : Option Places) → totals_test n o ≡ true → TotalsMet n o
+unfolding totals_test
+totals_met n None h = absurd (false≢true h)
+totals_met n (Some q) h =
+    let f = three (eqb q.elements n.elements) (eqb q.items n.items) (eqb q.literals n.literals) h in
+    record {
+      end = q;
+      is = refl;
+      elements = eqb-true q.elements n.elements f.0;
+      items = eqb-true q.items n.items f.1;
+      literals = eqb-true q.literals n.literals f.2;
+    }
+
 module _ (t : List ℕ) (bytes : (i : ℕ) → get_or t i 0 < 256) (room : table_size ≤ length t) where
   -- a table that passes them is checked
   tests_checked : FewCounts (counts_in t) → all_tests (counts_in t) t ≡ true → Checked t
-  unfolding ends_test unused_test totals_test places program_in is_program steps_at
+  unfolding ends_test unused_test places program_in is_program steps_at
   tests_checked few h =
       let n = counts_in t in
       let q = steps_end n t 0 start n.steps in
@@ -131,14 +152,13 @@ module _ (t : List ℕ) (bytes : (i : ℕ) → get_or t i 0 < 256) (room : table
       let unused =
       five (zeros_test t 14 64) (zeros_test t (64 + 24 * n.steps) 6208) (zeros_test t (6208 + 8 * n.elements) 14_400)
       (zeros_test t (14_400 + 8 * n.items) 22_592) (zeros_test t (22_592 + n.literals) table_size) f.1 in
-      let totals = three (eqb q.elements n.elements) (eqb q.items n.items) (eqb q.literals n.literals) f.2 in
-      let literals = eqb-true q.literals n.literals totals.2 in
-      let back = steps_back n few t bytes room 0 n.steps start q (omega (arith, few.steps)) refl (omega (arith, literals, few.literals)) in
+      let totals = totals_met n q f.2 in
+      let back = steps_back n few t bytes room 0 n.steps start totals.end (omega (arith, few.steps)) totals.is in
       let ss = read_steps t 0 n.steps in
       let es = all_elements ss in
-      let e : length es ≡ n.elements = omega (arith, ap (λ (x : Places). x.elements) back.end, eqb-true q.elements n.elements totals.0) in
-      let i : length (all_items ss) ≡ n.items = omega (arith, ap (λ (x : Places). x.items) back.end, eqb-true q.items n.items totals.1) in
-      let l : length (all_literals es) ≡ n.literals = omega (arith, ap (λ (x : Places). x.literals) back.end, literals) in
+      let e : length es ≡ n.elements = omega (arith, ap (λ (x : Places). x.elements) back.end, totals.elements) in
+      let i : length (all_items ss) ≡ n.items = omega (arith, ap (λ (x : Places). x.items) back.end, totals.items) in
+      let l : length (all_literals es) ≡ n.literals = omega (arith, ap (λ (x : Places). x.literals) back.end, totals.literals) in
       let count = step_count t in
       let more : n.steps ≡ suc (n.steps - 1) = omega (arith, few.some) in
       let kind = eqb-true (get_or t (64 + 24 * (n.steps - 1)) 0) 33 ends.2 in

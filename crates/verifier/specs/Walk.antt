@@ -1,13 +1,14 @@
 -- The steps that the tests walk through are the program's: they stand at their places and hold, and the places behind them are its totals.
 -- Assumes nothing.
-use Rattle.std.specs.Prelude.{Bool, true, cond, ◌≡◌, ltb, get_or}
+use Rattle.std.specs.Prelude.{Bool, true, ◌≡◌, ltb, get_or, Some, option_and_then}
 use mathlib.Core.List.{List, [], ◌∷◌, ◌++◌}
 use Rattle.std.proofs.Math.Path.{refl, sym, ap, subst}
 use Rattle.std.proofs.Common.{◌∙◌, lt-ltb}
-use Prim.Native.Nat.{ℕ, zero, suc, ◌+◌, ◌*◌, ◌%◌, ◌^◌, ◌≤◌, ◌<◌}
+use Rattle.std.proofs.lemmas.Option.{same_Some, option_and_then_some}
+use Prim.Native.Nat.{ℕ, zero, suc, ◌+◌, ◌*◌, ◌^◌, ◌≤◌, ◌<◌}
 use native.Mathlib.Omega.{arith}
 use Rattle.std.proofs.Math.ListN.{length, length-append}
-use Rattle.base.specs.Choice.{test_cases, both_true}
+use Rattle.base.specs.Choice.{both_true}
 use Rattle.base.specs.Current.{current, table_size}
 use Rattle.base.specs.Lists.{all}
 use Rattle.syntax.specs.Program.{Statement, Step}
@@ -19,11 +20,10 @@ use Rattle.encoding.specs.Table.{row_bytes, statement_row, elements_of, items_of
 use Rattle.encoding.specs.TableReading.{read_row_at, statement_of_row, step_in, read_steps}
 use Rattle.encoding.specs.TableLiterals.{all-literals-append}
 use Rattle.decoder.specs.declared.Counts.{Counts}
-use Rattle.verifier.specs.Codes.{row_code_at, righting_of}
 use Rattle.verifier.specs.Rights.{places_same}
 use Rattle.verifier.specs.Same.{StepSame, SameSteps}
 use Rattle.verifier.specs.Statements.{RowBack, row_back, row_forth}
-use Rattle.verifier.specs.Tests.{places, lost, stretches_of, cells_end, step_test, places_behind_step, steps_end, FewCounts}
+use Rattle.verifier.specs.Tests.{places, places_behind_step, steps_end, FewCounts}
 use Rattle.verifier.specs.Written.{piece_stands, row_written}
 use Rattle.verifier.specs.declared.steps.Places.{Places}
 
@@ -72,28 +72,23 @@ module _ (n : Counts) where
     unfolding numeral_at
     card_small at = omega (arith, bytes at, bytes (at + 1))
 
-    -- a step that is not broken
-    step_back : (k : ℕ) (p : Places) → (places_behind_step n t k p).literals ≤ 4096
-        → RowBack n few t bytes room p (places_behind_step n t k p) (read_row_at t (steps_at + 24 * k)) (spell_statement (statement_of_row t (read_row_at t (steps_at + 24 * k))))
+    -- a step with places behind it
+    step_back : (k : ℕ) (p q : Places) → places_behind_step n t k p ≡ Some q
+        → RowBack n few t bytes room p q (read_row_at t (steps_at + 24 * k)) (spell_statement (statement_of_row t (read_row_at t (steps_at + 24 * k))))
     unfolding places_behind_step
-    step_back k p =
-        let r = read_row_at t (steps_at + 24 * k) in
-        let code = row_code_at r.kind in
-        let right = righting_of (code % 10) in
-        let cells = cells_end n t p right r.left.place (stretches_of right r.right.value) in
-        let x = spell_statement (statement_of_row t r) in
-        test_cases (λ b. step_test n p code r ≡ b → (cond b cells lost).literals ≤ 4096 → RowBack n few t bytes room p (cond b cells lost) r x)
-        (step_test n p code r) (λ _ e small. row_back n few t bytes room p cells r e refl small) (λ _ e small. absurd (omega arith)) refl
+    step_back k p q e = row_back n few t bytes room p q (read_row_at t (steps_at + 24 * k)) e
 
-    pub steps_back : (k m : ℕ) (p q : Places) → k + m ≤ 256 → steps_end n t k p m ≡ q → q.literals ≤ 4096 → StepsBack k p q (read_steps t k m)
+    pub steps_back : (k m : ℕ) (p q : Places) → k + m ≤ 256 → steps_end n t k p m ≡ Some q → StepsBack k p q (read_steps t k m)
     unfolding steps_end read_steps step_in step_holds all steps_at places statement_holds elements_of items_of statement_row
-    steps_back k zero p q inside e small = record { same = tt; hold = refl; end = sym e ∙ behind_none p }
-    steps_back k (suc m) p q inside e small =
+    steps_back k zero p q inside e = record { same = tt; hold = refl; end = sym (same_Some p q e) ∙ behind_none p }
+    steps_back k (suc m) p q inside e =
         let at = steps_at + 24 * k in
         let x = step_in t at in
         let xs = read_steps t (k + 1) m in
-        let rest = steps_back (k + 1) m (places_behind_step n t k p) q (omega arith) e small in
-        let own = step_back k p (omega (arith, ap (λ (y : Places). y.literals) rest.end, small)) in
+        option_and_then_some (λ y. steps_end n t (k + 1) y m) (places_behind_step n t k p) q e
+        (λ middle is more.
+        let rest = steps_back (k + 1) m middle q (omega arith) more in
+        let own = step_back k p middle is in
         let tail = subst (λ (y : Places). StepsBack (k + 1) y q xs) own.end rest in
         let card = ap (row_bytes (numeral_at 2 t (at + 2))) own.row_is in
         record {
@@ -107,12 +102,12 @@ module _ (n : Counts) where
           );
           hold = rw (lt-ltb (numeral_at 2 t (at + 2)) (2 ^ 16) (card_small (at + 2)), own.holds) tail.hold;
           end = tail.end ∙ behind_more p x xs;
-        }
+        })
 
     -- a step that stands at its place and holds, within the limits
     step_forth : (k : ℕ) (p : Places) (x : Step) → StepSame t k p.elements p.items p.literals x → step_ok x ≡ true
         → p.elements + length (elements_of x.statement) ≤ n.elements → p.items + length (items_of x.statement) ≤ n.items
-        → p.literals + length (all_literals (elements_of x.statement)) ≤ 4096 → places_behind_step n t k p ≡ past p x.statement
+        → p.literals + length (all_literals (elements_of x.statement)) ≤ 4096 → places_behind_step n t k p ≡ Some (past p x.statement)
     unfolding places_behind_step step_holds
     step_forth k p x same h e i l =
         let s = x.statement in
@@ -121,13 +116,13 @@ module _ (n : Counts) where
         let ok = both_true (ltb x.card (2 ^ 16)) (statement_holds current n.strings n.numbers n.steps s) h in
         let own = row_forth n few t bytes room p s ok.1 same.elements same.items e i l in
         let read = row_read t at x.card r (piece_stands t at 24 same.row) own.fits in
-        rw (read, own.tested) own.end
+        rw read own.end
 
     pub steps_forth : (k : ℕ) (p : Places) (ss : List Step) → SameSteps t k p.elements p.items p.literals ss → all step_ok ss ≡ true
         → p.elements + length (all_elements ss) ≤ n.elements → p.items + length (all_items ss) ≤ n.items
-        → p.literals + length (all_literals (all_elements ss)) ≤ 4096 → steps_end n t k p (length ss) ≡ places_behind p ss
+        → p.literals + length (all_literals (all_elements ss)) ≤ 4096 → steps_end n t k p (length ss) ≡ Some (places_behind p ss)
     unfolding steps_end all all_elements all_items places
-    steps_forth k p [] same h e i l = behind_none p
+    steps_forth k p [] same h e i l = ap Some (behind_none p)
     steps_forth k p (x ∷ xs) same h e i l =
         let s = x.statement in
         let es = elements_of s in
@@ -138,4 +133,4 @@ module _ (n : Counts) where
         let three = ap length (all-literals-append es (all_elements xs)) ∙ length-append (all_literals es) (all_literals (all_elements xs)) in
         let own = step_forth k p x same.0 ok.0 (omega arith) (omega arith) (omega arith) in
         let rest = steps_forth (k + 1) (past p s) xs same.1 ok.1 (omega arith) (omega arith) (omega arith) in
-        ap (λ (y : Places). steps_end n t (k + 1) y (length xs)) own ∙ rest ∙ behind_more p x xs
+        ap (option_and_then (λ y. steps_end n t (k + 1) y (length xs))) own ∙ rest ∙ ap Some (behind_more p x xs)

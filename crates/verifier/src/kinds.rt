@@ -1,20 +1,17 @@
 // Cells judged by their kinds: what a kind asks of the place and of the value, and the cells of elements and of items one behind the other.
 // Assumes nothing.
-ghost use Rattle.std.specs.Prelude.{◌≡◌, ◌+◌, ◌≤◌, ◌<◌, ◌^◌, length, replicate};
+ghost use Rattle.std.specs.Prelude.{◌≡◌, ◌+◌, ◌≤◌, ◌<◌, ◌^◌, length, replicate, IfSome, option_map};
 ghost use Rattle.base.specs.Current.{table_size};
 ghost use Rattle.decoder.specs.Meaning.{cell_meaning};
-ghost use Rattle.verifier.specs.CellTests.{place_bound, value_low, value_bound, fit_test, cell_test, own_length};
-ghost use Rattle.verifier.specs.Codes.{cell_codes, code_at};
+ghost use Rattle.verifier.specs.Asked.{cell_asked, place_meaning, value_meaning, cell_rule_asks};
+ghost use Rattle.verifier.specs.CellTests.{place_bound, value_low, value_bound, fit_test, asked_test, cell_test, own_length};
 ghost use Rattle.verifier.specs.Elements.{literal_test, element_end, elements_end};
 ghost use Rattle.verifier.specs.Items.{item_used, item_end, items_end};
 ghost use Rattle.verifier.specs.Roles.{role_test, roles_test};
 
-use base::{LITERALS, wide};
+use base::LITERALS;
 use decoder::{Cell, Counts};
 use encoding::{ELEMENTS_AT, RANGE_STEP, TABLE_CELL, WAITING, cell_kinds};
-
-// stands for a place among the literals, or a count of waiting numbers, where a rule is broken
-pub const BROKEN: usize = 65_536;
 
 // integers are kept with a bias and lie between limits
 const BIAS: usize = encoding::BIAS as usize;
@@ -82,214 +79,230 @@ pub const LAST_FILLER: usize = cell_kinds::LAST_FILLER as usize;
 
 pub const RANGE: usize = cell_kinds::RANGE as usize;
 
-// The table of kinds has a number for each kind, 0 where there is none. Its tens say what the place counts, its ones what the value is.
-pub const KINDS: usize = 113;
-
-const NAMELESS: usize = 1;
-
-const STRINGS: usize = 2;
-
-const NUMBERS: usize = 3;
-
-const NATURAL: usize = 1;
-
-const SIGNED: usize = 2;
-
-const PLACED: usize = 3;
-
-const SPELT: usize = 4;
-
-const ALONE: usize = 10 * NAMELESS;
-
-const ALONE_SIGNED: usize = 10 * NAMELESS + SIGNED;
-
-const ALONE_SPELT: usize = 10 * NAMELESS + SPELT;
-
-const OF_STRING: usize = 10 * STRINGS;
-
-const OF_STRING_NATURAL: usize = 10 * STRINGS + NATURAL;
-
-const OF_STRING_PLACED: usize = 10 * STRINGS + PLACED;
-
-const OF_NUMBER: usize = 10 * NUMBERS;
-
-const OF_NUMBER_SIGNED: usize = 10 * NUMBERS + SIGNED;
-
-const OF_NUMBER_PLACED: usize = 10 * NUMBERS + PLACED;
-
-pub fn kind_codes() -> [usize; KINDS]
-    ensures { result ≡ cell_codes }
-{
-    let mut codes: [usize; KINDS] = [0; KINDS];
-    codes[NOTHING] = ALONE;
-    codes[PLUS] = ALONE;
-    codes[MINUS] = ALONE;
-    codes[TIMES] = ALONE;
-    codes[OVER] = ALONE;
-    codes[POSITIVE] = ALONE;
-    codes[NEGATIVE] = ALONE;
-    codes[CONSTANT] = ALONE_SIGNED;
-    codes[NUMBER] = OF_NUMBER;
-    codes[LENGTH] = OF_STRING;
-    codes[NUMBER_OF] = OF_STRING;
-    codes[NUMBER_OF_FIRST] = OF_STRING_NATURAL;
-    codes[NUMBER_OF_FIRST_BY] = OF_STRING_PLACED;
-    codes[STRING] = OF_STRING;
-    codes[FIRST] = OF_STRING_NATURAL;
-    codes[FIRST_BY] = OF_STRING_PLACED;
-    codes[LITERAL] = ALONE_SPELT;
-    codes[TEXT] = OF_NUMBER_SIGNED;
-    codes[TEXT_BY] = OF_NUMBER_PLACED;
-    codes[FREE] = OF_STRING;
-    codes[FIXED] = OF_STRING_NATURAL;
-    codes[FIXED_BY] = OF_STRING_PLACED;
-    codes[RANGE] = ALONE_SPELT;
-    codes
+// what the place of a cell counts
+#[derive(Clone, Copy)]
+pub enum PlaceRule {
+    NoPlace,
+    OfString,
+    OfNumber,
 }
 
-// The number of a kind in the table.
-fn code_of(codes: &[usize; KINDS], kind: usize) -> usize
-    requires { codes.now ≡ cell_codes }
-    ensures { result ≡ code_at kind }
-{
-    if kind < KINDS {
-        return codes[kind];
-    }
-    0
+// what the value of a cell is
+#[derive(Clone, Copy)]
+pub enum ValueRule {
+    NoValue,
+    Natural,
+    Signed,
+    Placed,
+    Spelt,
 }
 
-// What the place lies under: strings, numbers, 1 where it names nothing, 0 where there is no kind.
-fn place_bound(code: usize, n: Counts) -> usize
-    ensures { result ≡ place_bound n.strings n.numbers code }
+// what a kind asks of a cell
+#[derive(Clone, Copy)]
+pub struct CellRule {
+    pub place: PlaceRule,
+    pub value: ValueRule,
+}
+
+const ALONE: CellRule = CellRule {
+    place: PlaceRule::NoPlace,
+    value: ValueRule::NoValue,
+};
+
+const ALONE_SIGNED: CellRule = CellRule {
+    value: ValueRule::Signed,
+    ..ALONE
+};
+
+const ALONE_SPELT: CellRule = CellRule {
+    value: ValueRule::Spelt,
+    ..ALONE
+};
+
+const OF_STRING: CellRule = CellRule {
+    place: PlaceRule::OfString,
+    ..ALONE
+};
+
+const OF_STRING_NATURAL: CellRule = CellRule {
+    value: ValueRule::Natural,
+    ..OF_STRING
+};
+
+const OF_STRING_PLACED: CellRule = CellRule {
+    value: ValueRule::Placed,
+    ..OF_STRING
+};
+
+const OF_NUMBER: CellRule = CellRule {
+    place: PlaceRule::OfNumber,
+    ..ALONE
+};
+
+const OF_NUMBER_SIGNED: CellRule = CellRule {
+    value: ValueRule::Signed,
+    ..OF_NUMBER
+};
+
+const OF_NUMBER_PLACED: CellRule = CellRule {
+    value: ValueRule::Placed,
+    ..OF_NUMBER
+};
+
+// What a kind asks of a cell, if there is such a kind.
+#[inline(always)]
+fn rule_of(kind: usize) -> Option<CellRule>
+    ensures { option_map cell_rule_asks result ≡ cell_asked kind }
 {
-    let place = code / 10;
-    if place == STRINGS {
-        return n.strings;
+    match kind {
+        NOTHING => Some(ALONE),
+        PLUS => Some(ALONE),
+        MINUS => Some(ALONE),
+        TIMES => Some(ALONE),
+        OVER => Some(ALONE),
+        POSITIVE => Some(ALONE),
+        NEGATIVE => Some(ALONE),
+        CONSTANT => Some(ALONE_SIGNED),
+        NUMBER => Some(OF_NUMBER),
+        LENGTH => Some(OF_STRING),
+        NUMBER_OF => Some(OF_STRING),
+        NUMBER_OF_FIRST => Some(OF_STRING_NATURAL),
+        NUMBER_OF_FIRST_BY => Some(OF_STRING_PLACED),
+        STRING => Some(OF_STRING),
+        FIRST => Some(OF_STRING_NATURAL),
+        FIRST_BY => Some(OF_STRING_PLACED),
+        LITERAL => Some(ALONE_SPELT),
+        TEXT => Some(OF_NUMBER_SIGNED),
+        TEXT_BY => Some(OF_NUMBER_PLACED),
+        FREE => Some(OF_STRING),
+        FIXED => Some(OF_STRING_NATURAL),
+        FIXED_BY => Some(OF_STRING_PLACED),
+        RANGE => Some(ALONE_SPELT),
+        _ => None,
     }
-    if place == NUMBERS {
-        return n.numbers;
+}
+
+// What the place lies under: strings, numbers, 1 where it names nothing.
+fn place_bound(rule: PlaceRule, n: Counts) -> usize
+    ensures { result ≡ place_bound n.strings n.numbers (place_meaning rule) }
+{
+    match rule {
+        PlaceRule::NoPlace => 1,
+        PlaceRule::OfString => n.strings,
+        PlaceRule::OfNumber => n.numbers,
     }
-    if place == NAMELESS {
-        return 1;
-    }
-    0
 }
 
 // The least value: only constants have one.
-fn value_low(code: usize) -> usize
-    ensures { result ≡ value_low code }
+fn value_low(rule: ValueRule) -> usize
+    ensures { result ≡ value_low (value_meaning rule) }
 {
-    let value = code % 10;
-    if value == NATURAL {
-        return BIAS;
+    match rule {
+        ValueRule::NoValue | ValueRule::Placed | ValueRule::Spelt => 0,
+        ValueRule::Natural => BIAS,
+        ValueRule::Signed => BIAS - LIMIT,
     }
-    if value == SIGNED {
-        return BIAS - LIMIT;
-    }
-    0
 }
 
 // What the value lies under: a constant by the limit, the place of a number, any range, or nothing but 0.
-fn value_bound(code: usize, n: Counts) -> usize
-    ensures { result ≡ value_bound n.strings n.numbers code }
+fn value_bound(rule: ValueRule, n: Counts) -> usize
+    ensures { result ≡ value_bound n.strings n.numbers (value_meaning rule) }
 {
-    let value = code % 10;
-    if value == NATURAL {
-        return PAST;
+    match rule {
+        ValueRule::NoValue => 1,
+        ValueRule::Natural | ValueRule::Signed => PAST,
+        ValueRule::Placed => n.numbers,
+        ValueRule::Spelt => VALUES,
     }
-    if value == SIGNED {
-        return PAST;
-    }
-    if value == PLACED {
-        return n.numbers;
-    }
-    if value == SPELT {
-        return VALUES;
-    }
-    1
 }
 
-// Whether place and value are as a kind asks for.
-fn fits(code: usize, c: Cell, n: Counts) -> bool
-    ensures { result ≡ fit_test n.strings n.numbers code (cell_meaning c) }
+// Whether place and value are as a rule asks for.
+fn fits(rule: CellRule, c: Cell, n: Counts) -> bool
+    ensures { result ≡ fit_test n.strings n.numbers (cell_rule_asks rule) (cell_meaning c) }
 {
-    (c.place < place_bound(code, n))
-        & (value_low(code) <= c.value)
-        & (c.value < value_bound(code, n))
+    (c.place < place_bound(rule.place, n))
+        & (value_low(rule.value) <= c.value)
+        & (c.value < value_bound(rule.value, n))
+}
+
+// Whether a cell is as its kind asks for.
+fn is_ruled(c: Cell, n: Counts) -> bool
+    ensures { result ≡ asked_test n.strings n.numbers (cell_asked c.kind) (cell_meaning c) }
+{
+    match rule_of(c.kind) {
+        Some(rule) => fits(rule, c, n),
+        None => false,
+    }
 }
 
 // Whether a cell is of a kind from low to high, with a place and a value as the kind asks for.
-pub fn cell_holds(codes: &[usize; KINDS], c: Cell, low: usize, high: usize, n: Counts) -> bool
-    requires { codes.now ≡ cell_codes }
+#[inline(never)]
+pub fn cell_holds(c: Cell, low: usize, high: usize, n: Counts) -> bool
     ensures { result ≡ cell_test n.strings n.numbers low high (cell_meaning c) }
 {
-    let kind = c.kind;
-    (low <= kind) & (kind <= high) & fits(code_of(codes, kind), c, n)
+    (low <= c.kind) & (c.kind <= high) & is_ruled(c, n)
 }
 
-// How many literal bytes a kind says the value is the range of.
-fn own_length(code: usize, value: usize) -> usize
-    ensures { (result ≡ own_length code value) × (result < 2 ^ 16) }
+// How many literal bytes the value is the range of.
+fn own_length(rule: ValueRule, value: usize) -> usize
+    ensures { (result ≡ own_length (value_meaning rule) value) × (result < 2 ^ 16) }
 {
-    if code % 10 == SPELT {
-        return value / RANGE_STEP % RANGE_STEP;
+    match rule {
+        ValueRule::Spelt => value / RANGE_STEP % RANGE_STEP,
+        _ => 0,
     }
-    0
 }
 
 // Whether a literal has a byte and its range says that it stands at a place, and all of it lies among the literals.
-fn literal_holds(code: usize, value: usize, at: usize) -> bool
+fn literal_holds(rule: ValueRule, value: usize, at: usize) -> bool
     requires { at ≤ 65536 }
-    ensures { result ≡ literal_test code at value }
+    ensures { result ≡ literal_test (value_meaning rule) at value }
 {
-    let own = own_length(code, value);
+    let own = own_length(rule, value);
     let inside = at + own <= LITERALS;
-    if code % 10 == SPELT {
-        return (1 <= own) & (value == at + RANGE_STEP * own) & inside;
+    match rule {
+        ValueRule::Spelt => (1 <= own) & (value == at + RANGE_STEP * own) & inside,
+        _ => inside,
     }
-    inside
 }
 
-// The place among the literals behind an element whose literal stands at a place: broken if the element breaks a rule. Kinds go up to high.
-fn element_end(codes: &[usize; KINDS], c: Cell, high: usize, at: usize, n: Counts) -> usize
-    requires { (codes.now ≡ cell_codes) × (at ≤ 65536) }
-    ensures { (result ≡ element_end n.strings n.numbers n.steps high at (cell_meaning c)) × (result ≤ 65536) }
+// The place among the literals behind an element whose literal stands at a place: none if the element breaks a rule. Kinds go up to high.
+fn element_end(c: Cell, high: usize, at: usize, n: Counts) -> Option<usize>
+    requires { at ≤ 65536 }
+    ensures is { result ≡ element_end n.strings n.numbers n.steps high at (cell_meaning c) }
+    ensures inside { IfSome result (λ end. end ≤ 4096) }
 {
-    let code = code_of(codes, c.kind);
+    let rule = rule_of(c.kind)?;
     let value = c.value;
-    let holds = cell_holds(codes, c, STRING, high, n) & literal_holds(code, value, at);
+    let holds = (STRING <= c.kind)
+        & (c.kind <= high)
+        & fits(rule, c, n)
+        & literal_holds(rule.value, value, at);
     if holds {
-        return at + own_length(code, value);
+        return Some(at + own_length(rule.value, value));
     }
-    BROKEN
+    None
 }
 
-// The place among the literals behind so many elements, from element k on.
+// The place among the literals behind so many elements, from element k on: none if one breaks a rule.
 pub fn elements_end(
     t: &[u8],
-    codes: &[usize; KINDS],
     k: usize,
     count: usize,
     high: usize,
     at: usize,
     n: Counts,
-) -> usize
-    requires { (table_size ≤ length t.now) × (codes.now ≡ cell_codes) × (k + count ≤ 1024) × (at ≤ 65536) }
-    ensures { (result ≡ elements_end n.strings n.numbers n.steps high t.now k at count) × (result ≤ 65536) }
+) -> Option<usize>
+    requires { (table_size ≤ length t.now) × (k + count ≤ 1024) × (at ≤ 65536) }
+    ensures is { result ≡ elements_end n.strings n.numbers n.steps high t.now k at count }
+    ensures inside { IfSome result (λ end. end ≤ 65536) }
 {
-    let mut end: usize = at;
-    let mut i: usize = 0;
-    while i < count {
-        end = element_end(
-            codes,
-            decoder::cell_at(t, ELEMENTS_AT + TABLE_CELL * (k + i)),
-            high,
-            end,
-            n,
-        );
-        i += 1;
+    let mut end = at;
+    for i in k..k + count {
+        let c = decoder::cell_at(t, ELEMENTS_AT + TABLE_CELL * i);
+        end = element_end(c, high, end, n)?;
     }
-    end
+    Some(end)
 }
 
 // Whether the role of an element of a pattern is as it should be: no string has the place of a filler left of it, which is marked, and no
@@ -311,20 +324,19 @@ pub fn roles_hold(t: &[u8], k: usize, count: usize, reference: usize) -> bool
     requires { (table_size ≤ length t.now) × (k + count ≤ 1024) }
     ensures { result ≡ roles_test t.now reference (replicate 256 0) k count }
 {
-    let mut marks: [u8; 256] = [0; 256];
-    let mut hold: bool = true;
-    let mut i: usize = 0;
-    while i < count {
-        let at = ELEMENTS_AT + TABLE_CELL * (k + i);
-        let kind = wide(t[at]);
-        let place = wide(t[at + 1]);
-        hold = hold & role_holds(kind, place, marks[place], reference);
+    let mut marks = [0u8; 256];
+    for i in k..k + count {
+        let at = ELEMENTS_AT + TABLE_CELL * i;
+        let kind = t[at] as usize;
+        let place = t[at + 1] as usize;
+        if !role_holds(kind, place, marks[place], reference) {
+            return false;
+        }
         if FREE <= kind {
             marks[place] = 1;
         }
-        i += 1;
     }
-    hold
+    true
 }
 
 // How many of the waiting numbers an item takes: an operator two, a sign one, an operand none.
@@ -340,40 +352,35 @@ fn item_used(kind: usize) -> usize
     0
 }
 
-// How many numbers wait behind an item: broken if it breaks a rule, finds too few or leaves too many.
-fn item_end(codes: &[usize; KINDS], c: Cell, known: usize, n: Counts) -> usize
-    requires { (codes.now ≡ cell_codes) × (known ≤ 65536) }
-    ensures { (result ≡ item_end n.strings n.numbers n.steps known (cell_meaning c)) × (result ≤ 65536) }
+// How many numbers wait behind an item: none if it breaks a rule, finds too few or leaves too many.
+fn item_end(c: Cell, known: usize, n: Counts) -> Option<usize>
+    requires { known ≤ 65536 }
+    ensures is { result ≡ item_end n.strings n.numbers n.steps known (cell_meaning c) }
+    ensures room { IfSome result (λ left. left ≤ 64) }
 {
     let used = item_used(c.kind);
-    if !cell_holds(codes, c, PLUS, LAST_ITEM, n) {
-        return BROKEN;
+    if !cell_holds(c, PLUS, LAST_ITEM, n) {
+        return None;
     }
     if known < used {
-        return BROKEN;
+        return None;
     }
     let left = known + 1 - used;
     if WAITING < left {
-        return BROKEN;
+        return None;
     }
-    left
+    Some(left)
 }
 
-// How many numbers wait behind so many items, from item k on.
-pub fn items_end(t: &[u8], codes: &[usize; KINDS], k: usize, count: usize, n: Counts) -> usize
-    requires { (table_size ≤ length t.now) × (codes.now ≡ cell_codes) × (k + count ≤ 1024) }
+// How many numbers wait behind so many items, from item k on: none if one breaks a rule.
+pub fn items_end(t: &[u8], k: usize, count: usize, n: Counts) -> Option<usize>
+    requires { (table_size ≤ length t.now) × (k + count ≤ 1024) }
     ensures { result ≡ items_end n.strings n.numbers n.steps t.now k 0 count }
 {
-    let mut known: usize = 0;
-    let mut i: usize = 0;
-    while i < count {
-        known = item_end(
-            codes,
-            decoder::cell_at(t, encoding::ITEMS_AT + TABLE_CELL * (k + i)),
-            known,
-            n,
-        );
-        i += 1;
+    let mut known = 0;
+    for i in k..k + count {
+        let c = decoder::cell_at(t, encoding::ITEMS_AT + TABLE_CELL * i);
+        known = item_end(c, known, n)?;
     }
-    known
+    Some(known)
 }

@@ -57,11 +57,16 @@ fn ends_hold(t: &[u8], n: Counts) -> bool
     (t[0] == 1) & (t[1] == 0) & (t[STEPS_AT + STEP_ROW * (n.steps - 1)] == FINISH)
 }
 
-// Whether the places behind all steps are the header's counts.
-fn totals_hold(p: Places, n: Counts) -> bool
-    ensures { result ≡ totals_test n p }
+// Whether there are places behind all steps, and they are the header's counts.
+fn totals_hold(end: Option<Places>, n: Counts) -> bool
+    ensures { result ≡ totals_test n end }
 {
-    (p.elements == n.elements) & (p.items == n.items) & (p.literals == n.literals)
+    match end {
+        Some(p) => {
+            (p.elements == n.elements) & (p.items == n.items) & (p.literals == n.literals)
+        }
+        None => false,
+    }
 }
 
 // Whether the table keeps its rules.

@@ -1,28 +1,18 @@
 -- `branch_parser::read_branch` reads a branch field.
-use mathlib.Core.List.{[], ◌∷◌}
-use mathlib.Core.Path.{sym, ◌∙◌}
-use lib.ListN.{drop}
-use Rattle.numeric_parser.specs.OperandLaws.{ready_moved}
-use Rattle.branch_parser.specs.BranchLaws.{branch-targets, branch_broken}
+use Rattle.std.proofs.Common.{drop}
+use Rattle.numeric_parser.specs.OperandLaws.{mark_passed, mark_none, mark_ready}
+use Rattle.branch_parser.specs.BranchLaws.{branch-targets, branch_broken, branch_lost}
 use Rattle.branch_parser.proofs.read_branch.Goals as goal
 
-pub returns-then-not-stands_at : goal.returns-then-not-stands_at
-returns-then-not-stands_at c =
+pub returns-in_err-d : goal.returns-in_err-d
+returns-in_err-d c =
     let a = c.args in
-    record {
-      answer = branch_broken a.known.now (drop a.c.at a.text.now) (sym c.stands_at.ensures ∙ c.if-not-stands_at.true);
-    }
+    branch_lost c.from_residual.ensures (branch_broken a.known.now (drop a.c.at a.text.now) (mark_none a.text.now 47 a.c c.in_err-d.ensures))
 
-pub read_targets-requires : goal.read_targets-requires
-read_targets-requires c =
-    let slash = sym c.stands_at.ensures ∙ c.if-not-stands_at.false in record {
-      reader_ready = ready_moved (47 ∷ []) c.requires.reader_ready c.skip.ensures slash;
-      counts_in_range = c.requires.counts_in_range;
-    }
+pub read_targets-requires-clause-reader_ready : goal.read_targets-requires-clause-reader_ready
+read_targets-requires-clause-reader_ready c = mark_ready c.args.text.now 47 c.args.c c.requires.reader_ready c.in_ok-d.ensures
 
 pub returns : goal.returns
 returns c =
-    let a = c.args in
-    let f = c.read_targets in
-    branch-targets a.known.now (sym c.stands_at.ensures ∙ c.if-not-stands_at.false) f.result
-    c.skip.ensures f.ensures
+    let m = mark_passed c.args.text.now 47 c.args.c c.in_ok-d.ensures in
+    branch-targets c.args.known.now m.0 c.read_targets.result m.1 c.read_targets.ensures

@@ -1,8 +1,6 @@
 -- `branch_parser::read_failure` reads a label beside a step.
-use mathlib.Core.Logic.{inl}
-use mathlib.Core.Path.{refl}
-use lib.ListN.{drop}
-use Rattle.branch_parser.specs.BranchLaws.{target_case, target_none, failure_got, failure_broken}
+use Rattle.std.proofs.Common.{inl, refl, drop}
+use Rattle.branch_parser.specs.BranchLaws.{branch_lost, failure_got, failure_broken}
 use Rattle.branch_parser.proofs.read_failure.Goals as goal
 
 pub read_target-requires : goal.read_target-requires
@@ -13,15 +11,11 @@ read_target-requires c =
       target_tag = record { is = inl refl };
     }
 
-pub returns-in-Broken : goal.returns-in-Broken
-returns-in-Broken c =
+pub returns-in_err-failure : goal.returns-in_err-failure
+returns-in_err-failure c =
     let a = c.args in
-    record {
-      answer = failure_broken a.known.now a.success (drop a.c.at a.text.now) (target_none c.read_target.ensures c.in-Broken.is);
-    }
+    branch_lost c.from_residual.ensures
+    (failure_broken a.known.now a.success (drop a.c.at a.text.now) c.in_err-failure.ensures.answer)
 
-pub returns-in-Got : goal.returns-in-Got
-returns-in-Got c =
-    record {
-      answer = failure_got c.args.known.now c.args.success (target_case c.read_target.ensures c.in-Got.is);
-    }
+pub returns : goal.returns
+returns c = record { answer = failure_got c.args.known.now c.args.success c.in_ok-failure.ensures.answer }

@@ -5,7 +5,7 @@ use mathlib.Core.Path.{refl, sym, ◌∙◌}
 use lib.ListN.{drop}
 use native.Mathlib.Omega.{arith}
 use Rattle.numeric_parser.specs.OperandLaws.{ready_moved}
-use Rattle.branch_parser.specs.BranchLaws.{target_case, target_none, targets_failing, targets-both, targets_success, targets_broken}
+use Rattle.branch_parser.specs.BranchLaws.{branch_lost, targets_failing, targets-both, targets_success, targets_broken}
 use Rattle.branch_parser.proofs.read_targets.Goals as goal
 
 pub read_failure-requires : goal.read_failure-requires
@@ -32,12 +32,12 @@ read_target-requires c =
     }
 
 pub skip-requires-then-stands_at-2 : goal.skip-requires-then-stands_at-2
-skip-requires-then-stands_at-2 c = omega (arith, (target_case c.read_target.ensures c.in-Got.is).ready)
+skip-requires-then-stands_at-2 c = omega (arith, c.in_ok-success.ensures.answer.ready)
 
 pub read_failure-requires-then-stands_at-2 : goal.read_failure-requires-then-stands_at-2
 read_failure-requires-then-stands_at-2 c =
-    let g = target_case c.read_target.ensures c.in-Got.is in
-    let comma = sym c.stands_at-in-Got.ensures ∙ c.if-stands_at-2.true in record {
+    let g = c.in_ok-success.ensures.answer in
+    let comma = sym c.stands_at-2.ensures ∙ c.if-stands_at-2.true in record {
       reader_ready = ready_moved (44 ∷ []) g.ready c.skip-then-stands_at-2.ensures comma;
       counts_in_range = c.requires.counts_in_range;
     }
@@ -45,28 +45,22 @@ read_failure-requires-then-stands_at-2 c =
 pub returns-then-stands_at-2 : goal.returns-then-stands_at-2
 returns-then-stands_at-2 c =
     let a = c.args in
-    let l = c.read_target in
     let f = c.read_failure-then-stands_at-2 in
     let none = sym c.stands_at.ensures ∙ c.if-stands_at.false in
-    let comma = sym c.stands_at-in-Got.ensures ∙ c.if-stands_at-2.true in
-    targets-both a.known.now none (target_case l.ensures c.in-Got.is) c.requires.reader_ready comma f.result
+    let comma = sym c.stands_at-2.ensures ∙ c.if-stands_at-2.true in
+    targets-both a.known.now none c.in_ok-success.ensures.answer c.requires.reader_ready comma f.result
     c.skip-then-stands_at-2.ensures f.ensures
 
-pub returns-in-Broken : goal.returns-in-Broken
-returns-in-Broken c =
+pub returns-in_err-success : goal.returns-in_err-success
+returns-in_err-success c =
     let a = c.args in
-    record {
-      answer =
-          targets_broken a.known.now (drop a.c.at a.text.now) (sym c.stands_at.ensures ∙ c.if-stands_at.false)
-          (target_none c.read_target.ensures c.in-Broken.is);
-    }
+    branch_lost c.from_residual.ensures
+    (targets_broken a.known.now (drop a.c.at a.text.now) (sym c.if-stands_at.ensures) c.in_err-success.ensures.answer)
 
-pub returns-else-stands_at-2 : goal.returns-else-stands_at-2
-returns-else-stands_at-2 c =
-    let a = c.args in
-    let l = c.read_target in
+pub returns : goal.returns
+returns c =
     record {
       answer =
-          targets_success a.known.now (sym c.stands_at.ensures ∙ c.if-stands_at.false) (target_case l.ensures c.in-Got.is)
-          (sym c.stands_at-in-Got.ensures ∙ c.if-stands_at-2.false) c.next_step-next.ensures;
+          targets_success c.args.known.now (sym c.if-stands_at.ensures) c.in_ok-success.ensures.answer (sym c.if-stands_at-2.ensures)
+          c.next_step-next.ensures;
     }

@@ -1,5 +1,6 @@
 -- `card_reader::gather` reads an entry.
 use Prim.Native.Nat.{◌+◌, ◌-◌}
+use Rattle.card_reader.proofs.Packing.{outside_told}
 use Rattle.card_reader.proofs.Parts.{adding, gathers_skipped, gathers_statement, room_added, room_nothing}
 use Rattle.card_reader.specs.Gathering.{LineAdded, LineAddable, nothing_from}
 use Rattle.card_reader.specs.declared.Joining.{Joining}
@@ -48,4 +49,4 @@ returns c =
     gathers_statement a.deck.now a.from a.text.now c.requires end.result end.ensures
     (sym c.is_skipped.ensures ∙ c.if-is_skipped.false) c.key_of-label.result c.key_of-label.ensures
     add.new.text add.result added
-    s.new.text s.result s.ensures c.is_outside.result c.is_outside.ensures
+    s.new.text s.result s.ensures c.eq.result (c.eq.ensures ∙ outside_told s.result.packing.place)

@@ -11,6 +11,12 @@ pub returns-then-table-lt-TABLE_SIZE : goal.returns-then-table-lt-TABLE_SIZE
 returns-then-table-lt-TABLE_SIZE c =
     let a = c.args in small_table a.deck.now a.table.now c.if-deck-gt-DECK.false c.if-table-lt-TABLE_SIZE.true
 
-pub returns : goal.returns
-returns c =
-    let a = c.args in read-with a.deck.now a.table.now c.if-deck-gt-DECK.false c.if-table-lt-TABLE_SIZE.false c.read_deck-v.ensures refl
+pub returns-in-Ok : goal.returns-in-Ok
+returns-in-Ok c =
+    let a = c.args in read-with a.deck.now a.table.now c.if-deck-gt-DECK.false c.if-table-lt-TABLE_SIZE.false c.in-Ok.ensures refl
+
+pub returns-in-Err : goal.returns-in-Err
+returns-in-Err c =
+    let a = c.args in
+    rw c.number.ensures
+    (read-with a.deck.now a.table.now c.if-deck-gt-DECK.false c.if-table-lt-TABLE_SIZE.false c.in-Err.ensures refl)

@@ -1,19 +1,20 @@
 -- `decoder::cell_at` meets its contract.
+use Prim.Native.Nat.{◌+◌}
+use lib.ListN.{get_or}
 use Rattle.encoding.specs.TableReading.{cell_at}
 use Rattle.decoder.proofs.cell_at.Goals as goal
 
 pub returns : goal.returns
 unfolding cell_at
 returns c =
-    let kinds = c.wide.ensures.0 in
-    let places = c.wide-2.ensures.0 in
+    let a = c.args in
     let values = c.number6.ensures.0 in
     record {
-      same = λ i. record { kind = kinds i; place = places i; value = values i };
+      same = λ i. record { kind = get_or a.t.now a.at 0; place = get_or a.t.now (a.at + 1) 0; value = values i };
       small =
           record {
-            kind = c.wide.ensures.1;
-            place = c.wide-2.ensures.1;
+            kind = (c.type_inv.t a.at).fits;
+            place = (c.type_inv.t (a.at + 1)).fits;
             value = c.number6.ensures.1;
           };
     }

@@ -20,11 +20,11 @@ part_size n room v least = length-take-le n v (omega (arith, least, min-le_right
 
 pub slice_bounds-write-end : goal.slice_bounds-write-end
 slice_bounds-write-end c =
-    sym (part_size c.least-end.result (1024 - c.args.at) c.args.v.now c.least-end.ensures)
+    sym (part_size c.min-end.result (1024 - c.args.at) c.args.v.now c.min-end.ensures)
 
 pub write-requires : goal.write-requires
 write-requires c =
-    let least = c.least-end in
+    let least = c.min-end in
     omega (
       arith,
       part_size least.result (1024 - c.args.at) c.args.v.now least.ensures,
@@ -35,6 +35,6 @@ write-requires c =
 
 pub returns : goal.returns
 returns c =
-    let least = c.least-end in
+    let least = c.min-end in
     subst (λ (l : List ℕ). Appended c.args.out.now l c.args.at c.args.v.now) (sym c.write.ensures)
     (appended_least c.args.out.now c.args.v.now c.args.at c.requires (omega arith) least.result least.ensures)

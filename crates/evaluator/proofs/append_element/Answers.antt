@@ -10,45 +10,20 @@ use Rattle.values.specs.Result.{Result, pure}
 use Rattle.evaluator.specs.Appending.{Appends}
 use Rattle.evaluator.proofs.append_element.Goals as goal
 
-pub append_between-requires : goal.append_between-requires
-append_between-requires c =
-    let holds = subst ElementHolds c.in-Literal.is c.requires.holds in record {
-      lies = record {
-        order = omega (arith, holds.order);
-        within = omega (arith, holds.inside, c.requires.bytes);
-        short = omega (arith, holds.inside);
-        few = omega arith;
-      };
-      out_len = c.requires.room;
+pub append_between-requires-clause-lies : goal.append_between-requires-clause-lies
+append_between-requires-clause-lies c =
+    let holds = subst ElementHolds c.in-Literal.is c.requires.holds in
+    record {
+      order = omega (arith, holds.order);
+      within = omega (arith, holds.inside, c.requires.bytes);
+      short = omega (arith, holds.inside);
+      few = omega arith;
     }
 
-pub part_ends-requires : goal.part_ends-requires
-part_ends-requires c = record {
-  memory_ready = c.requires.ready;
-  part_holds = subst ElementHolds c.in-Part.is c.requires.holds;
-}
-
-pub length_value-requires : goal.length_value-requires
-length_value-requires c = record {
-  state_numbered = c.requires.ready.numbers;
-  length_holds = (subst ElementHolds c.in-Text.is c.requires.holds).0;
-}
-
-pub number_at-requires : goal.number_at-requires
-number_at-requires c = record {
-  state_numbered = c.requires.ready.numbers;
-  place_bound = (subst ElementHolds c.in-Text.is c.requires.holds).1;
-}
-
-pub append_text-requires : goal.append_text-requires
-append_text-requires c =
-    let store = c.args.store.now in record {
-      both_in_range = record {
-        left = (c.length_value.ensures store).range;
-        right = (c.number_at.ensures store).range;
-      };
-      out_len = c.requires.room;
-    }
+pub append_text-requires-clause-both_in_range : goal.append_text-requires-clause-both_in_range
+append_text-requires-clause-both_in_range c =
+    let store = c.args.store.now in
+    record { left = (c.length_value.ensures store).range; right = (c.number_at.ensures store).range }
 
 pub returns-in-Literal : goal.returns-in-Literal
 unfolding element_in pure

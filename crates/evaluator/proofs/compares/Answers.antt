@@ -3,6 +3,7 @@ use mathlib.Core.Bool.{Bool}
 use mathlib.Core.Path.{sym, ap, ◌∙◌}
 use Prim.Native.Nat.{◌+◌}
 use native.Mathlib.Omega.{arith}
+use Rattle.std.proofs.lemmas.Result.{err_from_is_err_and}
 use Rattle.base.specs.Current.{current}
 use Rattle.numbers.specs.Laws.{number_is, number_stops}
 use Rattle.numbers.specs.Numbers.{comparison_meaning}
@@ -18,31 +19,31 @@ overflow_add-result c =
     let m = memory_in c.args.store.now c.args.state.now in
     omega (
       arith,
-      operand_notes m (operand_meaning c.args.x.left) c.quick_value.ensures c.in-Is.is,
-      operand_notes m (operand_meaning c.args.x.right) c.quick_value-in-Is.ensures c.in-Is-quick_value.is,
+      operand_notes m (operand_meaning c.args.x.left) c.operand_value.ensures c.in_ok-left.was,
+      operand_notes m (operand_meaning c.args.x.right) c.operand_value-2.ensures c.in_ok-right.was,
     )
 
-pub returns-in-Is-quick_value : goal.returns-in-Is-quick_value
+pub returns : goal.returns
 unfolding test_in
-returns-in-Is-quick_value c =
-    let m = memory_in c.args.store.now c.args.state.now in
-    let left = number_is c.quick_value.ensures c.in-Is.is in
-    let right = number_is c.quick_value-in-Is.ensures c.in-Is-quick_value.is in
-    ap (λ (t : Bool). done t (c.in-Is.n + c.in-Is-quick_value.m)) c.compare.ensures
+returns c =
+    let left = number_is c.operand_value.ensures c.in_ok-left.was in
+    let right = number_is c.operand_value-2.ensures c.in_ok-right.was in
+    ap (λ (t : Bool). done t (c.in_ok-left.left.notes + c.in_ok-right.right.notes)) c.compare.ensures
     ∙ sym (both-done (compared (comparison_meaning c.args.x.sign)) left right)
 
-pub returns-in-Stops-quick_value : goal.returns-in-Stops-quick_value
+pub returns-in_err-right : goal.returns-in_err-right
 unfolding test_in
-returns-in-Stops-quick_value c =
-    let m = memory_in c.args.store.now c.args.state.now in
-    let left = number_is c.quick_value.ensures
-    c.in-Is.is in
-    let right = number_stops c.quick_value-in-Is.ensures c.in-Stops-quick_value.is in
-    sym (second_stops (compared (comparison_meaning c.args.x.sign)) left right)
+returns-in_err-right c =
+    let left = number_is c.operand_value.ensures c.in_ok-left.was in
+    let right = number_stops c.operand_value-2.ensures c.in_err-right.was in
+    let p = err_from_is_err_and c.from_residual-in_err-right.result c.from_residual-in_err-right.ensures.1 in
+    rw (p.1, p.2) (sym (second_stops (compared (comparison_meaning c.args.x.sign)) left right))
 
-pub returns-in-Stops : goal.returns-in-Stops
+pub returns-in_err-left : goal.returns-in_err-left
 unfolding test_in
-returns-in-Stops c =
+returns-in_err-left c =
     let m = memory_in c.args.store.now c.args.state.now in
-    let left = number_stops c.quick_value.ensures c.in-Stops.is in
-    sym (first_stops (compared (comparison_meaning c.args.x.sign)) (operand_in current m (operand_meaning c.args.x.right)) left)
+    let left = number_stops c.operand_value.ensures c.in_err-left.was in
+    let p = err_from_is_err_and c.from_residual.result c.from_residual.ensures.1 in
+    rw (p.1, p.2)
+    (sym (first_stops (compared (comparison_meaning c.args.x.sign)) (operand_in current m (operand_meaning c.args.x.right)) left))

@@ -15,4 +15,4 @@ returns c =
     let natural = sym c.is_negative.ensures ∙ c.if-is_negative.false in
     substring_spans c.args.store.now c.requires.store_good c.args.place c.requires.place_bound.0 start.result start.ensures
     c.args.n.value length.result c.size-asked.result length.ensures.0 length.ensures.1 natural c.size-asked.ensures
-    c.least.result c.least.ensures
+    c.min.result c.min.ensures

@@ -14,5 +14,6 @@ pub returns : goal.returns
 unfolding test_in pure string_at
 returns c state =
     let a = c.args in
-    ap (λ (t : Bool). done t 0)
-    (ap (λ (n : ℕ). eqb n 0) c.string_length.ensures.0 ∙ sym (nil_length (string_of a.store.now a.place)))
+    rw c.plain.ensures
+    (ap (λ (t : Bool). done t 0)
+    (ap (λ (n : ℕ). eqb n 0) c.string_length.ensures.0 ∙ sym (nil_length (string_of a.store.now a.place))))

@@ -4,12 +4,6 @@ use Rattle.machine.specs.Expressions.{length_in}
 use Rattle.decoder.specs.Holds.{LengthHolds}
 use Rattle.evaluator.proofs.length_value.Goals as goal
 
-pub number_at-requires : goal.number_at-requires
-number_at-requires c = record {
-  state_numbered = c.requires.state_numbered;
-  place_bound = subst LengthHolds c.in-Number.is c.requires.length_holds;
-}
-
 pub returns-in-Constant : goal.returns-in-Constant
 unfolding length_in
 returns-in-Constant c store =

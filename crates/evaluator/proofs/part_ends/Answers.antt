@@ -10,25 +10,10 @@ use Rattle.values.specs.Result.{pure}
 use Rattle.evaluator.specs.Values.{Spans}
 use Rattle.evaluator.proofs.part_ends.Goals as goal
 
-pub string_ends-requires : goal.string_ends-requires
-string_ends-requires c = record {
-  store_good = c.requires.memory_ready.strings;
-  place_bound = subst PartHolds c.in-Whole.is c.requires.part_holds;
-}
-
-pub length_value-requires : goal.length_value-requires
-length_value-requires c =
-    let holds = subst PartHolds c.in-First.is c.requires.part_holds in record {
-      state_numbered = c.requires.memory_ready.numbers;
-      length_holds = holds.1;
-    }
-
-pub first_ends-requires : goal.first_ends-requires
-first_ends-requires c =
-    let holds = subst PartHolds c.in-First.is c.requires.part_holds in record {
-      store_good = c.requires.memory_ready.strings;
-      place_bound = (holds.0, (c.length_value.ensures c.args.store.now).range);
-    }
+pub first_ends-requires-clause-place_bound : goal.first_ends-requires-clause-place_bound
+first_ends-requires-clause-place_bound c =
+    let holds = subst PartHolds c.in-First.is c.requires.part_holds in
+    (holds.0, (c.length_value.ensures c.args.store.now).range)
 
 pub returns-in-Whole : goal.returns-in-Whole
 unfolding part_in pure string_at

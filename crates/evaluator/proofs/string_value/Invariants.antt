@@ -3,9 +3,6 @@ use Rattle.evaluator.specs.Memory.{memory_in}
 use Rattle.evaluator.proofs.Spelling.{Spelling}
 use Rattle.evaluator.proofs.string_value.Given as goal
 
-abbrev pub invariant-loop-left : goal.invariant-loop-left
-invariant-loop-left l =
-    Spelling (memory_in l.store l.state) l.table l.initial.at l.initial.left l.out l.length l.notes l.at l.left
-
-abbrev pub decreases-loop-left : goal.decreases-loop-left
-decreases-loop-left l = l.left
+abbrev pub invariant-loop-at : goal.invariant-loop-at
+invariant-loop-at l =
+    Spelling (memory_in l.store l.state) l.table l.fn.s.from l.fn.s.count l.out l.length l.notes l.at

@@ -1,24 +1,24 @@
 -- `conclude` meets its contract.
 use mathlib.Core.Path.{sym, ap, ◌∙◌}
-use Rattle.interpreter.specs.Clauses.{concluded_number, concluded_state, concluded_answer}
+use Rattle.interpreter.specs.Clauses.{concluded_result, concluded_state, concluded_answer}
 use Rattle.interpreter.proofs.conclude.Goals as goal
 
-pub returns-in-Done : goal.returns-in-Done
-returns-in-Done c =
-    let told = sym c.in-Done.is in
+pub returns-in-Ok : goal.returns-in-Ok
+returns-in-Ok c =
+    let told = sym c.in-Ok.is in
     let a = c.args in
     record {
-      number_is = ap concluded_number told;
+      given_is = ap concluded_result told;
       state_is = ap (λ d. concluded_state d a.state.now) told;
       answer_is = ap (λ d. concluded_answer d a.answer.now) told;
     }
 
-pub returns-in-Stops : goal.returns-in-Stops
-returns-in-Stops c =
-    let told = sym c.in-Stops.is in
+pub returns-in-Err : goal.returns-in-Err
+returns-in-Err c =
+    let told = sym c.in-Err.is in
     let a = c.args in
     record {
-      number_is = ap concluded_number told;
+      given_is = ap concluded_result told;
       state_is = c.stop.ensures ∙ ap (λ d. concluded_state d a.state.now) told;
       answer_is = ap (λ d. concluded_answer d a.answer.now) told;
     }

@@ -1,6 +1,7 @@
 -- `lacks_return` meets its contract: EXECUTE wants room, RETURN a return, and no other statement either.
-use mathlib.Core.Path.{sym, ap, ◌∙◌}
+use mathlib.Core.Path.{◌≡◌, sym, ap, ◌∙◌}
 use Prim.Native.Nat.{ℕ}
+use native.Mathlib.Omega.{arith}
 use lib.Dec.{eqb, leb}
 use Rattle.base.specs.ListLaws.{nil_length}
 use Rattle.interpreter.specs.Laws.{execute_lacks, return_lacks, plain_lacks}
@@ -15,5 +16,6 @@ returns-in-35 c t rs row k e =
 
 pub returns-in_default : goal.returns-in_default
 returns-in_default c t rs row k e =
-    let others = c.in_default.in_default-own.rest in
-    sym (plain_lacks t rs row (λ h. others.0.1 (sym k ∙ h)) (λ h. others.1 (sym k ∙ h)))
+    sym
+    (plain_lacks t rs row (λ h. let enters : c.args.kind ≡ 34 = sym k ∙ h in omega arith)
+    (λ h. let leaves : c.args.kind ≡ 35 = sym k ∙ h in omega arith))

@@ -11,7 +11,7 @@ use Rattle.machine.specs.State.{is_running}
 use Rattle.state.specs.Laws.{running_number}
 use Rattle.interpreter.specs.Clauses.{next_statement, work_of}
 use Rattle.interpreter.specs.Laws.{next_inside, returns_counted, next_row, lacks_next, kind-next, silent_zeros}
-use Rattle.interpreter.specs.Laws.{lacking_answers, ended_answers, step_allowed, done_called, concluded-answers}
+use Rattle.interpreter.specs.Laws.{lacking_answers, ended_answers, step_allowed, done_called, concluded-taken}
 use Rattle.interpreter.proofs.step_on.Goals.{After-lacks_return, After-returns_held, Else-not-is_running}
 use Rattle.interpreter.proofs.step_on.Goals as goal
 
@@ -31,14 +31,20 @@ lacks c =
 
 pub returns-then-lacks_return : goal.returns-then-lacks_return
 returns-then-lacks_return c = record {
-  step_answers = lacking_answers c.requires.given (lacks (goal.at.returns-then-lacks_return c).After-lacks_return ∙ c.if-lacks_return.true) refl refl;
+  step_taken = record {
+    answers = lacking_answers c.requires.given (lacks (goal.at.returns-then-lacks_return c).After-lacks_return ∙ c.if-lacks_return.true) refl refl;
+    notes_are = refl;
+  };
   scan_lent_2 = c.requires.scan_lent;
 }
 
 pub returns-then-not-is_running : goal.returns-then-not-is_running
 returns-then-not-is_running c =
     let ended = sym c.is_running.ensures ∙ c.if-not-is_running.true in record {
-      step_answers = ended_answers c.requires.given (lacks (goal.at.returns-then-not-is_running c).After-lacks_return ∙ c.if-lacks_return.false) ended refl refl;
+      step_taken = record {
+        answers = ended_answers c.requires.given (lacks (goal.at.returns-then-not-is_running c).After-lacks_return ∙ c.if-lacks_return.false) ended refl refl;
+        notes_are = refl;
+      };
       scan_lent_2 = c.requires.scan_lent;
     }
 
@@ -74,8 +80,8 @@ returns c =
     let b = buffers a.store.now a.state.now a.output.now in
     let called = c.execute_statement-did in
     let left = buffers called.new.store called.new.state called.new.output in record {
-      step_answers = rw (done_called c.requires.given (free goes) (runs goes))
-          (concluded-answers c.requires.given (running goes) called.result left _ (work_of a.input.now b (next_statement a.table.now a.state.now))
+      step_taken = rw (done_called c.requires.given (free goes) (runs goes))
+          (concluded-taken c.requires.given (running goes) called.result left _ (work_of a.input.now b (next_statement a.table.now a.state.now))
           called.ensures.works_on.works c.conclude.ensures);
       scan_lent_2 = called.ensures.scan_lent_2;
     }

@@ -1,9 +1,11 @@
 -- `lexer::stands_at` meets its contract.
-use Rattle.lexer.proofs.Starts.{one_inside, one-behind}
+use native.Mathlib.Omega.{arith}
+use mathlib.Core.Path.{◌∙◌}
+use Rattle.lexer.proofs.Starts.{mark_stands}
 use Rattle.lexer.proofs.stands_at.Goals as goal
 
-pub returns-then-at-text : goal.returns-then-at-text
-returns-then-at-text c = let a = c.args in one_inside a.text.now a.at a.mark c.if-at-text.true
-
-pub returns-else-at-text : goal.returns-else-at-text
-returns-else-at-text c = let a = c.args in one-behind a.text.now a.at a.mark c.if-at-text.false
+pub returns : goal.returns
+returns c =
+    let a = c.args in
+    let got = c.get.ensures.lookup in
+    c.eq.ensures ∙ mark_stands a.text.now a.at c.get.result _ got.0 (got.4 (omega arith) 0)

@@ -8,4 +8,4 @@ pub returns-then-b-lt48 : goal.returns-then-b-lt48
 returns-then-b-lt48 c = (sym (digit_low c.args.b c.if-b-lt48.true), omega arith)
 
 pub returns-else-b-lt48 : goal.returns-else-b-lt48
-returns-else-b-lt48 c = (sym (digit_high c.args.b c.if-b-lt48.false), omega arith)
+returns-else-b-lt48 c = rw c.from.ensures (sym (digit_high c.args.b c.if-b-lt48.false), omega arith)

@@ -1,54 +1,30 @@
--- `numbers::is_numeric` meets its contract. The invariant: what is left is all digits and blanks if what stood behind the sign is.
-use mathlib.Core.Path.{refl, sym, ◌∙◌}
+-- `numbers::is_numeric` meets its contract. Something stands behind the sign, and all of it is digits and blanks.
+use mathlib.Core.Path.{sym, ◌∙◌}
+use Prim.Native.Nat.{◌-◌}
 use native.Mathlib.Omega.{arith}
-use lib.ListN.{length}
-use borrow.Author.Tests.{le-ltb, lt-ltb}
-use Rattle.base.specs.ListLaws.{all-next, all_end}
+use lib.ListN.{length, take, drop}
+use Rattle.std.proofs.Common.{rules, tests}
+use Rattle.std.proofs.lemmas.Iterator.{YieldsList-from_slice}
+use Rattle.std.proofs.lemmas.Iterator.Search.{all_from_yields_List}
 use Rattle.values.specs.Conversion.{is_digit_or_blank}
-use Rattle.numbers.proofs.Reading.{numeric_from_lem}
+use Rattle.numbers.proofs.Reading.{sign_most, numeric-all, numeric-none}
 use Rattle.numbers.proofs.is_numeric.Goals as goal
 
-pub returns-then-s-start : goal.returns-then-s-start
-returns-then-s-start c =
-    let s = c.args.s.now in
-    rw (numeric_from_lem s, sym c.sign_length-start.ensures, le-ltb c.sign_length-start.result (length s) c.if-s-start.true)
+pub slice_bounds-digits-count : goal.slice_bounds-digits-count
+slice_bounds-digits-count c = omega (arith, c.sign_length.ensures, sign_most c.args.s.now)
 
-pub loop-i-init : goal.loop-i-init
-loop-i-init c = (omega arith, refl)
+pub slice_bounds-digits-start : goal.slice_bounds-digits-start
+slice_bounds-digits-start c =
+    let h = sign_most c.args.s.now in
+    search rules
 
-pub returns-then-not-is_digit_or_blank : goal.returns-then-not-is_digit_or_blank
-returns-then-not-is_digit_or_blank c =
-    let s = c.args.s.now in
-    let i = c.loop-i.i in
-    let other = c.if-not-is_digit_or_blank.true in
-    rw (
-      numeric_from_lem s,
-      sym c.sign_length-start.ensures,
-      lt-ltb c.sign_length-start.result (length s) c.if-s-start.false,
-      c.loop-i.invariant.1,
-      all-next is_digit_or_blank s i c.loop-i-test.true,
-      sym c.is_digit_or_blank.ensures,
-      other,
-    )
+pub returns-then-not-is_empty : goal.returns-then-not-is_empty
+returns-then-not-is_empty c =
+    all_from_yields_List is_digit_or_blank _ _ _ c.all.ensures.ran
+    (YieldsList-from_slice (take (length c.args.s.now - c.sign_length.result) (drop c.sign_length.result c.args.s.now)) cc)
+    (λ x b q k. search (rules, tests))
+    ∙ sym (numeric-all c.args.s.now c.sign_length.result c.sign_length.ensures (sym c.if-not-is_empty.ensures))
 
-pub loop-i-preserved : goal.loop-i-preserved
-loop-i-preserved c =
-    let s = c.args.s.now in
-    let i = c.loop-i.i in
-    let kind = c.if-not-is_digit_or_blank.false in (
-      omega arith,
-      c.loop-i.invariant.1
-          ∙ all-next is_digit_or_blank s i c.loop-i-test.true
-          ∙ rw (sym c.is_digit_or_blank.ensures, kind),
-    )
-
-pub returns : goal.returns
-returns c =
-    let s = c.args.s.now in
-    rw (
-      numeric_from_lem s,
-      sym c.sign_length-start.ensures,
-      lt-ltb c.sign_length-start.result (length s) c.if-s-start.false,
-      c.loop-i.invariant.1,
-      all_end is_digit_or_blank s c.loop-i.i c.loop-i-test.false,
-    )
+pub returns-else-not-is_empty : goal.returns-else-not-is_empty
+returns-else-not-is_empty c =
+    rw c.if-not-is_empty.false (sym (numeric-none c.args.s.now c.sign_length.result c.sign_length.ensures (sym c.if-not-is_empty.ensures)))

@@ -56,19 +56,21 @@ returns-then-s-eq45 c =
     let v = c.decimal_from-v.result in
     let small = c.if-v-gt-LIMIT.false in
     let value = c.negate.ensures.value ∙ ap neg_ℤ c.int_of.ensures.value in
-    record {
+    rw c.plain.ensures
+    (record {
       work = ap (λ (z : ℤ). done z 0) value
           ∙ sym (number_negative (string d) (numeric d) v ((capped d).same small) small c.if-s-eq45.true);
       range = c.negate.ensures.range;
-    }
+    })
 
 pub returns : goal.returns
 returns c =
     let d = (goal.at.returns c).After-decimal_from-v in
     let v = c.decimal_from-v.result in
     let small = c.if-v-gt-LIMIT.false in
-    record {
+    rw c.plain-2.ensures
+    (record {
       work = ap (λ (z : ℤ). done z 0) c.int_of-2.ensures.value
           ∙ sym (number_positive (string d) (numeric d) v ((capped d).same small) small c.if-s-eq45.false);
       range = c.int_of-2.ensures.range;
-    }
+    })

@@ -1,23 +1,23 @@
 -- `numbers::sign_length` meets its contract. The first byte tells.
-use lib.ListN.{get_or}
-use borrow.Author.Tests.{eq-eqb, ne_eqb}
-use Rattle.numbers.proofs.Reading.{sign_none, sign_seen}
+use mathlib.Core.Path.{sym, ◌∙◌}
+use Rattle.numbers.proofs.Reading.{sign_plus, sign_minus, sign_neither}
+use Rattle.numbers.proofs.sign_length.Goals.{then-starts_with, else-starts_with}
 use Rattle.numbers.proofs.sign_length.Goals as goal
 
-pub returns-then-s-eq0 : goal.returns-then-s-eq0
-returns-then-s-eq0 c = rw (sign_none c.args.s.now c.if-s-eq0.true)
-
-pub returns-then-first-eq43 : goal.returns-then-first-eq43
-returns-then-first-eq43 c =
+pub returns-then-starts_with-2 : goal.returns-then-starts_with-2
+returns-then-starts_with-2 c =
     let s = c.args.s.now in
-    rw (sign_seen s c.if-s-eq0.false, eq-eqb (get_or s 0 0) 43 c.if-first-eq43.true)
+    elim c.if-starts_with.branch [
+      | then-starts_with w ↦ sym (sign_plus s (sym c.starts_with.ensures.value ∙ w.if-starts_with.true))
+      | else-starts_with w ↦ sym (sign_minus s (sym w.starts_with-else-starts_with.ensures.value ∙ sym w.value-is ∙ c.if-starts_with-2.true))
+    ]
 
-pub returns-then-first-eq45 : goal.returns-then-first-eq45
-returns-then-first-eq45 c =
+pub returns-else-starts_with-2 : goal.returns-else-starts_with-2
+returns-else-starts_with-2 c =
     let s = c.args.s.now in
-    rw (sign_seen s c.if-s-eq0.false, ne_eqb (get_or s 0 0) 43 c.if-first-eq43.false, eq-eqb (get_or s 0 0) 45 c.if-first-eq45.true)
-
-pub returns-else-first-eq45 : goal.returns-else-first-eq45
-returns-else-first-eq45 c =
-    let s = c.args.s.now in
-    rw (sign_seen s c.if-s-eq0.false, ne_eqb (get_or s 0 0) 43 c.if-first-eq43.false, ne_eqb (get_or s 0 0) 45 c.if-first-eq45.false)
+    let neither = c.if-starts_with-2.false in
+    elim c.if-starts_with.branch [
+      | then-starts_with w ↦ cc
+      | else-starts_with w ↦ sym (sign_neither s (sym c.starts_with.ensures.value ∙ w.if-starts_with.false)
+          (sym w.starts_with-else-starts_with.ensures.value ∙ sym w.value-is ∙ neither))
+    ]

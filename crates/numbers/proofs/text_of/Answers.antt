@@ -14,8 +14,9 @@ put_text-length-requires c = plain_room c.args.m c.requires.right
 
 pub returns-then-asked-eq0 : goal.returns-then-asked-eq0
 returns-then-asked-eq0 c =
-    written-whole c.put_text-length.ensures c.requires.room (plain_room c.args.m c.requires.right).room (omega (arith, c.put_text-length.ensures.ends))
-    (text_plain c.args.n.value c.args.m.value (sym c.size-asked.ensures ∙ c.if-asked-eq0.true))
+    rw c.plain.ensures
+    (written-whole c.put_text-length.ensures c.requires.room (plain_room c.args.m c.requires.right).room (omega (arith, c.put_text-length.ensures.ends))
+    (text_plain c.args.n.value c.args.m.value (sym c.size-asked.ensures ∙ c.if-asked-eq0.true)))
 
 pub returns-then-asked-gt-LONGEST : goal.returns-then-asked-gt-LONGEST
 returns-then-asked-gt-LONGEST c =
@@ -45,9 +46,10 @@ returns-then-plain-asked c =
     let some : nat_abs n ≡ 0 → ⊥ = λ e. c.if-asked-eq0.false (size ∙ e) in
     let long = c.plain_length-plain.ensures in
     let whole : asked ≡ length (filled_text m byte count) = omega (arith, text_size_lem m byte count) in
-    written-whole c.put_text.ensures c.requires.room (omega arith) whole
+    rw c.plain-then-plain-asked.ensures
+    (written-whole c.put_text.ensures c.requires.room (omega arith) whole
     (text_fills n m some (omega arith) count (omega arith) (omega arith)
-    ∙ ap (λ (b : ℕ). done (filled_text m b count) 0) (sym c.fill_byte.ensures))
+    ∙ ap (λ (b : ℕ). done (filled_text m b count) 0) (sym c.fill_byte.ensures)))
 
 pub put_text-requires-2 : goal.put_text-requires-2
 put_text-requires-2 c =

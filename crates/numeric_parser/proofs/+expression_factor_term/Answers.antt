@@ -1,61 +1,53 @@
 -- The cycle of readers: an expression of terms, a term of factors, a factor of an expression in parentheses.
-use Rattle.std.proofs.Common.{[], ◌∷◌, ◌∙◌, drop, sym, ap, subst, arith}
+use Rattle.std.proofs.Common.{not, Option, Some, None, [], ◌∷◌, ◌∙◌, drop, sym, ap, subst, arith}
 use Rattle.base.specs.Text.{bytes}
-use Rattle.encoding.specs.Kinds.{operator_number, sign_number}
 use Rattle.syntax.specs.Numeric.{deepest}
 use Rattle.symbols.specs.Environment.{places_in}
 use Rattle.symbols.specs.declared.Cursor.{Cursor}
 use borrow.Author.Tests.{lt-ltb, le-ltb}
 use Rattle.numeric_parser.specs.JoinLaws.{joining_begins, joining_signed, joining_broken, joining_ends, joining_again, joining_less}
 use Rattle.numeric_parser.specs.JoinLaws.{sum-joins, product-joins, expression_joined, term_joined}
-use Rattle.numeric_parser.specs.KindLaws.{sign_told, sum_told, product_told, inside_closed, deeper}
+use Rattle.numeric_parser.specs.KindLaws.{sign_told, sum_told, product_told, items_lost, inside_closed, deeper}
 use Rattle.numeric_parser.specs.OperandLaws.{ready_moved}
 use Rattle.numeric_parser.specs.ReadLaws.{too_deep}
-use Rattle.numeric_parser.specs.Reads.{FactorRead, waiting}
-use Rattle.numeric_parser.specs.declared.Outcome.{Outcome}
+use Rattle.numeric_parser.specs.Reads.{FactorRead}
 use Rattle.numeric_parser.proofs.+expression_factor_term.Goals as goal
 
 pub expression-skip-d-requires : goal.expression-skip-d-requires
-unfolding sign_number
 expression-skip-d-requires t c =
     let ready = c.requires.reader_ready in
-    omega (arith, (sign_told _ _ c.mark_kind-kind.ensures).inside ready.inside, c.size.ensures, ready)
+    omega (arith, (sign_told _ _ c.mark_at-mark.ensures).inside ready.inside, c.size.ensures, ready)
 
 pub expression-loop-e-init : goal.expression-loop-e-init
-unfolding sign_number
 expression-loop-e-init t c =
-    joining_signed c.requires.reader_ready (sign_told _ _ c.mark_kind-kind.ensures) c.size.ensures c.skip-d.ensures
+    joining_signed c.requires.reader_ready (sign_told _ _ c.mark_at-mark.ensures) c.size.ensures c.skip-d.ensures
 
-pub expression-returns-in_default : goal.expression-returns-in_default
-unfolding sign_number
-expression-returns-in_default t c =
-    expression_joined (places_in c.args.known.now) c.args.depth c.args.c (sign_told _ _ c.mark_kind-kind.ensures)
+pub expression-returns-in_err-e : goal.expression-returns-in_err-e
+expression-returns-in_err-e t c =
+    expression_joined (places_in c.args.known.now) c.args.depth c.args.c (sign_told _ _ c.mark_at-mark.ensures)
     c.size.ensures c.skip-d.ensures
-    (joining_broken c.loop-e.invariant c.term.ensures c.in_default.is)
+    (joining_broken c.loop-e.invariant c.term.ensures c.in_err-e.was c.from_residual.ensures)
 
-pub expression-returns-then-kind-eq0 : goal.expression-returns-then-kind-eq0
-unfolding operator_number sign_number
-expression-returns-then-kind-eq0 t c =
+pub expression-returns-then-is_none : goal.expression-returns-then-is_none
+expression-returns-then-is_none t c =
     let p = places_in c.args.known.now in
-    expression_joined p c.args.depth c.args.c (sign_told _ _ c.mark_kind-kind.ensures)
+    expression_joined p c.args.depth c.args.c (sign_told _ _ c.mark_at-mark.ensures)
     c.size.ensures c.skip-d.ensures
-    (joining_ends c.loop-e.invariant c.term.ensures c.in-Got.is c.put_kind-f.ensures
-    (sum-joins p c.args.depth (sum_told _ _ c.mark_kind-kind-in-loop-e.ensures)) c.if-kind-eq0.true)
+    (joining_ends c.loop-e.invariant c.term.ensures c.in_ok-e.was c.put_mark-f.ensures
+    (sum-joins p c.args.depth (sum_told _ _ c.mark_at-mark-in-loop-e.ensures)) (c.is_none.ensures ∙ ap not c.if-is_none.true))
 
 pub expression-loop-e-smaller : goal.expression-loop-e-smaller
-unfolding operator_number
 expression-loop-e-smaller t c =
-    joining_less c.loop-e.invariant c.term.ensures c.in-Got.is c.put_kind-f.ensures
-    (sum-joins (places_in c.args.known.now) c.args.depth (sum_told _ _ c.mark_kind-kind-in-loop-e.ensures))
-    c.if-kind-eq0.false c.skip-d-in-loop-e.ensures
+    joining_less c.loop-e.invariant c.term.ensures c.in_ok-e.was c.put_mark-f.ensures
+    (sum-joins (places_in c.args.known.now) c.args.depth (sum_told _ _ c.mark_at-mark-in-loop-e.ensures))
+    (c.is_none.ensures ∙ ap not c.if-is_none.false) c.skip-d-in-loop-e.ensures
 
 pub expression-loop-e-preserved : goal.expression-loop-e-preserved
-unfolding operator_number
 expression-loop-e-preserved t c =
-    joining_again c.loop-e.invariant c.term.ensures c.in-Got.is c.put_kind-f.ensures
-    (sum-joins (places_in c.args.known.now) c.args.depth (sum_told _ _ c.mark_kind-kind-in-loop-e.ensures))
-    c.if-kind-eq0.false c.skip-d-in-loop-e.ensures
-    (c.put_kind-f.auto.table ∙ c.term.auto.table ∙ c.loop-e.invariant.same_size)
+    joining_again c.loop-e.invariant c.term.ensures c.in_ok-e.was c.put_mark-f.ensures
+    (sum-joins (places_in c.args.known.now) c.args.depth (sum_told _ _ c.mark_at-mark-in-loop-e.ensures))
+    (c.is_none.ensures ∙ ap not c.if-is_none.false) c.skip-d-in-loop-e.ensures
+    (c.put_mark-f.auto.table ∙ c.term.auto.table ∙ c.loop-e.invariant.same_size)
 
 pub factor-returns-then-not-stands_at : goal.factor-returns-then-not-stands_at
 unfolding bytes
@@ -79,6 +71,15 @@ factor-expression-requires t c =
     let at = ap (λ (z : Cursor). z.at) c.skip.ensures in
     (omega (arith, at, ready.inside), (ready, (c.requires.counts_in_range, c.requires.table_size_in_bounds)))
 
+pub factor-returns-in_err-d : goal.factor-returns-in_err-d
+unfolding bytes deepest
+factor-returns-in_err-d t c =
+    let a = c.args in
+    let p = places_in a.known.now in
+    let paren = sym c.stands_at.ensures ∙ c.if-not-stands_at.false in
+    items_lost c.from_residual.ensures
+    (inside_closed p a.depth a.c paren (lt-ltb _ _ (omega arith)) None (deeper p a.depth a.c c.skip.ensures c.in_err-d.ensures)).answer
+
 pub factor-returns : goal.factor-returns
 unfolding bytes deepest
 factor-returns t c =
@@ -87,42 +88,38 @@ factor-returns t c =
     let new = c.expression.new in
     let paren = sym c.stands_at.ensures ∙ c.if-not-stands_at.false in
     subst
-    (λ (r : Outcome).
+    (λ (r : Option Cursor).
     FactorRead a.text.now a.known.now a.table.now a.keys.now a.tags.now a.c a.depth r new.table new.keys new.tags)
-    (sym c.pass_closing.ensures)
-    (inside_closed p a.depth a.c paren (lt-ltb _ _ (omega arith)) c.expression.result
-    (deeper p a.depth a.c c.skip.ensures c.expression.ensures))
+    (sym c.marked.ensures)
+    (inside_closed p a.depth a.c paren (lt-ltb _ _ (omega arith)) (Some c.in_ok-d.d)
+    (deeper p a.depth a.c c.skip.ensures c.in_ok-d.ensures))
 
 pub term-loop-e-init : goal.term-loop-e-init
-unfolding waiting
 term-loop-e-init t c =
     let ready = c.requires.reader_ready in
     joining_begins ready (omega (arith, ready.items))
 
-pub term-returns-in_default : goal.term-returns-in_default
-term-returns-in_default t c =
+pub term-returns-in_err-e : goal.term-returns-in_err-e
+term-returns-in_err-e t c =
     term_joined (places_in c.args.known.now) c.args.depth c.args.c
-    (joining_broken c.loop-e.invariant c.factor.ensures c.in_default.is)
+    (joining_broken c.loop-e.invariant c.factor.ensures c.in_err-e.was c.from_residual.ensures)
 
-pub term-returns-then-kind-eq0 : goal.term-returns-then-kind-eq0
-unfolding operator_number
-term-returns-then-kind-eq0 t c =
+pub term-returns-then-is_none : goal.term-returns-then-is_none
+term-returns-then-is_none t c =
     let p = places_in c.args.known.now in
     term_joined p c.args.depth c.args.c
-    (joining_ends c.loop-e.invariant c.factor.ensures c.in-Got.is c.put_kind-f.ensures
-    (product-joins p c.args.depth (product_told _ _ c.mark_kind-kind.ensures)) c.if-kind-eq0.true)
+    (joining_ends c.loop-e.invariant c.factor.ensures c.in_ok-e.was c.put_mark-f.ensures
+    (product-joins p c.args.depth (product_told _ _ c.mark_at-mark.ensures)) (c.is_none.ensures ∙ ap not c.if-is_none.true))
 
 pub term-loop-e-smaller : goal.term-loop-e-smaller
-unfolding operator_number
 term-loop-e-smaller t c =
-    joining_less c.loop-e.invariant c.factor.ensures c.in-Got.is c.put_kind-f.ensures
-    (product-joins (places_in c.args.known.now) c.args.depth (product_told _ _ c.mark_kind-kind.ensures))
-    c.if-kind-eq0.false c.skip-d.ensures
+    joining_less c.loop-e.invariant c.factor.ensures c.in_ok-e.was c.put_mark-f.ensures
+    (product-joins (places_in c.args.known.now) c.args.depth (product_told _ _ c.mark_at-mark.ensures))
+    (c.is_none.ensures ∙ ap not c.if-is_none.false) c.skip-d.ensures
 
 pub term-loop-e-preserved : goal.term-loop-e-preserved
-unfolding operator_number
 term-loop-e-preserved t c =
-    joining_again c.loop-e.invariant c.factor.ensures c.in-Got.is c.put_kind-f.ensures
-    (product-joins (places_in c.args.known.now) c.args.depth (product_told _ _ c.mark_kind-kind.ensures))
-    c.if-kind-eq0.false c.skip-d.ensures
-    (c.put_kind-f.auto.table ∙ c.factor.auto.table ∙ c.loop-e.invariant.same_size)
+    joining_again c.loop-e.invariant c.factor.ensures c.in_ok-e.was c.put_mark-f.ensures
+    (product-joins (places_in c.args.known.now) c.args.depth (product_told _ _ c.mark_at-mark.ensures))
+    (c.is_none.ensures ∙ ap not c.if-is_none.false) c.skip-d.ensures
+    (c.put_mark-f.auto.table ∙ c.factor.auto.table ∙ c.loop-e.invariant.same_size)

@@ -1,45 +1,42 @@
--- `register_lines::grain_on` counts the fields where a comma stands at a place, and behind it the grain and what follows.
+-- `register_lines::grain_on` finds a field behind a comma by its run.
+use Rattle.std.proofs.Common.{ℕ, sym, ap, take, ◌-◌, ◌∙◌, ◌≡◌, ◌+◌, ◌≤◌, true, drop, eqb, refl, length, get_or, subst, arith}
 use borrow.Author.Tests.{eq-eqb, ne_eqb}
-use mathlib.Core.Bool.{true}
-use mathlib.Core.List.{[], ◌∷◌}
-use mathlib.Core.Path.{◌≡◌, sym, ◌∙◌}
-use native.Mathlib.Omega.{arith}
-use lib.Dec.{eqb}
-use lib.ListN.{get_or}
-use Rattle.register.specs.Line.{is_grain, is_tonnes, is_price}
-use Rattle.register_lines.specs.FieldLaws.{no_count, comma_inside, grain_counted}
-use Rattle.register_lines.proofs.grain_on.Goals.{Else-not-has_comma}
+use Rattle.std.proofs.lemmas.List.{take_rest}
+use Rattle.std.proofs.lemmas.Bool.{false≢true}
+use Rattle.std.specs.Char.{is_ascii_uppercase}
+use Rattle.std.specs.List.{prefix_len}
+use Rattle.cards.specs.Bytes.{is_letter}
+use Rattle.register_lines.specs.Fields.{FieldFound, RunOfBytes}
+use Rattle.register_lines.specs.FieldLaws.{comma_inside, letters_run}
 use Rattle.register_lines.proofs.grain_on.Goals as goal
+use Rattle.register_lines.proofs.grain_on.Goals.{Else-not-has_comma}
+
+module _ (c : Else-not-has_comma) where
+  comma_here : let a = c.args in eqb (get_or a.line.now a.at 0) 44 ≡ true
+  comma_here = sym c.has_comma.ensures ∙ c.if-not-has_comma.false
+
+  run : (n : ℕ) → (let a = c.args in n ≡ prefix_len is_ascii_uppercase (take (length a.line.now - (a.at + 1)) (drop (a.at + 1) a.line.now)))
+      → RunOfBytes is_letter c.args.line.now (c.args.at + 1) n
+  run n is =
+      let a = c.args in
+      let inside : a.at + 1 ≤ length a.line.now = omega (arith, comma_inside a.line.now a.at comma_here) in
+      let counted = is ∙ ap (prefix_len is_ascii_uppercase) (take_rest a.line.now (a.at + 1)) in
+      subst (RunOfBytes is_letter a.line.now (a.at + 1)) (sym counted) (letters_run a.line.now (a.at + 1) inside)
 
 pub returns-then-not-has_comma : goal.returns-then-not-has_comma
-returns-then-not-has_comma c =
-    let a = c.args in
-    no_count a.line.now a.at (is_grain ∷ is_tonnes ∷ is_price ∷ [])
-    (sym c.has_comma.ensures ∙ c.if-not-has_comma.true)
+unfolding FieldFound
+returns-then-not-has_comma c = λ is. absurd (false≢true (sym (sym c.has_comma.ensures ∙ c.if-not-has_comma.true) ∙ is))
 
-here : (c : Else-not-has_comma) → (let a = c.args in eqb (get_or a.line.now a.at 0) 44 ≡ true)
-here c = sym c.has_comma.ensures ∙ c.if-not-has_comma.false
+pub returns-then-n-eq-GRAIN : goal.returns-then-n-eq-GRAIN
+unfolding FieldFound
+returns-then-n-eq-GRAIN c =
+    let here = (goal.at.returns-then-n-eq-GRAIN c).Else-not-has_comma in
+    let n = c.letters_len-n in
+    (n.result, comma_here here, run here n.result n.ensures, eq-eqb n.result 2 c.if-n-eq-GRAIN.true, refl)
 
-pub overflow_add-from : goal.overflow_add-from
-overflow_add-from c = let a = c.args in omega (arith, comma_inside a.line.now a.at (here (goal.at.overflow_add-from c).Else-not-has_comma))
-
-pub run-n-requires : goal.run-n-requires
-run-n-requires c = let a = c.args in omega (arith, comma_inside a.line.now a.at (here (goal.at.run-n-requires c).Else-not-has_comma))
-
-pub returns-then-n-ne-GRAIN : goal.returns-then-n-ne-GRAIN
-returns-then-n-ne-GRAIN c =
-    let a = c.args in
-    let run = c.run-n in
-    rw (
-      grain_counted a.line.now a.at run.result (here (goal.at.returns-then-n-ne-GRAIN c).Else-not-has_comma) run.ensures,
-      ne_eqb run.result 2 c.if-n-ne-GRAIN.true,
-    )
-
-pub returns : goal.returns
-returns c =
-    let a = c.args in
-    let run = c.run-n in
-    rw (
-      grain_counted a.line.now a.at run.result (here (goal.at.returns c).Else-not-has_comma) run.ensures,
-      eq-eqb run.result 2 c.if-n-ne-GRAIN.false,
-    ) c.tonnes_on.ensures
+pub returns-else-n-eq-GRAIN : goal.returns-else-n-eq-GRAIN
+unfolding FieldFound
+returns-else-n-eq-GRAIN c =
+    let here = (goal.at.returns-else-n-eq-GRAIN c).Else-not-has_comma in
+    let n = c.letters_len-n in
+    λ _. (n.result, run here n.result n.ensures, ne_eqb n.result 2 c.if-n-eq-GRAIN.false)

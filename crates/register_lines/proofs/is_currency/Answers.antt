@@ -1,23 +1,12 @@
 -- `register_lines::is_currency` answers whether the bytes are three letters.
-use borrow.Author.Tests.{ne_eqb}
-use mathlib.Core.Bool.{◌&&◌}
-use mathlib.Core.Path.{◌≡◌, sym, ap, ap₂, ◌∙◌}
-use lib.ListN.{length, get_or}
-use Rattle.base.specs.Lists.{all}
-use Rattle.cards.specs.Bytes.{is_letter}
+use Rattle.std.proofs.Common.{sym, ap, ◌∙◌, ne_eqb, eqb, length}
 use Rattle.register.specs.Line.{is_currency}
-use Rattle.register_lines.specs.FieldLaws.{currency_three}
+use Rattle.register_lines.specs.FieldLaws.{currency_run}
 use Rattle.register_lines.proofs.is_currency.Goals as goal
 
-pub returns-then-v-ne-CURRENCY : goal.returns-then-v-ne-CURRENCY
-unfolding is_currency
-returns-then-v-ne-CURRENCY c =
-    let v = c.args.v.now in
-    sym (ap (λ t. t && all is_letter v) (ne_eqb (length v) 3 c.if-v-ne-CURRENCY.true))
+pub returns-then-v-eq-CURRENCY : goal.returns-then-v-eq-CURRENCY
+returns-then-v-eq-CURRENCY c = ap (λ n. eqb n 3) c.letters_len.ensures ∙ sym (currency_run c.args.v.now c.if-v-eq-CURRENCY.true)
 
-pub returns : goal.returns
-returns c =
-    let v = c.args.v.now in
-    let third : c.is_letter-3.result ≡ is_letter (get_or v 2 0) = c.is_letter-3.ensures in
-    ap₂ ◌&&◌ (ap₂ ◌&&◌ c.is_letter.ensures c.is_letter-2.ensures) third
-    ∙ sym (currency_three v c.if-v-ne-CURRENCY.false)
+pub returns-else-v-eq-CURRENCY : goal.returns-else-v-eq-CURRENCY
+unfolding is_currency
+returns-else-v-eq-CURRENCY c = rw (ne_eqb (length c.args.v.now) 3 c.if-v-eq-CURRENCY.false)

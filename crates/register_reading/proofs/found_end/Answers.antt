@@ -1,7 +1,5 @@
 -- `register_reading::found_end` meets its contract.
-use borrow.Author.Tests.{eq-eqb, ne_eqb}
-use mathlib.Core.Path.{◌∙◌}
-use Prim.Native.Nat.{◌*◌}
+use Rattle.std.proofs.Common.{◌∙◌, ◌*◌, eq-eqb, ne_eqb}
 use Rattle.register.specs.Buffer.{slot_size}
 use Rattle.register_reading.specs.SlotLaws.{end_broken, end_found, zeros-behind}
 use Rattle.register_reading.proofs.found_end.Goals as goal

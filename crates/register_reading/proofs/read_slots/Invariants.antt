@@ -1,10 +1,6 @@
 -- `register_reading::read_slots` meets its contract. The loop's invariant: the slots before slot k are read.
-use Prim.Native.Nat.{◌-◌, ◌≤◌}
 use Rattle.register_reading.specs.SlotLaws.{SlotsReadTo}
 use Rattle.register_reading.proofs.read_slots.Given as goal
 
 abbrev pub invariant-loop-k : goal.invariant-loop-k
-invariant-loop-k l = (l.k ≤ 256) × SlotsReadTo l.fields l.slots l.keys l.marks l.k
-
-abbrev pub decreases-loop-k : goal.decreases-loop-k
-decreases-loop-k l = 256 - l.k
+invariant-loop-k l = SlotsReadTo l.fields l.slots l.keys l.marks l.k

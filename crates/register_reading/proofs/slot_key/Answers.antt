@@ -1,41 +1,36 @@
 -- `register_reading::slot_key` meets its contract: what stands before the zeros is a line, or the slot breaks its rule.
-use mathlib.Core.Path.{sym, ◌∙◌}
-use native.Mathlib.Omega.{arith}
-use lib.Seq.{length-take-le}
-use Rattle.register_reading.specs.SlotLaws.{contract_within, slot_formless, slot-keyed}
+use Rattle.std.proofs.Common.{sym, ap, Some, ◌∙◌, arith, length-take-le}
+use Rattle.register_lines.specs.Fields.{FormFound}
+use Rattle.register_reading.specs.SlotLaws.{form_none, form_other, form_same, slot_formless, slot-keyed}
 use Rattle.register_reading.proofs.slot_key.Goals as goal
 
-pub slice_bounds-contract_length-end : goal.slice_bounds-contract_length-end
-slice_bounds-contract_length-end c =
-    let n = c.line_length-n in
-    sym (length-take-le n.result c.args.slot.now n.ensures.inside)
+pub returns-in_err-form : goal.returns-in_err-form
+unfolding FormFound
+returns-in_err-form c =
+    let a = c.args in
+    let n = c.line_length in
+    c.from_residual.ensures ∙ slot_formless a.fields a.slot.now n.result n.ensures (form_none a.fields _ c.in_err-form.ensures)
 
-pub slice_bounds-field_count-end : goal.slice_bounds-field_count-end
-slice_bounds-field_count-end c =
-    let n = c.line_length-n in
-    sym (length-take-le n.result c.args.slot.now n.ensures.inside)
-
-pub returns-then-count-fields : goal.returns-then-count-fields
-returns-then-count-fields c =
-    let n = c.line_length-n in
-    let f = c.field_count-count in
-    slot_formless c.args.fields c.requires c.args.slot.now n.result n.ensures f.result f.ensures c.if-count-fields.true
+pub returns-then-form-fields : goal.returns-then-form-fields
+unfolding FormFound
+returns-then-form-fields c =
+    let a = c.args in
+    let n = c.line_length in
+    let f = c.in_ok-form in
+    slot_formless a.fields a.slot.now n.result n.ensures (form_other a.fields _ f.form.fields f.ensures.0 c.if-form-fields.true)
 
 pub slice_bounds-key_of-end : goal.slice_bounds-key_of-end
+unfolding FormFound
 slice_bounds-key_of-end c =
-    let n = c.line_length-n in
-    let k = c.contract_length-contract in
-    let f = c.field_count-count in
-    let within = contract_within c.args.fields c.requires c.args.slot.now n.result n.ensures f.result f.ensures
-    c.if-count-fields.false
-    k.result k.ensures in
-    sym (length-take-le k.result c.args.slot.now (omega (arith, n.ensures.inside, within)))
+    let f = c.in_ok-form in
+    let inside = f.ensures.1.inside in
+    sym (length-take-le f.form.contract _ (omega arith))
 
 pub returns : goal.returns
+unfolding FormFound
 returns c =
-    let n = c.line_length-n in
-    let k = c.contract_length-contract in
-    let f = c.field_count-count in
-    c.key_of.ensures
-    ∙ slot-keyed c.args.fields c.requires c.args.slot.now n.result n.ensures f.result f.ensures c.if-count-fields.false
-    k.result k.ensures
+    let a = c.args in
+    let n = c.line_length in
+    let f = c.in_ok-form in
+    ap Some c.key_of.ensures
+    ∙ slot-keyed a.fields a.slot.now n.result n.ensures f.form.contract f.ensures.1 (form_same a.fields _ f.form.fields f.ensures.0 c.if-form-fields.false)

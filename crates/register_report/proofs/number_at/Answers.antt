@@ -47,4 +47,4 @@ pub returns : goal.returns
 returns c =
     let l = c.loop-end in
     let read = read_all c.args.line.now c.args.at l.value l.end l.invariant (field_end c.args.line.now l.end (omega arith)) in
-    record { number = read.0; ends = read.1 }
+    record { number = read.0; ends = omega (arith, read.1, l.invariant.inside) }

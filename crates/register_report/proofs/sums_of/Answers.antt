@@ -1,58 +1,45 @@
--- `register_report::sums_of` meets its contract. The loop's invariant: with the sums of the places left they are the sums of all.
-use native.Mathlib.Omega.{arith}
-use Rattle.register_report.specs.SumLaws.{count_fits, summed_all, summed_here, summed_none, summed_past, value_fits, weight_fits}
+-- `register_report::sums_of` meets its contract. The loop's invariant: with the sums of the lines left they are the sums of all.
+use Rattle.std.proofs.Common.{arith}
+use Rattle.std.proofs.lemmas.List.{length-map}
+use Rattle.register_report.specs.SumLaws.{line_count, line_here, line_past, line_value, line_weight, summed_all, summed_none}
+use Rattle.register_report.specs.Sums.{codes_in, tonnes_in, values_in}
 use Rattle.register_report.proofs.sums_of.Goals as goal
-use Rattle.register_report.proofs.sums_of.Goals.{then-codes-k, else-codes-k}
+use Rattle.register_report.proofs.sums_of.Goals.{then-worth-code, else-worth-code}
 
-pub loop-k-init : goal.loop-k-init
-loop-k-init c = summed_none c.args.code c.args.codes.now c.args.tonnes.now c.args.values.now
+pub loop-worth-init : goal.loop-worth-init
+loop-worth-init c = let a = c.args in summed_none a.code (codes_in a.worths.now) (tonnes_in a.worths.now) (values_in a.worths.now)
 
 pub overflow_add-count : goal.overflow_add-count
 overflow_add-count c =
-    let l = c.loop-k in
-    let a = c.args in
-    omega (
-      arith,
-      count_fits a.code a.codes.now a.tonnes.now a.values.now c.requires l.count l.weight l.value l.k l.invariant
-          c.loop-k-test.true c.if-codes-k.true,
-    )
+    let l = c.loop-worth in
+    omega (arith, line_count c.args.code c.args.worths.now c.requires l.count l.tonnes l.value l.worth-index l.invariant c.loop-worth-test.true _ c.if-worth-code.true)
 
-pub overflow_add-weight : goal.overflow_add-weight
-overflow_add-weight c =
-    let l = c.loop-k in
-    let a = c.args in
-    omega (
-      arith,
-      weight_fits a.code a.codes.now a.tonnes.now a.values.now c.requires l.count l.weight l.value l.k l.invariant
-          c.loop-k-test.true c.if-codes-k.true,
-    )
+pub overflow_add-tonnes : goal.overflow_add-tonnes
+overflow_add-tonnes c =
+    let l = c.loop-worth in
+    omega (arith, line_weight c.args.code c.args.worths.now c.requires l.count l.tonnes l.value l.worth-index l.invariant c.loop-worth-test.true _ c.if-worth-code.true)
 
 pub overflow_add-value : goal.overflow_add-value
 overflow_add-value c =
-    let l = c.loop-k in
-    let a = c.args in
-    omega (
-      arith,
-      value_fits a.code a.codes.now a.tonnes.now a.values.now c.requires l.count l.weight l.value l.k l.invariant
-          c.loop-k-test.true c.if-codes-k.true,
-    )
+    let l = c.loop-worth in
+    omega (arith, line_value c.args.code c.args.worths.now c.requires l.count l.tonnes l.value l.worth-index l.invariant c.loop-worth-test.true _ c.if-worth-code.true)
 
-pub loop-k-preserved : goal.loop-k-preserved
-loop-k-preserved c =
-    let l = c.loop-k in
+pub loop-worth-preserved : goal.loop-worth-preserved
+loop-worth-preserved c =
+    let l = c.loop-worth in
     let a = c.args in
-    let here = c.loop-k-test.true in
-    elim c.if-codes-k.branch [
-      | then-codes-k w ↦
-          rw (w.count-is, w.weight-is, w.value-is) (summed_here a.code a.codes.now a.tonnes.now a.values.now c.requires l.count l.weight l.value
-          l.k l.invariant here w.if-codes-k.true)
-      | else-codes-k w ↦
-          rw (w.count-is, w.weight-is, w.value-is) (summed_past a.code a.codes.now a.tonnes.now a.values.now c.requires l.count l.weight l.value
-          l.k l.invariant here w.if-codes-k.false)
+    elim c.if-worth-code.branch [
+      | then-worth-code w ↦
+          rw (w.count-is, w.tonnes-is, w.value-is)
+          (line_here a.code a.worths.now c.requires l.count l.tonnes l.value l.worth-index l.invariant c.loop-worth-test.true _ w.if-worth-code.true)
+      | else-worth-code w ↦
+          rw (w.count-is, w.tonnes-is, w.value-is)
+          (line_past a.code a.worths.now c.requires l.count l.tonnes l.value l.worth-index l.invariant c.loop-worth-test.true _ w.if-worth-code.false)
     ]
 
 pub returns : goal.returns
 returns c =
-    let l = c.loop-k in
+    let l = c.loop-worth in
     let a = c.args in
-    summed_all a.code a.codes.now a.tonnes.now a.values.now c.requires l.count l.weight l.value l.k l.invariant (omega arith)
+    summed_all a.code (codes_in a.worths.now) (tonnes_in a.worths.now) (values_in a.worths.now) c.requires l.count l.tonnes l.value l.worth-index
+    l.invariant (omega (arith, length-map a.worths.now (λ w. w.code)))

@@ -5,4 +5,4 @@ use Rattle.scan.proofs.number4.Goals as goal
 
 pub returns : goal.returns
 unfolding number4
-returns c = omega arith
+returns c = (omega (arith, c.from_le_bytes.ensures), c.from_le_bytes.type_inv)

@@ -29,6 +29,3 @@ returns-in-Part c =
 
 pub returns-in-Fixed : goal.returns-in-Fixed
 returns-in-Fixed c = let a = c.args in skip_none a.values.now a.reference.now a.at a.e
-
-pub returns-in-Free : goal.returns-in-Free
-returns-in-Free c = let a = c.args in skip_none a.values.now a.reference.now a.at a.e

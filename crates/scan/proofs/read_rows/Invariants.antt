@@ -4,7 +4,7 @@ use Prim.Native.Nat.{◌-◌}
 use Rattle.scan.proofs.read_rows.Given as goal
 
 abbrev pub invariant-loop-i : goal.invariant-loop-i
-invariant-loop-i l = Reading l.values l.elements l.count l.answer l.i l.at
+invariant-loop-i l = Reading l.values l.elements l.count l.answer l.i
 
 abbrev pub decreases-loop-i : goal.decreases-loop-i
 decreases-loop-i l = l.count - l.i

@@ -4,8 +4,8 @@ use Prim.Native.Nat.{◌+◌, ◌*◌, ◌-◌}
 use lib.ListN.{length}
 use Rattle.scan.proofs.run.Given as goal
 
-abbrev pub invariant-loop-n : goal.invariant-loop-n
-invariant-loop-n l = Running l.reference l.values l.rows l.count l.answer l.g l.from l.place l.trials
+abbrev pub invariant-loop-failed : goal.invariant-loop-failed
+invariant-loop-failed l = Running l.reference l.pattern.values.now l.pattern.rows.now l.pattern.count l.answer l.g l.from l.place l.trials
 
-abbrev pub decreases-loop-n : goal.decreases-loop-n
-decreases-loop-n l = 21 * (length l.reference - l.place) + (l.count - l.g)
+abbrev pub decreases-loop-failed : goal.decreases-loop-failed
+decreases-loop-failed l = 21 * (length l.reference - l.place) + (l.pattern.count - l.g)

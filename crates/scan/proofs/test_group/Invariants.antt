@@ -4,7 +4,7 @@ use Prim.Native.Nat.{◌-◌}
 use Rattle.scan.proofs.test_group.Given as goal
 
 abbrev pub invariant-loop-i : goal.invariant-loop-i
-invariant-loop-i l = Reached l.reference l.values l.rows l.count l.g l.place l.i l.at
+invariant-loop-i l = Reached l.reference l.pattern.values.now l.pattern.rows.now l.pattern.count l.g l.place l.i l.at
 
 abbrev pub decreases-loop-i : goal.decreases-loop-i
-decreases-loop-i l = l.count - l.i
+decreases-loop-i l = l.pattern.count - l.i

@@ -4,6 +4,8 @@ use mathlib.Core.Path.{◌≡◌, refl, sym, subst}
 use Prim.Native.Nat.{ℕ, ◌-◌}
 use native.Mathlib.Omega.{arith}
 use lib.ListN.{length, take, length-replicate}
+use Rattle.std.specs.Prelude.{Ok}
+use Rattle.std.proofs.lemmas.Result.{err_from_is_err_and}
 use lib.Seq.{length-take-le}
 use borrow.Author.Rules.{rules}
 use Rattle.base.specs.Current.{current}
@@ -13,10 +15,9 @@ use Rattle.evaluator.specs.Memory.{memory_in}
 use Rattle.machine.specs.Scanning.{pattern_in}
 use Rattle.decoder.specs.Holds.{PatternsHold}
 use Rattle.decoder.specs.Meaning.{patterns_meaning, replacement_meaning}
-use Rattle.effects.specs.Leaving.{LeavesStore}
-use Rattle.effects.specs.declared.Completion.{Completion}
-use Rattle.effects.specs.declared.Completion.TheVariants as did
+use Rattle.effects.specs.Leaving.{Completion, LeavesStore}
 use Rattle.values.specs.ResultLaws.{stopped}
+use Rattle.values.specs.Stops.{stop_number}
 use Rattle.scan_statement.specs.Patterns.{AllBy}
 use Rattle.scan_statement.specs.ReferenceLaws.{copied_reference, reference_fits}
 use Rattle.scan_statement.specs.SearchLaws.{finds_as}
@@ -73,7 +74,7 @@ all-by c e =
     (pattern_in current (memory_in a.store.now a.state.now) (patterns_meaning a.table.now a.s.pattern)))
     e c.pattern_rows.ensures.put
 
-findable : (c : After-pattern_rows) {notes : ℕ} → c.pattern_rows.result ≡ did.Done notes
+findable : (c : After-pattern_rows) {notes : ℕ} → c.pattern_rows.result ≡ Ok notes
     → (let a = c.args in
     let put = c.pattern_rows.new in
     Findable a.table.now a.store.now a.state.now a.s.direction a.at a.s.pattern (take (a.at.to - a.at.from) (copy c))
@@ -111,18 +112,18 @@ slice_bounds-reference-end c =
 pub slice_bounds-find_split-end : goal.slice_bounds-find_split-end
 slice_bounds-find_split-end c = sym (copy-prefix (goal.at.slice_bounds-find_split-end c).After-pattern_rows)
 
-pub slice_bounds-find_split-end-in-Done : goal.slice_bounds-find_split-end-in-Done
-slice_bounds-find_split-end-in-Done c = sym c.pattern_rows.ensures.buffers.lines
+pub slice_bounds-find_split-end-2 : goal.slice_bounds-find_split-end-2
+slice_bounds-find_split-end-2 c = sym c.pattern_rows.ensures.buffers.lines
 
-pub slice_bounds-find_split-end-in-Done-2 : goal.slice_bounds-find_split-end-in-Done-2
-slice_bounds-find_split-end-in-Done-2 c = sym c.pattern_rows.ensures.buffers.places
+pub slice_bounds-find_split-end-3 : goal.slice_bounds-find_split-end-3
+slice_bounds-find_split-end-3 c = sym c.pattern_rows.ensures.buffers.places
 
 pub find_split-requires : goal.find_split-requires
-find_split-requires c = findable_searchable (findable (goal.at.find_split-requires c).After-pattern_rows c.in-Done.is)
+find_split-requires c = findable_searchable (findable (goal.at.find_split-requires c).After-pattern_rows c.in_ok-notes.was)
 
 pub returns-then-not-find_split : goal.returns-then-not-find_split
 returns-then-not-find_split c =
-    let q = findable (goal.at.returns-then-not-find_split c).After-pattern_rows c.in-Done.is in record {
+    let q = findable (goal.at.returns-then-not-find_split c).After-pattern_rows c.in_ok-notes.was in record {
       scan_leaves = record {
         scans =
             missed_scans q (replacement_meaning c.args.table.now c.args.s.replacement) c.find_split.ensures.stays
@@ -131,17 +132,17 @@ returns-then-not-find_split c =
       scan_lent_2 = record { twenty_strings = c.pattern_rows.ensures.buffers.strings; good = c.keep_fillers.ensures.good };
     }
 
-pub slice_bounds-replace_pieces-end-in-Done : goal.slice_bounds-replace_pieces-end-in-Done
-slice_bounds-replace_pieces-end-in-Done c =
+pub slice_bounds-replace_pieces-end-2 : goal.slice_bounds-replace_pieces-end-2
+slice_bounds-replace_pieces-end-2 c =
     omega (arith, c.pattern_rows.ensures.buffers.strings)
 
-pub slice_bounds-replace_pieces-end-in-Done-2 : goal.slice_bounds-replace_pieces-end-in-Done-2
-slice_bounds-replace_pieces-end-in-Done-2 c =
+pub slice_bounds-replace_pieces-end-3 : goal.slice_bounds-replace_pieces-end-3
+slice_bounds-replace_pieces-end-3 c =
     sym (length-take-le 1024 c.pattern_rows.new.values (omega (arith, c.pattern_rows.ensures.buffers.strings)))
 
 pub replace_pieces-requires : goal.replace_pieces-requires
 replace_pieces-requires c =
-    let q = findable (goal.at.replace_pieces-requires c).After-pattern_rows c.in-Done.is in
+    let q = findable (goal.at.replace_pieces-requires c).After-pattern_rows c.in_ok-notes.was in
     let stays = c.find_split.ensures.stays in
     let found = finds_as c.find_split.ensures c.if-not-find_split.false q.put.rows_are in record {
       replaceable = record {
@@ -170,17 +171,17 @@ leaves c e =
 
 pub overflow_add-result : goal.overflow_add-result
 overflow_add-result c =
-    let q = findable (goal.at.overflow_add-result c).After-pattern_rows c.in-Done.is in
+    let q = findable (goal.at.overflow_add-result c).After-pattern_rows c.in_ok-notes.was in
     let more =
     few_stored q c.find_split.ensures.stays (finds_as c.find_split.ensures c.if-not-find_split.false q.put.rows_are)
     c.args.s.replacement c.requires.referred.scannable.replacement
-    (leaves (goal.at.overflow_add-result c).After-replace_pieces c.in-Done-replace_pieces.is) in
+    (leaves (goal.at.overflow_add-result c).After-replace_pieces c.in-Ok.is) in
     record { fits = omega (arith, more, q.put.few, q.fillers.few) }
 
 pub copy_fillers-requires : goal.copy_fillers-requires
 copy_fillers-requires c =
-    let put = leaves (goal.at.copy_fillers-requires c).After-replace_pieces c.in-Stops-replace_pieces.is in
-    let q = findable (goal.at.copy_fillers-requires c).After-pattern_rows c.in-Done.is in
+    let put = leaves (goal.at.copy_fillers-requires c).After-replace_pieces c.in-Err.is in
+    let q = findable (goal.at.copy_fillers-requires c).After-pattern_rows c.in_ok-notes.was in
     record {
       bytes = q.bytes;
       inside = q.fillers.inside;
@@ -188,40 +189,43 @@ copy_fillers-requires c =
       good = subst StoreGood (sym put.0) c.find_split.ensures.stays.good;
     }
 
-pub returns-in-Done-replace_pieces : goal.returns-in-Done-replace_pieces
-returns-in-Done-replace_pieces c =
-    let q = findable (goal.at.returns-in-Done-replace_pieces c).After-pattern_rows c.in-Done.is in record {
+pub returns-in-Ok : goal.returns-in-Ok
+returns-in-Ok c =
+    let q = findable (goal.at.returns-in-Ok c).After-pattern_rows c.in_ok-notes.was in record {
       scan_leaves = record {
         scans =
             replaced_scans q c.find_split.ensures.stays (finds_as c.find_split.ensures c.if-not-find_split.false q.put.rows_are)
-            c.args.s.replacement (leaves (goal.at.returns-in-Done-replace_pieces c).After-replace_pieces c.in-Done-replace_pieces.is);
+            c.args.s.replacement (leaves (goal.at.returns-in-Ok c).After-replace_pieces c.in-Ok.is);
       };
       scan_lent_2 = record { twenty_strings = search rules; good = c.keep_fillers.ensures.good };
     }
 
-pub returns-in-Stops-replace_pieces : goal.returns-in-Stops-replace_pieces
-returns-in-Stops-replace_pieces c =
-    let q = findable (goal.at.returns-in-Stops-replace_pieces c).After-pattern_rows c.in-Done.is in record {
+pub returns-in-Err : goal.returns-in-Err
+returns-in-Err c =
+    let q = findable (goal.at.returns-in-Err c).After-pattern_rows c.in_ok-notes.was in record {
       scan_leaves = record {
         scans =
             stopped_scans q c.find_split.ensures.stays (finds_as c.find_split.ensures c.if-not-find_split.false q.put.rows_are)
-            c.args.s.replacement (leaves (goal.at.returns-in-Stops-replace_pieces c).After-replace_pieces c.in-Stops-replace_pieces.is)
+            c.args.s.replacement c.in-Err.stop (leaves (goal.at.returns-in-Err c).After-replace_pieces c.in-Err.is)
             c.keep_fillers.ensures c.copy_fillers.ensures;
       };
       scan_lent_2 = record { twenty_strings = search rules; good = c.keep_fillers.ensures.good };
     }
 
-pub returns-in-Stops : goal.returns-in-Stops
-returns-in-Stops c =
-    let a = c.args in record {
+pub returns-in_err-notes : goal.returns-in_err-notes
+returns-in_err-notes c =
+    let a = c.args in
+    let p = err_from_is_err_and c.from_residual.result c.from_residual.ensures.1 in
+    rw (p.1, p.2)
+    (record {
       scan_leaves = record {
         scans = (
           refl,
           stopped (pattern_in current (memory_in a.store.now a.state.now) (patterns_meaning a.table.now a.s.pattern))
               (valued_rest a.table.now a.store.now a.state.now a.s.direction a.at a.s.pattern
               (replacement_meaning a.table.now a.s.replacement))
-              c.in-Stops.k (all-by (goal.at.returns-in-Stops c).After-pattern_rows c.in-Stops.is),
+              (stop_number c.in_err-notes.field-0.0) (all-by (goal.at.returns-in_err-notes c).After-pattern_rows c.in_err-notes.was),
         );
       };
       scan_lent_2 = record { twenty_strings = c.pattern_rows.ensures.buffers.strings; good = c.requires.scan_lent.good };
-    }
+    })

@@ -1,12 +1,16 @@
--- `search::next_byte` looks for one byte as for two at the same place.
-use Rattle.search.proofs.Laws.{next-behind, next-byte}
+-- `search::next_byte` looks for a byte in what lies behind a place.
+use Prim.Native.Nat.{◌-◌}
+use lib.ListN.{length}
+use native.Mathlib.Omega.{arith}
+use Rattle.search.proofs.Laws.{byte_found, byte_missing}
 use Rattle.search.proofs.next_byte.Goals as goal
 
-pub returns-then-end-from-lt-BLOCK : goal.returns-then-end-from-lt-BLOCK
-returns-then-end-from-lt-BLOCK c = next-byte c.pass_bytes.ensures
+pub returns-in-Some : goal.returns-in-Some
+returns-in-Some c =
+    let a = c.args in
+    byte_found a.text.now a.byte a.from (length a.text.now - a.from) (omega arith) c.in-Some.ensures
 
-pub returns : goal.returns
-returns c =
-    next-byte
-    (next-behind c.pass_blocks-b.ensures
-    (next-behind c.pass_rest-d.ensures (next-behind c.pass_blocks-e.ensures c.pass_bytes-2.ensures)))
+pub returns-in-None : goal.returns-in-None
+returns-in-None c =
+    let a = c.args in
+    byte_missing a.text.now a.byte a.from (length a.text.now - a.from) (omega arith) c.in-None.ensures

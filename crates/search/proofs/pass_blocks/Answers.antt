@@ -7,23 +7,23 @@ use native.Mathlib.Omega.{arith}
 use Rattle.search.proofs.pass_blocks.Goals as goal
 
 pub loop-k-init : goal.loop-k-init
-loop-k-init c = without_none c.requires.0.start
+loop-k-init g c = without_none c.requires.0.start
 
 pub hit-requires : goal.hit-requires
-hit-requires c =
+hit-requires g c =
     let a = c.args in
     let text = a.text.now in
-    let size = a.size in
+    let size = g.row.SIZE in
     let k = c.loop-k.k in
     length_stretch text k (k + size - k) (omega arith)
     ∙ omega arith
     ∙ sym (length_stretch text (k + a.span) (k + a.span + size - (k + a.span)) (omega arith))
 
 pub loop-k-preserved : goal.loop-k-preserved
-loop-k-preserved c =
+loop-k-preserved g c =
     let a = c.args in
     let s = c.loop-k in
-    let size = a.size in
+    let size = g.row.SIZE in
     let width = s.k + size - s.k in
     without_block s.invariant size width
     (s.k + a.span + size - (s.k + a.span)) (omega arith) (omega arith) (omega arith)

@@ -1,11 +1,8 @@
 -- `search::same_until` counts the bytes that agree. The invariant: the bytes passed do.
-use lib.ListN.{length, get_or}
-use Prim.Native.Nat.{ℕ, ◌≤◌, ◌<◌, ◌-◌}
+use lib.ListN.{get_or}
+use Prim.Native.Nat.{ℕ, ◌<◌}
 use mathlib.Core.Path.{◌≡◌}
 use Rattle.search.proofs.same_until.Given as goal
 
 abbrev pub invariant-loop-i : goal.invariant-loop-i
-invariant-loop-i l = (l.i ≤ length l.word) × ((k : ℕ) → k < l.i → get_or l.rest k 0 ≡ get_or l.word k 0)
-
-abbrev pub decreases-loop-i : goal.decreases-loop-i
-decreases-loop-i l = length l.word - l.i
+invariant-loop-i l = (k : ℕ) → k < l.i → get_or l.rest k 0 ≡ get_or l.word k 0

@@ -4,6 +4,7 @@ use Rattle.name_checks.specs.ArrayLaws.{two-regions, three-regions}
 use Rattle.name_checks.specs.Arrays.{arrays, entries_from}
 use Rattle.statement_checks.specs.Extending.{Extended}
 use Rattle.statement_checks.specs.ExtendingLaws.{extended_all, kept_few}
+use Rattle.statement_checks.specs.KindNumbers.{kind_number}
 use Rattle.statement_checks.specs.UseLaws.{spacious_lent, used-lent, uses_put_lem}
 use native.Mathlib.Omega.{arith}
 use Rattle.statement_checks.proofs.extend.Goals as goal
@@ -19,9 +20,6 @@ slice_bounds-list_names-end-3 c = omega (arith, two-regions c.args.purposes.now 
 
 pub slice_bounds-list_names-end-4 : goal.slice_bounds-list_names-end-4
 slice_bounds-list_names-end-4 c = sym c.requires.listing.purposes_size
-
-pub list_names-requires : goal.list_names-requires
-list_names-requires c = c.requires.listing
 
 pub list_labels-requires : goal.list_labels-requires
 list_labels-requires c =
@@ -44,9 +42,6 @@ pub note_uses-uses-requires : goal.note_uses-uses-requires
 note_uses-uses-requires c =
     let a = c.args in
     (spacious_lent a.known.now a.symbols.now a.purposes.now c.requires.spacious, c.requires.entries)
-
-pub first_routine-opened-requires : goal.first_routine-opened-requires
-first_routine-opened-requires c = c.requires.entries
 
 pub extend_routines-requires : goal.extend_routines-requires
 extend_routines-requires c =
@@ -78,7 +73,7 @@ returns c =
     let noted = c.note_uses-uses in
     let long = three-regions a.symbols.now c.requires.spacious.scopes_size in
     let wide = two-regions a.purposes.now c.requires.spacious.purposes_size in
-    subst (Extended held (entries_from a.keys.now a.tags.now 0 a.c.names) a.c a.kind a.count)
+    subst (Extended held (entries_from a.keys.now a.tags.now 0 a.c.names) a.c (kind_number a.kind) a.count)
     (sym (uses_put_lem a.known.now a.symbols.now a.purposes.now (omega arith) (omega arith) c.put_counts.new.known noted.new.uses noted.new.purposes))
     (extended_all held _ _ _ _ _ _ _ _ _ _ _ _ c.requires.labels c.list_names.ensures c.list_labels.ensures
     (used-lent a.known.now a.symbols.now a.purposes.now noted.ensures) c.first_routine-opened.ensures c.extend_routines.ensures

@@ -22,8 +22,8 @@ use Rattle.statement_parser.specs.Labels.{lead_ready, of_lead}
 use Rattle.statement_parser.specs.StageLaws.{form_ends}
 use Rattle.statement_parser.specs.StepLaws.{plain-read, goto_leads, routine_leads, execute_leads}
 use Rattle.statement_parser.specs.Steps.{FormAt}
-use Rattle.statement_parser.specs.declared.Form as FormCode
-use Rattle.statement_parser.specs.declared.Form.{Form}
+use Rattle.statement_parser.specs.Drafts.{Form}
+use Rattle.std.specs.Prelude.{None}
 use Rattle.statement_parser.proofs.read_form.Goals.{After-skip-d}
 use Rattle.statement_parser.proofs.read_form.Goals as goal
 
@@ -223,4 +223,4 @@ pub returns-in-Unknown : goal.returns-in-Unknown
 unfolding form_of
 returns-in-Unknown c =
     of_kind (goal.at.returns-in-Unknown c).After-skip-d UNKNOWN (ap kind_of c.in-Unknown.is)
-    FormCode.TheVariants.Broken record { answer = refl }
+    None record { answer = refl }

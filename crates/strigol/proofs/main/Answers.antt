@@ -15,6 +15,6 @@ keep_input-requires c = refl
 pub run-requires : goal.run-requires
 unfolding kept_deck kept_input
 run-requires c = record {
-  deck_kept = omega (arith, length-take c.in-Bytes.deck_length c.keep_deck.new.to, c.keep_deck.auto.to, length-replicate {A = ℕ} 32769 0);
-  input_kept = omega (arith, length-take c.in-Bytes-keep_input.input_length c.keep_input.new.to, c.keep_input.auto.to, length-replicate {A = ℕ} 32768 0);
+  deck_kept = omega (arith, length-take c.in-Ok.kept c.keep_deck.new.to, c.keep_deck.auto.to, length-replicate {A = ℕ} 32769 0);
+  input_kept = omega (arith, length-take c.in-Ok-keep_input.kept c.keep_input.new.to, c.keep_input.auto.to, length-replicate {A = ℕ} 32768 0);
 }

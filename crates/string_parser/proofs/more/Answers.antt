@@ -6,7 +6,7 @@ use Rattle.symbols.specs.Environment.{places_in}
 use Rattle.symbols.specs.declared.Cursor.{Cursor}
 use Rattle.numeric_parser.specs.OperandLaws.{ready_moved}
 use Rattle.string_parser.specs.Elements.{shown, read_one}
-use Rattle.string_parser.specs.RowLaws.{one_case, one_none, passing_none, passing_more, passing_broken, passing_end}
+use Rattle.string_parser.specs.RowLaws.{more_lost, passing_none, passing_more, passing_broken, passing_end}
 use Rattle.string_parser.proofs.more.Goals as goal
 
 pub loop-table-init : goal.loop-table-init
@@ -25,28 +25,23 @@ one-requires c =
       table_size_in_bounds = omega (arith, l.invariant.size, c.requires.table_size_in_bounds);
     }
 
-pub shape_of-table-in-Broken : goal.shape_of-table-in-Broken
-shape_of-table-in-Broken c = c.one.auto.table ∙ c.loop-table.invariant.size
-
-pub returns-in-Broken : goal.returns-in-Broken
-returns-in-Broken c =
+pub returns-in_err-d : goal.returns-in_err-d
+returns-in_err-d c =
     let a = c.args in
-    let comma = sym c.stands_at.ensures ∙ c.loop-table-test.true in
-    passing_broken (shown a.patterned) (read_one a.patterned (places_in a.known.now)) c.loop-table.invariant comma c.skip.ensures
-    (one_none c.one.ensures c.in-Broken.is)
+    more_lost (shown a.patterned) (read_one a.patterned (places_in a.known.now)) c.from_residual.ensures
+    (passing_broken (shown a.patterned) (read_one a.patterned (places_in a.known.now)) c.loop-table.invariant (sym c.loop-table-test.ensures)
+    c.skip.ensures c.in_err-d.ensures.answer)
 
 pub loop-table-smaller : goal.loop-table-smaller
 loop-table-smaller c =
-    let g = one_case c.one.ensures c.in-Got.is in
+    let g = c.in_ok-d.ensures.answer in
     omega (arith, g.further, g.gets.ready, ap (λ (z : Cursor). z.at) c.skip.ensures)
 
 pub loop-table-preserved : goal.loop-table-preserved
 loop-table-preserved c =
     let a = c.args in
-    let comma = sym c.stands_at.ensures ∙ c.loop-table-test.true in
-    let o = c.one in
-    passing_more (shown a.patterned) (read_one a.patterned (places_in a.known.now)) c.loop-table.invariant comma c.skip.ensures
-    (one_case o.ensures c.in-Got.is) o.auto.table
+    passing_more (shown a.patterned) (read_one a.patterned (places_in a.known.now)) c.loop-table.invariant (sym c.loop-table-test.ensures)
+    c.skip.ensures c.in_ok-d.ensures.answer c.one.auto.table
 
 pub shape_of-table : goal.shape_of-table
 shape_of-table c = c.loop-table.invariant.size

@@ -1,30 +1,26 @@
 -- `string_parser::pattern_element` reads an element of a pattern.
-use mathlib.Core.List.{[], ◌∷◌}
-use mathlib.Core.Path.{sym, ◌∙◌}
+use Rattle.std.proofs.Common.{refl, Some, None, [], ◌∷◌, ap, sym}
 use Rattle.symbols.specs.Environment.{places_in}
 use Rattle.numeric_parser.specs.OperandLaws.{ready_moved}
-use Rattle.string_parser.specs.RowLaws.{cell_roomy, one_written, pattern-filler, pattern_value}
+use Rattle.string_parser.specs.RowLaws.{one_written, pattern-filler, pattern_value}
 use Rattle.string_parser.proofs.pattern_element.Goals as goal
 
-pub filler-requires : goal.filler-requires
-filler-requires c =
-    let open' = sym c.stands_at.ensures ∙ c.if-stands_at.true in record {
-      reader_ready = ready_moved (40 ∷ []) c.requires.reader_ready c.skip.ensures open';
-      counts_in_range = c.requires.counts_in_range;
-    }
+pub filler-requires-clause-reader_ready : goal.filler-requires-clause-reader_ready
+filler-requires-clause-reader_ready c = ready_moved (40 ∷ []) c.requires.reader_ready c.skip.ensures (sym c.if-stands_at.ensures)
 
-pub write_cell-requires : goal.write_cell-requires
-write_cell-requires c =
-    (c.requires.table_size_in_bounds, cell_roomy c.filler.result c.filler.ensures)
+pub returns-in_err-cell : goal.returns-in_err-cell
+returns-in_err-cell c =
+    one_written None (c.from_residual.ensures, refl)
+    (pattern-filler (places_in c.args.known.now) c.requires.reader_ready None c.skip.ensures (sym c.if-stands_at.ensures) c.in_err-cell.ensures)
 
 pub returns-then-stands_at : goal.returns-then-stands_at
 returns-then-stands_at c =
-    let q = c.filler in
-    one_written q.result c.write_cell.ensures
-    (pattern-filler (places_in c.args.known.now) c.requires.reader_ready q.result c.skip.ensures
-    (sym c.stands_at.ensures ∙ c.if-stands_at.true) q.ensures)
+    let q = c.put.ensures in
+    one_written (Some (c.in_ok-cell.cell, c.in_ok-cell.d)) (ap Some q.0, q.1)
+    (pattern-filler (places_in c.args.known.now) c.requires.reader_ready (Some (c.in_ok-cell.cell, c.in_ok-cell.d)) c.skip.ensures
+    (sym c.if-stands_at.ensures) c.in_ok-cell.ensures)
 
 pub returns : goal.returns
 returns c =
     let q = c.element in
-    pattern_value (places_in c.args.known.now) q.result (sym c.stands_at.ensures ∙ c.if-stands_at.false) q.ensures
+    pattern_value (places_in c.args.known.now) q.result (sym c.if-stands_at.ensures) q.ensures

@@ -1,21 +1,12 @@
--- `symbols::put_literals` writes byte by byte. The invariant: the bytes passed are written.
-use Rattle.symbols.proofs.Putting.{spelling_none, spelling_more, spelling_all}
+-- `symbols::put_literals` writes what has room.
+use Rattle.std.proofs.Common.{arith}
+use Rattle.symbols.proofs.Putting.{literals_put}
 use Rattle.symbols.proofs.put_literals.Goals as goal
-
-pub loop-i-init : goal.loop-i-init
-loop-i-init c = let a = c.args in spelling_none a.table.now a.l a.bytes.now
-
-pub loop-i-preserved : goal.loop-i-preserved
-loop-i-preserved c =
-    let a = c.args in
-    let put = c.put_byte in
-    spelling_more a.table.now a.l a.bytes.now c.loop-i.invariant
-    c.loop-i-test.true put.auto.table put.ensures
-
-pub shape_of-table : goal.shape_of-table
-shape_of-table c = c.loop-i.invariant.size
 
 pub returns : goal.returns
 returns c =
     let a = c.args in
-    spelling_all a.table.now a.l a.bytes.now c.loop-i.invariant c.loop-i-test.false
+    let from = c.min-from in
+    let n = c.min-n in
+    literals_put a.table.now a.l a.bytes.now c.requires.table_size_in_bounds from.result n.result from.ensures n.ensures _ (omega arith)
+    c.copy_from_slice.ensures.after

@@ -1,6 +1,6 @@
 -- `branch_parser::places::routine_found` finds a routine from the latest down. The invariant: the routines passed are others.
+use Rattle.std.proofs.Common.{arith}
 use Rattle.branch_parser.specs.Places.{routines-start, routines-here, routines-more, routines-all}
-use native.Mathlib.Omega.{arith}
 use Rattle.branch_parser.proofs.places.routine_found.Goals as goal
 
 pub loop-i-init : goal.loop-i-init
@@ -9,16 +9,14 @@ loop-i-init c = routines-start c.args.known.now c.args.key
 pub returns-then-known-i : goal.returns-then-known-i
 returns-then-known-i c =
     let a = c.args in
-    let l = c.loop-i in
-    routines-here a.known.now a.key l.i (omega arith) l.invariant c.if-known-i.true
+    routines-here a.known.now a.key (omega (arith, c.loop-i-test.true)) c.loop-i.invariant c.if-known-i.true
 
 pub loop-i-preserved : goal.loop-i-preserved
 loop-i-preserved c =
     let a = c.args in
-    let l = c.loop-i in
-    routines-more a.known.now a.key l.i (omega arith) l.invariant c.if-known-i.false
+    routines-more a.known.now a.key (omega (arith, c.loop-i-test.true)) c.loop-i.invariant c.if-known-i.false
 
 pub returns : goal.returns
 returns c =
     let a = c.args in
-    routines-all a.known.now a.key c.loop-i.i (omega arith) c.loop-i.invariant
+    routines-all a.known.now a.key (omega (arith, c.loop-i-test.false)) c.loop-i.invariant

@@ -4,6 +4,3 @@ use Rattle.branch_parser.proofs.places.routine_found.Given as goal
 
 abbrev pub invariant-loop-i : goal.invariant-loop-i
 invariant-loop-i l = RoutinesPassed l.known l.key l.i
-
-abbrev pub decreases-loop-i : goal.decreases-loop-i
-decreases-loop-i l = l.i

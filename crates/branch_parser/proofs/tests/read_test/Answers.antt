@@ -1,63 +1,51 @@
 -- `branch_parser::tests::read_test` reads NULL, NUMERIC or a comparison.
-use mathlib.Core.Path.{refl, sym, ap, subst, ◌∙◌}
-use native.Mathlib.Omega.{arith}
+use Rattle.std.proofs.Common.{Some, None, sym}
 use Rattle.base.specs.Text.{bytes}
-use Rattle.encoding.specs.Kinds.{parts, null_kind}
 use Rattle.symbols.specs.Environment.{places_in}
-use Rattle.numeric_parser.specs.OperandLaws.{ready_moved, place-cell, cell_inside}
-use Rattle.numeric_parser.specs.Operands.{OperandInside, placed_in}
+use Rattle.numeric_parser.specs.OperandLaws.{ready_moved}
 use Rattle.branch_parser.specs.Rows.{draft_ends}
 use Rattle.branch_parser.specs.TestLaws.{test_null, test_numeric, test_compares}
-use Rattle.branch_parser.specs.Tests.{tested_by}
 use Rattle.branch_parser.proofs.tests.read_test.Goals as goal
 
-pub read_string-requires : goal.read_string-requires
+pub read_string-requires-clause-reader_ready : goal.read_string-requires-clause-reader_ready
 unfolding bytes
-read_string-requires c =
-    let word = sym c.begins_at.ensures ∙ c.if-begins_at.true in
-    record {
-      reader_ready = ready_moved (bytes "NULL(") c.requires.reader_ready c.skip.ensures word;
-      counts_in_range = c.requires.counts_in_range;
-      string_tag = record { is = refl };
-    }
+read_string-requires-clause-reader_ready c =
+    ready_moved (bytes "NULL(") c.requires.reader_ready c.skip.ensures (sym c.if-begins_at.ensures)
 
-pub tested-requires : goal.tested-requires
-tested-requires c =
-    let s = c.read_string in
-    let text = c.args.text.now in
-    subst (OperandInside text) (sym c.placed.ensures) (cell_inside (placed_in parts 0 s.result) (place-cell parts 0 s.result s.ensures))
+pub returns-in_err-place : goal.returns-in_err-place
+unfolding bytes
+returns-in_err-place c =
+    draft_ends c.from_residual.ensures
+    (test_null (places_in c.args.known.now) c.skip.ensures (sym c.if-begins_at.ensures) None c.in_err-place.ensures)
 
 pub returns-then-begins_at : goal.returns-then-begins_at
 unfolding bytes
 returns-then-begins_at c =
-    let a = c.args in
-    let s = c.read_string in
-    draft_ends (c.tested.ensures ∙ ap (tested_by a.text.now null_kind.number) c.placed.ensures)
-    (test_null (places_in a.known.now) c.skip.ensures (sym c.begins_at.ensures ∙ c.if-begins_at.true) s.result s.ensures)
+    draft_ends c.tested.ensures
+    (test_null (places_in c.args.known.now) c.skip.ensures (sym c.if-begins_at.ensures) (Some (c.in_ok-place.place, c.in_ok-place.d))
+    c.in_ok-place.ensures)
 
-pub read_part-requires : goal.read_part-requires
+pub read_part-requires-clause-reader_ready : goal.read_part-requires-clause-reader_ready
 unfolding bytes
-read_part-requires c =
-    let word = sym c.begins_at-2.ensures ∙ c.if-begins_at-2.true in
-    record {
-      reader_ready = ready_moved (bytes "NUMERIC(") c.requires.reader_ready c.skip-then-begins_at-2.ensures word;
-      counts_in_range = c.requires.counts_in_range;
-      kind_bound = (omega arith, record { is = refl });
-    }
+read_part-requires-clause-reader_ready c =
+    ready_moved (bytes "NUMERIC(") c.requires.reader_ready c.skip-then-begins_at-2.ensures (sym c.if-begins_at-2.ensures)
 
-pub tested-requires-then-begins_at-2 : goal.tested-requires-then-begins_at-2
-tested-requires-then-begins_at-2 c = cell_inside c.read_part.result c.read_part.ensures
+pub returns-in_err-cell : goal.returns-in_err-cell
+unfolding bytes
+returns-in_err-cell c =
+    draft_ends c.from_residual-in_err-cell.ensures
+    (test_numeric (places_in c.args.known.now) c.skip-then-begins_at-2.ensures (sym c.if-begins_at.ensures) (sym c.if-begins_at-2.ensures)
+    None c.in_err-cell.ensures)
 
 pub returns-then-begins_at-2 : goal.returns-then-begins_at-2
 unfolding bytes
 returns-then-begins_at-2 c =
-    let a = c.args in
-    let s = c.read_part in
     draft_ends c.tested-then-begins_at-2.ensures
-    (test_numeric (places_in a.known.now) c.skip-then-begins_at-2.ensures (sym c.begins_at.ensures ∙ c.if-begins_at.false) (sym c.begins_at-2.ensures ∙ c.if-begins_at-2.true) s.result s.ensures)
+    (test_numeric (places_in c.args.known.now) c.skip-then-begins_at-2.ensures (sym c.if-begins_at.ensures) (sym c.if-begins_at-2.ensures)
+    (Some (c.in_ok-cell.cell, c.in_ok-cell.d)) c.in_ok-cell.ensures)
 
 pub returns : goal.returns
 unfolding bytes
 returns c =
-    test_compares (places_in c.args.known.now) (sym c.begins_at.ensures ∙ c.if-begins_at.false) (sym c.begins_at-2.ensures ∙ c.if-begins_at-2.false)
-    c.comparing.result c.comparing.ensures
+    test_compares (places_in c.args.known.now) (sym c.if-begins_at.ensures) (sym c.if-begins_at-2.ensures) c.comparing.result
+    c.comparing.ensures

@@ -1,15 +1,15 @@
 -- `branch_parser::tests::tested` passes `)`.
-use mathlib.Core.Path.{sym, subst, ◌∙◌}
-use native.Mathlib.Omega.{arith}
-use Rattle.numeric_parser.specs.Operands.{OperandInside}
-use Rattle.branch_parser.specs.TestLaws.{tested-here, tested_not}
+use Rattle.std.proofs.Common.{Option, ap, ◌∙◌}
+use Rattle.symbols.specs.declared.Cursor.{Cursor}
+use Rattle.branch_parser.specs.Tests.{one_cell, rowed_at}
 use Rattle.branch_parser.proofs.tests.tested.Goals as goal
 
-pub skip-requires : goal.skip-requires
-skip-requires c = omega (arith, subst (OperandInside c.args.text.now) c.in-Got.is c.requires)
+pub returns-in_err-d : goal.returns-in_err-d
+returns-in_err-d c =
+    let a = c.args in
+    c.from_residual.ensures ∙ ap (λ (d : Option Cursor). rowed_at (one_cell a.kind a.left) d) c.in_err-d.ensures
 
-pub returns-then-stands_at : goal.returns-then-stands_at
-returns-then-stands_at c = tested-here c.args.text.now c.args.kind c.in-Got.is (sym c.stands_at.ensures ∙ c.if-stands_at.true) c.skip.ensures
-
-pub returns-else-stands_at : goal.returns-else-stands_at
-returns-else-stands_at c = tested_not c.args.text.now c.args.kind c.in-Got.is (sym c.stands_at.ensures ∙ c.if-stands_at.false)
+pub returns : goal.returns
+returns c =
+    let a = c.args in
+    ap (λ (d : Option Cursor). rowed_at (one_cell a.kind a.left) d) c.in_ok-d.ensures

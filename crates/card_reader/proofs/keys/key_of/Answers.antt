@@ -1,56 +1,56 @@
--- `card_reader::keys::key_of` answers the key. The invariant: the key is that of the bytes from i on.
-use Prim.Native.Nat.{ℕ, ◌+◌, ◌*◌, ◌-◌}
+-- `card_reader::keys::key_of` answers the key.
+use Rattle.std.proofs.lemmas.Iterator.Adapters.{YieldsList-from_rev_slice}
+use Rattle.std.proofs.lemmas.Iterator.Consumers.{YieldsList-turn, YieldsList-end}
+use Rattle.std.proofs.lemmas.List.{map-append, reverse-reverse}
 use Rattle.cards.specs.Cards.{without_blanks}
-use Rattle.card_reader.proofs.Labels.{Keyed, front_short, keyed-start, keyed-with, keyed_without, keyed_small}
+use Rattle.card_reader.proofs.Labels.{Keyed, keyed_start, keyed-with, keyed_without, keyed_small, seen_few}
 use Rattle.card_reader.specs.Keys.{key_of}
-use lib.ListN.{drop, get_or}
-use mathlib.Core.List.{List}
-use mathlib.Core.Path.{◌≡◌, ap, subst, sym, ◌∙◌}
+use mathlib.Core.List.{List, [], ◌∷◌, reverse}
+use mathlib.Core.Path.{ap, sym, subst, ◌∙◌}
+use Prim.Native.Nat.{ℕ, ◌+◌, ◌*◌, ◌<◌}
 use native.Mathlib.Omega.{arith}
 use Rattle.card_reader.proofs.keys.key_of.Goals as goal
+use Rattle.card_reader.proofs.keys.key_of.Goals.{In-Some, In-None}
 
-pub loop-i-init : goal.loop-i-init
-loop-i-init c =
-    let bytes = c.front-bytes.result.now in
-    keyed-start bytes (front_short 8 c.args.name.now bytes c.front-bytes.ensures)
+-- the bytes come from the last one back, and there are at most 8
+small : (c : In-Some) → c.loop-b.key < 72057594037927936
+small c =
+    let bytes = c.front.result.now in
+    let l = c.loop-b in
+    let road = YieldsList-from_rev_slice {s = c.into_iter-b-iterator.result} bytes (cc) in
+    let turn = YieldsList-turn road l.yielded l.b-iterator l.yielded_by c.next.result c.next.new.self c.in-Some.b c.in-Some.is c.next.ensures.steps in
+    keyed_small l.invariant (seen_few c.args.name.now bytes l.yielded c.front.ensures turn.0)
+
+pub loop-b-init : goal.loop-b-init
+loop-b-init c = keyed_start
 
 pub overflow_mul-key : goal.overflow_mul-key
-overflow_mul-key c =
-    let bytes = c.front-bytes.result.now in
-    let s = c.loop-i in
-    let small = keyed_small bytes s.i s.key s.invariant (omega arith) in
-    omega arith
+overflow_mul-key c = let few = small (goal.at.overflow_mul-key c).In-Some in omega arith
 
 pub overflow_add-key : goal.overflow_add-key
-overflow_add-key c =
-    let bytes = c.front-bytes.result.now in
-    let s = c.loop-i in
-    let small = keyed_small bytes s.i s.key s.invariant (omega arith) in
-    omega arith
+overflow_add-key c = let few = small (goal.at.overflow_add-key c).In-Some in omega arith
 
-pub loop-i-preserved-then-not-is_blank : goal.loop-i-preserved-then-not-is_blank
-loop-i-preserved-then-not-is_blank c =
-    let bytes = c.front-bytes.result.now in
-    let s = c.loop-i in
-    let b = get_or bytes (s.i - 1) 0 in
-    let same : c.wide.result ≡ b = c.wide.ensures.0 in
-    let blank = c.is_blank in
-    let other = sym blank.ensures ∙ c.if-not-is_blank.true in
-    subst (λ (n : ℕ). Keyed bytes (s.i - 1) (256 * s.key + n)) (sym same)
-    (keyed-with bytes s.i s.key s.invariant (omega arith) other (omega arith))
+pub loop-b-preserved-then-not-is_blank : goal.loop-b-preserved-then-not-is_blank
+loop-b-preserved-then-not-is_blank c =
+    let l = c.loop-b in
+    let b = c.in-Some.b in
+    let other = sym c.is_blank.ensures ∙ c.if-not-is_blank.true in
+    subst (λ (seen : List ℕ). Keyed seen (256 * l.key + b.now)) (sym (map-append (λ y. y.now) l.yielded (b ∷ [])))
+    (keyed-with l.invariant b.now other (omega arith))
 
-pub loop-i-preserved : goal.loop-i-preserved
-loop-i-preserved c =
-    let bytes = c.front-bytes.result.now in
-    let s = c.loop-i in
+pub loop-b-preserved : goal.loop-b-preserved
+loop-b-preserved c =
+    let l = c.loop-b in
+    let b = c.in-Some.b in
     let blank = sym c.is_blank.ensures ∙ c.if-not-is_blank.false in
-    keyed_without bytes s.i s.key s.invariant (omega arith) blank
+    subst (λ (seen : List ℕ). Keyed seen l.key) (sym (map-append (λ y. y.now) l.yielded (b ∷ [])))
+    (keyed_without l.invariant b.now blank)
 
 pub returns : goal.returns
 returns c =
-    let line = c.args.name.now in
-    let s = c.loop-i in
-    let none : s.i ≡ 0 = omega arith in
-    s.invariant.is
-    ∙ ap (λ (n : ℕ). key_of (without_blanks (drop n c.front-bytes.result.now))) none
-    ∙ ap (λ (l : List ℕ). key_of (without_blanks l)) c.front-bytes.ensures
+    let bytes = c.front.result.now in
+    let l = c.loop-b in
+    let road = YieldsList-from_rev_slice {s = c.into_iter-b-iterator.result} bytes (cc) in
+    let end = YieldsList-end road l.yielded l.b-iterator l.yielded_by c.next.result c.next.new.self c.in-None.is c.next.ensures.steps in
+    l.invariant.is
+    ∙ ap (λ (l : List ℕ). key_of (without_blanks l)) (ap (λ (l : List ℕ). reverse l) end.0 ∙ reverse-reverse bytes ∙ c.front.ensures)

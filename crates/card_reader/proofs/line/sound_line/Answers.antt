@@ -1,36 +1,22 @@
--- `card_reader::line::sound_line` answers whether the line is sound: no byte in the range is refused, and of others the table tells.
-use Rattle.base.specs.Choice.{both_pass}
-use Rattle.base.specs.ListLaws.{all_imply}
+-- `card_reader::line::sound_line` answers whether the line is sound.
 use Rattle.base.specs.Lists.{all}
-use Rattle.cards.specs.Bytes.{between, class_of, is_refused}
 use Rattle.cards.specs.Cards.{sound_line}
-use Rattle.classes.specs.Laws.{data_range}
-use borrow.Author.Rules.{rules}
+use Rattle.card_reader.proofs.Lines.{is_kept}
 use borrow.Author.Tests.{le-leb, lt-leb}
 use lib.ListN.{length}
-use mathlib.Core.Bool.{not, ◌&&◌}
+use mathlib.Core.Bool.{◌&&◌}
 use mathlib.Core.Path.{ap, sym, ◌∙◌}
-use native.Mathlib.Omega.{arith}
 use Rattle.card_reader.proofs.line.sound_line.Goals as goal
 
-pub returns-then-line-gt-LINE : goal.returns-then-line-gt-LINE
+pub returns-then-line-le-LINE : goal.returns-then-line-le-LINE
 unfolding sound_line
-returns-then-line-gt-LINE c =
+returns-then-line-le-LINE c =
     let line = c.args.line.now in
-    sym (ap (λ t. t && all (λ b. not (is_refused (class_of b))) line) (lt-leb (length line) 80 (search rules)))
+    c.none_refused.ensures ∙ sym (ap (λ t. t && all is_kept line) (le-leb (length line) 80 c.if-line-le-LINE.true))
 
-pub returns-then-in_range : goal.returns-then-in_range
+pub returns-else-line-le-LINE : goal.returns-else-line-le-LINE
 unfolding sound_line
-returns-then-in_range c =
+returns-else-line-le-LINE c =
     let line = c.args.line.now in
-    let within = sym c.in_range.ensures ∙ c.if-in_range.true in
-    sym
-    (both_pass (le-leb (length line) 80 (omega arith))
-    (all_imply (between 32 126) (λ b. not (is_refused (class_of b))) data_range line within))
-
-pub returns : goal.returns
-unfolding sound_line
-returns c =
-    let line = c.args.line.now in
-    c.none_refused.ensures
-    ∙ ap (λ t. t && all (λ b. not (is_refused (class_of b))) line) (sym (le-leb (length line) 80 (omega arith)))
+    let over = lt-leb (length line) 80 c.if-line-le-LINE.false in
+    over ∙ sym (ap (λ t. t && all is_kept line) over)

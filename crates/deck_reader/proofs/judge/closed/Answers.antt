@@ -6,7 +6,7 @@ use Rattle.link_checks.specs.Held.{held_in}
 use Rattle.validation.specs.Deck.{is12}
 use Rattle.name_checks.specs.ArrayLaws.{two-regions, three-regions}
 use Rattle.deck_reader.specs.DeckLaws.{keys_lent, scopes_lent, purposes_lent, lent_closable, lent-held}
-use Rattle.deck_reader.specs.declared.judge.Verdict.{Verdict}
+use Rattle.deck_reader.specs.Verdicts.{Verdict}
 use Rattle.deck_reader.proofs.judge.closed.Goals as goal
 
 pub slice_bounds-use_keys-end : goal.slice_bounds-use_keys-end

@@ -31,10 +31,6 @@ loop-p-preserved c =
     let m = ongoing_more (i.0 c.requires.deck_accepted) e in
     ((λ w. (ongoing_more (i.0 w) e).0), record { keys_size = m.1; tags_size = m.2; table_size = omega (arith, k, i.1.table_size) }, e.text_size, k ∙ i.3)
 
-pub shape_of-table : goal.shape_of-table
-shape_of-table c =
-    c.loop-p.invariant.3
-
 pub returns : goal.returns
 returns c =
     let i = c.loop-p.invariant in

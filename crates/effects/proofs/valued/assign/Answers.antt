@@ -1,21 +1,21 @@
 -- `valued::assign` meets its contract: the number set is the expression's value.
-use mathlib.Core.Path.{refl, sym, ap, subst, ◌∙◌}
-use Rattle.numbers.specs.Numbers.{NumberWithin, worked}
-use Rattle.effects.specs.ValuedLaws.{assigned}
+use Rattle.std.proofs.Common.{refl}
+use Rattle.std.proofs.lemmas.Result.{err_from_is_err_and}
+use Rattle.numbers.specs.Laws.{number_is, number_range, number_stops}
 use Rattle.effects.proofs.valued.assign.Goals as goal
 
-pub set_number-requires : goal.set_number-requires
-set_number-requires c = record {
-  place_bound = c.requires.place_bound;
-  int_in_range = subst NumberWithin c.in-Is.is c.numeric_value.ensures.range;
-}
+pub set_number-requires-clause-int_in_range : goal.set_number-requires-clause-int_in_range
+set_number-requires-clause-int_in_range c = number_range c.numeric_value.ensures c.in_ok-number.was
 
-pub returns-in-Is : goal.returns-in-Is
-returns-in-Is c =
-    assigned c.numeric_value.result c.in-Is.value c.in-Is.notes _
-    c.args.state.now c.set_number.new.state c.args.place c.in-Is.is
-    c.numeric_value.ensures.work c.set_number.ensures
+pub returns : goal.returns
+returns c =
+    record {
+      value = c.in_ok-number.number.value.value;
+      work = number_is c.numeric_value.ensures c.in_ok-number.was;
+      left_is = c.set_number.ensures;
+    }
 
-pub returns-in-Stops : goal.returns-in-Stops
-returns-in-Stops c =
-    (refl, sym c.numeric_value.ensures.work ∙ ap worked c.in-Stops.is)
+pub returns-in_err-number : goal.returns-in_err-number
+returns-in_err-number c =
+    let p = err_from_is_err_and c.from_residual.result c.from_residual.ensures.1 in
+    rw (p.1, p.2) (refl, number_stops c.numeric_value.ensures c.in_err-number.was)

@@ -1,129 +1,75 @@
 -- `run::repeat` meets its contract. The loop's invariant: the run is the steps made with their notes, and the run of those that are left on
--- the buffers as they are, which may be given to a step; the buffers for its work can be lent. The measure is how many are left.
-use mathlib.Core.List.{[], ◌∷◌}
-use mathlib.Core.Path.{refl, sym, ◌∙◌, ap, subst}
-use Prim.Native.Nat.{ℕ, ◌+◌}
+-- the buffers as they are, which may be given to a step; the buffers for its work can be lent.
+use mathlib.Core.Path.{ap, ◌≡◌, refl, sym, ◌∙◌}
+use Prim.Native.Nat.{◌<◌}
 use native.Mathlib.Omega.{arith}
-use lib.ListN as lists
-use Rattle.encoding.specs.Buffers.{store_size}
 use Rattle.calls.specs.Calls.{buffers}
+use Rattle.interpreter.specs.Endings.{halted_number, step_number}
 use Rattle.interpreter.specs.Laws.{zeros-lent}
 use Rattle.interpreter.specs.RunLaws.{alone_none, alone_ends, alone_more, alone_spent}
-use Rattle.interpreter.specs.RunLaws.{Repeats, ended_as, repeats_none, repeats_stopped, repeats_refused, repeats_finished, repeats_more, repeats_spent}
+use Rattle.interpreter.specs.RunLaws.{repeats_none, repeats_halted, repeats_finished, repeats_more, repeats_all}
 use Rattle.interpreter.proofs.run.repeat.Goals as goal
 
 pub loop-done-init : goal.loop-done-init
 loop-done-init c =
     let a = c.args in
-    let g = c.requires in
-    (repeats_none a.table.now a.input.now (buffers a.store.now a.state.now a.output.now) a.count g, refl, refl, zeros-lent, lists.length-replicate {A = ℕ} store_size 0, alone_none a.table.now a.input.now (buffers a.store.now a.state.now a.output.now) a.answer.now)
+    let b = buffers a.store.now a.state.now a.output.now in
+    (repeats_none a.table.now a.input.now b a.count c.requires, zeros-lent, alone_none a.table.now a.input.now b a.answer.now)
 
-pub slice_bounds-step_on-end : goal.slice_bounds-step_on-end
-slice_bounds-step_on-end c = sym c.loop-done.invariant.3.twenty_strings
-
-pub slice_bounds-step_on-end-in-loop-done : goal.slice_bounds-step_on-end-in-loop-done
-slice_bounds-step_on-end-in-loop-done c = sym c.loop-done.invariant.4
-
-pub step_on-n-requires : goal.step_on-n-requires
-step_on-n-requires c =
+pub step_on-step-requires : goal.step_on-step-requires
+step_on-step-requires c =
     record {
       given = c.loop-done.invariant.0.given;
-      scan_lent = c.loop-done.invariant.3;
+      scan_lent = c.loop-done.invariant.1;
     }
 
-pub overflow_cast-more : goal.overflow_cast-more
-overflow_cast-more c = omega (arith, c.notes_of.type_inv)
+pub overflow_add-notes : goal.overflow_add-notes
+overflow_add-notes c =
+    let l = c.loop-done in
+    let inside = rw c.in-Ok.is at c.step_on-step.type_inv in
+    omega (arith, l.invariant.0.few, l.invariant.0.most, c.ranges.count, inside)
 
-pub overflow_add-more : goal.overflow_add-more
-overflow_add-more c = omega (arith, c.loop-done.invariant.0.few, c.loop-done.invariant.0.most, c.loop-done-test.true, c.notes_of.type_inv, c.ranges.count)
-
-pub overflow_add-done : goal.overflow_add-done
-overflow_add-done c = omega (arith, c.loop-done-test.true, c.ranges.count)
-
-pub shape_of-store-then-stops : goal.shape_of-store-then-stops
-shape_of-store-then-stops c = c.step_on-n.auto.store ∙ c.loop-done.invariant.1
-
-pub shape_of-output-then-stops : goal.shape_of-output-then-stops
-shape_of-output-then-stops c = c.step_on-n.auto.output ∙ c.loop-done.invariant.2
-
-pub returns-then-stops : goal.returns-then-stops
-returns-then-stops c =
-    let s = c.step_on-n in
-    let at = c.loop-done in record {
-      run_answers = ended_as (ap (λ (n : ℕ). 1 ∷ (s.result ∷ ((at.done + 1) ∷ ((at.notes + n) ∷ [])))) c.notes_of.ensures) c.end.ensures
-          (repeats_stopped at.invariant.0 s.ensures.step_answers c.loop-done-test.true (sym c.stops.ensures ∙ c.if-stops.true));
-      step_answers = alone_ends at.invariant.5 s.ensures.step_answers c.loop-done-test.true
-          c.end.ensures.0;
-    }
-
-pub shape_of-store-then-n-gt0 : goal.shape_of-store-then-n-gt0
-shape_of-store-then-n-gt0 c = c.step_on-n.auto.store ∙ c.loop-done.invariant.1
-
-pub shape_of-output-then-n-gt0 : goal.shape_of-output-then-n-gt0
-shape_of-output-then-n-gt0 c = c.step_on-n.auto.output ∙ c.loop-done.invariant.2
-
-pub returns-then-n-gt0 : goal.returns-then-n-gt0
-returns-then-n-gt0 c =
-    let s = c.step_on-n in
-    let at = c.loop-done in record {
-      run_answers = ended_as refl c.end-then-n-gt0.ensures
-          (repeats_refused at.invariant.0 s.ensures.step_answers c.loop-done-test.true (sym c.stops.ensures ∙ c.if-stops.false) c.if-n-gt0.true);
-      step_answers = alone_ends at.invariant.5 s.ensures.step_answers c.loop-done-test.true
-          c.end-then-n-gt0.ensures.0;
-    }
-
-pub overflow_add-done-in-loop-done : goal.overflow_add-done-in-loop-done
-overflow_add-done-in-loop-done c = omega (arith, c.loop-done-test.true, c.ranges.count)
-
-pub shape_of-store-then-is_finished : goal.shape_of-store-then-is_finished
-shape_of-store-then-is_finished c = c.step_on-n.auto.store ∙ c.loop-done.invariant.1
-
-pub shape_of-output-then-is_finished : goal.shape_of-output-then-is_finished
-shape_of-output-then-is_finished c = c.step_on-n.auto.output ∙ c.loop-done.invariant.2
+pub returns-in-Err : goal.returns-in-Err
+returns-in-Err c =
+    let s = c.step_on-step.ensures.step_taken in
+    let at = c.loop-done in
+    let below : at.done < c.args.count = omega arith in
+    let halt = c.in-Err.halt in
+    rw c.halted.ensures
+    (record {
+      run_answers = repeats_halted at.invariant.0 s below halt c.in-Err.is;
+      step_answers = alone_ends at.invariant.2 s.answers below (halted_number halt at.done at.notes ∙ sym (ap step_number c.in-Err.is));
+    })
 
 pub returns-then-is_finished : goal.returns-then-is_finished
 returns-then-is_finished c =
-    let s = c.step_on-n in
-    let at = c.loop-done in record {
-      run_answers = ended_as (ap (λ (n : ℕ). 0 ∷ (0 ∷ ((at.done + 1) ∷ ((at.notes + n) ∷ [])))) c.notes_of.ensures) c.end-then-is_finished.ensures
-          (repeats_finished at.invariant.0 s.ensures.step_answers c.loop-done-test.true c.if-n-gt0.false
-          (sym c.is_finished.ensures ∙ c.if-is_finished.true));
-      step_answers = alone_ends at.invariant.5 s.ensures.step_answers c.loop-done-test.true
-          (omega (arith, c.end-then-is_finished.ensures.0, c.if-n-gt0.false));
-    }
-
-pub loop-done-smaller : goal.loop-done-smaller
-loop-done-smaller c = omega (arith, c.loop-done-test.true)
+    let s = c.step_on-step.ensures.step_taken in
+    let at = c.loop-done in
+    let below : at.done < c.args.count = omega arith in
+    rw c.new.ensures
+    (record {
+      run_answers = repeats_finished at.invariant.0 s below c.in-Ok.is (sym c.is_finished.ensures ∙ c.if-is_finished.true);
+      step_answers = alone_ends at.invariant.2 s.answers below (sym (ap step_number c.in-Ok.is));
+    })
 
 pub loop-done-preserved : goal.loop-done-preserved
 loop-done-preserved c =
-    let a = c.args in
-    let s = c.step_on-n in
+    let s = c.step_on-step in
+    let taken = s.ensures.step_taken in
     let at = c.loop-done in
-    let b = buffers a.store.now a.state.now a.output.now in
-    let left = buffers s.new.store s.new.state s.new.output in
-    let notes = c.notes_of in (
-      subst (λ (n : ℕ). Repeats a.table.now a.input.now b a.count (at.done + 1) (at.notes + n) left) (sym notes.ensures)
-          (repeats_more at.invariant.0 s.ensures.step_answers c.loop-done-test.true c.if-n-gt0.false (sym c.is_finished.ensures ∙ c.if-is_finished.false)
-          (omega (arith, notes.type_inv, notes.ensures))),
-      s.auto.store ∙ at.invariant.1,
-      s.auto.output ∙ at.invariant.2,
+    let below : at.done < c.args.count = omega arith in (
+      repeats_more at.invariant.0 taken below c.in-Ok.is (sym c.is_finished.ensures ∙ c.if-is_finished.false)
+          (let inside = rw c.in-Ok.is at s.type_inv in omega (arith, inside)),
       s.ensures.scan_lent_2,
-      s.auto.kept ∙ at.invariant.4,
-      alone_more at.invariant.5 s.ensures.step_answers c.if-n-gt0.false,
+      alone_more at.invariant.2 taken.answers (ap step_number c.in-Ok.is),
     )
-
-pub shape_of-store : goal.shape_of-store
-shape_of-store c = c.loop-done.invariant.1
-
-pub shape_of-output : goal.shape_of-output
-shape_of-output c = c.loop-done.invariant.2
 
 pub returns : goal.returns
 returns c =
-    let at = c.loop-done in record {
-      run_answers = ended_as refl c.end-2.ensures
-          (repeats_spent at.invariant.0 c.loop-done-test.false);
-      step_answers = alone_spent at.invariant.5 at.invariant.0.most
-          (λ below. omega (arith, below, c.loop-done-test.false)) c.end-2.ensures.0;
-    }
+    let at = c.loop-done in
+    let all : at.done ≡ c.args.count = omega arith in
+    rw c.new-2.ensures
+    (record {
+      run_answers = repeats_all at.invariant.0 all;
+      step_answers = alone_spent at.invariant.2 at.invariant.0.most (λ below. omega (arith, below, all)) refl;
+    })

@@ -2,27 +2,24 @@
 use Rattle.link_checks.proofs.Turns.{turned_none, turned_more, turned-all}
 use Rattle.link_checks.proofs.rounds.comes_back.Goals as goal
 
-pub row_of-marks-requires : goal.row_of-marks-requires
-row_of-marks-requires c = c.requires
-
-pub loop-n-init : goal.loop-n-init
-loop-n-init c =
+pub loop-round-init : goal.loop-round-init
+loop-round-init c =
     let a = c.args in
     turned_none a.pairs.now a.count a.i c.requires.i_lt_count c.row_of-marks.result c.row_of-marks.ensures
 
 pub next_marks-marks-requires : goal.next_marks-marks-requires
 next_marks-marks-requires c =
-    record { marks_size = c.loop-n.invariant.size; size = c.requires.pair_places.size; few = c.requires.pair_places.few }
+    record { marks_size = c.loop-round.invariant.size; size = c.requires.pair_places.size; few = c.requires.pair_places.few }
 
-pub loop-n-preserved : goal.loop-n-preserved
-loop-n-preserved c =
+pub loop-round-preserved : goal.loop-round-preserved
+loop-round-preserved c =
     let a = c.args in
-    let l = c.loop-n in
-    turned_more a.pairs.now a.count a.i c.requires.i_lt_count l.n l.marks c.next_marks-marks.result l.invariant
-    c.loop-n-test.true c.next_marks-marks.ensures
+    let l = c.loop-round in
+    turned_more a.pairs.now a.count a.i c.requires.i_lt_count l._round l.marks c.next_marks-marks.result l.invariant
+    c.loop-round-test.true c.next_marks-marks.ensures
 
 pub returns : goal.returns
 returns c =
     let a = c.args in
-    let l = c.loop-n in
-    turned-all a.pairs.now a.count a.i c.requires.i_lt_count l.n l.marks l.invariant c.loop-n-test.false
+    let l = c.loop-round in
+    turned-all a.pairs.now a.count a.i c.requires.i_lt_count l._round l.marks l.invariant c.loop-round-test.false

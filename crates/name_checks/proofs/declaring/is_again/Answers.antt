@@ -7,16 +7,15 @@ use Rattle.name_checks.proofs.declaring.is_again.Goals as goal
 pub returns-then-is_declared : goal.returns-then-is_declared
 returns-then-is_declared c =
     let a = c.args in
-    again-before (declared_in a.known.now) a.keys.now a.tags.now a.met a.i c.if-tag-eq1.true
-    (sym c.is_declared.ensures ∙ c.if-is_declared.true)
+    c.if-is_declared.true
+    ∙ again-before (declared_in a.known.now) a.keys.now a.tags.now a.met a.i c.if-tag-eq1.true (sym c.is_declared.ensures ∙ c.if-is_declared.true)
 
-pub returns-then-tag-eq1 : goal.returns-then-tag-eq1
-returns-then-tag-eq1 c =
+pub returns-else-is_declared : goal.returns-else-is_declared
+returns-else-is_declared c =
     let a = c.args in
-    again_behind (declared_in a.known.now) a.keys.now a.tags.now a.met a.i c.if-tag-eq1.true
-    (sym c.is_declared.ensures ∙ c.if-is_declared.false) _ c.is_declared_from.ensures
+    again_behind (declared_in a.known.now) a.keys.now a.tags.now a.met a.i c.if-tag-eq1.true (sym c.is_declared.ensures ∙ c.if-is_declared.false) _ c.is_declared_from.ensures
 
-pub returns : goal.returns
-returns c =
+pub returns-else-tag-eq1 : goal.returns-else-tag-eq1
+returns-else-tag-eq1 c =
     let a = c.args in
     again_none (declared_in a.known.now) a.keys.now a.tags.now a.met a.i c.if-tag-eq1.false

@@ -1,5 +1,4 @@
 -- `declaring::is_declared_from` finds a declaration. The invariant: the entries left lead to the same.
-use Prim.Native.Nat.{◌-◌}
 use Rattle.validation.specs.Environment.{same_mention}
 use Rattle.symbols.specs.Entries.{declared_by}
 use Rattle.name_checks.specs.LoopLaws.{any_from}
@@ -9,6 +8,3 @@ use Rattle.name_checks.proofs.declaring.is_declared_from.Given as goal
 
 abbrev pub invariant-loop-i : goal.invariant-loop-i
 invariant-loop-i l = PlacePasses (any_from (same_mention (key_mention l.key l.p)) declared_by l.keys l.tags l.met) l.from l.met l.i
-
-abbrev pub decreases-loop-i : goal.decreases-loop-i
-decreases-loop-i l = l.met - l.i

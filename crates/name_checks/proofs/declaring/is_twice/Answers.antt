@@ -3,14 +3,9 @@ use mathlib.Core.Path.{sym, ◌∙◌}
 use Prim.Native.Nat.{◌+◌}
 use Rattle.name_checks.specs.Declaring.{declared_in}
 use Rattle.name_checks.specs.LoopLaws.{again_from, again-turn, again_end, again-whole}
-use Rattle.name_checks.specs.Passing.{passing_start, passing_here, passing_on}
+use Rattle.name_checks.specs.Passing.{passing_here, passing_on}
 use native.Mathlib.Omega.{arith}
 use Rattle.name_checks.proofs.declaring.is_twice.Goals as goal
-
-pub loop-i-init : goal.loop-i-init
-loop-i-init c =
-    let a = c.args in
-    passing_start (again_from (declared_in a.known.now) a.keys.now a.tags.now a.met) 0 a.met (omega arith)
 
 pub returns-then-is_again : goal.returns-then-is_again
 returns-then-is_again c =

@@ -1,5 +1,4 @@
 -- `declaring::is_twice` finds a name declared again. The invariant: the entries left lead to the same.
-use Prim.Native.Nat.{◌-◌}
 use Rattle.name_checks.specs.Declaring.{declared_in}
 use Rattle.name_checks.specs.LoopLaws.{again_from}
 use Rattle.name_checks.specs.Passing.{PlacePasses}
@@ -7,6 +6,3 @@ use Rattle.name_checks.proofs.declaring.is_twice.Given as goal
 
 abbrev pub invariant-loop-i : goal.invariant-loop-i
 invariant-loop-i l = PlacePasses (again_from (declared_in l.known) l.keys l.tags l.met) 0 l.met l.i
-
-abbrev pub decreases-loop-i : goal.decreases-loop-i
-decreases-loop-i l = l.met - l.i

@@ -1,10 +1,8 @@
 -- `names::purpose` gives the number of a purpose.
-use Rattle.name_checks.specs.DeclaringLaws.{purpose_low, purpose_high}
-use native.Mathlib.Omega.{arith}
+use Rattle.std.specs.Prelude.{◌≡◌, min}
+use Rattle.std.proofs.Common.{◌∙◌, rules}
+use Rattle.name_checks.specs.DeclaringLaws.{purpose_least}
 use Rattle.name_checks.proofs.names.purpose.Goals as goal
 
-pub returns-then-p-lt-STRING : goal.returns-then-p-lt-STRING
-returns-then-p-lt-STRING c = purpose_low c.args.p (omega arith)
-
-pub returns-else-p-lt-STRING : goal.returns-else-p-lt-STRING
-returns-else-p-lt-STRING c = purpose_high c.args.p (omega arith)
+pub returns : goal.returns
+returns c = let is : c.min.result ≡ min c.args.p 4 = search rules in is ∙ purpose_least c.args.p

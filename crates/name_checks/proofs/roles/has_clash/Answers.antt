@@ -1,15 +1,12 @@
 -- `roles::has_clash` finds a role that clashes. The invariant: the roles left, with the reference so far, lead to the same.
 use mathlib.Core.Bool.{◌||◌}
-use mathlib.Core.Path.{refl, sym, ◌∙◌, ap}
+use mathlib.Core.Path.{sym, ◌∙◌, ap}
 use Prim.Native.Nat.{◌+◌}
 use lib.ListN.{get_or}
 use Rattle.name_checks.specs.RoleLaws.{clash_from, clash_turn, clash_end, clash_whole, unclashed_more}
 use Rattle.name_checks.specs.Roles.{searched_behind}
 use native.Mathlib.Omega.{arith}
 use Rattle.name_checks.proofs.roles.has_clash.Goals as goal
-
-pub loop-i-init : goal.loop-i-init
-loop-i-init c = (omega arith, refl, λ j h role. absurd (omega (arith, h)))
 
 pub returns-then-clashes_at : goal.returns-then-clashes_at
 returns-then-clashes_at c =

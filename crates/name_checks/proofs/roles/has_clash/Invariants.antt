@@ -1,6 +1,6 @@
 -- `roles::has_clash` finds a role that clashes. The invariant: the roles left, with the reference so far, lead to the same.
 use mathlib.Core.Path.{◌≡◌}
-use Prim.Native.Nat.{◌-◌, ◌≤◌}
+use Prim.Native.Nat.{◌≤◌}
 use Rattle.name_checks.specs.RoleLaws.{clash_from}
 use Rattle.name_checks.specs.Roles.{Unclashed}
 use Rattle.name_checks.proofs.roles.has_clash.Given as goal
@@ -8,6 +8,3 @@ use Rattle.name_checks.proofs.roles.has_clash.Given as goal
 abbrev pub invariant-loop-i : goal.invariant-loop-i
 invariant-loop-i l =
     (l.i ≤ l.met) × (clash_from l.keys l.tags l.met l.searched l.i ≡ clash_from l.keys l.tags l.met 0 0) × Unclashed l.keys l.tags l.i
-
-abbrev pub decreases-loop-i : goal.decreases-loop-i
-decreases-loop-i l = l.met - l.i

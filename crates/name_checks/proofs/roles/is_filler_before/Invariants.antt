@@ -5,6 +5,3 @@ use Rattle.name_checks.proofs.roles.is_filler_before.Given as goal
 
 abbrev pub invariant-loop-i : goal.invariant-loop-i
 invariant-loop-i l = PlacePasses (λ j. fillers_have l.keys l.tags j l.key) l.n l.n l.i
-
-abbrev pub decreases-loop-i : goal.decreases-loop-i
-decreases-loop-i l = l.i

@@ -1,20 +1,12 @@
 -- `numeric_parser::operands::closed` goes behind a bracket.
-use mathlib.Core.Path.{sym, subst, ◌∙◌}
-use Rattle.numeric_parser.specs.Operands.{OperandInside}
-use Rattle.numeric_parser.proofs.Closing.{closed_here, closed_not}
-use native.Mathlib.Omega.{arith}
+use Rattle.std.proofs.Common.{Option, ap, ◌∙◌}
+use Rattle.symbols.specs.declared.Cursor.{Cursor}
+use Rattle.numeric_parser.specs.Operands.{celled_at}
 use Rattle.numeric_parser.proofs.operands.closed.Goals as goal
 
-pub skip-requires : goal.skip-requires
-skip-requires c =
-    omega (arith, subst (OperandInside c.args.text.now) c.in-Got.is c.requires)
+pub returns-in_err-d : goal.returns-in_err-d
+returns-in_err-d c =
+    c.from_residual.ensures ∙ ap (λ (d : Option Cursor). celled_at c.args.cell d) c.in_err-d.ensures
 
-pub returns-then-stands_at : goal.returns-then-stands_at
-returns-then-stands_at c =
-    let a = c.args in
-    closed_here a.text.now c.in-Got.is (sym c.stands_at.ensures ∙ c.if-stands_at.true) c.skip.ensures
-
-pub returns-else-stands_at : goal.returns-else-stands_at
-returns-else-stands_at c =
-    let a = c.args in
-    closed_not a.text.now c.in-Got.is (sym c.stands_at.ensures ∙ c.if-stands_at.false)
+pub returns : goal.returns
+returns c = ap (λ (d : Option Cursor). celled_at c.args.cell d) c.in_ok-d.ensures

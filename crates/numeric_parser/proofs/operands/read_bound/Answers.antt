@@ -3,7 +3,7 @@ use mathlib.Core.Path.{ap, sym, ◌∙◌}
 use Rattle.cards.specs.Bytes.{is_digit}
 use lib.ListN.{drop}
 use Rattle.symbols.specs.Environment.{places_in}
-use Rattle.numeric_parser.specs.OperandLaws.{bound_constant, bound_number, bound_broken, place_case, place_none}
+use Rattle.numeric_parser.specs.OperandLaws.{bound_constant, bound_number, bound_broken, cell_lost}
 use Rattle.numeric_parser.proofs.operands.read_bound.Goals as goal
 
 pub returns-then-is_digit : goal.returns-then-is_digit
@@ -12,22 +12,15 @@ returns-then-is_digit c =
     bound_constant (places_in c.args.known.now) c.args.kind c.args.place digit
     (c.constant.ensures c.args.keys.now c.args.tags.now c.requires.reader_ready)
 
-pub returns-in-Broken : goal.returns-in-Broken
-returns-in-Broken c =
+pub returns-in_err-number : goal.returns-in_err-number
+returns-in_err-number c =
     let a = c.args in
     let digit = ap is_digit (sym c.byte_at.ensures) ∙ sym c.is_digit.ensures ∙ c.if-is_digit.false in
-    record {
-      answer =
-          bound_broken (places_in a.known.now) (drop a.c.at a.text.now) digit
-          (place_none c.read_number.ensures c.in-Broken.is);
-    }
+    cell_lost c.from_residual.ensures
+    (bound_broken (places_in a.known.now) (drop a.c.at a.text.now) digit c.in_err-number.ensures.answer)
 
-pub returns-in-Got : goal.returns-in-Got
-returns-in-Got c =
+pub returns : goal.returns
+returns c =
     let a = c.args in
     let digit = ap is_digit (sym c.byte_at.ensures) ∙ sym c.is_digit.ensures ∙ c.if-is_digit.false in
-    record {
-      answer =
-          bound_number (places_in a.known.now) a.kind a.place digit
-          (place_case c.read_number.ensures c.in-Got.is);
-    }
+    record { answer = bound_number (places_in a.known.now) a.kind a.place digit c.in_ok-number.ensures.answer }

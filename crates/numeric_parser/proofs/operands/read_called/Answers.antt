@@ -1,74 +1,55 @@
 -- `numeric_parser::operands::read_called` reads LENGTH, NUMBER or a number.
-use mathlib.Core.Path.{refl, sym, ap, subst, ◌∙◌}
+use Rattle.std.proofs.Common.{Some, None, sym}
 use Rattle.base.specs.Text.{bytes}
-use Rattle.encoding.specs.Kinds.{length_kind}
 use Rattle.symbols.specs.Environment.{places_in}
-use Rattle.numeric_parser.specs.OperandLaws.{ready_moved, place-cell, cell_ends, cell_inside, called_length, called_number, called_plain}
-use Rattle.numeric_parser.specs.Operands.{OperandInside, placed_in, behind_parenthesis}
-use native.Mathlib.Omega.{arith}
+use Rattle.numeric_parser.specs.OperandLaws.{ready_moved, cell_ends, called_length, called_number, called_plain}
 use Rattle.numeric_parser.proofs.operands.read_called.Goals as goal
 
-pub read_string-requires : goal.read_string-requires
+pub read_string-requires-clause-reader_ready : goal.read_string-requires-clause-reader_ready
 unfolding bytes
-read_string-requires c =
-    let word = sym c.begins_at.ensures ∙ c.if-begins_at.true in
-    record {
-      reader_ready = ready_moved (bytes "LENGTH(") c.requires.reader_ready c.skip.ensures word;
-      counts_in_range = c.requires.counts_in_range;
-      string_tag = record { is = refl };
-    }
+read_string-requires-clause-reader_ready c =
+    ready_moved (bytes "LENGTH(") c.requires.reader_ready c.skip.ensures (sym c.if-begins_at.ensures)
 
-pub closed-requires : goal.closed-requires
+pub returns-in_err-place : goal.returns-in_err-place
 unfolding bytes
-closed-requires c =
-    let s = c.read_string in
-    let text = c.args.text.now in
-    subst (OperandInside text) (sym c.placed.ensures)
-    (cell_inside (placed_in length_kind.number 0 s.result) (place-cell length_kind.number 0 s.result s.ensures))
+returns-in_err-place c =
+    cell_ends c.from_residual.ensures
+    (called_length (places_in c.args.known.now) c.skip.ensures (sym c.if-begins_at.ensures) None c.in_err-place.ensures)
 
 pub returns-then-begins_at : goal.returns-then-begins_at
 unfolding bytes
 returns-then-begins_at c =
-    let a = c.args in
-    let s = c.read_string in
-    let word = sym c.begins_at.ensures ∙ c.if-begins_at.true in
-    let p = places_in a.known.now in
-    cell_ends (c.closed.ensures ∙ ap (behind_parenthesis a.text.now) c.placed.ensures)
-    (called_length p c.skip.ensures word s.result s.ensures)
+    cell_ends c.closed.ensures
+    (called_length (places_in c.args.known.now) c.skip.ensures (sym c.if-begins_at.ensures) (Some (c.in_ok-place.place, c.in_ok-place.d))
+    c.in_ok-place.ensures)
 
-pub read_part-requires : goal.read_part-requires
+pub read_part-requires-clause-reader_ready : goal.read_part-requires-clause-reader_ready
 unfolding bytes
-read_part-requires c =
-    let word = sym c.begins_at-2.ensures ∙ c.if-begins_at-2.true in
-    record {
-      reader_ready = ready_moved (bytes "NUMBER(") c.requires.reader_ready c.skip-then-begins_at-2.ensures word;
-      counts_in_range = c.requires.counts_in_range;
-      kind_bound = (omega arith, record { is = refl });
-    }
+read_part-requires-clause-reader_ready c =
+    ready_moved (bytes "NUMBER(") c.requires.reader_ready c.skip-then-begins_at-2.ensures (sym c.if-begins_at-2.ensures)
 
-pub closed-requires-then-begins_at-2 : goal.closed-requires-then-begins_at-2
+pub returns-in_err-cell : goal.returns-in_err-cell
 unfolding bytes
-closed-requires-then-begins_at-2 c =
-    cell_inside c.read_part.result c.read_part.ensures
+returns-in_err-cell c =
+    cell_ends c.from_residual-in_err-cell.ensures
+    (called_number (places_in c.args.known.now) c.skip-then-begins_at-2.ensures (sym c.if-begins_at.ensures)
+    (sym c.if-begins_at-2.ensures) None c.in_err-cell.ensures)
 
 pub returns-then-begins_at-2 : goal.returns-then-begins_at-2
 unfolding bytes
 returns-then-begins_at-2 c =
-    let a = c.args in
-    let s = c.read_part in
-    let other = sym c.begins_at.ensures ∙ c.if-begins_at.false in
-    let word = sym c.begins_at-2.ensures ∙ c.if-begins_at-2.true in
-    let p = places_in a.known.now in
     cell_ends c.closed-then-begins_at-2.ensures
-    (called_number p c.skip-then-begins_at-2.ensures other word s.result s.ensures)
+    (called_number (places_in c.args.known.now) c.skip-then-begins_at-2.ensures (sym c.if-begins_at.ensures)
+    (sym c.if-begins_at-2.ensures) (Some (c.in_ok-cell.cell, c.in_ok-cell.d)) c.in_ok-cell.ensures)
+
+pub returns-in_err-place-2 : goal.returns-in_err-place-2
+unfolding bytes
+returns-in_err-place-2 c =
+    cell_ends c.from_residual-in_err-place-2.ensures
+    (called_plain (places_in c.args.known.now) (sym c.if-begins_at.ensures) (sym c.if-begins_at-2.ensures) None c.in_err-place-2.ensures)
 
 pub returns : goal.returns
 unfolding bytes
 returns c =
-    let a = c.args in
-    let s = c.read_number in
-    let other = sym c.begins_at.ensures ∙ c.if-begins_at.false in
-    let others = sym c.begins_at-2.ensures ∙ c.if-begins_at-2.false in
-    let p = places_in a.known.now in
-    cell_ends c.placed-2.ensures
-    (called_plain p other others s.result s.ensures)
+    called_plain (places_in c.args.known.now) (sym c.if-begins_at.ensures) (sym c.if-begins_at-2.ensures)
+    (Some (c.in_ok-place-2.place, c.in_ok-place-2.d)) c.in_ok-place-2.ensures

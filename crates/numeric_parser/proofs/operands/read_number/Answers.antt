@@ -1,19 +1,13 @@
 -- `numeric_parser::operands::read_number` reads a number's name.
-use lib.ListN.{drop}
+use Rattle.std.proofs.Common.{drop}
 use Rattle.symbols.specs.Environment.{places_in}
-use Rattle.numeric_parser.specs.OperandLaws.{name_case, name_none, number_broken, number_got}
+use Rattle.numeric_parser.specs.OperandLaws.{place_lost, number_broken, number_got}
 use Rattle.numeric_parser.proofs.operands.read_number.Goals as goal
 
-pub returns-in-Broken : goal.returns-in-Broken
-returns-in-Broken c =
+pub returns-in_err-key : goal.returns-in_err-key
+returns-in_err-key c =
     let a = c.args in
-    record {
-      answer = number_broken (places_in a.known.now) (drop a.c.at a.text.now)
-          (name_none c.read_name.ensures c.in-Broken.is);
-    }
+    place_lost c.from_residual.ensures (number_broken (places_in a.known.now) (drop a.c.at a.text.now) c.in_err-key.ensures.answer)
 
-pub returns-in-Got : goal.returns-in-Got
-returns-in-Got c =
-    let a = c.args in
-    let n = c.read_name in
-    record { answer = number_got a.known.now (name_case n.ensures c.in-Got.is) c.number_place.ensures }
+pub returns : goal.returns
+returns c = record { answer = number_got c.args.known.now c.in_ok-key.ensures.answer c.number_place.ensures }

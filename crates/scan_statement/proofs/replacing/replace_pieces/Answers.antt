@@ -16,13 +16,10 @@ use Rattle.scan_statement.proofs.replacing.replace_pieces.Goals as goal
 pub pieces_length-n-requires : goal.pieces_length-n-requires
 pieces_length-n-requires c = c.requires.replaceable.counting
 
-pub start_of-requires : goal.start_of-requires
-start_of-requires c = c.requires.replaceable.counting.size
-
 pub found_from-from-requires : goal.found_from-from-requires
 found_from-from-requires c = record {
   from_le_to = c.requires.replaceable.between.order;
-  n_bound = omega (arith, c.requires.replaceable.inside, c.start_of.ensures, c.pieces_length-n.ensures);
+  n_bound = omega (arith, c.requires.replaceable.inside, c.pieces_length-n.ensures);
 }
 
 pub overflow_add-found : goal.overflow_add-found
@@ -54,12 +51,11 @@ returns-in-By c =
     let a = c.args in
     let way = direction_meaning a.s.direction in
     let size = a.at.to - a.at.from in
-    let start = c.start_of in
     let sum = c.pieces_length-n in
     stored_as _ a.store.now _ a.state.now _ _
     (ap (replaced_by a.table.now a.store.now a.state.now way a.at _ _) c.in-By.is
     ∙ ap₂ (λ (i j : ℕ). stored_turned a.table.now a.store.now a.state.now way a.at.place (found_from way a.at.from size i j) (found_to way a.at.from size i j) c.in-By.by)
-    (sym start.ensures) (sym sum.ensures)
+    refl (sym sum.ensures)
     ∙ ap₂ (λ (from to : ℕ). stored_turned a.table.now a.store.now a.state.now way a.at.place from to c.in-By.by)
     (sym c.found_from-from.ensures.0) (sym c.found_from-from.ensures.1))
     c.replace_found.ensures

@@ -1,6 +1,7 @@
 -- `valuing::pattern_rows` meets its contract. The loop's invariant: the whole comes to the values so far and what the elements left come
 use Prim.Native.Nat.{◌+◌}
 use native.Mathlib.Omega.{arith}
+use Rattle.std.proofs.lemmas.Result.{err_from_is_err_and}
 use Rattle.evaluator.specs.Memory.{memory_in}
 use Rattle.scan_statement.specs.ValuingLaws.{valuing_begins, valuing_ends, valuing_more, valuing_noted, valuing_stops}
 use Rattle.scan_statement.proofs.valuing.pattern_rows.Goals.{After-put_element}
@@ -40,25 +41,26 @@ overflow_add-notes c =
     let l = c.loop-i in
     let more =
     valuing_noted l.invariant c.loop-i-test.true c.requires.pattern.few c.pattern_at-x.result c.pattern_at-x.ensures
-    c.put_element.ensures c.in-Done.is in
+    c.put_element.ensures c.in_ok-notes.was in
     omega (arith, more, l.invariant.few, l.invariant.most, c.requires.pattern.few)
 
-pub returns-in-Stops : goal.returns-in-Stops
-returns-in-Stops c =
-    let put = (goal.at.returns-in-Stops c).After-put_element in
+pub returns-in_err-notes : goal.returns-in_err-notes
+returns-in_err-notes c =
     let l = c.loop-i in
-    record {
+    let p = err_from_is_err_and c.from_residual.result c.from_residual.ensures.1 in
+    rw (p.1, p.2)
+    (record {
       put =
           valuing_stops l.invariant c.loop-i-test.true c.requires.pattern.few c.pattern_at-x.result c.pattern_at-x.ensures
-          c.put_element.ensures c.in-Stops.is;
+          c.put_element.ensures c.in_err-notes.was;
       buffers = c.put_element.ensures.buffers;
-    }
+    })
 
 pub loop-i-preserved : goal.loop-i-preserved
 loop-i-preserved c =
     let l = c.loop-i in
     valuing_more l.invariant c.loop-i-test.true c.requires.pattern.few c.pattern_at-x.result c.pattern_at-x.ensures
-    c.put_element.ensures c.in-Done.is
+    c.put_element.ensures c.in_ok-notes.was
 
 pub returns : goal.returns
 returns c =

@@ -1,13 +1,8 @@
 -- `valuing::pattern_rows` meets its contract. The loop's invariant: the whole comes to the values so far and what the elements left come
-use Prim.Native.Nat.{◌-◌}
 use Rattle.evaluator.specs.Memory.{memory_in}
 use Rattle.scan_statement.specs.ValuingLaws.{RowsValued}
 use Rattle.scan_statement.proofs.valuing.pattern_rows.Given as goal
 
 abbrev pub invariant-loop-i : goal.invariant-loop-i
 invariant-loop-i l =
-    RowsValued (memory_in l.store l.state) l.table l.from l.count l.values l.rows l.names l.notes l.i
-
-abbrev pub decreases-loop-i : goal.decreases-loop-i
-decreases-loop-i l =
-    l.count - l.i
+    RowsValued (memory_in l.store l.state) l.table l.from l.i-end l.values l.rows l.names l.notes l.i

@@ -9,7 +9,7 @@ use Rattle.machine.specs.Scanning.{fixed_at, valued_in}
 use Rattle.decoder.specs.Holds.{PatternHolds}
 use Rattle.decoder.specs.Meaning.{element_meaning, pattern_meaning}
 use Rattle.decoder.specs.declared.PatternElement.{PatternElement}
-use Rattle.effects.specs.declared.Completion.TheVariants as did
+use Rattle.std.specs.Prelude.{Ok}
 use Rattle.scan_statement.specs.ElementLaws.{free_put, value_put}
 use Rattle.scan_statement.specs.Patterns.{ElementRowPut, ElementRowPutBy}
 use Rattle.scan_statement.proofs.valuing.put_element.Goals.{After-put_fixed, After-put_row, After-put_value}
@@ -82,7 +82,7 @@ returns-in-Free c =
     let rows = c.put_row.new.rows in
     record {
       put =
-          subst (λ (x : PatternElement). ElementRowPutBy (did.Done 0) a.values.now a.values.now a.rows.now rows a.names.now
+          subst (λ (x : PatternElement). ElementRowPutBy (Ok 0) a.values.now a.values.now a.rows.now rows a.names.now
           (set a.names.now a.i place) a.i (valued_in current m (pattern_meaning a.table.now x)))
           (sym c.in-Free.is)
           (free_put a.values.now a.rows.now rows a.names.now a.i m place holds.place c.put_row.ensures);
@@ -106,7 +106,7 @@ returns-in-Fixed c =
     let names = c.put_fixed.new.names in
     record {
       put =
-          subst (λ (x : PatternElement). ElementRowPutBy (did.Done c.put_fixed.result) a.values.now a.values.now a.rows.now rows a.names.now
+          subst (λ (x : PatternElement). ElementRowPutBy (Ok c.put_fixed.result) a.values.now a.values.now a.rows.now rows a.names.now
           names a.i (valued_in current m (pattern_meaning a.table.now x)))
           (sym c.in-Fixed.is)
           (subst (λ (z : ℤ). ElementRowPut a.values.now a.values.now a.rows.now rows a.names.now names a.i c.put_fixed.result (fixed_at place z))

@@ -4,9 +4,10 @@ use mathlib.Core.Path.{◌≡◌, subst, ◌∙◌}
 use Prim.Native.Nat.{ℕ, ◌+◌, ◌*◌, ◌-◌}
 use native.Mathlib.Omega.{arith}
 use lib.ListN.{take, drop}
+use Rattle.std.proofs.lemmas.Result.{err_from_is_err_and}
 use Rattle.base.specs.Current.{current}
 use Rattle.base.specs.ListLaws.{length_stretch}
-use Rattle.numbers.specs.declared.Text.{Text}
+use Rattle.numbers.specs.Text.{Text}
 use Rattle.evaluator.specs.Appending.{AppendedText}
 use Rattle.evaluator.specs.Memory.{memory_in}
 use Rattle.machine.specs.Expressions.{element_in}
@@ -50,17 +51,17 @@ adds c e =
 pub put_string-requires : goal.put_string-requires
 put_string-requires c =
     let added = (goal.at.put_string-requires c).After-append_element in
-    record { lines = c.requires.lines; few = c.requires.few; short = (adds added c.in-Is.is).short }
+    record { lines = c.requires.lines; few = c.requires.few; short = (adds added c.in_ok-text.was).short }
 
-pub returns-in-Is : goal.returns-in-Is
-returns-in-Is c =
-    let added = (goal.at.returns-in-Is c).After-append_element in
+pub returns : goal.returns
+returns c =
+    let added = (goal.at.returns c).After-append_element in
     let a = c.args in
     let at = 1024 * a.i in
     let size : at + 1024 - at ≡ 1024 = omega arith in
     let bytes = c.append_element.new.out in
     let room = c.append_element.ensures.room in
-    let value = adds added c.in-Is.is in
+    let value = adds added c.in_ok-text.was in
     record {
       put =
           record {
@@ -73,16 +74,18 @@ returns-in-Is c =
       lines = c.put_string.ensures.lines;
     }
 
-pub returns-in-Stops : goal.returns-in-Stops
-returns-in-Stops c =
-    let added = (goal.at.returns-in-Stops c).After-append_element in
+pub returns-in_err-text : goal.returns-in_err-text
+returns-in_err-text c =
+    let added = (goal.at.returns-in_err-text c).After-append_element in
     let a = c.args in
     let at = 1024 * a.i in
     let size : at + 1024 - at ≡ 1024 = omega arith in
-    record {
-      put = adds added c.in-Stops.is;
+    let p = err_from_is_err_and c.from_residual.result c.from_residual.ensures.1 in
+    rw (p.1, p.2)
+    (record {
+      put = adds added c.in_err-text.was;
       strings =
           back-length a.values.now c.append_element.new.out a.i (at + 1024 - at) c.requires.strings
           c.append_element.ensures.room size c.requires.few;
       lines = c.requires.lines;
-    }
+    })

@@ -1,23 +1,14 @@
 -- `kinds::stands_wrong` judges 9.
-use Rattle.statement_checks.specs.CountLaws.{wrong_return, wrong_outside, wrong_routine, wrong_inside}
+use Rattle.statement_checks.specs.CountLaws.{kind_wrong_inside, kind_wrong_outside, kind_wrong_nowhere}
 use Rattle.statement_checks.proofs.kinds.stands_wrong.Goals as goal
 
-pub returns-then-kind-eq-RETURN : goal.returns-then-kind-eq-RETURN
-returns-then-kind-eq-RETURN c =
-    let a = c.args in
-    wrong_return a.kind a.scope c.if-scope-eq0.true c.if-kind-eq-RETURN.true
+pub returns-in-Routine : goal.returns-in-Routine
+returns-in-Routine c = kind_wrong_inside c.args.kind c.args.scope c.in-Routine.is
 
-pub returns-then-scope-eq0 : goal.returns-then-scope-eq0
-returns-then-scope-eq0 c =
-    let a = c.args in
-    wrong_outside a.kind a.scope c.if-scope-eq0.true c.if-kind-eq-RETURN.false
+pub returns-in-Return : goal.returns-in-Return
+returns-in-Return c = kind_wrong_outside c.args.kind c.args.scope c.in-Return.is
 
-pub returns-then-kind-eq-ROUTINE : goal.returns-then-kind-eq-ROUTINE
-returns-then-kind-eq-ROUTINE c =
-    let a = c.args in
-    wrong_routine a.kind a.scope c.if-scope-eq0.false c.if-kind-eq-ROUTINE.true
-
-pub returns : goal.returns
-returns c =
-    let a = c.args in
-    wrong_inside a.kind a.scope c.if-scope-eq0.false c.if-kind-eq-ROUTINE.false
+pub returns-in_default : goal.returns-in_default
+returns-in_default c =
+    let d = c.in_default in
+    kind_wrong_nowhere c.args.kind c.args.scope d.not-Routine d.not-End d.not-Return d.not-EndRoutine

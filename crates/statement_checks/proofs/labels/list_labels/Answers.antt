@@ -11,9 +11,6 @@ loop-i-init c =
     let a = c.args in
     (omega arith, labels-start a.known.now a.keys.now a.tags.now c.requires.0 c.requires.1.0)
 
-pub list_label-requires : goal.list_label-requires
-list_label-requires c = c.loop-i.invariant.1.size
-
 pub loop-i-preserved : goal.loop-i-preserved
 loop-i-preserved c =
     let a = c.args in

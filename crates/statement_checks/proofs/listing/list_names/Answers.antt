@@ -9,9 +9,6 @@ pub loop-i-init : goal.loop-i-init
 loop-i-init c =
     (c.requires.inside, record { shows = c.requires.shows; kept = λ j h. refl })
 
-pub list_name-requires : goal.list_name-requires
-list_name-requires c = c.loop-i.invariant.1.shows.size
-
 pub loop-i-preserved : goal.loop-i-preserved
 loop-i-preserved c =
     let a = c.args in

@@ -1,18 +1,18 @@
 -- `routines::scope_behind` gives the scope behind a statement.
+use Rattle.statement_checks.specs.CountLaws.{end_routine, no_end_routine}
+use Rattle.statement_checks.specs.KindNumbers.{kind_number}
 use Rattle.statement_checks.specs.RoutineLaws.{scope_opened, scope_closed, scope-same}
 use Rattle.statement_checks.proofs.routines.scope_behind.Goals as goal
 
-pub returns-then-opened : goal.returns-then-opened
-returns-then-opened c =
-    let a = c.args in
-    scope_opened a.scope a.opened a.kind c.if-opened.true
+pub returns-in-Some : goal.returns-in-Some
+returns-in-Some c = let a = c.args in scope_opened a.scope a.opened (kind_number a.kind) c.in-Some.key c.in-Some.is
 
-pub returns-then-kind-eq-ENDROUTINE : goal.returns-then-kind-eq-ENDROUTINE
-returns-then-kind-eq-ENDROUTINE c =
+pub returns-in-EndRoutine : goal.returns-in-EndRoutine
+returns-in-EndRoutine c =
     let a = c.args in
-    scope_closed a.scope a.opened a.kind c.if-opened.false c.if-kind-eq-ENDROUTINE.true
+    rw c.in-None.is (scope_closed a.scope (kind_number a.kind) (end_routine a.kind c.in-EndRoutine.is))
 
-pub returns : goal.returns
-returns c =
+pub returns-in_default : goal.returns-in_default
+returns-in_default c =
     let a = c.args in
-    scope-same a.scope a.opened a.kind c.if-opened.false c.if-kind-eq-ENDROUTINE.false
+    rw c.in-None.is (scope-same a.scope (kind_number a.kind) (no_end_routine a.kind c.in_default.not-EndRoutine))

@@ -1,38 +1,72 @@
 -- `statement_parser::steps::if_form` reads a test and a branch field.
-use mathlib.Core.List.{[]}
-use mathlib.Core.Path.{sym, ap, subst, ◌∙◌}
+use Rattle.std.proofs.Common.{Option, Some, None, refl, ap}
+use Rattle.symbols.specs.declared.Cursor.{Cursor}
+use Rattle.branch_parser.specs.Tests.{rowed_at}
+use Rattle.branch_parser.specs.declared.Row.{Row}
 use Rattle.encoding.specs.Kinds.{null_kind}
-use Rattle.statement_parser.specs.Rows.{begun_as}
-use Rattle.statement_parser.specs.StageLaws.{standing_inward, marked-standing, form_ends}
-use Rattle.statement_parser.specs.Stages.{Inward, DraftStanding, marked_by}
+use Rattle.numeric_parser.specs.OperandLaws.{mark_ready}
+use Rattle.statement_parser.specs.PartLaws.{test_stage, branch_stage}
+use Rattle.statement_parser.specs.Rows.{begun_row, draft_steps}
+use Rattle.statement_parser.specs.StageLaws.{form_ends, unread}
 use Rattle.statement_parser.specs.StepLaws.{if_read}
 use Rattle.statement_parser.proofs.steps.if_form.Goals as goal
 
-pub marked-open-requires : goal.marked-open-requires
-marked-open-requires c = subst (Inward c.args.text.now) (sym c.begun.ensures) (c.requires.reader_ready.inside, c.requires.reader_ready.text_size)
+-- the row before the test
+abbrev begun : Row
+begun = begun_row null_kind.number 0
 
-pub tested-test-requires : goal.tested-test-requires
-tested-test-requires c =
-    record {
-      draft_standing = subst (DraftStanding c.args.text.now c.args.keys.now c.args.tags.now) (sym (c.marked-open.ensures ∙ ap (marked_by c.args.text.now 40) c.begun.ensures))
-          (marked-standing c.args.text.now 40 c.args.keys.now c.args.tags.now (begun_as null_kind.number 0 c.args.c) c.requires.reader_ready);
-      counts_in_range = c.requires.counts_in_range;
-    }
+pub returns-in_err-open : goal.returns-in_err-open
+returns-in_err-open c =
+    let a = c.args in
+    λ table.
+    form_ends c.from_residual.ensures
+    (if_read a.known.now table c.requires.reader_ready None None None None {k = a.keys.now} {g = a.tags.now}
+    (ap (λ (d : Option Cursor). rowed_at begun d) c.in_err-open.ensures) (λ _. unread) refl (λ _. unread))
 
-pub marked-close-requires : goal.marked-close-requires
-marked-close-requires c = standing_inward c.args.text.now c.tested-test.new.keys c.tested-test.new.tags c.tested-test.result (c.tested-test.ensures []).stands
+pub read_test-requires-clause-reader_ready : goal.read_test-requires-clause-reader_ready
+read_test-requires-clause-reader_ready c = mark_ready c.args.text.now 40 c.args.c c.requires.reader_ready c.in_ok-open.ensures
 
-pub branched-requires : goal.branched-requires
-branched-requires c =
-    record {
-      draft_standing = subst (DraftStanding c.args.text.now c.tested-test.new.keys c.tested-test.new.tags) (sym c.marked-close.ensures)
-          (marked-standing c.args.text.now 41 c.tested-test.new.keys c.tested-test.new.tags c.tested-test.result (c.tested-test.ensures []).stands);
-      counts_in_range = c.requires.counts_in_range;
-    }
+pub returns-in_err-test : goal.returns-in_err-test
+returns-in_err-test c =
+    let a = c.args in
+    λ table.
+    form_ends c.from_residual-in_err-test.ensures
+    (if_read a.known.now table c.requires.reader_ready (Some (begun, c.in_ok-open.open)) None None None
+    (ap (λ (d : Option Cursor). rowed_at begun d) c.in_ok-open.ensures) (test_stage a.known.now begun None c.in_err-test.ensures) refl
+    (λ _. unread))
+
+pub returns-in_err-close : goal.returns-in_err-close
+returns-in_err-close c =
+    let a = c.args in
+    let t = c.in_ok-test in
+    λ table.
+    form_ends c.from_residual-in_err-close.ensures
+    (if_read a.known.now table c.requires.reader_ready (Some (begun, c.in_ok-open.open)) (Some (t.test, t.d)) None None
+    (ap (λ (d : Option Cursor). rowed_at begun d) c.in_ok-open.ensures) (test_stage a.known.now begun (Some (t.test, t.d)) t.ensures)
+    (ap (λ (d : Option Cursor). rowed_at t.test d) c.in_err-close.ensures) (λ _. unread))
+
+pub read_branch-requires-clause-reader_ready : goal.read_branch-requires-clause-reader_ready
+read_branch-requires-clause-reader_ready c =
+    mark_ready c.args.text.now 41 c.in_ok-test.d c.in_ok-test.ensures.answer.ready c.in_ok-close.ensures
+
+pub returns-in_err-b : goal.returns-in_err-b
+returns-in_err-b c =
+    let a = c.args in
+    let t = c.in_ok-test in
+    λ table.
+    form_ends c.from_residual-in_err-b.ensures
+    (if_read a.known.now table c.requires.reader_ready (Some (begun, c.in_ok-open.open)) (Some (t.test, t.d)) (Some (t.test, c.in_ok-close.close)) None
+    (ap (λ (d : Option Cursor). rowed_at begun d) c.in_ok-open.ensures) (test_stage a.known.now begun (Some (t.test, t.d)) t.ensures)
+    (ap (λ (d : Option Cursor). rowed_at t.test d) c.in_ok-close.ensures) (branch_stage a.known.now t.test None c.in_err-b.ensures))
 
 pub returns : goal.returns
 returns c =
+    let a = c.args in
+    let t = c.in_ok-test in
+    let b = c.in_ok-b in
     λ table.
     form_ends c.ended.ensures
-    (if_read c.args.known.now table c.requires.reader_ready c.marked-open.result c.tested-test.result c.marked-close.result c.branched.result
-    (c.marked-open.ensures ∙ ap (marked_by c.args.text.now 40) c.begun.ensures) c.tested-test.ensures c.marked-close.ensures c.branched.ensures)
+    (if_read a.known.now table c.requires.reader_ready (Some (begun, c.in_ok-open.open)) (Some (t.test, t.d)) (Some (t.test, c.in_ok-close.close))
+    (Some (draft_steps t.test b.b.success b.b.failure, b.e))
+    (ap (λ (d : Option Cursor). rowed_at begun d) c.in_ok-open.ensures) (test_stage a.known.now begun (Some (t.test, t.d)) t.ensures)
+    (ap (λ (d : Option Cursor). rowed_at t.test d) c.in_ok-close.ensures) (branch_stage a.known.now t.test (Some (b.b, b.e)) b.ensures))

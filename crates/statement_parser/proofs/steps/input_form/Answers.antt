@@ -1,35 +1,53 @@
 -- `statement_parser::steps::input_form` reads a string and a branch field.
-use mathlib.Core.List.{[]}
-use mathlib.Core.Path.{refl, sym, subst}
+use Rattle.std.proofs.Common.{Some, None}
+use Rattle.branch_parser.specs.declared.Row.{Row}
 use Rattle.base.specs.Text.{bytes}
+use Rattle.encoding.specs.Kinds.{read_kind}
 use Rattle.numeric_parser.specs.OperandLaws.{ready_at}
-use Rattle.statement_parser.specs.StageLaws.{from_draft, form_ends}
-use Rattle.statement_parser.specs.Stages.{DraftStanding}
+use Rattle.statement_parser.specs.PartLaws.{part_stage}
+use Rattle.statement_parser.specs.Rows.{begun_row, draft_left, draft_steps}
+use Rattle.statement_parser.specs.StageLaws.{form_ends, unread}
 use Rattle.statement_parser.specs.StepLaws.{input_read}
 use Rattle.statement_parser.proofs.steps.input_form.Goals as goal
 
-pub left_part-part-requires : goal.left_part-part-requires
-unfolding bytes
-left_part-part-requires c =
-    record {
-      draft_standing = subst (DraftStanding c.args.text.now c.args.keys.now c.args.tags.now) (sym c.begun.ensures)
-          (ready_at c.behind_unit-d.ensures.skips c.requires.reader_ready c.behind_unit-d.ensures.inside);
-      counts_in_range = c.requires.counts_in_range;
-      string_tag = record { is = refl };
-    }
+abbrev begun : Row
+begun = begun_row read_kind.number 0
 
-pub branched_if_any-requires : goal.branched_if_any-requires
-branched_if_any-requires c =
-    record {
-      draft_standing = (c.left_part-part.ensures []).stands;
-      counts_in_range = c.requires.counts_in_range;
-    }
+pub read_part-requires-clause-reader_ready : goal.read_part-requires-clause-reader_ready
+read_part-requires-clause-reader_ready c =
+    ready_at c.behind_unit-d.ensures.skips c.requires.reader_ready c.behind_unit-d.ensures.inside
+
+pub returns-in_err-left : goal.returns-in_err-left
+unfolding bytes
+returns-in_err-left c =
+    let a = c.args in
+    let u = c.behind_unit-d.ensures in
+    λ table.
+    form_ends c.from_residual.ensures
+    (input_read a.known.now table u.size u.skips c.requires.reader_ready (ready_at u.skips c.requires.reader_ready u.inside) u.is None None
+    (part_stage a.known.now begun 4 None c.in_err-left.ensures) (λ _. unread))
+
+pub returns-in_err-b : goal.returns-in_err-b
+unfolding bytes
+returns-in_err-b c =
+    let a = c.args in
+    let u = c.behind_unit-d.ensures in
+    let l = c.in_ok-left in
+    let row = draft_left begun l.left in
+    λ table.
+    form_ends c.from_residual-in_err-b.ensures
+    (input_read a.known.now table u.size u.skips c.requires.reader_ready (ready_at u.skips c.requires.reader_ready u.inside) u.is (Some (row, l.e)) None
+    (part_stage a.known.now begun 4 (Some (l.left, l.e)) l.ensures) (c.in_err-b.ensures row))
 
 pub returns : goal.returns
 unfolding bytes
 returns c =
+    let a = c.args in
     let u = c.behind_unit-d.ensures in
+    let l = c.in_ok-left in
+    let b = c.in_ok-b in
+    let row = draft_left begun l.left in
     λ table.
     form_ends c.ended.ensures
-    (input_read c.args.known.now table u.size u.skips c.requires.reader_ready (ready_at u.skips c.requires.reader_ready u.inside) u.is c.left_part-part.result
-    c.branched_if_any.result (λ t. from_draft c.begun.ensures (c.left_part-part.ensures t)) c.branched_if_any.ensures)
+    (input_read a.known.now table u.size u.skips c.requires.reader_ready (ready_at u.skips c.requires.reader_ready u.inside) u.is (Some (row, l.e))
+    (Some (draft_steps row b.b.success b.b.failure, b.f)) (part_stage a.known.now begun 4 (Some (l.left, l.e)) l.ensures) (b.ensures row))

@@ -6,10 +6,9 @@ use native.Mathlib.Omega.{arith}
 use lib.ListN.{drop}
 use Rattle.base.specs.Lists.{begins}
 use Rattle.symbols.specs.declared.Cursor.{Cursor}
-use Rattle.numeric_parser.specs.OperandLaws.{name_case, name_none, ready_moved}
+use Rattle.numeric_parser.specs.OperandLaws.{ready_moved}
 use Rattle.statement_parser.specs.BehindLaws.{numbers_end, numbers_more, numbers_broken}
-use Rattle.statement_parser.specs.StageLaws.{form_ends}
-use Rattle.statement_parser.specs.declared.Form.TheVariants.{Broken}
+use Rattle.statement_parser.specs.StageLaws.{form_lost, form_ends}
 use Rattle.statement_parser.proofs.steps.more_numbers.Goals.{After-read_name}
 use Rattle.statement_parser.proofs.steps.more_numbers.Goals as goal
 
@@ -29,26 +28,25 @@ module _ (c : After-read_name) where
   comma : begins (44 ∷ []) (drop c.loop-keys.d.at c.args.text.now) ≡ true
   comma = sym c.stands_at.ensures ∙ c.loop-keys-test.true
 
-pub returns-in_default : goal.returns-in_default
-returns-in_default c =
-    let at = (goal.at.returns-in_default c).After-read_name in
+pub returns-in_err-e : goal.returns-in_err-e
+returns-in_err-e c =
+    let at = (goal.at.returns-in_err-e c).After-read_name in
     let inv = at.loop-keys.invariant in
-    inv.1 Broken _ _ (λ k h table.
-    record { answer = numbers_broken table inv.0 (comma at) c.skip.ensures (name_none c.read_name.ensures c.in_default.is) k h })
+    inv.1 _ _ _ (λ k h table. form_lost c.from_residual.ensures (numbers_broken table inv.0 (comma at) c.skip.ensures c.in_err-e.ensures.answer k h))
 
 pub loop-keys-smaller : goal.loop-keys-smaller
 loop-keys-smaller c =
-    let name = name_case c.read_name.ensures c.in-Got.is in
+    let name = c.in_ok-e.ensures.answer in
     omega (arith, name.further, name.ready.inside, ap (λ (z : Cursor). z.at) c.skip.ensures)
 
 pub loop-keys-preserved : goal.loop-keys-preserved
 loop-keys-preserved c =
     let at = (goal.at.loop-keys-preserved c).After-read_name in
     let inv = at.loop-keys.invariant in
-    let name = name_case c.read_name.ensures c.in-Got.is in
+    let name = c.in_ok-e.ensures.answer in
     (name.ready, λ r k g m. inv.1 r k g (λ n h table. numbers_more table inv.0 (comma at) c.skip.ensures name r (λ n l. m n l table) n h))
 
 pub returns : goal.returns
 returns c =
     let end = sym c.stands_at.ensures ∙ c.loop-keys-test.false in
-    c.loop-keys.invariant.1 c.unstepped.result _ _ (λ k h table. form_ends c.unstepped.ensures (numbers_end table c.loop-keys.invariant.0 end k))
+    c.loop-keys.invariant.1 c.ended.result _ _ (λ k h table. form_ends c.ended.ensures (numbers_end table c.loop-keys.invariant.0 end k))

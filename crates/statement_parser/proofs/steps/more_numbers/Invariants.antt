@@ -4,7 +4,7 @@ use Prim.Native.Nat.{ℕ, ◌-◌}
 use lib.ListN.{length}
 use Rattle.numeric_parser.specs.Operands.{ReaderReady}
 use Rattle.statement_parser.specs.Steps.{MoreNumbersRead}
-use Rattle.statement_parser.specs.declared.Form.{Form}
+use Rattle.statement_parser.specs.Drafts.{Form}
 use Rattle.statement_parser.proofs.steps.more_numbers.Given as goal
 
 abbrev pub invariant-loop-keys : goal.invariant-loop-keys

@@ -1,34 +1,29 @@
 -- `statement_parser::steps::number_form` reads a number, `=` and an expression.
-use mathlib.Core.List.{[], ◌∷◌}
-use mathlib.Core.Path.{sym, ◌∙◌}
-use lib.ListN.{drop}
-use native.Mathlib.Omega.{arith}
-use Rattle.numeric_parser.specs.OperandLaws.{place_case, place_none, ready_moved}
+use Rattle.std.proofs.Common.{drop}
+use Rattle.numeric_parser.specs.OperandLaws.{mark_passed, mark_none, mark_ready}
 use Rattle.statement_parser.specs.BehindLaws.{number_broken, number_open, number_then}
+use Rattle.statement_parser.specs.StageLaws.{form_lost}
 use Rattle.statement_parser.proofs.steps.number_form.Goals as goal
 
-pub skip-requires : goal.skip-requires
-skip-requires c = omega (arith, (place_case c.read_number.ensures c.in-Got.is).ready)
-
-pub assigned-requires : goal.assigned-requires
-assigned-requires c =
-    let g = place_case c.read_number.ensures c.in-Got.is in
-    let mark = sym c.stands_at.ensures ∙ c.if-stands_at.true in record {
-      reader_ready = ready_moved (61 ∷ []) g.ready c.skip.ensures mark;
-      counts_in_range = c.requires.counts_in_range;
-      table_size_in_bounds = c.requires.table_size_in_bounds;
-    }
-
-pub returns-then-stands_at : goal.returns-then-stands_at
-returns-then-stands_at c =
+pub returns-in_err-place : goal.returns-in_err-place
+returns-in_err-place c =
     let a = c.args in
-    let n = c.read_number in
-    let f = c.assigned in
-    number_then a.known.now (place_case n.ensures c.in-Got.is) a.table.now c.requires.reader_ready (sym c.stands_at.ensures ∙ c.if-stands_at.true)
-    f.result c.skip.ensures f.ensures
+    form_lost c.from_residual.ensures (number_broken a.known.now (drop a.c.at a.text.now) c.in_err-place.ensures.answer)
 
-pub returns-in-Broken : goal.returns-in-Broken
-returns-in-Broken c = record { answer = number_broken c.args.known.now (drop c.args.c.at c.args.text.now) (place_none c.read_number.ensures c.in-Broken.is) }
+pub returns-in_err-e : goal.returns-in_err-e
+returns-in_err-e c =
+    let a = c.args in
+    let p = c.in_ok-place in
+    form_lost c.from_residual-in_err-e.ensures
+    (number_open a.known.now p.ensures.answer (mark_none a.text.now 61 p.d c.in_err-e.ensures))
 
-pub returns-else-stands_at : goal.returns-else-stands_at
-returns-else-stands_at c = record { answer = number_open c.args.known.now (place_case c.read_number.ensures c.in-Got.is) (sym c.stands_at.ensures ∙ c.if-stands_at.false) }
+pub assigned-requires-clause-reader_ready : goal.assigned-requires-clause-reader_ready
+assigned-requires-clause-reader_ready c =
+    mark_ready c.args.text.now 61 c.in_ok-place.d c.in_ok-place.ensures.answer.ready c.in_ok-e.ensures
+
+pub returns : goal.returns
+returns c =
+    let a = c.args in
+    let p = c.in_ok-place in
+    let m = mark_passed a.text.now 61 p.d c.in_ok-e.ensures in
+    number_then a.known.now p.ensures.answer a.table.now c.requires.reader_ready m.0 c.assigned.result m.1 c.assigned.ensures

@@ -1,21 +1,17 @@
 -- `statement_parser::steps::numbers_form` reads names parted by commas.
-use lib.ListN.{length, drop}
-use native.Mathlib.Omega.{arith}
-use Rattle.numeric_parser.specs.OperandLaws.{name_case, name_none}
+use Rattle.std.proofs.Common.{length, drop, arith}
 use Rattle.statement_parser.specs.BehindLaws.{numbers-first, numbers_none}
+use Rattle.statement_parser.specs.StageLaws.{form_lost}
 use Rattle.statement_parser.proofs.steps.numbers_form.Goals as goal
 
-pub more_numbers-requires : goal.more_numbers-requires
-more_numbers-requires c = (name_case c.read_name.ensures c.in-Got.is).ready
+pub returns-in_err-d : goal.returns-in_err-d
+returns-in_err-d c =
+    let a = c.args in
+    λ known table. form_lost c.from_residual.ensures (numbers_none known (drop a.c.at a.text.now) c.in_err-d.ensures.answer)
 
-pub returns-in-Broken : goal.returns-in-Broken
-returns-in-Broken c =
+pub returns : goal.returns
+returns c =
+    let d = c.in_ok-d.d in
     λ known table.
-    record { answer = numbers_none known (drop c.args.c.at c.args.text.now) (name_none c.read_name.ensures c.in-Broken.is) }
-
-pub returns-in-Got : goal.returns-in-Got
-returns-in-Got c =
-    let d = c.in-Got.d in
-    λ known table.
-    numbers-first table c.requires known (name_case c.read_name.ensures c.in-Got.is) c.more_numbers.result
+    numbers-first table c.requires known c.in_ok-d.ensures.answer c.more_numbers.result
     (c.more_numbers.ensures (length (drop d.at c.args.text.now)) (omega arith) table)

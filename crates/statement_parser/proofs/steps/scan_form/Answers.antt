@@ -1,70 +1,133 @@
 -- `statement_parser::steps::scan_form` reads a reference, a pattern, a replacement and a branch field.
-use mathlib.Core.List.{[]}
-use mathlib.Core.Path.{refl, sym, ap, subst, ◌∙◌}
-use native.Mathlib.Omega.{arith}
+use Rattle.std.proofs.Common.{Option, Some, None, refl, sym, ap, arith}
+use Rattle.symbols.specs.declared.Cursor.{Cursor}
+use Rattle.branch_parser.specs.Tests.{rowed_at}
 use Rattle.encoding.specs.Kinds.{scan_kind}
-use Rattle.statement_parser.specs.Rows.{begun_as}
-use Rattle.statement_parser.specs.StageLaws.{standing_inward, marked-standing, from_draft, form_ends, following, marked_following}
-use Rattle.statement_parser.specs.Stages.{DraftStanding, Following}
+use Rattle.numeric_parser.specs.OperandLaws.{text_here, mark_passed, mark_ready}
+use Rattle.statement_parser.specs.PartLaws.{part_stage}
+use Rattle.statement_parser.specs.Rows.{begun_row, begun_as, draft_left, draft_right, draft_steps}
+use Rattle.statement_parser.specs.StageLaws.{form_ends, from_draft, unread}
 use Rattle.statement_parser.specs.StepLaws.{scan-read}
 use Rattle.statement_parser.proofs.steps.scan_form.Goals as goal
 
-pub left_part-part-requires : goal.left_part-part-requires
-left_part-part-requires c =
-    record {
-      draft_standing = subst (DraftStanding c.args.text.now c.args.keys.now c.args.tags.now) (sym c.begun.ensures) c.requires.reader_ready;
-      counts_in_range = c.requires.counts_in_range;
-      string_tag = record { is = refl };
-    }
-
-pub marked-open-requires : goal.marked-open-requires
-marked-open-requires c = standing_inward c.args.text.now c.left_part-part.new.keys c.left_part-part.new.tags c.left_part-part.result (c.left_part-part.ensures []).stands
-
-pub right_row-sought-requires : goal.right_row-sought-requires
-right_row-sought-requires c =
-    record {
-      draft_standing = subst (DraftStanding c.args.text.now c.left_part-part.new.keys c.left_part-part.new.tags) (sym c.marked-open.ensures)
-          (marked-standing c.args.text.now 91 c.left_part-part.new.keys c.left_part-part.new.tags c.left_part-part.result (c.left_part-part.ensures []).stands);
-      counts_in_range = c.requires.counts_in_range;
-      table_size_in_bounds = c.requires.table_size_in_bounds;
-    }
-
-pub marked-close-requires : goal.marked-close-requires
-marked-close-requires c = standing_inward c.args.text.now c.right_row-sought.new.keys c.right_row-sought.new.tags c.right_row-sought.result c.right_row-sought.ensures.stands
-
-pub replaced-behind-requires : goal.replaced-behind-requires
-replaced-behind-requires c =
+pub returns-in_err-left : goal.returns-in_err-left
+returns-in_err-left c =
     let a = c.args in
-    let l = c.left_part-part in
-    let r = c.right_row-sought in
-    let from = a.c.elements in
-    let part = following from (begun_as scan_kind.number a.direction a.c) l.result (c.requires.reader_ready, omega arith) (from_draft c.begun.ensures (l.ensures [])) in
-    let opened = subst (Following a.text.now l.new.keys l.new.tags from) (sym c.marked-open.ensures)
-    (marked_following a.text.now 91 l.new.keys l.new.tags from l.result part) in
-    let sought = following from c.marked-open.result r.result opened r.ensures in
-    let closed = subst (Following a.text.now r.new.keys r.new.tags from) (sym c.marked-close.ensures)
-    (marked_following a.text.now 93 r.new.keys r.new.tags from r.result sought) in record {
-      following = closed;
-      counts_in_range = c.requires.counts_in_range;
-      table_size_in_bounds = omega (arith, r.auto.table, c.requires.table_size_in_bounds);
-    }
+    let begun = begun_row scan_kind.number a.direction in
+    λ way e.
+    form_ends c.from_residual.ensures
+    (scan-read a.known.now way c.requires.reader_ready None None None None None None {t₃ = a.table.now} {k₃ = a.keys.now} {g₃ = a.tags.now}
+    {k₅ = a.keys.now} {g₅ = a.tags.now}
+    (λ t. from_draft (ap (λ n. begun_as scan_kind.number n a.c) (sym e)) (part_stage a.known.now begun 20 None c.in_err-left.ensures t)) refl
+    unread refl unread (λ _. unread))
 
-pub branched_if_any-requires : goal.branched_if_any-requires
-branched_if_any-requires c =
-    record {
-      draft_standing = c.replaced-behind.ensures.stands;
-      counts_in_range = c.requires.counts_in_range;
-    }
+pub returns-in_err-open : goal.returns-in_err-open
+returns-in_err-open c =
+    let a = c.args in
+    let l = c.in_ok-left in
+    let begun = begun_row scan_kind.number a.direction in
+    let row = draft_left begun l.left in
+    λ way e.
+    form_ends c.from_residual-in_err-open.ensures
+    (scan-read a.known.now way c.requires.reader_ready (Some (row, l.d)) None None None None None {t₃ = a.table.now} {k₃ = a.keys.now}
+    {g₃ = a.tags.now} {k₅ = a.keys.now} {g₅ = a.tags.now}
+    (λ t. from_draft (ap (λ n. begun_as scan_kind.number n a.c) (sym e)) (part_stage a.known.now begun 20 (Some (l.left, l.d)) l.ensures t))
+    (ap (λ (d : Option Cursor). rowed_at row d) c.in_err-open.ensures) unread refl unread (λ _. unread))
+
+pub stretch-requires-clause-reader_ready : goal.stretch-requires-clause-reader_ready
+stretch-requires-clause-reader_ready c =
+    mark_ready c.args.text.now 91 c.in_ok-left.d c.in_ok-left.ensures.answer.ready c.in_ok-open.ensures
+
+pub returns-in_err-right : goal.returns-in_err-right
+returns-in_err-right c =
+    let a = c.args in
+    let l = c.in_ok-left in
+    let begun = begun_row scan_kind.number a.direction in
+    let row = draft_left begun l.left in
+    λ way e.
+    form_ends c.from_residual-in_err-right.ensures
+    (scan-read a.known.now way c.requires.reader_ready (Some (row, l.d)) (Some (row, c.in_ok-open.open)) None None None None
+    {k₅ = a.keys.now} {g₅ = a.tags.now}
+    (λ t. from_draft (ap (λ n. begun_as scan_kind.number n a.c) (sym e)) (part_stage a.known.now begun 20 (Some (l.left, l.d)) l.ensures t))
+    (ap (λ (d : Option Cursor). rowed_at row d) c.in_ok-open.ensures) (c.in_err-right.ensures row) refl unread (λ _. unread))
+
+pub marked-requires-2 : goal.marked-requires-2
+marked-requires-2 c = text_here (c.in_ok-right.ensures (draft_left (begun_row scan_kind.number c.args.direction) c.in_ok-left.left)).stands
+
+pub returns-in_err-close : goal.returns-in_err-close
+returns-in_err-close c =
+    let a = c.args in
+    let l = c.in_ok-left in
+    let r = c.in_ok-right in
+    let begun = begun_row scan_kind.number a.direction in
+    let row = draft_left begun l.left in
+    let scan = draft_right row row.kind r.right in
+    λ way e.
+    form_ends c.from_residual-in_err-close.ensures
+    (scan-read a.known.now way c.requires.reader_ready (Some (row, l.d)) (Some (row, c.in_ok-open.open)) (Some (scan, r.e)) None None None
+    {k₅ = a.keys.now} {g₅ = a.tags.now}
+    (λ t. from_draft (ap (λ n. begun_as scan_kind.number n a.c) (sym e)) (part_stage a.known.now begun 20 (Some (l.left, l.d)) l.ensures t))
+    (ap (λ (d : Option Cursor). rowed_at row d) c.in_ok-open.ensures) (r.ensures row)
+    (ap (λ (d : Option Cursor). rowed_at scan d) c.in_err-close.ensures) unread (λ _. unread))
+
+pub replaced-requires-clause-following : goal.replaced-requires-clause-following
+replaced-requires-clause-following c =
+    let text = c.args.text.now in
+    let l = c.in_ok-left in
+    let r = c.in_ok-right.ensures (draft_left (begun_row scan_kind.number c.args.direction) l.left) in
+    let open' = ap (λ (z : Cursor). z.elements) (mark_passed text 91 l.d c.in_ok-open.ensures).1 in
+    let close = ap (λ (z : Cursor). z.elements) (mark_passed text 93 c.in_ok-right.e c.in_ok-close.ensures).1 in (
+      mark_ready text 93 c.in_ok-right.e r.stands c.in_ok-close.ensures,
+      omega (arith, l.ensures.answer.goes.elements, open', r.answer.gets.goes.elements, close),
+    )
+
+pub returns-in_err-row : goal.returns-in_err-row
+returns-in_err-row c =
+    let a = c.args in
+    let l = c.in_ok-left in
+    let r = c.in_ok-right in
+    let begun = begun_row scan_kind.number a.direction in
+    let row = draft_left begun l.left in
+    let scan = draft_right row row.kind r.right in
+    λ way e.
+    form_ends c.from_residual-in_err-row.ensures
+    (scan-read a.known.now way c.requires.reader_ready (Some (row, l.d)) (Some (row, c.in_ok-open.open)) (Some (scan, r.e))
+    (Some (scan, c.in_ok-close.close)) None None
+    (λ t. from_draft (ap (λ n. begun_as scan_kind.number n a.c) (sym e)) (part_stage a.known.now begun 20 (Some (l.left, l.d)) l.ensures t))
+    (ap (λ (d : Option Cursor). rowed_at row d) c.in_ok-open.ensures) (r.ensures row)
+    (ap (λ (d : Option Cursor). rowed_at scan d) c.in_ok-close.ensures) c.in_err-row.ensures (λ _. unread))
+
+pub returns-in_err-b : goal.returns-in_err-b
+returns-in_err-b c =
+    let a = c.args in
+    let l = c.in_ok-left in
+    let r = c.in_ok-right in
+    let p = c.in_ok-row in
+    let begun = begun_row scan_kind.number a.direction in
+    let row = draft_left begun l.left in
+    let scan = draft_right row row.kind r.right in
+    λ way e.
+    form_ends c.from_residual-in_err-b.ensures
+    (scan-read a.known.now way c.requires.reader_ready (Some (row, l.d)) (Some (row, c.in_ok-open.open)) (Some (scan, r.e))
+    (Some (scan, c.in_ok-close.close)) (Some (p.row, p.f)) None
+    (λ t. from_draft (ap (λ n. begun_as scan_kind.number n a.c) (sym e)) (part_stage a.known.now begun 20 (Some (l.left, l.d)) l.ensures t))
+    (ap (λ (d : Option Cursor). rowed_at row d) c.in_ok-open.ensures) (r.ensures row)
+    (ap (λ (d : Option Cursor). rowed_at scan d) c.in_ok-close.ensures) p.ensures (c.in_err-b.ensures p.row))
 
 pub returns : goal.returns
 returns c =
     let a = c.args in
-    let r = c.right_row-sought in
-    let p = c.replaced-behind in
+    let l = c.in_ok-left in
+    let r = c.in_ok-right in
+    let p = c.in_ok-row in
+    let b = c.in_ok-b in
+    let begun = begun_row scan_kind.number a.direction in
+    let row = draft_left begun l.left in
+    let scan = draft_right row row.kind r.right in
     λ way e.
     form_ends c.ended.ensures
-    (scan-read a.known.now way c.requires.reader_ready c.left_part-part.result c.marked-open.result r.result c.marked-close.result p.result
-    c.branched_if_any.result
-    (λ t. from_draft (c.begun.ensures ∙ ap (λ n. begun_as scan_kind.number n a.c) (sym e)) (c.left_part-part.ensures t)) c.marked-open.ensures r.ensures
-    c.marked-close.ensures
-    p.ensures c.branched_if_any.ensures)
+    (scan-read a.known.now way c.requires.reader_ready (Some (row, l.d)) (Some (row, c.in_ok-open.open)) (Some (scan, r.e))
+    (Some (scan, c.in_ok-close.close)) (Some (p.row, p.f)) (Some (draft_steps p.row b.b.success b.b.failure, b.g))
+    (λ t. from_draft (ap (λ n. begun_as scan_kind.number n a.c) (sym e)) (part_stage a.known.now begun 20 (Some (l.left, l.d)) l.ensures t))
+    (ap (λ (d : Option Cursor). rowed_at row d) c.in_ok-open.ensures) (r.ensures row)
+    (ap (λ (d : Option Cursor). rowed_at scan d) c.in_ok-close.ensures) p.ensures (b.ensures p.row))

@@ -1,33 +1,55 @@
 -- `statement_parser::steps::string_form` reads a string, `=` and a string expression.
-use mathlib.Core.List.{[]}
-use mathlib.Core.Path.{refl, sym, subst}
-use Rattle.statement_parser.specs.StageLaws.{standing_inward, marked-standing, from_draft, form_ends}
-use Rattle.statement_parser.specs.Stages.{DraftStanding}
+use Rattle.std.proofs.Common.{Option, Some, None, refl, ap}
+use Rattle.symbols.specs.declared.Cursor.{Cursor}
+use Rattle.branch_parser.specs.Tests.{rowed_at}
+use Rattle.branch_parser.specs.declared.Row.{Row}
+use Rattle.encoding.specs.Kinds.{set_string_kind}
+use Rattle.numeric_parser.specs.OperandLaws.{mark_ready}
+use Rattle.statement_parser.specs.PartLaws.{part_stage}
+use Rattle.statement_parser.specs.Rows.{begun_row, draft_left, draft_right}
+use Rattle.statement_parser.specs.StageLaws.{form_ends, unread}
 use Rattle.statement_parser.specs.StepLaws.{string-read}
 use Rattle.statement_parser.proofs.steps.string_form.Goals as goal
 
-pub left_part-part-requires : goal.left_part-part-requires
-left_part-part-requires c =
-    record {
-      draft_standing = subst (DraftStanding c.args.text.now c.args.keys.now c.args.tags.now) (sym c.begun.ensures) c.requires.reader_ready;
-      counts_in_range = c.requires.counts_in_range;
-      string_tag = record { is = refl };
-    }
+abbrev begun : Row
+begun = begun_row set_string_kind.number 0
 
-pub marked-sets-requires : goal.marked-sets-requires
-marked-sets-requires c = standing_inward c.args.text.now c.left_part-part.new.keys c.left_part-part.new.tags c.left_part-part.result (c.left_part-part.ensures []).stands
+pub returns-in_err-left : goal.returns-in_err-left
+returns-in_err-left c =
+    let a = c.args in
+    form_ends c.from_residual.ensures
+    (string-read a.known.now c.requires.reader_ready None None None (part_stage a.known.now begun 4 None c.in_err-left.ensures) refl unread)
 
-pub right_row-requires : goal.right_row-requires
-right_row-requires c =
-    record {
-      draft_standing = subst (DraftStanding c.args.text.now c.left_part-part.new.keys c.left_part-part.new.tags) (sym c.marked-sets.ensures)
-          (marked-standing c.args.text.now 61 c.left_part-part.new.keys c.left_part-part.new.tags c.left_part-part.result (c.left_part-part.ensures []).stands);
-      counts_in_range = c.requires.counts_in_range;
-      table_size_in_bounds = c.requires.table_size_in_bounds;
-    }
+pub returns-in_err-sets : goal.returns-in_err-sets
+returns-in_err-sets c =
+    let a = c.args in
+    let l = c.in_ok-left in
+    let row = draft_left begun l.left in
+    form_ends c.from_residual-in_err-sets.ensures
+    (string-read a.known.now c.requires.reader_ready (Some (row, l.d)) None None (part_stage a.known.now begun 4 (Some (l.left, l.d)) l.ensures)
+    (ap (λ (d : Option Cursor). rowed_at row d) c.in_err-sets.ensures) unread)
+
+pub stretch-requires-clause-reader_ready : goal.stretch-requires-clause-reader_ready
+stretch-requires-clause-reader_ready c =
+    mark_ready c.args.text.now 61 c.in_ok-left.d c.in_ok-left.ensures.answer.ready c.in_ok-sets.ensures
+
+pub returns-in_err-right : goal.returns-in_err-right
+returns-in_err-right c =
+    let a = c.args in
+    let l = c.in_ok-left in
+    let row = draft_left begun l.left in
+    form_ends c.from_residual-in_err-right.ensures
+    (string-read a.known.now c.requires.reader_ready (Some (row, l.d)) (Some (row, c.in_ok-sets.sets)) None
+    (part_stage a.known.now begun 4 (Some (l.left, l.d)) l.ensures) (ap (λ (d : Option Cursor). rowed_at row d) c.in_ok-sets.ensures)
+    (c.in_err-right.ensures row))
 
 pub returns : goal.returns
 returns c =
+    let a = c.args in
+    let l = c.in_ok-left in
+    let r = c.in_ok-right in
+    let row = draft_left begun l.left in
     form_ends c.ended.ensures
-    (string-read c.args.known.now c.requires.reader_ready c.left_part-part.result c.marked-sets.result c.right_row.result
-    (λ t. from_draft c.begun.ensures (c.left_part-part.ensures t)) c.marked-sets.ensures c.right_row.ensures)
+    (string-read a.known.now c.requires.reader_ready (Some (row, l.d)) (Some (row, c.in_ok-sets.sets))
+    (Some (draft_right row row.kind r.right, r.e)) (part_stage a.known.now begun 4 (Some (l.left, l.d)) l.ensures)
+    (ap (λ (d : Option Cursor). rowed_at row d) c.in_ok-sets.ensures) (r.ensures row))

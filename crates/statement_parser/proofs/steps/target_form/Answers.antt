@@ -1,21 +1,24 @@
 -- `statement_parser::steps::target_form` reads a name that leads to a step.
-use mathlib.Core.Path.{sym, subst}
-use Rattle.statement_parser.specs.StageLaws.{from_draft, form_ends}
-use Rattle.statement_parser.specs.Stages.{DraftStanding}
+use Rattle.std.proofs.Common.{Some, None}
+use Rattle.statement_parser.specs.PartLaws.{target_stage}
+use Rattle.statement_parser.specs.Rows.{begun_row, draft_steps}
+use Rattle.statement_parser.specs.StageLaws.{form_ends}
 use Rattle.statement_parser.specs.StepLaws.{target_read}
 use Rattle.statement_parser.proofs.steps.target_form.Goals as goal
 
-pub to_target-requires : goal.to_target-requires
-to_target-requires c =
-    record {
-      draft_standing = subst (DraftStanding c.args.text.now c.args.keys.now c.args.tags.now) (sym c.begun.ensures) c.requires.reader_ready;
-      counts_in_range = c.requires.counts_in_range;
-      target_tag = c.requires.target_tag;
-    }
+pub returns-in_err-success : goal.returns-in_err-success
+returns-in_err-success c =
+    let a = c.args in
+    λ form leads table.
+    form_ends c.from_residual.ensures
+    (target_read a.known.now a.kind a.tag leads c.requires.reader_ready None
+    (target_stage a.known.now (begun_row a.kind 0) a.tag None c.in_err-success.ensures table))
 
 pub returns : goal.returns
 returns c =
     let a = c.args in
+    let s = c.in_ok-success in
     λ form leads table.
     form_ends c.ended.ensures
-    (target_read a.known.now a.kind a.tag leads c.requires.reader_ready c.to_target.result (from_draft c.begun.ensures (c.to_target.ensures table)))
+    (target_read a.known.now a.kind a.tag leads c.requires.reader_ready (Some (draft_steps (begun_row a.kind 0) s.success 0, s.d))
+    (target_stage a.known.now (begun_row a.kind 0) a.tag (Some (s.success, s.d)) s.ensures table))

@@ -1,29 +1,22 @@
--- `store::spans::blank` meets its contract. The loop's invariant: zeros are pasted up to i.
-use Prim.Native.Nat.{◌-◌}
-use native.Mathlib.Nat.{sub_self}
+-- `store::spans::blank` meets its contract.
+use mathlib.Core.Path.{◌≡◌, sym, ◌∙◌, ap}
+use Prim.Native.Nat.{ℕ, ◌-◌}
 use lib.ListN.{replicate, length-replicate}
-use Rattle.store.specs.SpanLaws.{pasted_none, pasted_fill, pasted_all}
 use native.Mathlib.Omega.{arith}
+use Rattle.base.specs.ListLaws.{length_stretch}
+use Rattle.encoding.specs.Splices.{splice, splice_nil}
+use Rattle.store.specs.SpanLaws.{put_mid-splice}
 use Rattle.store.proofs.spans.blank.Goals as goal
 
-pub loop-i-init : goal.loop-i-init
-loop-i-init c =
+pub returns-then-from-to : goal.returns-then-from-to
+returns-then-from-to c =
     let a = c.args in
     let n = a.to - a.from in
-    (omega arith, rw (sub_self a.from) (pasted_none a.out.now a.from (replicate n 0) n (length-replicate n 0)))
+    rw (c.fill.ensures.after (λ y e. e), length_stretch a.out.now a.from n (omega arith))
+    (put_mid-splice a.out.now a.from n (replicate n 0) (sym (length-replicate n 0)))
 
-pub loop-i-preserved : goal.loop-i-preserved
-loop-i-preserved c =
+pub returns-else-from-to : goal.returns-else-from-to
+returns-else-from-to c =
     let a = c.args in
-    let l = c.loop-i in
-    (omega arith, pasted_fill a.out.now a.from (a.to - a.from) 0 l.i l.out l.invariant.0 l.invariant.1 (omega arith) (omega arith))
-
-pub shape_of-out : goal.shape_of-out
-shape_of-out c = c.loop-i.invariant.1.size
-
-pub returns : goal.returns
-returns c =
-    let a = c.args in
-    let l = c.loop-i in
-    let n = a.to - a.from in
-    pasted_all a.out.now a.from (replicate n 0) n (l.i - a.from) l.out l.invariant.1 (omega arith)
+    let none : a.to - a.from ≡ 0 = omega arith in
+    sym (ap (λ (n : ℕ). splice a.out.now a.from (replicate n 0)) none ∙ splice_nil a.out.now a.from)

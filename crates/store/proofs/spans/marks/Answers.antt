@@ -1,20 +1,13 @@
 -- `store::spans::marks` meets its contract. The loop's invariant: the bytes seen and those left are zero where all are.
-use mathlib.Core.Path.{refl, sym, ◌∙◌}
+use mathlib.Core.Path.{sym, ◌∙◌}
 use Rattle.store.specs.SpanLaws.{zeros-more, zeros_end}
 use native.Mathlib.Omega.{arith}
 use Rattle.store.proofs.spans.marks.Goals as goal
 
-pub loop-i-init : goal.loop-i-init
-loop-i-init c = (omega arith, refl)
-
-pub loop-i-preserved : goal.loop-i-preserved
-loop-i-preserved c =
-    let s = c.args.s.now in
-    let l = c.loop-i in
-    (omega arith, l.invariant.1 ∙ zeros-more s l.i l.seen (omega arith))
+pub loop-b-preserved : goal.loop-b-preserved
+loop-b-preserved c = c.loop-b.invariant ∙ zeros-more c.args.s.now c.loop-b.b-index c.loop-b.seen (omega arith)
 
 pub returns : goal.returns
 returns c =
-    let s = c.args.s.now in
-    let l = c.loop-i in
-    sym (l.invariant.1 ∙ zeros_end s l.i l.seen (omega arith))
+    let l = c.loop-b in
+    sym (l.invariant ∙ zeros_end c.args.s.now l.b-index l.seen (omega arith))

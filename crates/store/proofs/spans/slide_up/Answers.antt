@@ -22,9 +22,6 @@ loop-i-preserved c =
     (hung_before d a.to x a.n l.i l.out (a.from + (l.i - 1)) l.invariant (omega arith) (omega arith)
     ∙ sym (get_or_stretch d a.from a.n (l.i - 1) (omega arith)))
 
-pub shape_of-out : goal.shape_of-out
-shape_of-out c = c.loop-i.invariant.size
-
 pub returns : goal.returns
 returns c =
     let a = c.args in

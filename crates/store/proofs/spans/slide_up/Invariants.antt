@@ -5,6 +5,3 @@ use Rattle.store.proofs.spans.slide_up.Given as goal
 
 abbrev pub invariant-loop-i : goal.invariant-loop-i
 invariant-loop-i l = Hung l.initial.out l.to (take l.n (drop l.from l.initial.out)) l.n l.i l.out
-
-abbrev pub decreases-loop-i : goal.decreases-loop-i
-decreases-loop-i l = l.i

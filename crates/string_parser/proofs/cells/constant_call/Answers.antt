@@ -1,38 +1,38 @@
 -- `string_parser::cells::constant_call` reads STRING with a constant.
-use native.Mathlib.Omega.{arith}
-use Prim.Native.Nat.{◌-◌}
+use Rattle.std.proofs.Common.{refl, arith, ◌-◌}
 use Rattle.syntax.specs.Program.{constantly}
 use Rattle.symbols.specs.Environment.{places_in}
-use Rattle.numeric_parser.specs.OperandLaws.{ready_on, then_broken}
+use Rattle.numeric_parser.specs.OperandLaws.{ready_on, then_broken, cell_lost}
 use Rattle.lexer.specs.Laws.{signed_is, signed_range, signed_ends, signed_broken}
 use Rattle.string_parser.specs.CellLaws.{standing_constant, constant_called}
 use Rattle.string_parser.proofs.cells.constant_call.Goals as goal
 
-pub overflow_sub-next : goal.overflow_sub-next
-overflow_sub-next c = omega (arith, signed_ends c.signed.ensures c.in-Is.is)
+pub overflow_sub-number : goal.overflow_sub-number
+overflow_sub-number c = omega (arith, signed_ends c.in_ok-number.ensures refl)
 
-pub skip-requires : goal.skip-requires
-skip-requires c = omega (arith, signed_ends c.signed.ensures c.in-Is.is)
+pub skip-d-requires : goal.skip-d-requires
+skip-d-requires c = omega (arith, signed_ends c.in_ok-number.ensures refl)
 
 pub with_bias-requires : goal.with_bias-requires
-with_bias-requires c = signed_range c.signed.ensures c.in-Is.is
+with_bias-requires c = signed_range c.in_ok-number.ensures refl
 
 pub number_behind-requires : goal.number_behind-requires
 number_behind-requires c =
-    let ends = signed_ends c.signed.ensures c.in-Is.is in record {
-      reader_ready = ready_on _ c.requires.reader_ready c.skip.ensures (omega (arith, ends));
+    let ends = signed_ends c.in_ok-number.ensures refl in record {
+      reader_ready = ready_on _ c.requires.reader_ready c.skip-d.ensures (omega (arith, ends));
       counts_in_range = c.requires.counts_in_range;
     }
 
-pub returns-in-Broken : goal.returns-in-Broken
-returns-in-Broken c =
-    record { answer = then_broken _ (signed_broken c.signed.ensures c.in-Broken.is) }
+pub returns-in_err-number : goal.returns-in_err-number
+returns-in_err-number c = cell_lost c.from_residual.ensures (then_broken _ (signed_broken c.in_err-number.ensures refl))
 
-pub returns-in-Is : goal.returns-in-Is
-returns-in-Is c =
+pub returns : goal.returns
+returns c =
     let a = c.args in
-    let s = c.signed.ensures in
-    let ends = signed_ends s c.in-Is.is in
-    constant_called (places_in a.known.now) c.number_behind.result c.in-Is.value.value (c.in-Is.next - a.c.at) c.in-Is.next
-    c.skip.ensures (omega (arith, ends)) (signed_is s c.in-Is.is)
-    (c.number_behind.ensures (constantly c.in-Is.value.value) (standing_constant c.in-Is.value.value c.with_bias.ensures))
+    let s = c.in_ok-number.ensures in
+    let n = c.in_ok-number.number in
+    let z = n.value.value in
+    let ends = signed_ends s refl in
+    constant_called (places_in a.known.now) c.number_behind.result z (n.next - a.c.at) n.next
+    c.skip-d.ensures (omega (arith, ends)) (signed_is s refl)
+    (c.number_behind.ensures (constantly z) (standing_constant z c.with_bias.ensures))

@@ -1,54 +1,32 @@
 -- `string_parser::cells::filler` reads a filler.
-use mathlib.Core.List.{[], ◌∷◌}
-use mathlib.Core.Path.{sym, ◌∙◌}
-use native.Mathlib.Omega.{arith}
-use lib.ListN.{drop}
+use Rattle.std.proofs.Common.{Some, None, [], ◌∷◌, sym, drop}
 use Rattle.symbols.specs.Environment.{places_in}
-use Rattle.numeric_parser.specs.OperandLaws.{ready_moved, place_case, place_none, cell_ends, cell_inside}
+use Rattle.numeric_parser.specs.OperandLaws.{ready_moved, cell_lost, cell_ends}
 use Rattle.string_parser.specs.CellLaws.{filler_fixed, filler_free, filler_broken}
 use Rattle.string_parser.proofs.cells.filler.Goals as goal
 
-pub skip-requires : goal.skip-requires
-skip-requires c =
-    let g = place_case c.read_string.ensures c.in-Got.is in
-    omega (arith, g.ready)
+pub returns-in_err-place : goal.returns-in_err-place
+returns-in_err-place c =
+    let a = c.args in
+    cell_lost c.from_residual.ensures (filler_broken (places_in a.known.now) (drop a.c.at a.text.now) c.in_err-place.ensures.answer)
 
-pub read_bound-requires : goal.read_bound-requires
-read_bound-requires c =
-    let g = place_case c.read_string.ensures c.in-Got.is in
-    let dollar = sym c.stands_at.ensures ∙ c.if-stands_at.true in record {
-      reader_ready = ready_moved (36 ∷ []) g.ready c.skip.ensures dollar;
-      counts_in_range = c.requires.counts_in_range;
-      kind_bound = omega arith;
-    }
+pub read_bound-requires-clause-reader_ready : goal.read_bound-requires-clause-reader_ready
+read_bound-requires-clause-reader_ready c =
+    ready_moved (36 ∷ []) c.in_ok-place.ensures.answer.ready c.skip.ensures (sym c.if-stands_at.ensures)
 
-pub closed-requires : goal.closed-requires
-closed-requires c = cell_inside c.read_bound.result c.read_bound.ensures
+pub returns-in_err-cell : goal.returns-in_err-cell
+returns-in_err-cell c =
+    cell_ends c.from_residual-in_err-cell.ensures
+    (filler_fixed (places_in c.args.known.now) c.requires.reader_ready c.in_ok-place.ensures.answer None c.skip.ensures
+    (sym c.if-stands_at.ensures) c.in_err-cell.ensures)
 
 pub returns-then-stands_at : goal.returns-then-stands_at
 returns-then-stands_at c =
-    let g = place_case c.read_string.ensures c.in-Got.is in
-    let dollar = sym c.stands_at.ensures ∙ c.if-stands_at.true in
-    let b = c.read_bound in
     cell_ends c.closed.ensures
-    (filler_fixed (places_in c.args.known.now) c.requires.reader_ready g b.result c.skip.ensures dollar b.ensures)
+    (filler_fixed (places_in c.args.known.now) c.requires.reader_ready c.in_ok-place.ensures.answer (Some (c.in_ok-cell.cell, c.in_ok-cell.e))
+    c.skip.ensures (sym c.if-stands_at.ensures) c.in_ok-cell.ensures)
 
-pub closed-requires-in-Got : goal.closed-requires-in-Got
-closed-requires-in-Got c =
-    let g = place_case c.read_string.ensures c.in-Got.is in
-    (g.ready.inside, g.ready.text_size)
-
-pub returns-in-Broken : goal.returns-in-Broken
-returns-in-Broken c =
-    let a = c.args in
-    record {
-      answer =
-          filler_broken (places_in a.known.now) (drop a.c.at a.text.now)
-          (place_none c.read_string.ensures c.in-Broken.is);
-    }
-
-pub returns-else-stands_at : goal.returns-else-stands_at
-returns-else-stands_at c =
-    let g = place_case c.read_string.ensures c.in-Got.is in
-    let none = sym c.stands_at.ensures ∙ c.if-stands_at.false in
-    cell_ends c.closed-in-Got.ensures (filler_free (places_in c.args.known.now) c.requires.reader_ready g none)
+pub returns : goal.returns
+returns c =
+    cell_ends c.closed-2.ensures
+    (filler_free (places_in c.args.known.now) c.requires.reader_ready c.in_ok-place.ensures.answer (sym c.if-stands_at.ensures))

@@ -4,4 +4,4 @@ use Rattle.verifier.proofs.kinds.cell_holds.Goals as goal
 
 pub returns : goal.returns
 unfolding cell_test
-returns c = rw (c.fits.ensures, c.code_of.ensures)
+returns c = rw c.is_ruled.ensures

@@ -4,29 +4,32 @@ use Prim.Native.Nat.{◌+◌}
 use native.Mathlib.Omega.{arith}
 use Rattle.encoding.specs.Table.{elements_at}
 use Rattle.verifier.specs.Elements.{element_end}
-use Rattle.verifier.specs.Turns.{walk_start, walk_more, walk_done, elements_walk}
+use Rattle.verifier.specs.Turns.{walk_start, walk_more, walk_stops, walk_done, elements_walk}
 use Rattle.verifier.proofs.kinds.elements_end.Goals as goal
 
 pub loop-i-init : goal.loop-i-init
 loop-i-init c =
     let a = c.args in
-    (omega arith, omega arith, walk_start (elements_walk a.n.strings a.n.numbers a.n.steps a.high a.t.now) a.count a.k (a.k + 0) (omega arith))
+    (omega arith, walk_start (elements_walk a.n.strings a.n.numbers a.n.steps a.high a.t.now) (a.k + a.count) a.k a.count a.at (omega arith))
 
 pub loop-i-preserved : goal.loop-i-preserved
 unfolding elements_at
 loop-i-preserved c =
-    let l = c.loop-i in
     let a = c.args in
-    let cell = c.cell_at.ensures.same in
-    let end = c.element_end-end.ensures.0 ∙ ap (element_end a.n.strings a.n.numbers a.n.steps a.high l.end) cell in (
-      c.element_end-end.ensures.1,
-      omega arith,
-      walk_more (elements_walk a.n.strings a.n.numbers a.n.steps a.high a.t.now) a.count l.i (a.k + l.i) (a.k + (l.i + 1)) l.invariant.2
-          c.loop-i-test.true (omega arith) end,
-    )
+    let l = c.loop-i in
+    let made = c.in_ok-end.ensures.is ∙ ap (element_end a.n.strings a.n.numbers a.n.steps a.high l.end) c.cell_at-c.ensures.same in
+    (omega (arith, c.in_ok-end.ensures.inside), walk_more (elements_walk a.n.strings a.n.numbers a.n.steps a.high a.t.now) (a.k + a.count) l.i l.end c.in_ok-end.end l.invariant.1 c.loop-i-test.true made)
 
-pub returns : goal.returns
-returns c =
-    let l = c.loop-i in
+pub returns-in_err-end-clause-is : goal.returns-in_err-end-clause-is
+unfolding elements_at
+returns-in_err-end-clause-is c =
     let a = c.args in
-    (walk_done (elements_walk a.n.strings a.n.numbers a.n.steps a.high a.t.now) a.count l.i (a.k + l.i) l.invariant.2 c.loop-i-test.false, l.invariant.0)
+    let l = c.loop-i in
+    let made = c.in_err-end.ensures.is ∙ ap (element_end a.n.strings a.n.numbers a.n.steps a.high l.end) c.cell_at-c.ensures.same in
+    c.from_residual.ensures ∙ walk_stops (elements_walk a.n.strings a.n.numbers a.n.steps a.high a.t.now) (a.k + a.count) l.i l.end l.invariant.1 c.loop-i-test.true made
+
+pub returns-clause-is : goal.returns-clause-is
+returns-clause-is c =
+    let a = c.args in
+    let l = c.loop-i in
+    walk_done (elements_walk a.n.strings a.n.numbers a.n.steps a.high a.t.now) (a.k + a.count) l.i l.end l.invariant.1 c.loop-i-test.false

@@ -6,7 +6,6 @@ use Rattle.verifier.proofs.kinds.elements_end.Given as goal
 
 abbrev pub invariant-loop-i : goal.invariant-loop-i
 invariant-loop-i l =
-    (l.end ≤ 65_536) × (l.i ≤ l.count) × (elements_end l.n.strings l.n.numbers l.n.steps l.high l.t l.k l.at l.count ≡ elements_end l.n.strings l.n.numbers l.n.steps l.high l.t (l.k + l.i) l.end (l.count - l.i))
-
-abbrev pub decreases-loop-i : goal.decreases-loop-i
-decreases-loop-i l = l.count - l.i
+    (l.end ≤ 65536)
+    × (elements_end l.n.strings l.n.numbers l.n.steps l.high l.t l.k l.at l.count
+    ≡ elements_end l.n.strings l.n.numbers l.n.steps l.high l.t l.i l.end (l.k + l.count - l.i))

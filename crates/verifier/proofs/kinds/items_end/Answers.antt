@@ -4,26 +4,32 @@ use Prim.Native.Nat.{◌+◌}
 use native.Mathlib.Omega.{arith}
 use Rattle.encoding.specs.Table.{items_at}
 use Rattle.verifier.specs.Items.{item_end}
-use Rattle.verifier.specs.Turns.{walk_start, walk_more, walk_done, items_walk}
+use Rattle.verifier.specs.Turns.{walk_start, walk_more, walk_stops, walk_done, items_walk}
 use Rattle.verifier.proofs.kinds.items_end.Goals as goal
 
 pub loop-i-init : goal.loop-i-init
 loop-i-init c =
     let a = c.args in
-    (omega arith, omega arith, walk_start (items_walk a.n.strings a.n.numbers a.n.steps a.t.now) a.count a.k (a.k + 0) (omega arith))
+    (omega arith, walk_start (items_walk a.n.strings a.n.numbers a.n.steps a.t.now) (a.k + a.count) a.k a.count 0 (omega arith))
 
 pub loop-i-preserved : goal.loop-i-preserved
 unfolding items_at
 loop-i-preserved c =
-    let l = c.loop-i in
     let a = c.args in
-    let cell = c.cell_at.ensures.same in
-    let end = c.item_end-known.ensures.0 ∙ ap (item_end a.n.strings a.n.numbers a.n.steps l.known) cell in
-    let more = walk_more (items_walk a.n.strings a.n.numbers a.n.steps a.t.now) a.count l.i (a.k + l.i) (a.k + (l.i + 1)) l.invariant.2 c.loop-i-test.true (omega arith) end in
-    (c.item_end-known.ensures.1, omega arith, more)
+    let l = c.loop-i in
+    let made = c.in_ok-known.ensures.is ∙ ap (item_end a.n.strings a.n.numbers a.n.steps l.known) c.cell_at-c.ensures.same in
+    (c.in_ok-known.ensures.room, walk_more (items_walk a.n.strings a.n.numbers a.n.steps a.t.now) (a.k + a.count) l.i l.known c.in_ok-known.known l.invariant.1 c.loop-i-test.true made)
+
+pub returns-in_err-known : goal.returns-in_err-known
+unfolding items_at
+returns-in_err-known c =
+    let a = c.args in
+    let l = c.loop-i in
+    let made = c.in_err-known.ensures.is ∙ ap (item_end a.n.strings a.n.numbers a.n.steps l.known) c.cell_at-c.ensures.same in
+    c.from_residual.ensures ∙ walk_stops (items_walk a.n.strings a.n.numbers a.n.steps a.t.now) (a.k + a.count) l.i l.known l.invariant.1 c.loop-i-test.true made
 
 pub returns : goal.returns
 returns c =
-    let l = c.loop-i in
     let a = c.args in
-    walk_done (items_walk a.n.strings a.n.numbers a.n.steps a.t.now) a.count l.i (a.k + l.i) l.invariant.2 c.loop-i-test.false
+    let l = c.loop-i in
+    walk_done (items_walk a.n.strings a.n.numbers a.n.steps a.t.now) (a.k + a.count) l.i l.known l.invariant.1 c.loop-i-test.false

@@ -6,7 +6,6 @@ use Rattle.verifier.proofs.kinds.items_end.Given as goal
 
 abbrev pub invariant-loop-i : goal.invariant-loop-i
 invariant-loop-i l =
-    (l.known ≤ 65_536) × (l.i ≤ l.count) × (items_end l.n.strings l.n.numbers l.n.steps l.t l.k 0 l.count ≡ items_end l.n.strings l.n.numbers l.n.steps l.t (l.k + l.i) l.known (l.count - l.i))
-
-abbrev pub decreases-loop-i : goal.decreases-loop-i
-decreases-loop-i l = l.count - l.i
+    (l.known ≤ 64)
+    × (items_end l.n.strings l.n.numbers l.n.steps l.t l.k 0 l.count
+    ≡ items_end l.n.strings l.n.numbers l.n.steps l.t l.i l.known (l.k + l.count - l.i))

@@ -1,20 +1,17 @@
 -- `verifier::kinds::place_bound` meets its contract.
-use borrow.Author.Tests.{ne_eqb}
+use mathlib.Core.Path.{sym, ap}
+use Rattle.verifier.specs.Asked.{place_meaning}
 use Rattle.verifier.specs.CellTests.{place_bound}
 use Rattle.verifier.proofs.kinds.place_bound.Goals as goal
 
-pub returns-then-place-eq-STRINGS : goal.returns-then-place-eq-STRINGS
-unfolding place_bound
-returns-then-place-eq-STRINGS c = rw c.if-place-eq-STRINGS.true
+pub returns-in-NoPlace : goal.returns-in-NoPlace
+unfolding place_bound place_meaning
+returns-in-NoPlace c = ap (λ r. place_bound c.args.n.strings c.args.n.numbers (place_meaning r)) (sym c.in-NoPlace.is)
 
-pub returns-then-place-eq-NUMBERS : goal.returns-then-place-eq-NUMBERS
-unfolding place_bound
-returns-then-place-eq-NUMBERS c = rw c.if-place-eq-NUMBERS.true
+pub returns-in-OfString : goal.returns-in-OfString
+unfolding place_bound place_meaning
+returns-in-OfString c = ap (λ r. place_bound c.args.n.strings c.args.n.numbers (place_meaning r)) (sym c.in-OfString.is)
 
-pub returns-then-place-eq-NAMELESS : goal.returns-then-place-eq-NAMELESS
-unfolding place_bound
-returns-then-place-eq-NAMELESS c = rw c.if-place-eq-NAMELESS.true
-
-pub returns : goal.returns
-unfolding place_bound
-returns c = rw (ne_eqb _ _ c.if-place-eq-STRINGS.false, ne_eqb _ _ c.if-place-eq-NUMBERS.false, ne_eqb _ _ c.if-place-eq-NAMELESS.false)
+pub returns-in-OfNumber : goal.returns-in-OfNumber
+unfolding place_bound place_meaning
+returns-in-OfNumber c = ap (λ r. place_bound c.args.n.strings c.args.n.numbers (place_meaning r)) (sym c.in-OfNumber.is)

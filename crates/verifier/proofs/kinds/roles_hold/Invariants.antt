@@ -1,7 +1,6 @@
 -- `verifier::kinds::roles_hold` meets its contract.
-use mathlib.Core.Bool.{◌&&◌}
 use mathlib.Core.Path.{◌≡◌}
-use Prim.Native.Nat.{◌+◌, ◌-◌, ◌≤◌}
+use Prim.Native.Nat.{◌+◌, ◌-◌}
 use lib.ListN.{length, replicate}
 use Rattle.verifier.specs.Roles.{roles_test}
 use Rattle.verifier.proofs.kinds.roles_hold.Given as goal
@@ -9,8 +8,4 @@ use Rattle.verifier.proofs.kinds.roles_hold.Given as goal
 abbrev pub invariant-loop-i : goal.invariant-loop-i
 invariant-loop-i l =
     (length l.marks ≡ 256)
-    × (l.i ≤ l.count)
-    × ((l.hold && roles_test l.t l.reference l.marks (l.k + l.i) (l.count - l.i)) ≡ roles_test l.t l.reference (replicate 256 0) l.k l.count)
-
-abbrev pub decreases-loop-i : goal.decreases-loop-i
-decreases-loop-i l = l.count - l.i
+    × (roles_test l.t l.reference (replicate 256 0) l.k l.count ≡ roles_test l.t l.reference l.marks l.i (l.k + l.count - l.i))

@@ -1,24 +1,22 @@
 -- `verifier::kinds::value_bound` meets its contract.
-use borrow.Author.Tests.{ne_eqb}
+use mathlib.Core.Logic.{inl, inr}
+use mathlib.Core.Path.{sym, ap}
+use Rattle.verifier.specs.Asked.{value_meaning}
 use Rattle.verifier.specs.CellTests.{value_bound}
 use Rattle.verifier.proofs.kinds.value_bound.Goals as goal
 
-pub returns-then-value-eq-NATURAL : goal.returns-then-value-eq-NATURAL
-unfolding value_bound
-returns-then-value-eq-NATURAL c = rw c.if-value-eq-NATURAL.true
+pub returns-in-NoValue : goal.returns-in-NoValue
+unfolding value_bound value_meaning
+returns-in-NoValue c = ap (λ r. value_bound c.args.n.strings c.args.n.numbers (value_meaning r)) (sym c.in-NoValue.is)
 
-pub returns-then-value-eq-SIGNED : goal.returns-then-value-eq-SIGNED
-unfolding value_bound
-returns-then-value-eq-SIGNED c = rw c.if-value-eq-SIGNED.true
+pub returns-in-Natural : goal.returns-in-Natural
+unfolding value_bound value_meaning
+returns-in-Natural c = elim c.in-Natural.is [ inl e ↦ ap (λ r. value_bound c.args.n.strings c.args.n.numbers (value_meaning r)) (sym e) | inr e ↦ ap (λ r. value_bound c.args.n.strings c.args.n.numbers (value_meaning r)) (sym e) ]
 
-pub returns-then-value-eq-PLACED : goal.returns-then-value-eq-PLACED
-unfolding value_bound
-returns-then-value-eq-PLACED c = rw c.if-value-eq-PLACED.true
+pub returns-in-Placed : goal.returns-in-Placed
+unfolding value_bound value_meaning
+returns-in-Placed c = ap (λ r. value_bound c.args.n.strings c.args.n.numbers (value_meaning r)) (sym c.in-Placed.is)
 
-pub returns-then-value-eq-SPELT : goal.returns-then-value-eq-SPELT
-unfolding value_bound
-returns-then-value-eq-SPELT c = rw c.if-value-eq-SPELT.true
-
-pub returns : goal.returns
-unfolding value_bound
-returns c = rw (ne_eqb _ _ c.if-value-eq-NATURAL.false, ne_eqb _ _ c.if-value-eq-SIGNED.false, ne_eqb _ _ c.if-value-eq-PLACED.false, ne_eqb _ _ c.if-value-eq-SPELT.false)
+pub returns-in-Spelt : goal.returns-in-Spelt
+unfolding value_bound value_meaning
+returns-in-Spelt c = ap (λ r. value_bound c.args.n.strings c.args.n.numbers (value_meaning r)) (sym c.in-Spelt.is)

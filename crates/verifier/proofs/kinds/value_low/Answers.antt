@@ -1,16 +1,19 @@
 -- `verifier::kinds::value_low` meets its contract.
-use borrow.Author.Tests.{ne_eqb}
+use mathlib.Core.Logic.{inl, inr}
+use mathlib.Core.Path.{sym, ap}
+use Rattle.verifier.specs.Asked.{value_meaning}
 use Rattle.verifier.specs.CellTests.{value_low}
 use Rattle.verifier.proofs.kinds.value_low.Goals as goal
 
-pub returns-then-value-eq-NATURAL : goal.returns-then-value-eq-NATURAL
-unfolding value_low
-returns-then-value-eq-NATURAL c = rw c.if-value-eq-NATURAL.true
+pub returns-in-NoValue : goal.returns-in-NoValue
+unfolding value_low value_meaning
+returns-in-NoValue c =
+    elim c.in-NoValue.is [ inl e ↦ ap (λ r. value_low (value_meaning r)) (sym e) | inr o ↦ elim o [ inl e ↦ ap (λ r. value_low (value_meaning r)) (sym e) | inr e ↦ ap (λ r. value_low (value_meaning r)) (sym e) ] ]
 
-pub returns-then-value-eq-SIGNED : goal.returns-then-value-eq-SIGNED
-unfolding value_low
-returns-then-value-eq-SIGNED c = rw c.if-value-eq-SIGNED.true
+pub returns-in-Natural : goal.returns-in-Natural
+unfolding value_low value_meaning
+returns-in-Natural c = ap (λ r. value_low (value_meaning r)) (sym c.in-Natural.is)
 
-pub returns : goal.returns
-unfolding value_low
-returns c = rw (ne_eqb _ _ c.if-value-eq-NATURAL.false, ne_eqb _ _ c.if-value-eq-SIGNED.false)
+pub returns-in-Signed : goal.returns-in-Signed
+unfolding value_low value_meaning
+returns-in-Signed c = ap (λ r. value_low (value_meaning r)) (sym c.in-Signed.is)

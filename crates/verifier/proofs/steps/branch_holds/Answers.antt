@@ -1,17 +1,17 @@
 -- `verifier::steps::branch_holds` meets its contract.
-use borrow.Author.Tests.{ne_eqb}
-use Rattle.verifier.specs.Codes.{stepping_of}
+use mathlib.Core.Path.{sym, ap}
+use Rattle.verifier.specs.Asked.{steps_meaning}
 use Rattle.verifier.specs.Tests.{steps_test}
 use Rattle.verifier.proofs.steps.branch_holds.Goals as goal
 
-pub returns-then-digit-eq-ONE_STEP : goal.returns-then-digit-eq-ONE_STEP
-unfolding steps_test stepping_of
-returns-then-digit-eq-ONE_STEP c = rw c.if-digit-eq-ONE_STEP.true
+pub returns-in-NoStep : goal.returns-in-NoStep
+unfolding steps_test steps_meaning
+returns-in-NoStep c = ap (λ r. steps_test c.args.steps (steps_meaning r) c.args.success c.args.failure) (sym c.in-NoStep.is)
 
-pub returns-then-digit-eq-BOTH_STEPS : goal.returns-then-digit-eq-BOTH_STEPS
-unfolding steps_test stepping_of
-returns-then-digit-eq-BOTH_STEPS c = rw c.if-digit-eq-BOTH_STEPS.true
+pub returns-in-OneStep : goal.returns-in-OneStep
+unfolding steps_test steps_meaning
+returns-in-OneStep c = ap (λ r. steps_test c.args.steps (steps_meaning r) c.args.success c.args.failure) (sym c.in-OneStep.is)
 
-pub returns : goal.returns
-unfolding steps_test stepping_of
-returns c = rw (ne_eqb _ _ c.if-digit-eq-ONE_STEP.false, ne_eqb _ _ c.if-digit-eq-BOTH_STEPS.false)
+pub returns-in-BothSteps : goal.returns-in-BothSteps
+unfolding steps_test steps_meaning
+returns-in-BothSteps c = ap (λ r. steps_test c.args.steps (steps_meaning r) c.args.success c.args.failure) (sym c.in-BothSteps.is)

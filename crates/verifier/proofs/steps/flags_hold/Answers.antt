@@ -1,17 +1,17 @@
 -- `verifier::steps::flags_hold` meets its contract.
-use borrow.Author.Tests.{ne_eqb}
-use Rattle.verifier.specs.Codes.{flagging_of}
+use mathlib.Core.Path.{sym, ap}
+use Rattle.verifier.specs.Asked.{flag_meaning}
 use Rattle.verifier.specs.Tests.{flag_test}
 use Rattle.verifier.proofs.steps.flags_hold.Goals as goal
 
-pub returns-then-digit-eq-COMPARISON : goal.returns-then-digit-eq-COMPARISON
-unfolding flag_test flagging_of
-returns-then-digit-eq-COMPARISON c = rw c.if-digit-eq-COMPARISON.true
+pub returns-in-NoFlag : goal.returns-in-NoFlag
+unfolding flag_test flag_meaning
+returns-in-NoFlag c = ap (λ r. flag_test (flag_meaning r) c.args.flag) (sym c.in-NoFlag.is)
 
-pub returns-then-digit-eq-DIRECTION : goal.returns-then-digit-eq-DIRECTION
-unfolding flag_test flagging_of
-returns-then-digit-eq-DIRECTION c = rw c.if-digit-eq-DIRECTION.true
+pub returns-in-OfComparison : goal.returns-in-OfComparison
+unfolding flag_test flag_meaning
+returns-in-OfComparison c = ap (λ r. flag_test (flag_meaning r) c.args.flag) (sym c.in-OfComparison.is)
 
-pub returns : goal.returns
-unfolding flag_test flagging_of
-returns c = rw (ne_eqb _ _ c.if-digit-eq-COMPARISON.false, ne_eqb _ _ c.if-digit-eq-DIRECTION.false)
+pub returns-in-OfDirection : goal.returns-in-OfDirection
+unfolding flag_test flag_meaning
+returns-in-OfDirection c = ap (λ r. flag_test (flag_meaning r) c.args.flag) (sym c.in-OfDirection.is)

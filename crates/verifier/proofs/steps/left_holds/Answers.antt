@@ -1,32 +1,26 @@
 -- `verifier::steps::left_holds` meets its contract.
-use borrow.Author.Tests.{ne_eqb}
-use Rattle.verifier.specs.Codes.{lefting_of}
+use mathlib.Core.Path.{sym, ◌∙◌, ap}
+use Rattle.decoder.specs.Meaning.{cell_meaning}
+use Rattle.verifier.specs.Asked.{left_meaning}
 use Rattle.verifier.specs.Tests.{left_test}
 use Rattle.verifier.proofs.steps.left_holds.Goals as goal
 
-pub returns-then-digit-eq-NUMBER_LEFT : goal.returns-then-digit-eq-NUMBER_LEFT
-unfolding left_test lefting_of
-returns-then-digit-eq-NUMBER_LEFT c = rw (c.cell_holds.ensures, c.if-digit-eq-NUMBER_LEFT.true)
+pub returns-in-NoLeft : goal.returns-in-NoLeft
+unfolding left_test left_meaning
+returns-in-NoLeft c = c.cell_holds.ensures ∙ ap (λ r. left_test c.args.n (left_meaning r) (cell_meaning c.args.left)) (sym c.in-NoLeft.is)
 
-pub returns-then-digit-eq-STRING_LEFT : goal.returns-then-digit-eq-STRING_LEFT
-unfolding left_test lefting_of
-returns-then-digit-eq-STRING_LEFT c = rw (c.cell_holds-then-digit-eq-STRING_LEFT.ensures, c.if-digit-eq-STRING_LEFT.true)
+pub returns-in-NumberLeft : goal.returns-in-NumberLeft
+unfolding left_test left_meaning
+returns-in-NumberLeft c = c.cell_holds-in-NumberLeft.ensures ∙ ap (λ r. left_test c.args.n (left_meaning r) (cell_meaning c.args.left)) (sym c.in-NumberLeft.is)
 
-pub returns-then-digit-eq-PART_LEFT : goal.returns-then-digit-eq-PART_LEFT
-unfolding left_test lefting_of
-returns-then-digit-eq-PART_LEFT c = rw (c.cell_holds-then-digit-eq-PART_LEFT.ensures, c.if-digit-eq-PART_LEFT.true)
+pub returns-in-StringLeft : goal.returns-in-StringLeft
+unfolding left_test left_meaning
+returns-in-StringLeft c = c.cell_holds-in-StringLeft.ensures ∙ ap (λ r. left_test c.args.n (left_meaning r) (cell_meaning c.args.left)) (sym c.in-StringLeft.is)
 
-pub returns-then-digit-eq-OPERAND_LEFT : goal.returns-then-digit-eq-OPERAND_LEFT
-unfolding left_test lefting_of
-returns-then-digit-eq-OPERAND_LEFT c = rw (c.cell_holds-then-digit-eq-OPERAND_LEFT.ensures, c.if-digit-eq-OPERAND_LEFT.true)
+pub returns-in-PartLeft : goal.returns-in-PartLeft
+unfolding left_test left_meaning
+returns-in-PartLeft c = c.cell_holds-in-PartLeft.ensures ∙ ap (λ r. left_test c.args.n (left_meaning r) (cell_meaning c.args.left)) (sym c.in-PartLeft.is)
 
-pub returns : goal.returns
-unfolding left_test lefting_of
-returns c =
-    rw (
-      c.cell_holds-2.ensures,
-      ne_eqb _ _ c.if-digit-eq-NUMBER_LEFT.false,
-      ne_eqb _ _ c.if-digit-eq-STRING_LEFT.false,
-      ne_eqb _ _ c.if-digit-eq-PART_LEFT.false,
-      ne_eqb _ _ c.if-digit-eq-OPERAND_LEFT.false,
-    )
+pub returns-in-OperandLeft : goal.returns-in-OperandLeft
+unfolding left_test left_meaning
+returns-in-OperandLeft c = c.cell_holds-in-OperandLeft.ensures ∙ ap (λ r. left_test c.args.n (left_meaning r) (cell_meaning c.args.left)) (sym c.in-OperandLeft.is)

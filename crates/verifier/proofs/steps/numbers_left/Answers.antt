@@ -1,11 +1,23 @@
 -- `verifier::steps::numbers_left` meets its contract.
-use borrow.Author.Tests.{ne_eqb}
-use mathlib.Core.Path.{sym, ◌∙◌}
-use Rattle.verifier.specs.Turns.{left_told}
+use mathlib.Core.Path.{◌≡◌, refl, sym, ap}
+use Rattle.verifier.specs.Asked.{right_meaning}
+use Rattle.verifier.specs.Tests.{waiting_left}
+use Rattle.verifier.specs.declared.steps.RightRule.{RightRule}
+use Rattle.verifier.specs.declared.steps.RightRule.TheVariants.{NoRight, OperandRight, ItemsRight, ElementsRight, PatternRight, ReplacingRight}
 use Rattle.verifier.proofs.steps.numbers_left.Goals as goal
 
-pub returns-then-digit-eq-ITEMS_RIGHT : goal.returns-then-digit-eq-ITEMS_RIGHT
-returns-then-digit-eq-ITEMS_RIGHT c = sym (left_told _ ∙ rw c.if-digit-eq-ITEMS_RIGHT.true)
+other : (r : RightRule) → (r ≡ ItemsRight → ⊥) → 0 ≡ waiting_left (right_meaning r)
+unfolding waiting_left right_meaning
+other NoRight h1 = refl
+other OperandRight h1 = refl
+other ItemsRight h1 = absurd (h1 refl)
+other ElementsRight h1 = refl
+other PatternRight h1 = refl
+other ReplacingRight h1 = refl
 
-pub returns : goal.returns
-returns c = sym (left_told _ ∙ rw (ne_eqb _ _ c.if-digit-eq-ITEMS_RIGHT.false))
+pub returns-in-ItemsRight : goal.returns-in-ItemsRight
+unfolding waiting_left right_meaning
+returns-in-ItemsRight c = ap (λ r. waiting_left (right_meaning r)) (sym c.in-ItemsRight.is)
+
+pub returns-in_default : goal.returns-in_default
+returns-in_default c = other c.args.rule c.in_default.not-ItemsRight

@@ -1,17 +1,10 @@
 -- `verifier::steps::steps_end` meets its contract.
 use mathlib.Core.Path.{◌≡◌}
-use Prim.Native.Nat.{◌-◌, ◌≤◌}
-use Rattle.verifier.specs.Codes.{cell_codes, row_codes}
+use Prim.Native.Nat.{◌-◌}
 use Rattle.verifier.specs.Tests.{PlacesRoom, start, steps_end}
 use Rattle.verifier.proofs.steps.steps_end.Given as goal
 
 abbrev pub invariant-loop-k : goal.invariant-loop-k
 invariant-loop-k l =
-    (l.cells ≡ cell_codes)
-    × (l.rows ≡ row_codes)
-    × PlacesRoom l.p
-    × (l.k ≤ l.n.steps)
+    PlacesRoom l.p
     × (steps_end l.n l.t 0 start l.n.steps ≡ steps_end l.n l.t l.k l.p (l.n.steps - l.k))
-
-abbrev pub decreases-loop-k : goal.decreases-loop-k
-decreases-loop-k l = l.n.steps - l.k

@@ -1,5 +1,0 @@
--- `if_numeric` meets its contract.
-use Rattle.execution.proofs.if_numeric.Goals as goal
-
-pub returns : goal.returns
-returns c input output = c.take_branch.ensures _ input output _ c.is_numeric-t.ensures
