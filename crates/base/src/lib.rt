@@ -1,6 +1,8 @@
 // Definitions: what every other crate's specs lean on. For code: the counts of specs/Limits.
 #![tactic(auto)]
 
+// kept: the library's memory is fixed, without a heap, a rule of the project: so arrays of these sizes stand in all crates, and no lists that grow
+
 // how many steps, strings, numbers, labels and routines a program may have
 pub const STEPS: usize = 256;
 

@@ -1,5 +1,6 @@
 -- What the readers of labels, routines and branch fields do. Assumes nothing.
-use Rattle.std.specs.Prelude.{Option, Some, None, true, false, cond, List, [], ◌⊎◌, ◌≡◌, ℕ, eqb, drop}
+use Rattle.encoding.specs.Meaning.{branch_meaning}
+use Rattle.std.specs.Prelude.{Option, Some, None, true, false, List, [], ◌≡◌, ℕ, drop}
 use Rattle.base.specs.Current.{current}
 use Rattle.base.specs.Lists.{begins}
 use Rattle.base.specs.Text.{bytes}
@@ -9,73 +10,80 @@ use Rattle.syntax.specs.Parsing.{for_label, for_routine, declaring, usage, Menti
 use Rattle.syntax.specs.Lexemes.{name_as}
 use Rattle.symbols.specs.Environment.{places_in}
 use Rattle.symbols.specs.declared.Cursor.{Cursor}
+use Rattle.symbols.specs.declared.Mentioned.{Mentioned}
+use Rattle.symbols.specs.declared.known.Known.{Known}
+use Rattle.symbols.specs.declared.tags.Tag.{Tag}
+use Rattle.symbols.specs.declared.tags.Tag.TheVariants.{LabelUsed, RoutineUsed, RoutineDeclared}
 use Rattle.numeric_parser.specs.Operands.{Gets}
 use Rattle.branch_parser.specs.Places.{is_number_known, step_to}
-use Rattle.branch_parser.specs.declared.Branch.{Branch}
+use Rattle.encoding.specs.declared.cells.Branch.{Branch}
+use Rattle.branch_parser.specs.declared.Target.{Target}
+use Rattle.branch_parser.specs.declared.Target.TheVariants.{Label, Entry, Exit}
 
--- the tag of a name that leads to a step: a label or a routine that is used, a routine that is declared
-pub record TargetTag (tag : ℕ) : Type 0 where
-  pub is : (tag ≡ 1) ⊎ ((tag ≡ 2) ⊎ (tag ≡ 10))
+-- a name that leads to a step: its tag, and what it is mentioned as
+abbrev pub target_tag : Target → Tag
+target_tag Label = LabelUsed
+target_tag Entry = RoutineUsed
+target_tag Exit = RoutineDeclared
 
--- what such a name is mentioned as
-abbrev pub met_as : ℕ → List ℕ → Mentions
-met_as tag = cond (eqb tag 1) (usage for_label []) (cond (eqb tag 2) (usage for_routine []) (declaring for_routine))
+abbrev pub met_as : Target → List ℕ → Mentions
+met_as Label = usage for_label []
+met_as Entry = usage for_routine []
+met_as Exit = declaring for_routine
 
 -- such a name by the step it leads to, with the places of these names
-unfoldable pub target_in : (known : List ℕ) (tag : ℕ) → List ℕ → Parsed ℕ
-target_in known tag bs = do
-  (n, rest) ← name_as (met_as tag) bs
-  succeed (step_to known tag n) rest
+unfoldable pub target_in : (known : Known) → Target → List ℕ → Parsed ℕ
+target_in known target bs = do
+  (n, rest) ← name_as (met_as target) bs
+  succeed (step_to known target n) rest
 
 -- a reading answered by a step
-abbrev pub TargetAnswer : (text keys tags : List ℕ) (c : Cursor) → Parsed ℕ → Option (ℕ × Cursor) → (keys' tags' : List ℕ) → Type 0
-TargetAnswer text keys tags c x (Some (step, d)) keys' tags' = Gets (λ n. n) step text keys tags c x keys' tags' d
-TargetAnswer text keys tags c x None keys' tags' = x ≡ broken
+abbrev pub TargetAnswer : (text : List ℕ) (m : Mentioned) (c : Cursor) → Parsed ℕ → Option (ℕ × Cursor) → (m' : Mentioned) → Type 0
+TargetAnswer text m c x (Some (step, d)) m' = Gets (λ n. n) step text m c x m' d
+TargetAnswer text m c x None m' = x ≡ broken
 
-pub record TargetRead (text known keys tags : List ℕ) (c : Cursor) (tag : ℕ) (r : Option (ℕ × Cursor)) (keys' tags' : List ℕ) : Type 0 where
-  pub answer : TargetAnswer text keys tags c (target_in known tag (drop c.at text)) r keys' tags'
-
--- the branch that the code's steps are
-abbrev pub branch_of : Branch → Program.Branch
-branch_of b = record { success = b.success; failure = b.failure }
-
-abbrev pub BranchAnswer : (text keys tags : List ℕ) (c : Cursor) → Parsed Program.Branch → Option (Branch × Cursor) → (keys' tags' : List ℕ) → Type 0
-BranchAnswer text keys tags c x (Some (b, d)) keys' tags' = Gets (λ z. z) (branch_of b) text keys tags c x keys' tags' d
-BranchAnswer text keys tags c x None keys' tags' = x ≡ broken
-
-pub record BranchingRead (text keys tags : List ℕ) (c : Cursor) (x : Parsed Program.Branch) (r : Option (Branch × Cursor)) (keys' tags' : List ℕ)
+pub record TargetRead (text : List ℕ) (known : Known) (m : Mentioned) (c : Cursor) (target : Target) (r : Option (ℕ × Cursor)) (m' : Mentioned)
     : Type 0 where
-  pub answer : BranchAnswer text keys tags c x r keys' tags'
+  pub answer : TargetAnswer text m c (target_in known target (drop c.at text)) r m'
+
+abbrev pub BranchAnswer : (text : List ℕ) (m : Mentioned) (c : Cursor) → Parsed Program.Branch → Option (Branch × Cursor) → (m' : Mentioned) → Type 0
+BranchAnswer text m c x (Some (b, d)) m' = Gets (λ z. z) (branch_meaning b) text m c x m' d
+BranchAnswer text m c x None m' = x ≡ broken
+
+pub record BranchingRead (text : List ℕ) (m : Mentioned) (c : Cursor) (x : Parsed Program.Branch) (r : Option (Branch × Cursor)) (m' : Mentioned)
+    : Type 0 where
+  pub answer : BranchAnswer text m c x r m'
 
 -- a label that is used
-abbrev pub label_parser : List ℕ → List ℕ → Parsed ℕ
-label_parser known = target_in known 1
+abbrev pub label_parser : Known → List ℕ → Parsed ℕ
+label_parser known = target_in known Label
 
 -- a label on failure beside a step on success
-unfoldable pub failing_to : (known : List ℕ) (success : ℕ) → List ℕ → Parsed Program.Branch
+unfoldable pub failing_to : (known : Known) (success : ℕ) → List ℕ → Parsed Program.Branch
 failing_to known s bs = do
   (f, rest) ← label_parser known bs
   succeed (record { success = s; failure = f }) rest
 
 -- a branch field behind its `/`
-unfoldable pub targets : (known : List ℕ) → List ℕ → Parsed Program.Branch
+unfoldable pub targets : (known : Known) → List ℕ → Parsed Program.Branch
 targets known bs = elim (begins (bytes ",") bs) [
-  | true ↦ failing_to known (places_in known).next (drop 1 bs)
+  | true ↦ failing_to known known.next (drop 1 bs)
   | false ↦ do
     (s, rest) ← label_parser known bs
     elim (begins (bytes ",") rest) as (λ _. Parsed Program.Branch) [
       | true ↦ failing_to known s (drop 1 rest)
-      | false ↦ succeed (record { success = s; failure = (places_in known).next }) rest
+      | false ↦ succeed (record { success = s; failure = known.next }) rest
     ]
 ]
 
 -- each reader of a branch field at the cursor
-abbrev pub FailureRead : (text known keys tags : List ℕ) (c : Cursor) (success : ℕ) → Option (Branch × Cursor) → (keys' tags' : List ℕ) → Type 0
-FailureRead text known keys tags c s = BranchingRead text keys tags c (failing_to known s (drop c.at text))
+abbrev pub FailureRead : (text : List ℕ) (known : Known) (m : Mentioned) (c : Cursor) (success : ℕ) → Option (Branch × Cursor)
+    → (m' : Mentioned) → Type 0
+FailureRead text known m c s = BranchingRead text m c (failing_to known s (drop c.at text))
 
-abbrev pub TargetsRead : (text known keys tags : List ℕ) (c : Cursor) → Option (Branch × Cursor) → (keys' tags' : List ℕ) → Type 0
-TargetsRead text known keys tags c = BranchingRead text keys tags c (targets known (drop c.at text))
+abbrev pub TargetsRead : (text : List ℕ) (known : Known) (m : Mentioned) (c : Cursor) → Option (Branch × Cursor) → (m' : Mentioned) → Type 0
+TargetsRead text known m c = BranchingRead text m c (targets known (drop c.at text))
 
-abbrev pub BranchRead : (text known keys tags : List ℕ) (c : Cursor) → Option (Branch × Cursor) → (keys' tags' : List ℕ) → Type 0
-BranchRead text known keys tags c =
-    BranchingRead text keys tags c (branch current (is_number_known known) (places_in known) (drop c.at text))
+abbrev pub BranchRead : (text : List ℕ) (known : Known) (m : Mentioned) (c : Cursor) → Option (Branch × Cursor) → (m' : Mentioned) → Type 0
+BranchRead text known m c =
+    BranchingRead text m c (branch current (is_number_known known) (places_in known) (drop c.at text))

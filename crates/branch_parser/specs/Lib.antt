@@ -1,4 +1,4 @@
--- Labels, routines and numbers found by their keys (Places); branch fields (Branches, BranchLaws), rows and the tests of IF (Rows, Tests,
+-- Labels and routines found by their keys (Places); branch fields (Branches, BranchLaws), rows and the tests of IF (Rows, Tests,
 -- TestLaws).
 pub mod BranchLaws
 pub mod Branches

@@ -1,163 +1,116 @@
--- Labels, routines and numbers found by their keys. Assumes nothing.
-use Rattle.std.specs.Prelude.{Option, Some, None, is_some, Bool, eqb, ltb, length, take, drop}
-use Rattle.std.proofs.Math.Bool.{true, false, cond}
-use mathlib.Core.List.{List, map}
-use Rattle.std.proofs.Math.Path.{◌≡◌, refl, sym, ap, ap₂}
-use Rattle.std.proofs.Common.{subst, ◌∙◌, add-zero, drop-cons, eq-eqb, ne_eqb, lt-ltb, le-ltb}
-use Prim.Native.Nat.{ℕ, zero, suc, ◌+◌, ◌≤◌, ◌<◌}
-use native.Mathlib.Omega.{arith}
-use Rattle.std.proofs.Math.Dec.{leb-suc-suc}
-use Rattle.std.proofs.Math.ListN.{get_or}
-use Rattle.std.proofs.lemmas.Bool.{false≢true}
+-- Labels and routines found by their keys, and the steps that they lead to. Assumes nothing.
+use Rattle.std.specs.Prelude.{Option, Some, None, Bool, true, false, cond, ◌==◌, List, [], ◌∷◌, ◌++◌, map, reverse, ◌≡◌, refl, ℕ}
+use Rattle.std.specs.List.{find}
+use mathlib.Core.List.{map-append, reverse-append}
+use Rattle.std.proofs.Common.{sym, ◌∙◌, ap, arith}
+use Rattle.std.proofs.lemmas.Bool.Decides.{nat_tests}
 use Rattle.base.specs.Choice.{test_cases}
+use Rattle.base.specs.Lists.{same}
 use Rattle.validation.specs.Deck.{step_of, routine_named}
-use Rattle.validation.specs.Environment.{Routine, is_one_of}
+use Rattle.validation.specs.Environment as Environment
+use Rattle.validation.specs.Environment.{is_one_of}
 use Rattle.symbols.specs.Entries.{name_of}
-use Rattle.symbols.specs.From.{values_from}
-use Rattle.symbols.specs.Environment.{number_keys, key_place, label_in, labels_from, labels_in, routine_in, routines_down, routines_in, places_in}
-use Rattle.symbols.specs.Environment.{label_count_at, routine_count_at, label_keys_at, label_steps_at, routine_keys_at, environment_size}
+use Rattle.symbols.specs.Environment.{number_keys, label_meaning, labels_in, routine_meaning, latest_first, routines_in, places_in}
 use Rattle.symbols.specs.EnvironmentLaws.{name-same}
+use Rattle.symbols.specs.declared.known.Known.{Known}
+use Rattle.symbols.specs.declared.known.Label as Listed
+use Rattle.symbols.specs.declared.known.Routine as Opened
+use Rattle.branch_parser.specs.declared.Target.{Target}
+use Rattle.branch_parser.specs.declared.Target.TheVariants.{Label, Entry, Exit}
 
 -- whether a name is one of the numbers known
-abbrev pub is_number_known : List ℕ → List ℕ → Bool
+abbrev pub is_number_known : Known → List ℕ → Bool
 is_number_known known = is_one_of (map name_of (number_keys known))
 
--- the step that a name with a tag leads to: a label's, behind the ROUTINE of a routine that is used, behind the ENDROUTINE of one declared
-abbrev pub step_to : (known : List ℕ) (tag : ℕ) → List ℕ → ℕ
-step_to known tag = cond (eqb tag 1) (places_in known).label (cond (eqb tag 2) (places_in known).entry (places_in known).exit)
+-- the step that a name leads to: a label's, behind the ROUTINE of a routine that is executed, behind the ENDROUTINE of one declared
+abbrev pub step_to : Known → Target → List ℕ → ℕ
+step_to known Label = (places_in known).label
+step_to known Entry = (places_in known).entry
+step_to known Exit = (places_in known).exit
 
--- the routine with a name: routine i, or none
-abbrev pub routine_at : List ℕ → List ℕ → Option ℕ → Routine
-routine_at known n None = record { name = n; entry = 0; exit = 0 }
-routine_at known n (Some i) = routine_in known i
+-- the steps of what is found, 0 for none
+abbrev pub step_found : Option Listed.Label → ℕ
+step_found (Some l) = l.step
+step_found None = 0
 
--- what stands in a column of the routines for routine i, 0 for none
-abbrev pub column_in : List ℕ → (from : ℕ) → Option ℕ → ℕ
-column_in known from None = 0
-column_in known from (Some i) = get_or known (from + i) 0
+abbrev pub entry_found : Option Opened.Routine → ℕ
+entry_found (Some r) = r.entry
+entry_found None = 0
 
--- the column has a place for the routine
-abbrev pub ColumnFits : (from : ℕ) → Option ℕ → Type 0
-ColumnFits from r = (i : ℕ) → r ≡ Some i → from + i < environment_size
+abbrev pub exit_found : Option Opened.Routine → ℕ
+exit_found (Some r) = r.exit
+exit_found None = 0
 
-pub record RoutineFound (known : List ℕ) (key : ℕ) (r : Option ℕ) : Type 0 where
-  pub inside : (i : ℕ) → r ≡ Some i → i < get_or known routine_count_at 0
-  pub is : routine_named (routines_in known) (name_of key) ≡ routine_at known (name_of key) r
+-- the routine found, with nothing but its name for none
+abbrev routine_or_none : List ℕ → Option Opened.Routine → Environment.Routine
+routine_or_none n (Some r) = routine_meaning r
+routine_or_none n None = record { name = n; entry = 0; exit = 0 }
 
--- the step of a label stands where its key does
-module _ (known : List ℕ) (key : ℕ) where
-  -- what stands at a place of n from i on, if it is one of them
-  abbrev step_found : (i n place : ℕ) → ℕ
-  step_found i n place = cond (ltb place n) (get_or known (label_steps_at + i + place) 0) 0
+-- the routines, the latest first
+latest_is : (rs : List Opened.Routine) → latest_first rs ≡ map routine_meaning (reverse rs)
+unfolding latest_first
+latest_is [] = refl
+latest_is (r ∷ rs) =
+    ap (λ (l : List Environment.Routine). l ++ (routine_meaning r ∷ [])) (latest_is rs)
+    ∙ sym (ap (map routine_meaning) (reverse-append (r ∷ []) rs) ∙ map-append routine_meaning (reverse rs) (r ∷ []))
 
-  pub label_place : (i n : ℕ) → label_keys_at + i + n ≤ length known
-      → step_of (labels_from known i n) (name_of key) ≡ step_found i n (key_place key (take n (drop (label_keys_at + i) known)))
-  unfolding step_of values_from label_in key_place
-  label_place i zero h = refl
-  label_place i (suc n) h =
-      let k = get_or known (label_keys_at + i) 0 in
-      let p = key_place key (take n (drop (label_keys_at + suc i) known)) in
-      let behind = step_of (labels_from known (suc i) n) (name_of key) in
-      let next : suc (label_keys_at + i) ≡ label_keys_at + suc i = omega arith in
-      let further : label_steps_at + suc i + p ≡ label_steps_at + i + suc p = omega arith in
-      let place : key_place key (take (suc n) (drop (label_keys_at + i) known)) ≡ elim (eqb key k) [ true ↦ 0 | false ↦ suc p ] =
-      ap (λ (l : List ℕ). key_place key (take (suc n) l)) (drop-cons known (label_keys_at + i) 0 (omega arith))
-      ∙ ap (λ m. elim (eqb key k) [ true ↦ 0 | false ↦ suc (key_place key (take n (drop m known))) ]) next in
-      ap {B = ℕ} (λ t. elim t [ true ↦ get_or known (label_steps_at + i) 0 | false ↦ behind ]) (name-same key k)
+module _ (known : Known) (key : ℕ) where
+  -- a name is tested by its key
+  tested : (k : ℕ) → same (name_of key) (name_of k) ≡ (k == key)
+  tested k = name-same key k ∙ grind (arith, nat_tests)
+
+  label_place : (ls : List Listed.Label) → step_of (map label_meaning ls) (name_of key) ≡ step_found (find (λ l. l.key == key) ls)
+  unfolding step_of label_meaning
+  label_place [] = refl
+  label_place (l ∷ ls) =
+      let other = step_of (map label_meaning ls) (name_of key) in
+      ap {B = ℕ} (λ t. elim t [ true ↦ l.step | false ↦ other ]) (tested l.key)
       ∙ test_cases
-      (λ t. ◌≡◌ {A = ℕ} (elim t [ true ↦ get_or known (label_steps_at + i) 0 | false ↦ behind ]) (step_found i (suc n) (elim t [ true ↦ 0 | false ↦ suc p ])))
-      (eqb key k)
-      (λ _. ap₂ (λ (b : Bool) (m : ℕ). cond b (get_or known m 0) 0) (sym (lt-ltb 0 (suc n) (omega arith))) (sym (add-zero (label_steps_at + i))))
-      (λ _.
-      label_place (suc i) n (omega arith)
-      ∙ ap₂ (λ (b : Bool) (m : ℕ). cond b (get_or known m 0) 0) (sym (leb-suc-suc (suc p) n)) further)
-      ∙ sym (ap (step_found i (suc n)) place)
+      (λ t. ◌≡◌ {A = ℕ} (elim t [ true ↦ l.step | false ↦ other ]) (step_found (cond t (Some l) (find (λ l. l.key == key) ls)))) (l.key == key)
+      (λ _. refl) (λ _. label_place ls)
 
-  -- of all labels: found, or not
-  module _ (size : length known ≡ environment_size) (few : get_or known label_count_at 0 ≤ 65) where
-    abbrev labelled : ℕ
-    labelled = key_place key (take (get_or known label_count_at 0) (drop label_keys_at known))
+  routine_place : (rs : List Opened.Routine)
+      → routine_named (map routine_meaning rs) (name_of key) ≡ routine_or_none (name_of key) (find (λ r. r.key == key) rs)
+  unfolding routine_named routine_meaning
+  routine_place [] = refl
+  routine_place (r ∷ rs) =
+      let other = routine_named (map routine_meaning rs) (name_of key) in
+      ap {B = Environment.Routine} (λ t. elim t [ true ↦ routine_meaning r | false ↦ other ]) (tested r.key)
+      ∙ test_cases
+      (λ t.
+      ◌≡◌ {A = Environment.Routine} (elim t [ true ↦ routine_meaning r | false ↦ other ])
+      (routine_or_none (name_of key) (cond t (Some r) (find (λ r. r.key == key) rs))))
+      (r.key == key) (λ _. refl) (λ _. routine_place rs)
 
-    label_is : (places_in known).label (name_of key) ≡ step_found 0 (get_or known label_count_at 0) labelled
-    unfolding places_in labels_in
-    label_is = label_place 0 (get_or known label_count_at 0) (omega arith)
-
-    pub label_found : {i : ℕ} → i ≡ labelled → i < get_or known label_count_at 0 → get_or known (label_steps_at + i) 0 ≡ (places_in known).label (name_of key)
-    label_found {i} e h =
-        sym
-        (label_is
-        ∙ ap (step_found 0 (get_or known label_count_at 0)) (sym e)
-        ∙ ap (λ b. cond b (get_or known (label_steps_at + i) 0) 0) (lt-ltb i (get_or known label_count_at 0) h))
-
-    pub label_none : {i : ℕ} → i ≡ labelled → get_or known label_count_at 0 ≤ i → 0 ≡ (places_in known).label (name_of key)
-    label_none {i} e h =
-        sym
-        (label_is
-        ∙ ap (step_found 0 (get_or known label_count_at 0)) (sym e)
-        ∙ ap (λ b. cond b (get_or known (label_steps_at + i) 0) 0) (le-ltb i (get_or known label_count_at 0) h))
-
--- the number of an option, or another
-abbrev option_or : ℕ → Option ℕ → ℕ
-option_or n (Some i) = i
-option_or n None = n
-
--- routines one by one, the latest first
-module _ (known : List ℕ) (key : ℕ) where
-  -- the routines from i on are others
-  pub record RoutinesPassed (i : ℕ) : Type 0 where
-    pub inside : i ≤ get_or known routine_count_at 0
-    pub is : routine_named (routines_in known) (name_of key) ≡ routine_named (routines_down known i) (name_of key)
-
-  pub routines-start : RoutinesPassed (get_or known routine_count_at 0)
+  latest_named : routine_named (routines_in known) (name_of key)
+      ≡ routine_or_none (name_of key) (find (λ r. r.key == key) (reverse known.routines.items))
   unfolding routines_in
-  routines-start = record { inside = omega arith; is = refl }
+  latest_named =
+      ap (λ (l : List Environment.Routine). routine_named l (name_of key)) (latest_is known.routines.items)
+      ∙ routine_place (reverse known.routines.items)
 
-  turned : (i : ℕ) (b : Bool) → eqb key (get_or known (routine_keys_at + i) 0) ≡ b
-      → routine_named (routines_down known (suc i)) (name_of key)
-      ≡ elim b [ true ↦ routine_in known i | false ↦ routine_named (routines_down known i) (name_of key) ]
-  unfolding routine_named routines_down routine_in
-  turned i b e =
-      ap {B = Routine} (λ (t : Bool). elim t [ true ↦ routine_in known i | false ↦ routine_named (routines_down known i) (name_of key) ])
-      (name-same key (get_or known (routine_keys_at + i) 0) ∙ e)
+  -- the step of the label found, and those of the routine found
+  pub label_leads : step_found (find (λ l. l.key == key) known.labels.items) ≡ step_to known Label (name_of key)
+  unfolding places_in labels_in
+  label_leads = sym (label_place known.labels.items)
 
-  -- routine i has the name, or another
-  pub routines-here : {i n : ℕ} → n ≡ suc i → RoutinesPassed n → get_or known (routine_keys_at + i) 0 ≡ key → RoutineFound known key (Some i)
-  routines-here {i} {n} at p e =
-      let q = subst RoutinesPassed at p in
-      record {
-        inside = λ j same. omega (arith, q.inside, ap (option_or i) same);
-        is = q.is ∙ turned i true (eq-eqb key (get_or known (routine_keys_at + i) 0) (sym e));
-      }
+  abbrev latest : Option Opened.Routine
+  latest = find (λ r. r.key == key) (reverse known.routines.items)
 
-  pub routines-more : {i n : ℕ} → n ≡ suc i → RoutinesPassed n → (get_or known (routine_keys_at + i) 0 ≡ key → ⊥) → RoutinesPassed i
-  routines-more {i} {n} at p f =
-      let q = subst RoutinesPassed at p in
-      record {
-        inside = omega (arith, q.inside);
-        is = q.is ∙ turned i false (ne_eqb key (get_or known (routine_keys_at + i) 0) (λ e. f (sym e)));
-      }
+  entry_is : (r : Option Opened.Routine) → entry_found r ≡ (routine_or_none (name_of key) r).entry
+  unfolding routine_meaning
+  entry_is (Some r) = refl
+  entry_is None = refl
 
-  pub routines-all : {n : ℕ} → n ≡ 0 → RoutinesPassed n → RoutineFound known key None
-  unfolding routine_named routines_down
-  routines-all at p =
-      let q = subst RoutinesPassed at p in
-      record { inside = λ j same. absurd (false≢true (ap is_some same)); is = q.is }
+  exit_is : (r : Option Opened.Routine) → exit_found r ≡ (routine_or_none (name_of key) r).exit
+  unfolding routine_meaning
+  exit_is (Some r) = refl
+  exit_is None = refl
 
-  -- what is found, by its place
-  pub entry_found : (r : Option ℕ) → RoutineFound known key r → column_in known 292 r ≡ (places_in known).entry (name_of key)
-  unfolding places_in routine_in
-  entry_found None f = sym (ap (λ (x : Routine). x.entry) f.is)
-  entry_found (Some i) f = sym (ap (λ (x : Routine). x.entry) f.is)
+  pub entry_leads : entry_found latest ≡ step_to known Entry (name_of key)
+  unfolding places_in
+  entry_leads = entry_is latest ∙ ap (λ (q : Environment.Routine). q.entry) (sym latest_named)
 
-  pub exit_found : (r : Option ℕ) → RoutineFound known key r → column_in known 309 r ≡ (places_in known).exit (name_of key)
-  unfolding places_in routine_in
-  exit_found None f = sym (ap (λ (x : Routine). x.exit) f.is)
-  exit_found (Some i) f = sym (ap (λ (x : Routine). x.exit) f.is)
-
--- the step by its tag
-module _ (known : List ℕ) {tag step : ℕ} (n : List ℕ) where
-  pub step_tagged : {u : ℕ} → tag ≡ u → step ≡ step_to known u n → step ≡ step_to known tag n
-  step_tagged e h = subst (λ t. step ≡ step_to known t n) (sym e) h
-
-  pub step_exit : (tag ≡ 1 → ⊥) → (tag ≡ 2 → ⊥) → step ≡ (places_in known).exit n → step ≡ step_to known tag n
-  step_exit f g h = rw (ne_eqb tag 1 f, ne_eqb tag 2 g) h
+  pub exit_leads : exit_found latest ≡ step_to known Exit (name_of key)
+  unfolding places_in
+  exit_leads = exit_is latest ∙ ap (λ (q : Environment.Routine). q.exit) (sym latest_named)

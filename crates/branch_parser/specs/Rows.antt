@@ -4,33 +4,31 @@ use Rattle.std.proofs.Common.{sym, subst}
 use Rattle.encoding.specs.Table as Table
 use Rattle.syntax.specs.Parsing.{Parsed, broken}
 use Rattle.symbols.specs.declared.Cursor.{Cursor}
-use Rattle.numeric_parser.specs.Operands.{Gets, meaning}
-use Rattle.branch_parser.specs.declared.Row.{Row}
+use Rattle.symbols.specs.declared.Mentioned.{Mentioned}
+use Rattle.encoding.specs.Meaning.{row_meaning}
+use Rattle.numeric_parser.specs.Operands.{Gets}
+use Rattle.encoding.specs.declared.cells.Row.{Row}
 
--- the row of the table that a row of the code stands for
-abbrev pub draft_meaning : Row → Table.Row
-draft_meaning r = Table.row_with r.kind r.flag r.success r.failure (meaning r.left) (meaning r.right)
+abbrev pub DraftAnswer : {A : Type 0} (f : A → Table.Row) (text : List ℕ) (m : Mentioned) (c : Cursor) → Parsed A → Option (Row × Cursor)
+    → (m' : Mentioned) → Type 0
+DraftAnswer f text m c x (Some (row, d)) m' = Gets f (row_meaning row) text m c x m' d
+DraftAnswer f text m c x None m' = x ≡ broken
 
-abbrev pub DraftAnswer : {A : Type 0} (f : A → Table.Row) (text keys tags : List ℕ) (c : Cursor) → Parsed A → Option (Row × Cursor)
-    → (keys' tags' : List ℕ) → Type 0
-DraftAnswer f text keys tags c x (Some (row, d)) keys' tags' = Gets f (draft_meaning row) text keys tags c x keys' tags' d
-DraftAnswer f text keys tags c x None keys' tags' = x ≡ broken
-
-pub record DraftRead {A : Type 0} (f : A → Table.Row) (text keys tags : List ℕ) (c : Cursor) (x : Parsed A) (r : Option (Row × Cursor))
-    (keys' tags' : List ℕ) : Type 0 where
-  pub answer : DraftAnswer f text keys tags c x r keys' tags'
+pub record DraftRead {A : Type 0} (f : A → Table.Row) (text : List ℕ) (m : Mentioned) (c : Cursor) (x : Parsed A) (r : Option (Row × Cursor))
+    (m' : Mentioned) : Type 0 where
+  pub answer : DraftAnswer f text m c x r m'
 
 -- a broken form
-pub draft_lost : {A : Type 0} {f : A → Table.Row} {text keys tags : List ℕ} {c : Cursor} {x : Parsed A} {r : Option (Row × Cursor)}
-    {k t : List ℕ} → r ≡ None → x ≡ broken → DraftRead f text keys tags c x r k t
-draft_lost {f = f} {text} {keys} {tags} {c} {x} {k = k} {t} e h =
-    subst (λ z. DraftRead f text keys tags c x z k t) (sym e) (record { answer = h })
+pub draft_lost : {A : Type 0} {f : A → Table.Row} {text : List ℕ} {m : Mentioned} {c : Cursor} {x : Parsed A} {r : Option (Row × Cursor)}
+    {m₁ : Mentioned} → r ≡ None → x ≡ broken → DraftRead f text m c x r m₁
+draft_lost {f = f} {text} {m} {c} {x} {m₁ = m₁} e h =
+    subst (λ z. DraftRead f text m c x z m₁) (sym e) (record { answer = h })
 
 -- by the same answer, and by the same reading
-pub draft_ends : {A : Type 0} {f : A → Table.Row} {text keys tags : List ℕ} {c : Cursor} {x : Parsed A} {q r : Option (Row × Cursor)} {k t : List ℕ} → q ≡ r
-    → DraftRead f text keys tags c x r k t → DraftRead f text keys tags c x q k t
-draft_ends {f = f} {text} {keys} {tags} {c} {x} {k = k} {t} e a = subst (λ z. DraftRead f text keys tags c x z k t) (sym e) a
+pub draft_ends : {A : Type 0} {f : A → Table.Row} {text : List ℕ} {m : Mentioned} {c : Cursor} {x : Parsed A} {q r : Option (Row × Cursor)}
+    {m₁ : Mentioned} → q ≡ r → DraftRead f text m c x r m₁ → DraftRead f text m c x q m₁
+draft_ends {f = f} {text} {m} {c} {x} {m₁ = m₁} e a = subst (λ z. DraftRead f text m c x z m₁) (sym e) a
 
-pub draft_same : {A : Type 0} {f : A → Table.Row} {text keys tags : List ℕ} {c : Cursor} {x y : Parsed A} {r : Option (Row × Cursor)} {k t : List ℕ} → x ≡ y
-    → DraftRead f text keys tags c y r k t → DraftRead f text keys tags c x r k t
-draft_same {f = f} {text} {keys} {tags} {c} {r = r} {k} {t} e a = subst (λ z. DraftRead f text keys tags c z r k t) (sym e) a
+pub draft_same : {A : Type 0} {f : A → Table.Row} {text : List ℕ} {m : Mentioned} {c : Cursor} {x y : Parsed A} {r : Option (Row × Cursor)}
+    {m₁ : Mentioned} → x ≡ y → DraftRead f text m c y r m₁ → DraftRead f text m c x r m₁
+draft_same {f = f} {text} {m} {c} {r = r} {m₁} e a = subst (λ z. DraftRead f text m c z r m₁) (sym e) a

@@ -12,10 +12,13 @@ use Rattle.syntax.specs.Parsing.{Parsed, broken, ◌>>=◌, succeed}
 use Rattle.syntax.specs.Lexemes.{Resolution, signed}
 use Rattle.symbols.specs.Environment.{places_in}
 use Rattle.symbols.specs.declared.Cursor.{Cursor}
-use Rattle.numeric_parser.specs.Operands.{OperandRead, meaning, behind_mark}
-use Rattle.numeric_parser.specs.declared.operands.Cell.{Cell}
+use Rattle.symbols.specs.declared.Mentioned.{Mentioned}
+use Rattle.symbols.specs.declared.known.Known.{Known}
+use Rattle.encoding.specs.Meaning.{cell_meaning}
+use Rattle.numeric_parser.specs.Operands.{OperandRead, behind_mark}
+use Rattle.encoding.specs.declared.cells.Cell.{Cell}
 use Rattle.branch_parser.specs.Rows.{DraftRead}
-use Rattle.branch_parser.specs.declared.Row.{Row}
+use Rattle.encoding.specs.declared.cells.Row.{Row}
 use Rattle.branch_parser.specs.declared.tests.Sign.{Sign}
 
 -- a sign stands at a place, and the code's value says which
@@ -43,7 +46,7 @@ test_alone t = statement_row 0 0 (if_test t nowhere)
 -- a row of a kind with one cell
 abbrev pub one_cell : ℕ → Cell → Row
 one_cell kind v =
-    record { kind = kind; flag = 0; success = 0; failure = 0; left = v; right = record { kind = 0; place = 0; value = 0 } }
+    record { kind = kind; flag = 0; branch = record { success = 0; failure = 0 }; left = v; right = record { kind = 0; place = 0; value = 0 } }
 
 -- a row with a cursor, if there is one
 abbrev pub rowed_at : Row → Option Cursor → Option (Row × Cursor)
@@ -68,20 +71,21 @@ comparing_at p bs = do
   compared_to p a rest
 
 -- each reader at the cursor
-abbrev pub SignedRead : (text keys tags : List ℕ) (c : Cursor) → Option (Cell × Cursor) → Type 0
-SignedRead text keys tags c r =
-    OperandRead (λ z. Table.cell constant_kind.number 0 (biased z)) text keys tags c (signed current (drop c.at text)) r keys tags
+abbrev pub SignedRead : (text : List ℕ) (m : Mentioned) (c : Cursor) → Option (Cell × Cursor) → Type 0
+SignedRead text m c r =
+    OperandRead (λ z. Table.cell constant_kind.number 0 (biased z)) text m c (signed current (drop c.at text)) r m
 
-abbrev pub IfOperandRead : (text known keys tags : List ℕ) (c : Cursor) → Option (Cell × Cursor) → (keys' tags' : List ℕ) → Type 0
-IfOperandRead text known keys tags c = OperandRead operand_cell text keys tags c (if_operand current (places_in known) (drop c.at text))
+abbrev pub IfOperandRead : (text : List ℕ) (known : Known) (m : Mentioned) (c : Cursor) → Option (Cell × Cursor) → (m' : Mentioned) → Type 0
+IfOperandRead text known m c = OperandRead operand_cell text m c (if_operand current (places_in known) (drop c.at text))
 
-abbrev pub ComparedRead : (text known keys tags : List ℕ) (c : Cursor) (left : Cell) → Option (Row × Cursor) → (keys' tags' : List ℕ) → Type 0
-ComparedRead text known keys tags c left r keys' tags' =
-    (a : Program.Operand) → operand_cell a ≡ meaning left
-    → DraftRead test_alone text keys tags c (compared_to (places_in known) a (drop c.at text)) r keys' tags'
+abbrev pub ComparedRead : (text : List ℕ) (known : Known) (m : Mentioned) (c : Cursor) (left : Cell) → Option (Row × Cursor)
+    → (m' : Mentioned) → Type 0
+ComparedRead text known m c left r m' =
+    (a : Program.Operand) → operand_cell a ≡ cell_meaning left
+    → DraftRead test_alone text m c (compared_to (places_in known) a (drop c.at text)) r m'
 
-abbrev pub ComparingRead : (text known keys tags : List ℕ) (c : Cursor) → Option (Row × Cursor) → (keys' tags' : List ℕ) → Type 0
-ComparingRead text known keys tags c = DraftRead test_alone text keys tags c (comparing_at (places_in known) (drop c.at text))
+abbrev pub ComparingRead : (text : List ℕ) (known : Known) (m : Mentioned) (c : Cursor) → Option (Row × Cursor) → (m' : Mentioned) → Type 0
+ComparingRead text known m c = DraftRead test_alone text m c (comparing_at (places_in known) (drop c.at text))
 
-abbrev pub TestRead : (text known keys tags : List ℕ) (c : Cursor) → Option (Row × Cursor) → (keys' tags' : List ℕ) → Type 0
-TestRead text known keys tags c = DraftRead test_alone text keys tags c (test current (places_in known) (drop c.at text))
+abbrev pub TestRead : (text : List ℕ) (known : Known) (m : Mentioned) (c : Cursor) → Option (Row × Cursor) → (m' : Mentioned) → Type 0
+TestRead text known m c = DraftRead test_alone text m c (test current (places_in known) (drop c.at text))

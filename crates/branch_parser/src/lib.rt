@@ -1,40 +1,37 @@
 // Names that lead to steps, branch fields and the tests of IF, each read into what the row of a statement has of them.
 // Assumes nothing.
+// kept: text, names, table and cursor are passed one by one, with ReaderReady as a clause, as numeric_parser/operands says
 #![tactic(auto)]
 
 pub mod places;
 pub mod tests;
 
-ghost use Rattle.branch_parser.specs.Branches.{TargetTag, TargetRead, FailureRead, TargetsRead, BranchRead};
-ghost use Rattle.symbols.specs.Environment.{CountsInRange};
+ghost use Rattle.std.specs.Prelude.{◌≡◌};
+ghost use Rattle.branch_parser.specs.Branches.{target_tag, TargetRead, FailureRead, TargetsRead, BranchRead};
 ghost use Rattle.numeric_parser.specs.Operands.{ReaderReady};
 
 use encoding::cell_kinds;
+use encoding::cells::{Branch, Cell, Row};
 use lexer::stands_at;
-use numeric_parser::operands::{Cell, marked, read_name, skip};
-use places::{next_step, target_step};
-use symbols::tags::LABEL;
-use symbols::{Cursor, KNOWN, NAMES};
-
-// a row of the table but for its card: kind, flag, the steps of the branch field, two cells
-#[derive(Clone, Copy)]
-pub struct Row {
-    pub kind: u8,
-    pub flag: u8,
-    pub success: usize,
-    pub failure: usize,
-    pub left: Cell,
-    pub right: Cell,
-}
+use numeric_parser::operands::{marked, read_name, skip};
+use places::target_step;
+use symbols::known::Known;
+use symbols::tags::Tag;
+use symbols::{Cursor, Mentioned};
 
 // a row of which nothing is known yet
 pub const BLANK: Row = Row {
     kind: 0,
     flag: 0,
-    success: 0,
-    failure: 0,
+    branch: NOWHERE,
     left: NOTHING,
     right: NOTHING,
+};
+
+// no steps
+const NOWHERE: Branch = Branch {
+    success: 0,
+    failure: 0,
 };
 
 // a cell that has nothing
@@ -44,67 +41,74 @@ const NOTHING: Cell = Cell {
     value: 0,
 };
 
-// the steps of a branch field
+// a name that leads to a step: a label, a routine executed, which leads behind its ROUTINE, and one declared, which leads behind its ENDROUTINE
 #[derive(Clone, Copy)]
-pub struct Branch {
-    pub success: usize,
-    pub failure: usize,
+pub enum Target {
+    Label,
+    Entry,
+    Exit,
 }
 
-// a name with a tag that leads to a step
+impl Target {
+    // what the name is mentioned as
+    pub fn tag(self) -> Tag
+        ensures { result ≡ target_tag self }
+    {
+        match self {
+            Target::Label => Tag::LabelUsed,
+            Target::Entry => Tag::RoutineUsed,
+            Target::Exit => Tag::RoutineDeclared,
+        }
+    }
+}
+
+// a name that leads to a step
 pub fn read_target(
     text: &[u8],
-    known: &[u64; KNOWN],
-    keys: &mut [u64; NAMES],
-    tags: &mut [u8; NAMES],
+    known: &Known,
+    mentioned: &mut Mentioned,
     c: Cursor,
-    tag: u8,
+    target: Target,
 ) -> Option<(usize, Cursor)>
-    requires reader_ready { ReaderReady text.now keys.old tags.old c }
-    requires counts_in_range { CountsInRange known.now }
-    requires target_tag { TargetTag tag }
-    ensures { TargetRead text.now known.now keys.old tags.old c tag result keys.new tags.new }
+    requires { ReaderReady text.now c }
+    ensures { TargetRead text.now known.now mentioned.old c target result mentioned.new }
 {
-    let (key, d) = read_name(text, keys, tags, c, tag)?;
-    Some((target_step(known, key, tag), d))
+    let (key, d) = read_name(text, mentioned, c, target.tag())?;
+    Some((target_step(known, key, target), d))
 }
 
 // the label on failure, beside the step on success
 fn read_failure(
     text: &[u8],
-    known: &[u64; KNOWN],
-    keys: &mut [u64; NAMES],
-    tags: &mut [u8; NAMES],
+    known: &Known,
+    mentioned: &mut Mentioned,
     c: Cursor,
     success: usize,
 ) -> Option<(Branch, Cursor)>
-    requires reader_ready { ReaderReady text.now keys.old tags.old c }
-    requires counts_in_range { CountsInRange known.now }
-    ensures { FailureRead text.now known.now keys.old tags.old c success result keys.new tags.new }
+    requires { ReaderReady text.now c }
+    ensures { FailureRead text.now known.now mentioned.old c success result mentioned.new }
 {
-    let (failure, d) = read_target(text, known, keys, tags, c, LABEL)?;
+    let (failure, d) = read_target(text, known, mentioned, c, Target::Label)?;
     Some((Branch { success, failure }, d))
 }
 
 // a branch field behind its `/`: one left out is the next step
 fn read_targets(
     text: &[u8],
-    known: &[u64; KNOWN],
-    keys: &mut [u64; NAMES],
-    tags: &mut [u8; NAMES],
+    known: &Known,
+    mentioned: &mut Mentioned,
     c: Cursor,
 ) -> Option<(Branch, Cursor)>
-    requires reader_ready { ReaderReady text.now keys.old tags.old c }
-    requires counts_in_range { CountsInRange known.now }
-    ensures { TargetsRead text.now known.now keys.old tags.old c result keys.new tags.new }
+    requires { ReaderReady text.now c }
+    ensures { TargetsRead text.now known.now mentioned.old c result mentioned.new }
 {
-    let next = next_step(known);
+    let next = known.next;
     if stands_at(text, c.at, b',') {
-        return read_failure(text, known, keys, tags, skip(c, 1), next);
+        return read_failure(text, known, mentioned, skip(c, 1), next);
     }
-    let (success, d) = read_target(text, known, keys, tags, c, LABEL)?;
+    let (success, d) = read_target(text, known, mentioned, c, Target::Label)?;
     if stands_at(text, d.at, b',') {
-        return read_failure(text, known, keys, tags, skip(d, 1), success);
+        return read_failure(text, known, mentioned, skip(d, 1), success);
     }
     let failure = next;
     Some((Branch { success, failure }, d))
@@ -113,15 +117,13 @@ fn read_targets(
 // a branch field
 pub fn read_branch(
     text: &[u8],
-    known: &[u64; KNOWN],
-    keys: &mut [u64; NAMES],
-    tags: &mut [u8; NAMES],
+    known: &Known,
+    mentioned: &mut Mentioned,
     c: Cursor,
 ) -> Option<(Branch, Cursor)>
-    requires reader_ready { ReaderReady text.now keys.old tags.old c }
-    requires counts_in_range { CountsInRange known.now }
-    ensures { BranchRead text.now known.now keys.old tags.old c result keys.new tags.new }
+    requires { ReaderReady text.now c }
+    ensures { BranchRead text.now known.now mentioned.old c result mentioned.new }
 {
     let d = marked(text, c, b'/')?;
-    read_targets(text, known, keys, tags, d)
+    read_targets(text, known, mentioned, d)
 }

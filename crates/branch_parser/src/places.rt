@@ -1,84 +1,40 @@
-// The steps that labels and routines lead to, and whether a name is a number's, by the names known.
+// The steps that labels and routines lead to, by the names known.
 // Assumes nothing.
-ghost use Rattle.std.specs.Prelude.{◌≡◌, ◌+◌, ◌≤◌, length};
-ghost use Rattle.branch_parser.specs.Places.{is_number_known, step_to, RoutineFound, ColumnFits, column_in};
+ghost use Rattle.std.specs.Prelude.{◌==◌, reverse, ◌≡◌};
+ghost use Rattle.std.specs.List.{find};
+ghost use Rattle.branch_parser.specs.Places.{step_to};
 ghost use Rattle.symbols.specs.Entries.{name_of};
-ghost use Rattle.symbols.specs.Environment.{CountsInRange, places_in, environment_size};
 
-use symbols::places::{
-    ENTRIES, EXITS, LABEL_COUNT, LABEL_KEYS, LABEL_STEPS, NEXT, NUMBER_COUNT, NUMBER_KEYS,
-    ROUTINE_COUNT, ROUTINE_KEYS,
-};
-use symbols::tags::{LABEL, ROUTINE};
-use symbols::{KNOWN, has_key, key_place};
+use crate::Target;
+use symbols::known::{Known, Label, Routine};
 
-// the step of a label, 0 for none
-// kept: 0 for none in steps, as the rows of the table have it, where the steps go
-fn label_step(known: &[u64; KNOWN], key: u64) -> usize
-    requires { CountsInRange known.now }
-    ensures { result ≡ (places_in known.now).label (name_of key) }
+// the label that has a name, if one has it
+fn label_found(known: &Known, key: u64) -> Option<Label>
+    ensures { result ≡ find (λ l. l.key == key) known.now.labels.items }
 {
-    let count = known[LABEL_COUNT] as usize;
-    let i = key_place(known, LABEL_KEYS, count, key);
-    if i < count {
-        return known[LABEL_STEPS + i] as usize;
-    }
-    0
+    known.labels.iter().find(|label| label.key == key).copied()
 }
 
 // the latest routine that has a name, if one has it
-fn routine_found(known: &[u64; KNOWN], key: u64) -> Option<usize>
-    requires { CountsInRange known.now }
-    ensures { RoutineFound known.now key result }
+fn routine_found(known: &Known, key: u64) -> Option<Routine>
+    ensures { result ≡ find (λ r. r.key == key) (reverse known.now.routines.items) }
 {
-    let count = known[ROUTINE_COUNT] as usize;
-    for i in (0..count).rev() {
-        if known[ROUTINE_KEYS + i] == key {
-            return Some(i);
-        }
-    }
-    None
+    known
+        .routines
+        .iter()
+        .rev()
+        .find(|routine| routine.key == key)
+        .copied()
 }
 
-// what stands in a column of the routines for one of them, 0 for none
-fn column_of(known: &[u64; KNOWN], from: usize, routine: Option<usize>) -> usize
-    requires { (length known.now ≡ environment_size) × ColumnFits from routine }
-    ensures { result ≡ column_in known.now from routine }
+// the step that a name leads to, 0 for none
+// kept: 0 and no Option: the first pass meets names of no step yet, and the row's bytes, where the answer goes, have a number in any case
+pub fn target_step(known: &Known, key: u64, target: Target) -> usize
+    ensures { result ≡ step_to known.now target (name_of key) }
 {
-    match routine {
-        Some(i) => known[from + i] as usize,
-        None => 0,
+    match target {
+        Target::Label => label_found(known, key).map_or(0, |label| label.step),
+        Target::Entry => routine_found(known, key).map_or(0, |routine| routine.entry),
+        Target::Exit => routine_found(known, key).map_or(0, |routine| routine.exit),
     }
-}
-
-// the step that a name with a tag leads to, 0 for none
-pub fn target_step(known: &[u64; KNOWN], key: u64, tag: u8) -> usize
-    requires { CountsInRange known.now }
-    ensures { result ≡ step_to known.now tag (name_of key) }
-{
-    if tag == LABEL {
-        return label_step(known, key);
-    }
-    let routine = routine_found(known, key);
-    if tag == ROUTINE {
-        return column_of(known, ENTRIES, routine);
-    }
-    column_of(known, EXITS, routine)
-}
-
-// the step behind the statement that is read
-pub fn next_step(known: &[u64; KNOWN]) -> usize
-    requires { CountsInRange known.now }
-    ensures { result ≡ (places_in known.now).next }
-{
-    known[NEXT] as usize
-}
-
-// whether a name is one of the numbers known
-pub fn number_known(known: &[u64; KNOWN], key: u64) -> bool
-    requires { CountsInRange known.now }
-    ensures { result ≡ is_number_known known.now (name_of key) }
-{
-    let count = known[NUMBER_COUNT] as usize;
-    has_key(known, NUMBER_KEYS, count, key)
 }

@@ -1,19 +1,20 @@
 // The tests of IF: NULL, NUMERIC, or two operands and a sign.
 // Assumes nothing.
-ghost use Rattle.std.specs.Prelude.{List, Some, ◌≡◌, ℕ, ◌≤◌, length};
+ghost use Rattle.std.specs.Prelude.{Some, ◌≡◌, ◌≤◌};
 ghost use Rattle.branch_parser.specs.Tests.{ComparisonAt, SignedRead, IfOperandRead, tested_by, ComparedRead, ComparingRead, TestRead};
-ghost use Rattle.symbols.specs.Environment.{CountsInRange};
 ghost use Rattle.numeric_parser.specs.Operands.{ReaderReady, InText};
 
-use crate::{BLANK, Row};
+use crate::BLANK;
+use encoding::cells::{Cell, Row};
 use encoding::{cell_kinds, step_kinds};
 use lexer::constants::signed;
 use lexer::{begins_at, constant_at, stands_at};
-use numeric_parser::operands::{Cell, marked, read_called, read_part, read_string, skip};
-use symbols::tags::STRING;
-use symbols::{Cursor, KNOWN, NAMES, with_bias};
+use numeric_parser::operands::{marked, read_called, read_part, read_string, skip};
+use symbols::known::Known;
+use symbols::{Cursor, Mentioned, with_bias};
 
 // the sign of a comparison: its number, and how many bytes it has
+// kept: the sign is the number that the row's flag gets, a table's byte: an enum would be made here and opened where the row is made
 #[derive(Clone, Copy)]
 struct Sign {
     number: u8,
@@ -48,7 +49,7 @@ fn comparison(text: &[u8], at: usize) -> Option<Sign>
 // a constant that may have a sign
 fn signed_constant(text: &[u8], c: Cursor) -> Option<(Cell, Cursor)>
     requires { InText text.now c }
-    ensures { (keys tags : List ℕ) → ReaderReady text.now keys tags c → SignedRead text.now keys tags c result }
+    ensures { (m : Mentioned) → ReaderReady text.now c → SignedRead text.now m c result }
 {
     let at = c.at;
     let number = signed(text, at)?;
@@ -63,36 +64,32 @@ fn signed_constant(text: &[u8], c: Cursor) -> Option<(Cell, Cursor)>
 // a signed constant, a number, LENGTH or NUMBER
 fn if_operand(
     text: &[u8],
-    known: &[u64; KNOWN],
-    keys: &mut [u64; NAMES],
-    tags: &mut [u8; NAMES],
+    known: &Known,
+    mentioned: &mut Mentioned,
     c: Cursor,
 ) -> Option<(Cell, Cursor)>
-    requires reader_ready { ReaderReady text.now keys.old tags.old c }
-    requires counts_in_range { CountsInRange known.now }
-    ensures { IfOperandRead text.now known.now keys.old tags.old c result keys.new tags.new }
+    requires { ReaderReady text.now c }
+    ensures { IfOperandRead text.now known.now mentioned.old c result mentioned.new }
 {
     if constant_at(text, c.at) {
         return signed_constant(text, c);
     }
-    read_called(text, known, keys, tags, c)
+    read_called(text, known, mentioned, c)
 }
 
 // a sign and the operand behind it
 fn compared(
     text: &[u8],
-    known: &[u64; KNOWN],
-    keys: &mut [u64; NAMES],
-    tags: &mut [u8; NAMES],
+    known: &Known,
+    mentioned: &mut Mentioned,
     c: Cursor,
     left: Cell,
 ) -> Option<(Row, Cursor)>
-    requires reader_ready { ReaderReady text.now keys.old tags.old c }
-    requires counts_in_range { CountsInRange known.now }
-    ensures { ComparedRead text.now known.now keys.old tags.old c left result keys.new tags.new }
+    requires { ReaderReady text.now c }
+    ensures { ComparedRead text.now known.now mentioned.old c left result mentioned.new }
 {
     let sign = comparison(text, c.at)?;
-    let (right, d) = if_operand(text, known, keys, tags, skip(c, sign.size))?;
+    let (right, d) = if_operand(text, known, mentioned, skip(c, sign.size))?;
     let row = Row {
         kind: step_kinds::COMPARE,
         flag: sign.number,
@@ -106,17 +103,15 @@ fn compared(
 // two operands and a sign
 fn comparing(
     text: &[u8],
-    known: &[u64; KNOWN],
-    keys: &mut [u64; NAMES],
-    tags: &mut [u8; NAMES],
+    known: &Known,
+    mentioned: &mut Mentioned,
     c: Cursor,
 ) -> Option<(Row, Cursor)>
-    requires reader_ready { ReaderReady text.now keys.old tags.old c }
-    requires counts_in_range { CountsInRange known.now }
-    ensures { ComparingRead text.now known.now keys.old tags.old c result keys.new tags.new }
+    requires { ReaderReady text.now c }
+    ensures { ComparingRead text.now known.now mentioned.old c result mentioned.new }
 {
-    let (left, d) = if_operand(text, known, keys, tags, c)?;
-    compared(text, known, keys, tags, d, left)
+    let (left, d) = if_operand(text, known, mentioned, c)?;
+    compared(text, known, mentioned, d, left)
 }
 
 // a test of one cell, if `)` stands behind it
@@ -138,18 +133,16 @@ fn tested(text: &[u8], kind: u8, left: Cell, c: Cursor) -> Option<(Row, Cursor)>
 // the test of an IF, as a row with no steps yet
 pub fn read_test(
     text: &[u8],
-    known: &[u64; KNOWN],
-    keys: &mut [u64; NAMES],
-    tags: &mut [u8; NAMES],
+    known: &Known,
+    mentioned: &mut Mentioned,
     c: Cursor,
 ) -> Option<(Row, Cursor)>
-    requires reader_ready { ReaderReady text.now keys.old tags.old c }
-    requires counts_in_range { CountsInRange known.now }
-    ensures { TestRead text.now known.now keys.old tags.old c result keys.new tags.new }
+    requires { ReaderReady text.now c }
+    ensures { TestRead text.now known.now mentioned.old c result mentioned.new }
 {
     let at = c.at;
     if begins_at(text, at, b"NULL(") {
-        let (place, d) = read_string(text, known, keys, tags, skip(c, 5), STRING)?;
+        let (place, d) = read_string(text, known, mentioned, skip(c, 5), None)?;
         let cell = Cell {
             kind: cell_kinds::STRING,
             place,
@@ -159,8 +152,8 @@ pub fn read_test(
     }
     if begins_at(text, at, b"NUMERIC(") {
         let kind = cell_kinds::STRING;
-        let (cell, d) = read_part(text, known, keys, tags, skip(c, 8), kind, STRING)?;
+        let (cell, d) = read_part(text, known, mentioned, skip(c, 8), kind, None)?;
         return tested(text, step_kinds::NUMERIC, cell, d);
     }
-    comparing(text, known, keys, tags, c)
+    comparing(text, known, mentioned, c)
 }

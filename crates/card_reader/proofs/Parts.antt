@@ -1,5 +1,6 @@
 -- Laws of what the code holds of a statement while it joins lines.
 -- Assumes nothing.
+use Rattle.std.specs.Prelude.{Some, None}
 use mathlib.Core.Bool.{Bool, true, false, cond, not, ◌&&◌, false≢true}
 use mathlib.Core.List.{List, [], ◌∷◌, ◌++◌, map}
 use mathlib.Core.Path.{◌≡◌, refl, ap, ap₂, sym, subst, ◌∙◌}
@@ -12,7 +13,6 @@ use lib.Seq.{take-take}
 use Rattle.base.specs.Choice.{test_cases}
 use Rattle.base.specs.Current.{current}
 use Rattle.base.specs.ListLaws.{stretch_few}
-use Rattle.base.specs.Lists.{all}
 use Rattle.cards.specs.Bytes.{slash}
 use Rattle.cards.specs.Cards.{Unpacked, lines, sound_line, column9, label_of, statement_text, unpacked_from, statement, without_blanks}
 use Rattle.cards.specs.Entries.{Entry, packed_entry, entries_from}
@@ -20,7 +20,6 @@ use Rattle.cards.specs.Packing.{Place, outside, pack_from, packed, literals_whol
 use Rattle.card_reader.proofs.Chains.{first_sound, first_told, join_told, joined_line, skipped_told}
 use Rattle.card_reader.proofs.Labels.{blanks_less, front_short}
 use Rattle.card_reader.proofs.Packing.{packed-parts, place-parts, unbroken-parts, literals_end}
-use Rattle.card_reader.specs.declared.Gathered.{Gathered}
 use Rattle.card_reader.specs.declared.Joining.{Joining}
 use Rattle.card_reader.specs.declared.packed.Packing.{Packing}
 use Rattle.card_reader.specs.Gathering.{
@@ -33,9 +32,9 @@ use Rattle.card_reader.specs.Gathering.{
   JoinedAll,
   broken_off,
   nothing_from,
-  skipped_line,
   entry_of,
   Readable,
+  StatementPacked,
   Gathers,
 }
 use Rattle.card_reader.specs.Joins.{StatementPart, add_line, break_off, join_line, nothing_of, tell_lines}
@@ -296,34 +295,31 @@ module _ (deck : List ℕ) (from : ℕ) (text : List ℕ) (read : Readable deck 
   abbrev first : List ℕ
   first = take (end - from) (drop from deck)
 
-  pub gathers_skipped : is_skipped first ≡ true → (r : Gathered) → r ≡ skipped_line first (end + 1) → Gathers deck from text r
-  unfolding all entry_of key_of entries_from packed_entry
-  gathers_skipped skip r e =
-      subst (λ (r : Gathered). Gathers deck from text r) (sym e)
-      (record {
+  pub gathers_skipped : is_skipped first ≡ true → (sound : Bool) → sound ≡ sound_line first →
+      Gathers deck from text (record { statement = None; sound = sound; lines = 1; next = end + 1 })
+  unfolding entry_of entries_from packed_entry
+  gathers_skipped skip sound e =
+      record {
         label = [];
         entry =
             λ n.
-            ap (entries_from current n) ends.first ∙ ap (map packed_entry) (skipped_told n first (lines (drop (end + 1) deck)) skip);
-        keyed = λ _. record { is = refl; clean = refl; short = omega arith };
-        fits = omega arith;
+            ap (entries_from current n) ends.first
+            ∙ ap (map packed_entry) (skipped_told n first (lines (drop (end + 1) deck)) skip)
+            ∙ ap (λ t. Entry.skipped n t ∷ entries_from current (n + 1) (lines (drop (end + 1) deck))) (sym e);
+        packs = λ p is. cc is;
         onward = let h = ends.low in omega arith;
         paced = let h = ends.low in omega arith;
-        spare = let h = ends.low in omega (arith, letters_few (take 0 text));
         inside = let h = ends.high in omega arith;
         size = read.size;
-      })
+      }
 
   pub gathers_statement : is_skipped first ≡ false → (key : ℕ) → key ≡ key_of (without_blanks (take 8 first)) →
       (text₁ : List ℕ) (s₁ : Joining) → LineAdded first (end + 1) text (nothing_from from) text₁ s₁ →
       (text₂ : List ℕ) (s : Joining) → JoinedAll deck text₁ s₁ text₂ s → (flag : Bool) → flag ≡ is_outside (place_meaning s.packing.place) →
       Gathers deck from text₂
       (record {
-        skipped = false;
+        statement = Some (record { label = key; length = s.packing.length; whole = s.packing.whole && flag });
         sound = s.sound;
-        label = key;
-        length = s.packing.length;
-        whole = s.packing.whole && flag;
         lines = s.lines;
         next = s.next;
       })
@@ -349,25 +345,31 @@ module _ (deck : List ℕ) (from : ℕ) (text : List ℕ) (read : Readable deck 
             ∙ ap (map packed_entry) (joined n)
             ∙ ap₂ (λ (whole : Bool) (text : List ℕ). Entry.statement n s.sound label whole text ∷ map packed_entry (others n))
             (sym (holds-literals deck text₂ s k.part k.holds flag ef)) (sym k.holds.bytes);
-        keyed =
-            λ sound.
-            record {
-              is = ek ∙ ap key_of (sym (label_front first));
-              clean =
-                  sound_label first
-                  (first_sound 0 first (lines (drop (end + 1) deck)) label k.part.raw (others 0) skip
-                  (joined 0 ∙ ap (λ t. statement 0 t label k.part.raw ∷ others 0) sound));
-              short = label_short first;
-            };
-        fits = let h = j.room.within in let g = read.small in omega arith;
+        packs =
+            λ p is.
+            let same : record { label = key; length = s.packing.length; whole = s.packing.whole && flag } ≡ p = cc is in
+            subst (StatementPacked from s.next s.sound label text₂) same
+            (record {
+              keyed =
+                  λ sound.
+                  record {
+                    is = ek ∙ ap key_of (sym (label_front first));
+                    clean =
+                        sound_label first
+                        (first_sound 0 first (lines (drop (end + 1) deck)) label k.part.raw (others 0) skip
+                        (joined 0 ∙ ap (λ t. statement 0 t label k.part.raw ∷ others 0) sound));
+                    short = label_short first;
+                  };
+              fits = let h = j.room.within in let g = read.small in omega arith;
+              spare =
+                  let h = j.spare in
+                  let g = ends.low in
+                  let b = a.behind in
+                  let short = line-length deck text (nothing_from from) (room_nothing deck from text read) end ends in
+                  omega (arith, added-letters a, letters_few (take 0 text));
+            });
         onward = let h = j.onward in let g = ends.low in let b = a.behind in omega arith;
         paced = let h = j.paced in let g = ends.low in let b = a.behind in let c = a.count in omega arith;
-        spare =
-            let h = j.spare in
-            let g = ends.low in
-            let b = a.behind in
-            let short = line-length deck text (nothing_from from) (room_nothing deck from text read) end ends in
-            omega (arith, added-letters a, letters_few (take 0 text));
         inside = j.room.next;
         size = j.room.size;
       }

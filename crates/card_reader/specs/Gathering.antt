@@ -1,5 +1,6 @@
 -- What the code holds of a statement while it joins lines, and what it says of an entry of the deck. Assumes nothing.
-use Rattle.std.specs.Prelude.{true, false, cond, not, ◌&&◌, List, ◌∷◌, ◌≡◌, ℕ, ◌+◌, ◌≤◌, ◌<◌, eqb, length, take, drop}
+use Rattle.std.specs.Prelude as Std
+use Rattle.std.specs.Prelude.{Some, None, Bool, true, false, not, ◌&&◌, List, ◌∷◌, ◌≡◌, ℕ, ◌+◌, ◌≤◌, ◌<◌, eqb, length, take, drop}
 use Rattle.base.specs.Current.{current}
 use Rattle.base.specs.Limits.{longest_deck}
 use Rattle.cards.specs.Bytes.{slash}
@@ -9,6 +10,7 @@ use Rattle.cards.specs.Packing.{outside, packed}
 use Rattle.card_reader.specs.declared.packed.Place.TheVariants.{Outside}
 use Rattle.card_reader.specs.declared.Gathered.{Gathered}
 use Rattle.card_reader.specs.declared.Joining.{Joining}
+use Rattle.card_reader.specs.declared.PackedStatement.{PackedStatement}
 use Rattle.card_reader.specs.Joins.{StatementPart, join_line, tell_lines}
 use Rattle.card_reader.specs.Keys.{LabelKey}
 use Rattle.card_reader.specs.Letters.{letters}
@@ -83,13 +85,10 @@ abbrev pub nothing_from : ℕ → Joining
 nothing_from from =
     record { sound = true; more = true; packing = record { place = Outside; whole = true; length = 0 }; lines = 0; next = from }
 
-abbrev pub skipped_line : List ℕ → ℕ → Gathered
-skipped_line line next =
-    record { skipped = true; sound = sound_line line; label = 0; length = 0; whole = true; lines = 1; next = next }
-
 -- the entry that the code's value says, with its card and the bytes of its label; its packed text is the first bytes of a text
-unfoldable pub entry_of : Gathered → ℕ → (label text : List ℕ) → Entry
-entry_of r n label text = cond r.skipped (skipped n r.sound) (statement n r.sound label r.whole (take r.length text))
+unfoldable pub entry_of : Std.Option PackedStatement → (card : ℕ) (sound : Bool) (label text : List ℕ) → Entry
+entry_of None card sound label text = skipped card sound
+entry_of (Some p) card sound label text = statement card sound label p.whole (take p.length text)
 
 -- a deck with a line at from, and a text for the bytes of its statements
 pub record Readable (deck : List ℕ) (from : ℕ) (text : List ℕ) : Type 0 where
@@ -97,16 +96,20 @@ pub record Readable (deck : List ℕ) (from : ℕ) (text : List ℕ) : Type 0 wh
   pub small : length deck ≤ longest_deck
   pub size : length text ≡ longest_text
 
--- the entry that begins with the line at from, and those behind it; its packed text has fewer letters than it takes bytes of the deck
+-- a statement's label is known by its key; its packed text has fewer letters than the statement takes bytes of the deck
+pub record StatementPacked (from next : ℕ) (sound : Bool) (label text : List ℕ) (p : PackedStatement) : Type 0 where
+  pub keyed : sound ≡ true → LabelKey label p.label
+  pub fits : p.length ≤ longest_text
+  pub spare : from + letters (take p.length text) < next
+
+-- the entry that begins with the line at from, and those behind it
 pub record Gathers (deck : List ℕ) (from : ℕ) (text : List ℕ) (r : Gathered) : Type 0 where
   pub label : List ℕ
   pub entry : (n : ℕ) →
       entries_from current n (lines (drop from deck))
-      ≡ entry_of r n label text ∷ entries_from current (n + r.lines) (lines (drop r.next deck))
-  pub keyed : r.sound ≡ true → LabelKey label r.label
-  pub fits : r.length ≤ longest_text
+      ≡ entry_of r.statement n r.sound label text ∷ entries_from current (n + r.lines) (lines (drop r.next deck))
+  pub packs : (p : PackedStatement) → r.statement ≡ Some p → StatementPacked from r.next r.sound label text p
   pub onward : from < r.next
   pub paced : from + r.lines ≤ r.next
-  pub spare : from + letters (take r.length text) < r.next
   pub inside : r.next ≤ length deck + 1
   pub size : length text ≡ longest_text

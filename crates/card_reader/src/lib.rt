@@ -8,8 +8,7 @@ pub mod packed;
 
 ghost use Rattle.std.specs.Prelude.{◌≡◌};
 ghost use Rattle.card_reader.specs.Lines.{joins};
-ghost use Rattle.card_reader.specs.Gathering.{LineAdded, LineAddable, Gathers, Joined, JoinedAll, Readable, DeckRoom};
-ghost use Rattle.card_reader.specs.Gathering.{broken_off, nothing_from, skipped_line};
+ghost use Rattle.card_reader.specs.Gathering.{LineAdded, LineAddable, Gathers, Joined, JoinedAll, Readable, DeckRoom, broken_off, nothing_from};
 
 use base::DECK;
 use classes::is_blank;
@@ -17,6 +16,7 @@ use packed::{Packing, Place};
 
 // a statement while its lines are joined: whether they are sound, whether the last one joins the next, what is packed, how many
 // lines were taken and where the next one starts
+// kept: two truths with no value beside them: whether 3 holds so far, and whether column 9 joins the next line
 #[derive(Clone, Copy)]
 pub struct Joining {
     pub sound: bool,
@@ -26,15 +26,21 @@ pub struct Joining {
     pub next: usize,
 }
 
-// an entry of the deck: a skipped line or a statement, whether it is sound, the key of its label, the length of its packed text, whether
-// its literals are whole, how many lines it has and where the next entry starts
+// a statement by its packed text: the key of its label, the length of that text, whether its literals are whole
+// kept: 0 for no label, which is the key of the empty name: what document 01 has there
 #[derive(Clone, Copy)]
-pub struct Gathered {
-    pub skipped: bool,
-    pub sound: bool,
+pub struct PackedStatement {
     pub label: u64,
     pub length: usize,
     pub whole: bool,
+}
+
+// an entry of the deck, a statement or else a comment or blank line; whether it is sound, how many lines it has and where the next one starts
+// kept: Joining has some of this too, of a statement under way: an entry is what it comes to, with its label and no packing
+#[derive(Clone, Copy)]
+pub struct Gathered {
+    pub statement: Option<PackedStatement>,
+    pub sound: bool,
     pub lines: usize,
     pub next: usize,
 }
@@ -113,6 +119,7 @@ impl Joining {
         ensures { JoinedAll deck.now text.old self text.new result }
     {
         let mut s = self;
+        // kept: from line to line, which counts nothing: column 9 of each says whether one more is joined
         while s.more {
             s = s.join_line(deck, text);
         }
@@ -120,22 +127,8 @@ impl Joining {
     }
 }
 
-// a comment or blank line
-fn skipped_entry(line: &[u8], next: usize) -> Gathered
-    ensures { result ≡ skipped_line line.now next }
-{
-    Gathered {
-        skipped: true,
-        sound: line::sound_line(line),
-        label: 0,
-        length: 0,
-        whole: true,
-        lines: 1,
-        next,
-    }
-}
-
-// the entry that starts with the line at from, its packed text in text
+// the entry that starts with the line at from; of a statement its packed text is in text
+// kept: the packed text is the front of one buffer for all entries, in fixed memory: its length goes along
 pub fn gather(deck: &[u8], from: usize, text: &mut [u8; DECK]) -> Gathered
     requires { Readable deck.now from text.old }
     ensures { Gathers deck.now from text.new result }
@@ -143,17 +136,23 @@ pub fn gather(deck: &[u8], from: usize, text: &mut [u8; DECK]) -> Gathered
     let end = line::line_end(deck, from);
     let line = &deck[from..end];
     if line::is_skipped(line) {
-        return skipped_entry(line, end + 1);
+        return Gathered {
+            statement: None,
+            sound: line::sound_line(line),
+            lines: 1,
+            next: end + 1,
+        };
     }
     let label = keys::key_of(line);
     let first = Joining::nothing(from).add_line(line, end + 1, text);
     let s = first.join_lines(deck, text);
     Gathered {
-        skipped: false,
+        statement: Some(PackedStatement {
+            label,
+            length: s.packing.length,
+            whole: s.packing.whole & (s.packing.place == Place::Outside),
+        }),
         sound: s.sound,
-        label,
-        length: s.packing.length,
-        whole: s.packing.whole & (s.packing.place == Place::Outside),
         lines: s.lines,
         next: s.next,
     }

@@ -18,6 +18,7 @@ pub enum Place {
 }
 
 // what is packed so far: the place of the next byte, whether no literal was broken, and how many bytes there are
+// kept: whole is a truth beside the length: bytes are packed and counted behind a broken literal too
 #[derive(Clone, Copy)]
 pub struct Packing {
     pub place: Place,

@@ -8,7 +8,7 @@ ghost use Rattle.classes.specs.Numbers.{class_number};
 ghost use Rattle.values.specs.Conversion.{is_digit_or_blank};
 
 // the number of each class
-// kept: numbers, since an enum is no plainer: document 01 (F7) has the table as 256 numbers, which 256 names of classes would only spell out
+// kept: numbers, as in document 01's table of 256 (F7): an enum would have these six names and, for its contract, the same class_number
 const LETTER: u8 = 0;
 
 const DIGIT: u8 = 1;

@@ -398,7 +398,6 @@ unfolding
     Rattle.encoding.specs.Rules.is_program
     Rattle.encoding.specs.Rules.keeps_rules
     Rattle.encoding.specs.Splices.splice
-    Rattle.encoding.specs.Table.cell
     Rattle.encoding.specs.Table.no_cell
     Rattle.encoding.specs.Table.cell_bytes
     Rattle.encoding.specs.Table.range_value
@@ -417,7 +416,6 @@ unfolding
     Rattle.encoding.specs.Table.items_of
     Rattle.encoding.specs.Table.replacement_of
     Rattle.encoding.specs.Table.row_bytes
-    Rattle.encoding.specs.Table.row_with
     Rattle.encoding.specs.Table.range_cell
     Rattle.encoding.specs.Table.comparison_number
     Rattle.encoding.specs.Table.direction_number

@@ -1,204 +1,134 @@
 -- How the whole deck is judged, entry after entry. Assumes nothing.
-use Rattle.std.specs.Prelude.{Bool, List, ◌≡◌, refl, ℕ, ◌+◌, ◌-◌, ◌*◌, ◌≤◌, ◌<◌, eqb, length, take, drop, get_or}
-use Rattle.std.proofs.Math.Bool.{cond}
-use Rattle.std.proofs.Common.{sym, ap₂, subst, ◌∙◌, arith, drop-drop}
+use Rattle.std.specs.Prelude.{Bool, List, ◌≡◌, refl, ℕ, ◌+◌, ◌≤◌, ◌<◌, length, drop}
+use Rattle.std.proofs.Math.Bool.{true, false, cond}
+use Rattle.std.proofs.Common.{sym, ap₂, subst, ◌∙◌, arith, ne_eqb, eq-eqb}
 use Rattle.std.proofs.Math.Path.{ap}
-use Rattle.base.specs.Choice.{test_cases}
 use Rattle.base.specs.Current.{current}
 use Rattle.base.specs.Limits.{longest_deck}
 use Rattle.cards.specs.Cards as Cards
 use Rattle.cards.specs.Entries.{entries_from, entries}
-use Rattle.link_checks.specs.Held.{Closable, held_in}
+use Rattle.link_checks.specs.Held.{Closable}
 use Rattle.link_checks.specs.HeldLaws.{closable, held_11, held_12}
 use Rattle.validation.specs.Deck as Deck
 use Rattle.validation.specs.Deck.{Judgement, accepted, judge, judge_entries, judgement_of, judge_from, passed, is11, is12, program_of}
 use Rattle.validation.specs.Environment.{Environment, empty_environment}
 use Rattle.validation.specs.Rules as Rules
 use Rattle.validation.specs.Rules.{judging}
-use Rattle.symbols.specs.Clauses.{names_room}
-use Rattle.symbols.specs.Holding.{Arrays, ArraysHold}
-use Rattle.symbols.specs.Environment.{ended_at}
-use Rattle.name_checks.specs.ArrayLaws.{rest-whole}
-use Rattle.name_checks.specs.Arrays.{arrays}
+use Rattle.symbols.specs.Holding.{SymbolsHold}
+use Rattle.symbols.specs.declared.known.Symbols.{Symbols}
 use Rattle.card_reader.specs.LineLaws.{entries-behind}
 use Rattle.card_reader.specs.declared.Gathered.{Gathered}
-use Rattle.deck_reader.specs.Judging.{Held, EntryJudged, Passed, ended_in, link_verdict, ClosableIn, closed_in, StatementsJudged, DeckJudged}
-use Rattle.deck_reader.specs.Verdicts.{Verdict}
+use Rattle.deck_reader.specs.Judging.{Held, EntryJudged, Passed, ended_in, closed_in, StatementsJudged, DeckJudged}
+use Rattle.deck_reader.specs.Verdicts.{Verdict, of_deck}
 
--- the deck is judged as its entries from here on are, from what the arrays hold; so many lines are behind
-pub record DeckJudging (deck : List ℕ) (a : Arrays) (from card : ℕ) : Type 0 where
+-- the deck is judged as its entries from here on are, from what the symbol table holds; so many lines are behind
+pub record DeckJudging (deck : List ℕ) (s : Symbols) (from card : ℕ) : Type 0 where
   pub known : Environment
-  pub holds : ArraysHold a from known
+  pub holds : SymbolsHold s from known
   pub same : judge_from current empty_environment (entries current deck)
       ≡ judge_from current known (entries_from current card (Cards.lines (drop from deck)))
   pub inside : from ≤ length deck + 1
   pub few : card ≤ from + 1
 
-pub judging_held : {deck : List ℕ} {a : Arrays} {from card : ℕ} → DeckJudging deck a from card → Held a from
+pub judging_held : {deck : List ℕ} {s : Symbols} {from card : ℕ} → DeckJudging deck s from card → Held s from
 judging_held j = record { known = j.known; holds = j.holds }
 
 -- before the first line
-pub judging_none : {deck : List ℕ} {a : Arrays} → ArraysHold a 0 empty_environment → DeckJudging deck a 0 1
+pub judging_none : {deck : List ℕ} {s : Symbols} → SymbolsHold s 0 empty_environment → DeckJudging deck s 0 1
 unfolding entries
 judging_none h = record { known = empty_environment; holds = h; same = refl; inside = omega arith; few = omega arith }
 
-module _ {deck : List ℕ} {a : Arrays} {from card : ℕ} (j : DeckJudging deck a from card) where
+module _ {deck : List ℕ} {s : Symbols} {from card : ℕ} (j : DeckJudging deck s from card) where
   -- behind an entry that passes
-  pub judging_more : {e : Gathered} {r : ℕ} {a' : Arrays} → EntryJudged deck from e a r a' → r ≡ 0 → DeckJudging deck a' e.next (card + e.lines)
-  judging_more p z =
-      let g = p.goes z card j.known j.holds in
+  pub judging_more : {e : Gathered} {r : ℕ} {s' : Symbols} → EntryJudged deck from e s r s' → r ≡ 0 → DeckJudging deck s' e.next (card + e.lines)
+  judging_more {r = r} p z =
+      let g = p.goes card j.known j.holds in
       record {
         known = g.known;
-        holds = g.holds;
-        same = j.same ∙ g.rest;
+        holds = g.holds z;
+        same = j.same ∙ rw (eq-eqb r 0 z) at g.same;
         inside = p.inside;
         few = omega (arith, p.paced, j.few);
       }
 
   -- at an entry that is refused
-  pub judging_refused : {e : Gathered} {r : ℕ} {a' b : Arrays} → EntryJudged deck from e a r a' → (r ≡ 0 → ⊥) → from < length deck
+  pub judging_refused : {e : Gathered} {r : ℕ} {s' b : Symbols} → EntryJudged deck from e s r s' → (r ≡ 0 → ⊥) → from < length deck
       → StatementsJudged deck (record { number = r; card = card }) b
-  judging_refused p z h =
+  judging_refused {r = r} p z h =
       record {
-        refuses = λ _. j.same ∙ p.refuses z card j.known j.holds;
+        refuses = λ _. j.same ∙ rw (ne_eqb r 0 z) at (p.goes card j.known j.holds).same;
         passes = λ y. absurd (z y);
         few = omega (arith, j.few);
       }
 
   -- behind the last entry
-  at_end : length deck ≤ from → judge_from current empty_environment (entries current deck)
-      ≡ cond (eqb (get_or a.known ended_at 0) 1) (passed j.known) (Deck.Judged.failed 4 0)
+  pub judging_ends : {r : Verdict} → length deck ≤ longest_deck → length deck ≤ from → r ≡ ended_in s.known → StatementsJudged deck r s
   unfolding judge_from
-  at_end h =
-      j.same
+  judging_ends small h e =
+      subst (λ (v : Verdict). StatementsJudged deck v s) (sym e)
+      (by_end s.known.ended
+      (j.same
       ∙ ap (judge_from current j.known) (entries-behind deck from h card)
-      ∙ ap (λ t. cond t (passed j.known) (Deck.Judged.failed 4 0)) (sym j.holds.ended)
-
-  pub judging_ends : {r : Verdict} → length deck ≤ longest_deck → length deck ≤ from → r ≡ ended_in a.known → StatementsJudged deck r a
-  judging_ends {r} small h e =
-      test_cases (λ t. eqb (get_or a.known ended_at 0) 1 ≡ t → StatementsJudged deck r a) (eqb (get_or a.known ended_at 0) 1)
-      (λ _ t.
-      subst (λ (v : Verdict). StatementsJudged deck v a) (sym (e ∙ choose t))
-      (record {
-        refuses = λ z. absurd (z refl);
-        passes =
-            λ _.
-            record { known = j.known; taken = from; holds = j.holds; few = omega (arith, j.inside); is = at_end h ∙ ap (λ u. cond u (passed j.known) (Deck.Judged.failed 4 0)) t };
-        few = omega arith;
-      }))
-      (λ _ t.
-      subst (λ (v : Verdict). StatementsJudged deck v a) (sym (e ∙ choose t))
-      (record {
-        refuses = λ _. at_end h ∙ ap (λ u. cond u (passed j.known) (Deck.Judged.failed 4 0)) t;
-        passes = λ z. absurd (omega arith);
-        few = omega arith;
-      })) refl
+      ∙ ap (λ t. cond t (passed j.known) (Deck.Judged.failed 4 0)) (sym j.holds.ended)))
     where
-      choose : {t : Bool} → eqb (get_or a.known ended_at 0) 1 ≡ t
-          → ended_in a.known ≡ cond t (record { number = 0; card = 0 }) (record { number = 4; card = 0 })
-      choose q = ap {B = Verdict} (λ t. cond t (record { number = 0; card = 0 }) (record { number = 4; card = 0 })) q
+      by_end : (t : Bool) → judge_from current empty_environment (entries current deck) ≡ cond t (passed j.known) (Deck.Judged.failed 4 0)
+          → StatementsJudged deck (cond t (of_deck 0) (of_deck 4)) s
+      by_end true is =
+          record {
+            refuses = λ z. absurd (z refl);
+            passes = λ _. record { known = j.known; taken = from; holds = j.holds; few = omega (arith, j.inside); is = is };
+            few = omega arith;
+          }
+      by_end false is = record { refuses = λ _. is; passes = λ z. absurd (omega arith); few = omega arith }
 
 -- the judgement of the deck from that of its statements
-module _ (deck : List ℕ) where
-  judged_by : {j : Deck.Judged} → judge_from current empty_environment (entries current deck) ≡ j → judge current deck ≡ judgement_of current (entries current deck) j
-  unfolding judge judge_entries
-  judged_by e = ap (judgement_of current (entries current deck)) e
+judged_by : (deck : List ℕ) {j : Deck.Judged} → judge_from current empty_environment (entries current deck) ≡ j
+    → judge current deck ≡ judgement_of current (entries current deck) j
+unfolding judge judge_entries
+judged_by deck e = ap (judgement_of current (entries current deck)) e
 
 -- refused by 3 to 10
-pub deck_refused : {deck : List ℕ} {v : Verdict} {a b : Arrays} → StatementsJudged deck v a → (v.number ≡ 0 → ⊥) → DeckJudged deck v b
+pub deck_refused : {deck : List ℕ} {v : Verdict} {s b : Symbols} → StatementsJudged deck v s → (v.number ≡ 0 → ⊥) → DeckJudged deck v b
 unfolding judgement_of
-deck_refused {deck} s z = record { refuses = λ _. judged_by deck (s.refuses z); accepts = λ e. absurd (z e); few = s.few; without = λ e. absurd (z e) }
+deck_refused {deck} j z =
+    record { refuses = λ _. judged_by deck (j.refuses z); accepts = λ e. absurd (z e); few = j.few; without = λ e. absurd (z e) }
 
-module _ {deck : List ℕ} {a : Arrays} (p : Passed deck a) where
+module _ {deck : List ℕ} {s : Symbols} (p : Passed deck s) where
   abbrev k : Environment
   k = p.known
 
-  abbrev passes : Judgement
-  passes = accepted (program_of current k (entries current deck))
-
-  -- by 11, by 12, or not at all
-  by_closing : judge current deck
-      ≡ cond (is11 k) (Judgement.refused 11 0) (cond (is12 k) (Judgement.refused 12 0) passes)
-  unfolding judgement_of
-  by_closing = judged_by deck p.is
-
-  pub deck_closed : {v : Verdict} → v ≡ link_verdict k → DeckJudged deck v a
-  deck_closed {v} e =
-      test_cases (λ t. is11 k ≡ t → DeckJudged deck v a) (is11 k)
-      (λ _ t.
-      subst (λ (u : Verdict). DeckJudged deck u a) (sym (e ∙ ap {B = Verdict} (λ u. cond u eleven (cond (is12 k) twelve none)) t))
-      (record {
-        refuses = λ _. by_closing ∙ ap (λ u. cond u (Judgement.refused 11 0) (cond (is12 k) (Judgement.refused 12 0) passes)) t;
-        accepts = λ z. absurd (omega arith);
-        few = omega arith;
-        without = λ _. refl;
-      }))
-      (λ _ t.
-      test_cases (λ s. is12 k ≡ s → DeckJudged deck v a) (is12 k)
-      (λ _ s.
-      subst (λ (u : Verdict). DeckJudged deck u a)
-      (sym (e ∙ ap {B = Verdict} (λ u. cond u eleven (cond (is12 k) twelve none)) t ∙ ap {B = Verdict} (λ u. cond u twelve none) s))
-      (record {
-        refuses = λ _. by_closing ∙ ap (λ u. cond u (Judgement.refused 11 0) (cond (is12 k) (Judgement.refused 12 0) passes)) t ∙ ap (λ u. cond u (Judgement.refused 12 0) passes) s;
-        accepts = λ z. absurd (omega arith);
-        few = omega arith;
-        without = λ _. refl;
-      }))
-      (λ _ s.
-      subst (λ (u : Verdict). DeckJudged deck u a)
-      (sym (e ∙ ap {B = Verdict} (λ u. cond u eleven (cond (is12 k) twelve none)) t ∙ ap {B = Verdict} (λ u. cond u twelve none) s))
-      (record {
-        refuses = λ z. absurd (z refl);
-        accepts =
-            λ _.
-            record {
-              known = k;
-              taken = p.taken;
-              holds = p.holds;
-              judging = subst (Rules.Judging current empty_environment (entries current deck)) p.is (judging current empty_environment (entries current deck));
-              is = by_closing ∙ ap (λ u. cond u (Judgement.refused 11 0) (cond (is12 k) (Judgement.refused 12 0) passes)) t ∙ ap (λ u. cond u (Judgement.refused 12 0) passes) s;
-            };
-        few = omega arith;
-        without = λ _. refl;
-      })) refl) refl
-    where
-      eleven : Verdict
-      eleven = record { number = 11; card = 0 }
-
-      twelve : Verdict
-      twelve = record { number = 12; card = 0 }
-
-      none : Verdict
-      none = record { number = 0; card = 0 }
-
   -- what the code asks is the environment
-  pub passed_closable : ClosableIn a
-  passed_closable = closable a p.taken k p.holds p.few
+  pub passed_closable : Closable s
+  passed_closable = closable s p.taken k p.holds p.few
 
-  pub passed_closed : {v : Verdict} → v ≡ closed_in a → v ≡ link_verdict k
-  passed_closed {v} e =
-      e
-      ∙ ap₂ {C = Verdict} (λ s t. cond s (record { number = 11; card = 0 }) (cond t (record { number = 12; card = 0 }) (record { number = 0; card = 0 })))
-      (held_11 a p.taken k p.holds) (held_12 a p.taken k p.holds)
-
--- the uses as they are lent
-module _ (known symbols purposes : List ℕ) where
-  abbrev pub keys_lent : List ℕ
-  keys_lent = take names_room (drop names_room symbols)
-
-  abbrev pub scopes_lent : List ℕ
-  scopes_lent = take (length symbols - 2 * names_room) (drop (2 * names_room) symbols)
-
-  abbrev pub purposes_lent : List ℕ
-  purposes_lent = take (length purposes - names_room) (drop names_room purposes)
-
-  scopes_same : scopes_lent ≡ drop names_room (drop names_room symbols)
-  scopes_same = rest-whole (2 * names_room) symbols ∙ sym (drop-drop names_room names_room symbols)
-
-  pub lent_closable : ClosableIn (arrays known symbols purposes) → Closable known keys_lent scopes_lent purposes_lent
-  lent_closable p =
-      subst (λ s. Closable known keys_lent s purposes_lent) (sym scopes_same)
-      (subst (Closable known keys_lent (drop names_room (drop names_room symbols))) (sym (rest-whole names_room purposes)) p)
-
-  pub lent-held : link_verdict (held_in known keys_lent scopes_lent purposes_lent) ≡ closed_in (arrays known symbols purposes)
-  lent-held = ap₂ {C = Verdict} (λ s p. link_verdict (held_in known keys_lent s p)) scopes_same (rest-whole names_room purposes)
+  -- refused by 11, by 12, or not at all
+  pub deck_closed : {v : Verdict} → v ≡ closed_in s → DeckJudged deck v s
+  unfolding judgement_of
+  deck_closed e =
+      subst (λ (v : Verdict). DeckJudged deck v s)
+      (sym (e
+      ∙ ap₂ {C = Verdict} (λ t u. cond t (of_deck 11) (cond u (of_deck 12) (of_deck 0))) (held_11 s p.taken k p.holds)
+      (held_12 s p.taken k p.holds)))
+      (by_links (is11 k) (is12 k) (judged_by deck p.is))
+    where
+      by_links : (t u : Bool)
+          → judge current deck
+          ≡ cond t (Judgement.refused 11 0) (cond u (Judgement.refused 12 0) (accepted (program_of current k (entries current deck))))
+          → DeckJudged deck (cond t (of_deck 11) (cond u (of_deck 12) (of_deck 0))) s
+      by_links true u is = record { refuses = λ _. is; accepts = λ z. absurd (omega arith); few = omega arith; without = λ _. refl }
+      by_links false true is = record { refuses = λ _. is; accepts = λ z. absurd (omega arith); few = omega arith; without = λ _. refl }
+      by_links false false is =
+          record {
+            refuses = λ z. absurd (z refl);
+            accepts =
+                λ _.
+                record {
+                  known = k;
+                  taken = p.taken;
+                  holds = p.holds;
+                  judging = subst (Rules.Judging current empty_environment (entries current deck)) p.is (judging current empty_environment (entries current deck));
+                  is = is;
+                };
+            few = omega arith;
+            without = λ _. refl;
+          }

@@ -1,6 +1,6 @@
 -- Steps as they are written to a table one by one: a step's items, its elements with their literal bytes, and its row. Where a program is
 -- in range, a zeroed table with all its steps and its header written is the program's image. Assumes nothing.
-use Rattle.std.specs.Prelude.{true, ◌≡◌, ℕ, suc, ◌+◌, ◌*◌, ◌-◌, ◌≤◌, ◌<◌, ltb, replicate}
+use Rattle.std.specs.Prelude.{true, ◌≡◌, ℕ, ◌+◌, ◌*◌, ◌-◌, ◌≤◌, ◌<◌, ltb, replicate}
 use Rattle.std.proofs.Math.Bool.{cond}
 use mathlib.Core.List.{List, [], ◌∷◌, ◌++◌, append_assoc, append-nil}
 use Rattle.std.proofs.Math.Path.{refl, ap, ap₂}
@@ -48,32 +48,79 @@ use Rattle.symbols.specs.Items.{with_items, items_rows}
 unfoldable pub with_row : List ℕ → (k card : ℕ) → Row → List ℕ
 with_row t k card r = cond (ltb k Limits.statements) (splice t (steps_at + 24 * k) (row_bytes card r)) t
 
--- one step: its place, and where its elements, items and literal bytes start
-unfoldable pub image_with_step : List ℕ → (k element item literal : ℕ) → Step → List ℕ
-image_with_step t k element item literal s =
-    let y = s.statement in
-    with_row (with_elements (with_items t item (items_of y)) element literal (elements_of y)) k s.card (statement_row element item y)
+-- a table, and how many steps, elements, items and literal bytes are written to it
+pub record Written : Type 0 where
+  pub table : List ℕ
+  pub steps : ℕ
+  pub elements : ℕ
+  pub items : ℕ
+  pub literals : ℕ
 
--- steps from step k on
-unfoldable pub with_all_steps : List ℕ → (k element item literal : ℕ) → List Step → List ℕ
-with_all_steps t k element item literal [] = t
-with_all_steps t k element item literal (s ∷ ss) =
-    let y = s.statement in
-    with_all_steps (image_with_step t k element item literal s) (suc k) (element + length (elements_of y)) (item + length (items_of y))
-    (literal + length (all_literals (elements_of y))) ss
+abbrev pub nothing_written : List ℕ → Written
+nothing_written t = record { table = t; steps = 0; elements = 0; items = 0; literals = 0 }
 
--- the header's counts: steps, strings, numbers, elements, items, literal bytes
-unfoldable pub with_header : List ℕ → (steps strings numbers elements items literals : ℕ) → List ℕ
-with_header t steps strings numbers elements items literals =
-    splice t 0
+-- a step written behind those that are
+unfoldable pub with_step : Written → Step → Written
+with_step w s =
+    let y = s.statement in
+    record {
+      table =
+          with_row (with_elements (with_items w.table w.items (items_of y)) w.elements w.literals (elements_of y)) w.steps s.card
+          (statement_row w.elements w.items y);
+      steps = w.steps + 1;
+      elements = w.elements + length (elements_of y);
+      items = w.items + length (items_of y);
+      literals = w.literals + length (all_literals (elements_of y));
+    }
+
+unfoldable pub with_steps : Written → List Step → Written
+with_steps w [] = w
+with_steps w (s ∷ ss) = with_steps (with_step w s) ss
+
+-- what they add to the counts
+pub record Counted (w : Written) (ss : List Step) : Type 0 where
+  pub steps : (with_steps w ss).steps ≡ w.steps + length ss
+  pub elements : (with_steps w ss).elements ≡ w.elements + length (all_elements ss)
+  pub items : (with_steps w ss).items ≡ w.items + length (all_items ss)
+  pub literals : (with_steps w ss).literals ≡ w.literals + length (all_literals (all_elements ss))
+
+pub counted : (w : Written) (ss : List Step) → Counted w ss
+unfolding with_steps with_step all_elements all_items all_literals
+counted w [] =
+    record {
+      steps = sym (add-zero w.steps);
+      elements = sym (add-zero w.elements);
+      items = sym (add-zero w.items);
+      literals = sym (add-zero w.literals);
+    }
+counted w (s ∷ ss) =
+    let c = counted (with_step w s) ss in
+    let y = s.statement in
+    record {
+      steps = omega (arith, c.steps);
+      elements = omega (arith, c.elements, length-append (elements_of y) (all_elements ss));
+      items = omega (arith, c.items, length-append (items_of y) (all_items ss));
+      literals =
+          omega (
+            arith,
+            c.literals,
+            ap length (all-literals-append (elements_of y) (all_elements ss)),
+            length-append (all_literals (elements_of y)) (all_literals (all_elements ss)),
+          );
+    }
+
+-- the header: the format and the counts of steps, strings, numbers, elements, items, literal bytes
+unfoldable pub with_header : Written → (strings numbers : ℕ) → List ℕ
+with_header w strings numbers =
+    splice w.table 0
     (format
     ∷ (0
-    ∷ (in_bytes 2 steps
-    ++ (in_bytes 2 strings ++ (in_bytes 2 numbers ++ (in_bytes 2 elements ++ (in_bytes 2 items ++ in_bytes 2 literals)))))))
+    ∷ (in_bytes 2 w.steps
+    ++ (in_bytes 2 strings ++ (in_bytes 2 numbers ++ (in_bytes 2 w.elements ++ (in_bytes 2 w.items ++ in_bytes 2 w.literals)))))))
 
--- a table by its regions, and what lies behind it
-abbrev regions : (h s e i l r : List ℕ) → List ℕ
-regions h s e i l r = h ++ (s ++ (e ++ (i ++ (l ++ r))))
+-- a table by its regions
+abbrev regions : (h s e i l : List ℕ) → List ℕ
+regions h s e i l = h ++ (s ++ (e ++ (i ++ l)))
 
 -- bytes written behind those that are there, in a region filled up with zeros
 splice-filled : (n at : ℕ) (bs v : List ℕ) → length bs ≡ at → length bs + length v ≤ n → splice (filled_to n bs) at v ≡ filled_to n (bs ++ v)
@@ -102,17 +149,17 @@ record Sized (h s e i : List ℕ) : Type 0 where
   items : length i ≡ 8192
 
 -- what is written to a region changes it alone
-module _ (h s e i l r : List ℕ) (z : Sized h s e i) (j : ℕ) (v : List ℕ) where
-  in_steps : j + length v ≤ length s → splice (regions h s e i l r) (64 + j) v ≡ regions h (splice s j v) e i l r
+module _ (h s e i l : List ℕ) (z : Sized h s e i) (j : ℕ) (v : List ℕ) where
+  in_steps : j + length v ≤ length s → splice (regions h s e i l) (64 + j) v ≡ regions h (splice s j v) e i l
   in_steps k = past h _ v 64 (64 + j) j z.header refl ∙ ap (λ (x : List ℕ). h ++ x) (splice-append s _ j v k)
 
-  in_elements : j + length v ≤ length e → splice (regions h s e i l r) (6208 + j) v ≡ regions h s (splice e j v) i l r
+  in_elements : j + length v ≤ length e → splice (regions h s e i l) (6208 + j) v ≡ regions h s (splice e j v) i l
   in_elements k =
       past h _ v 64 (6208 + j) (6144 + j) z.header (omega arith)
       ∙ ap (λ (x : List ℕ). h ++ x)
       (past s _ v 6144 (6144 + j) j z.steps refl ∙ ap (λ (x : List ℕ). s ++ x) (splice-append e _ j v k))
 
-  in_items : j + length v ≤ length i → splice (regions h s e i l r) (14400 + j) v ≡ regions h s e (splice i j v) l r
+  in_items : j + length v ≤ length i → splice (regions h s e i l) (14400 + j) v ≡ regions h s e (splice i j v) l
   in_items k =
       past h _ v 64 (14400 + j) (14336 + j) z.header (omega arith)
       ∙ ap (λ (x : List ℕ). h ++ x)
@@ -120,15 +167,14 @@ module _ (h s e i l r : List ℕ) (z : Sized h s e i) (j : ℕ) (v : List ℕ) w
       ∙ ap (λ (x : List ℕ). s ++ x)
       (past e _ v 8192 (8192 + j) j z.elements refl ∙ ap (λ (x : List ℕ). e ++ x) (splice-append i _ j v k)))
 
-  in_literals : j + length v ≤ length l → splice (regions h s e i l r) (22592 + j) v ≡ regions h s e i (splice l j v) r
+  in_literals : j + length v ≤ length l → splice (regions h s e i l) (22592 + j) v ≡ regions h s e i (splice l j v)
   in_literals k =
       past h _ v 64 (22592 + j) (22528 + j) z.header (omega arith)
       ∙ ap (λ (x : List ℕ). h ++ x)
       (past s _ v 6144 (22528 + j) (16384 + j) z.steps (omega arith)
       ∙ ap (λ (x : List ℕ). s ++ x)
       (past e _ v 8192 (16384 + j) (8192 + j) z.elements (omega arith)
-      ∙ ap (λ (x : List ℕ). e ++ x)
-      (past i _ v 8192 (8192 + j) j z.items refl ∙ ap (λ (x : List ℕ). i ++ x) (splice-append l r j v k))))
+      ∙ ap (λ (x : List ℕ). e ++ x) (past i l v 8192 (8192 + j) j z.items refl)))
 
 -- rows behind other rows
 rows_append : (element item : ℕ) (ss ts : List Step)
@@ -176,10 +222,20 @@ item_cells_append (x ∷ xs) ys =
     ap (λ z. cell_bytes (item_cell x) ++ z) (item_cells_append xs ys) ∙ sym (append_assoc (cell_bytes (item_cell x)) (item_rows xs) (item_rows ys))
 
 -- the table with these steps written and no header yet
-abbrev written : List Step → List ℕ → List ℕ
-written ss r =
+abbrev stepped : List Step → List ℕ
+stepped ss =
     regions (replicate 64 0) (filled_to 6144 (step_rows 0 0 ss)) (filled_to 8192 (element_rows 0 (all_elements ss)))
-    (filled_to 8192 (item_rows (all_items ss))) (filled_to 6080 (all_literals (all_elements ss))) r
+    (filled_to 8192 (item_rows (all_items ss))) (filled_to 6080 (all_literals (all_elements ss)))
+
+abbrev written : List Step → Written
+written ss =
+    record {
+      table = stepped ss;
+      steps = length ss;
+      elements = length (all_elements ss);
+      items = length (all_items ss);
+      literals = length (all_literals (all_elements ss));
+    }
 
 -- the counts of steps fit
 record Fits (ss : List Step) : Type 0 where
@@ -205,7 +261,7 @@ fits_front ss ts f =
     }
 
 -- one step more
-module _ (ss : List Step) (x : Step) (r : List ℕ) (f : Fits (ss ++ (x ∷ []))) where
+module _ (ss : List Step) (x : Step) (f : Fits (ss ++ (x ∷ []))) where
   abbrev y : Statement
   y = x.statement
 
@@ -299,45 +355,45 @@ module _ (ss : List Step) (x : Step) (r : List ℕ) (f : Fits (ss ++ (x ∷ []))
       (omega (arith, more-is, length-append is (items_of y), length-item_rows (is ++ items_of y)))
 
   -- its items
-  own_items_lem : with_items (written ss r) (length is) (items_of y) ≡ regions H S E I' L r
+  own_items_lem : with_items (stepped ss) (length is) (items_of y) ≡ regions H S E I' L
   unfolding items_at
   own_items_lem =
       let rows = item_rows (items_of y) in
       let size = length-item_rows (items_of y) in
       let before = length-item_rows is in
-      items_rows (written ss r) (length is) (items_of y) more-is
+      items_rows (stepped ss) (length is) (items_of y) more-is
       (simp length-append (omega (arith, size_H, size_S, size_E, size_I, size_L)))
-      ∙ in_items H S E I L r (record { header = size_H; steps = size_S; elements = size_E; items = size_I }) (8 * length is) rows
+      ∙ in_items H S E I L (record { header = size_H; steps = size_S; elements = size_E; items = size_I }) (8 * length is) rows
       (omega (arith, more-is, size_I))
-      ∙ ap (λ (z : List ℕ). regions H S E z L r)
+      ∙ ap (λ (z : List ℕ). regions H S E z L)
       (splice-filled 8192 (8 * length is) (item_rows is) rows before (omega (arith, more-is))
       ∙ ap (filled_to 8192) (sym (item_cells_append is (items_of y))))
 
   -- its elements and their literal bytes
-  own_elements : with_elements (regions H S E I' L r) (length es) (length ls) (elements_of y) ≡ regions H S E' I' L' r
+  own_elements : with_elements (regions H S E I' L) (length es) (length ls) (elements_of y) ≡ regions H S E' I' L'
   unfolding elements_at literals_at
   own_elements =
       let rows = element_rows (length ls) (elements_of y) in
       let size = length-element_rows (length ls) (elements_of y) in
       let before = length-element_rows 0 es in
       let texts = all_literals (elements_of y) in
-      elements_rows (regions H S E I' L r) (length es) (length ls) (elements_of y) more-es more-ls
+      elements_rows (regions H S E I' L) (length es) (length ls) (elements_of y) more-es more-ls
       (simp length-append (omega (arith, size_H, size_S, size_E, size_I', size_L)))
       ∙ ap (λ (z : List ℕ). splice z (22592 + length ls) texts)
-      (in_elements H S E I' L r (record { header = size_H; steps = size_S; elements = size_E; items = size_I' }) (8 * length es) rows
+      (in_elements H S E I' L (record { header = size_H; steps = size_S; elements = size_E; items = size_I' }) (8 * length es) rows
       (omega (arith, more-es, size_E))
-      ∙ ap (λ (z : List ℕ). regions H S z I' L r)
+      ∙ ap (λ (z : List ℕ). regions H S z I' L)
       (splice-filled 8192 (8 * length es) (element_rows 0 es) rows before (omega (arith, more-es))
       ∙ ap (filled_to 8192)
       (sym (cells-append 0 es (elements_of y) ∙ ap (λ (l : ℕ). element_rows 0 es ++ element_rows l (elements_of y)) (zero-add (length ls))))))
-      ∙ in_literals H S E' I' L r (record { header = size_H; steps = size_S; elements = size_E'; items = size_I' }) (length ls) texts
+      ∙ in_literals H S E' I' L (record { header = size_H; steps = size_S; elements = size_E'; items = size_I' }) (length ls) texts
       (omega (arith, more-ls, size_L))
-      ∙ ap (λ (z : List ℕ). regions H S E' I' z r)
+      ∙ ap (λ (z : List ℕ). regions H S E' I' z)
       (splice-filled 6080 (length ls) ls texts refl (omega (arith, more-ls)) ∙ ap (filled_to 6080) (sym (all-literals-append es (elements_of y))))
 
   -- its row
-  own_row : with_row (regions H S E' I' L' r) (length ss) x.card (statement_row (length es) (length is) y)
-      ≡ regions H (filled_to 6144 (step_rows 0 0 (ss ++ (x ∷ [])))) E' I' L' r
+  own_row : with_row (regions H S E' I' L') (length ss) x.card (statement_row (length es) (length is) y)
+      ≡ regions H (filled_to 6144 (step_rows 0 0 (ss ++ (x ∷ [])))) E' I' L'
   unfolding with_row steps_at step_rows
   own_row =
       let row = row_bytes x.card (statement_row (length es) (length is) y) in
@@ -347,58 +403,54 @@ module _ (ss : List Step) (x : Step) (r : List ℕ) (f : Fits (ss ++ (x ∷ []))
       rows_append 0 0 ss (x ∷ [])
       ∙ ap₂ (λ (a b : ℕ). step_rows 0 0 ss ++ step_rows a b (x ∷ [])) (zero-add (length es)) (zero-add (length is))
       ∙ ap (λ (z : List ℕ). step_rows 0 0 ss ++ z) (append-nil row) in
-      ap (λ b. cond b (splice (regions H S E' I' L' r) (64 + 24 * length ss) row) (regions H S E' I' L' r)) (lt-ltb (length ss) 256 more_ss)
-      ∙ in_steps H S E' I' L' r (record { header = size_H; steps = size_S; elements = size_E'; items = size_I' }) (24 * length ss) row
+      ap (λ b. cond b (splice (regions H S E' I' L') (64 + 24 * length ss) row) (regions H S E' I' L')) (lt-ltb (length ss) 256 more_ss)
+      ∙ in_steps H S E' I' L' (record { header = size_H; steps = size_S; elements = size_E'; items = size_I' }) (24 * length ss) row
       (omega (arith, more_ss, size_S))
-      ∙ ap (λ (z : List ℕ). regions H z E' I' L' r)
+      ∙ ap (λ (z : List ℕ). regions H z E' I' L')
       (splice-filled 6144 (24 * length ss) (step_rows 0 0 ss) row before (omega (arith, more_ss)) ∙ ap (filled_to 6144) (sym whole))
 
-  step-written : image_with_step (written ss r) (length ss) (length es) (length is) (length ls) x ≡ written (ss ++ (x ∷ [])) r
-  unfolding image_with_step
+  step-written : with_step (written ss) x ≡ written (ss ++ (x ∷ []))
+  unfolding with_step
   step-written =
+      let table =
       ap (λ (z : List ℕ). with_row (with_elements z (length es) (length ls) (elements_of y)) (length ss) x.card (statement_row (length es) (length is) y))
       own_items_lem
       ∙ ap (λ (z : List ℕ). with_row z (length ss) x.card (statement_row (length es) (length is) y)) own_elements
       ∙ own_row
       ∙ ap₂ (λ (a : List PatternElement) (b : List Item).
       regions H (filled_to 6144 (step_rows 0 0 (ss ++ (x ∷ [])))) (filled_to 8192 (element_rows 0 a)) (filled_to 8192 (item_rows b))
-      (filled_to 6080 (all_literals a)) r) (sym all-es) (sym all-is)
+      (filled_to 6080 (all_literals a))) (sym all-es) (sym all-is) in
+      let steps = length-append ss (x ∷ []) in
+      let elements = ap length all-es ∙ length-append es (elements_of y) in
+      let items = ap length all-is ∙ length-append is (items_of y) in
+      let literals =
+      ap (λ z. length (all_literals z)) all-es
+      ∙ ap length (all-literals-append es (elements_of y))
+      ∙ length-append ls (all_literals (elements_of y)) in
+      λ i.
+      record { table = table i; steps = sym steps i; elements = sym elements i; items = sym items i; literals = sym literals i }
 
 -- all steps
-steps-written : (ss ts : List Step) (r : List ℕ) → Fits (ss ++ ts)
-    → with_all_steps (written ss r) (length ss) (length (all_elements ss)) (length (all_items ss)) (length (all_literals (all_elements ss))) ts
-    ≡ written (ss ++ ts) r
-unfolding with_all_steps
-steps-written ss [] r f = ap (λ z. written z r) (sym (append-nil ss))
-steps-written ss (x ∷ ts) r f =
+steps-written : (ss ts : List Step) → Fits (ss ++ ts) → with_steps (written ss) ts ≡ written (ss ++ ts)
+unfolding with_steps
+steps-written ss [] f = ap written (sym (append-nil ss))
+steps-written ss (x ∷ ts) f =
     let whole = append_assoc ss (x ∷ []) ts in
     let f' : Fits ((ss ++ (x ∷ [])) ++ ts) = subst Fits (sym whole) f in
-    let g = fits_front (ss ++ (x ∷ [])) ts f' in
-    let y = x.statement in
-    let steps : suc (length ss) ≡ length (ss ++ (x ∷ [])) = simp length-append (omega arith) in
-    let elements : length (all_elements ss) + length (elements_of y) ≡ length (all_elements (ss ++ (x ∷ []))) =
-    sym (ap length (all-es ss x r g) ∙ length-append (all_elements ss) (elements_of y)) in
-    let items : length (all_items ss) + length (items_of y) ≡ length (all_items (ss ++ (x ∷ []))) =
-    sym (ap length (all-is ss x r g) ∙ length-append (all_items ss) (items_of y)) in
-    let literals : length (all_literals (all_elements ss)) + length (all_literals (elements_of y)) ≡ length (all_literals (all_elements (ss ++ (x ∷ [])))) =
-    sym
-    (ap (λ z. length (all_literals z)) (all-es ss x r g)
-    ∙ ap length (all-literals-append (all_elements ss) (elements_of y))
-    ∙ length-append (all_literals (all_elements ss)) (all_literals (elements_of y))) in
-    rw (step-written ss x r g, steps, elements, items, literals) (steps-written (ss ++ (x ∷ [])) ts r f')
-    ∙ ap (λ z. written z r) whole
+    ap (λ w. with_steps w ts) (step-written ss x (fits_front (ss ++ (x ∷ [])) ts f'))
+    ∙ steps-written (ss ++ (x ∷ [])) ts f'
+    ∙ ap written whole
 
 -- a table that is zeros has no steps yet
-zeros-written : (r : List ℕ) → replicate table_size 0 ++ r ≡ written [] r
+zeros-written : nothing_written (replicate table_size 0) ≡ written []
 unfolding filled_to step_rows element_rows item_rows all_elements all_items all_literals
-zeros-written r =
-    let cut : (n m : ℕ) (q : List ℕ) → replicate (n + m) 0 ++ q ≡ replicate n 0 ++ (replicate m 0 ++ q) =
-    λ n m q. ap (λ (z : List ℕ). z ++ q) (sym (replicate-append-replicate {A = ℕ} n m 0)) ∙ append_assoc (replicate n 0) (replicate m 0) q in
-    cut 64 28608 r
+zeros-written =
+    let cut : (n m : ℕ) → replicate (n + m) 0 ≡ replicate n 0 ++ replicate m 0 = λ n m. sym (replicate-append-replicate {A = ℕ} n m 0) in
+    ap nothing_written
+    (cut 64 28608
     ∙ ap (λ (z : List ℕ). replicate 64 0 ++ z)
-    (cut 6144 22464 r
-    ∙ ap (λ (z : List ℕ). replicate 6144 0 ++ z)
-    (cut 8192 14272 r ∙ ap (λ (z : List ℕ). replicate 8192 0 ++ z) (cut 8192 6080 r)))
+    (cut 6144 22464
+    ∙ ap (λ (z : List ℕ). replicate 6144 0 ++ z) (cut 8192 14272 ∙ ap (λ (z : List ℕ). replicate 8192 0 ++ z) (cut 8192 6080))))
 
 -- nothing filled up is zeros
 nothing_filled : (n : ℕ) → filled_to n [] ≡ replicate n 0
@@ -414,14 +466,11 @@ header-filled p = ap (λ (z : List ℕ). splice z 0 (header p)) zeros ∙ splice
     zeros : replicate 64 0 ≡ filled_to 64 []
     zeros = sym (nothing_filled 64)
 
-together : (h s e i l r : List ℕ) → (h ++ (s ++ (e ++ (i ++ l)))) ++ r ≡ regions h s e i l r
-together h s e i l r = simp append_assoc
-
--- A zeroed table with a program's steps and header written is the program's image, and what lies behind it stays.
-pub image-written : (p : Program) (r : List ℕ) → is_program current p ≡ true
-    → splice (with_all_steps (replicate table_size 0 ++ r) 0 0 0 0 p.steps) 0 (header p) ≡ image current p ++ r
+-- A zeroed table with a program's steps and header written is the program's image.
+pub image-written : (p : Program) → is_program current p ≡ true
+    → splice (with_steps (nothing_written (replicate table_size 0)) p.steps).table 0 (header p) ≡ image current p
 unfolding image steps_at elements_at items_at literals_at current all_elements all_items all_literals
-image-written p r ok =
+image-written p ok =
     let range = in_range_lem current p ok in
     let fits : Fits p.steps = record { steps = range.steps; elements = range.elements; items = range.items; literals = range.literals } in
     let ss = p.steps in
@@ -429,8 +478,7 @@ image-written p r ok =
     let E = filled_to 8192 (element_rows 0 (all_elements ss)) in
     let I = filled_to 8192 (item_rows (all_items ss)) in
     let L = filled_to 6080 (all_literals (all_elements ss)) in
-    ap (λ (t : List ℕ). splice (with_all_steps t 0 0 0 0 ss) 0 (header p)) (zeros-written r)
-    ∙ ap (λ (t : List ℕ). splice t 0 (header p)) (steps-written [] ss r fits)
-    ∙ splice-append (replicate 64 0) (S ++ (E ++ (I ++ (L ++ r)))) 0 (header p) (omega (arith, length-header p))
-    ∙ ap (λ (z : List ℕ). z ++ (S ++ (E ++ (I ++ (L ++ r))))) (header-filled p)
-    ∙ sym (together (filled_to 64 (header p)) S E I L r)
+    ap (λ (w : Written). splice (with_steps w ss).table 0 (header p)) zeros-written
+    ∙ ap (λ (w : Written). splice w.table 0 (header p)) (steps-written [] ss fits)
+    ∙ splice-append (replicate 64 0) (S ++ (E ++ (I ++ L))) 0 (header p) (omega (arith, length-header p))
+    ∙ ap (λ (z : List ℕ). z ++ (S ++ (E ++ (I ++ L)))) (header-filled p)

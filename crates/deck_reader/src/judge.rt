@@ -1,30 +1,27 @@
 // The first pass over a deck: its entries judged one after the other by 3 to 10, then the deck by 11 and 12.
 // Assumes nothing.
-ghost use Rattle.std.specs.Prelude.{◌≡◌, ◌≤◌, length};
+ghost use Rattle.std.specs.Prelude.{true, ◌≡◌, ◌≤◌, length};
 ghost use Rattle.base.specs.Limits.{longest_deck};
 ghost use Rattle.validation.specs.Environment.{empty_environment};
 ghost use Rattle.validation.specs.RefusalNumbers.{judged_number};
-ghost use Rattle.symbols.specs.Holding.{ArraysHold};
-ghost use Rattle.symbols.specs.Environment.{CountsInRange, environment_size};
-ghost use Rattle.name_checks.specs.Arrays.{arrays};
-ghost use Rattle.card_reader.specs.Packs.{longest_text};
+ghost use Rattle.link_checks.specs.Held.{Closable};
+ghost use Rattle.symbols.specs.Holding.{SymbolsHold};
 ghost use Rattle.deck_reader.specs.Verdicts.{verdict_of};
-ghost use Rattle.deck_reader.specs.Judging.{ArraysLent, ArraysStay, start_at, Readied, Entered, PackedNumbered, EntryNumbered, ended_in, ClosableIn, closed_in, StatementsJudged, DeckJudged};
+ghost use Rattle.deck_reader.specs.Judging.{start_at, Readied, Entered, PackedNumbered, EntryNumbered, ended_in, closed_in, StatementsJudged, DeckJudged};
 
 use base::DECK;
-use card_reader::{Gathered, gather};
+use card_reader::{Gathered, PackedStatement, gather};
+use encoding::TABLE_SIZE;
 use lexer::keywords::leading;
 use link_checks::{executes_itself, undefined_or_crossing};
 use statement_checks::{is_misplaced, judge_statement};
 use statement_parser::read_statement;
-use symbols::places::{ELEMENTS, ENDED, ITEMS, LITERALS};
-use symbols::{Cursor, KNOWN, NAMES, PURPOSES, SYMBOLS};
+use symbols::known::{Known, Symbols};
+use symbols::{Cursor, Mentioned};
 use validation::Refusal;
 
-// where the uses' scopes stand among the symbols, behind the names and the uses
-const SCOPES: usize = 2 * NAMES;
-
 // why a deck is refused, and the card of the entry at which it is; 0 for END that is missing, and for 11 and 12
+// kept: card 0 for none, as document 01 and C have it
 #[derive(Clone, Copy, PartialEq, Eq)]
 pub struct Refused {
     pub refusal: Refusal,
@@ -32,90 +29,69 @@ pub struct Refused {
 }
 
 // the cursor before a statement
-pub fn start(known: &[u64; KNOWN]) -> Cursor
-    requires { CountsInRange known.now }
+pub fn start(known: &Known) -> Cursor
     ensures { result ≡ start_at known.now }
 {
-    Cursor {
-        at: 0,
-        names: 0,
-        items: known[ITEMS] as usize,
-        elements: known[ELEMENTS] as usize,
-        literals: known[LITERALS] as usize,
-        longest: 0,
-    }
+    Cursor::before_statement(known.items, known.elements, known.literals)
 }
 
-// judges a sound statement by its packed text; if it passes the arrays hold the environment behind it
+// judges a sound statement by its packed text; if it passes the symbol table holds the environment behind it
+// kept: buffers one by one, here, in steps and in lib: of names and table the checks take the names alone, so a struct would be taken apart
 fn judge_packed(
     text: &[u8],
-    e: Gathered,
-    known: &mut [u64; KNOWN],
-    symbols: &mut [u64; SYMBOLS],
-    purposes: &mut [u8; PURPOSES],
-    keys: &mut [u64; NAMES],
-    tags: &mut [u8; NAMES],
-    table: &mut [u8],
+    packed: PackedStatement,
+    symbols: &mut Symbols,
+    mentioned: &mut Mentioned,
+    table: &mut [u8; TABLE_SIZE],
 ) -> Result<(), Refusal>
-    requires readied { Readied text.now e (arrays known.old symbols.old purposes.old) }
-    requires arrays_lent { ArraysLent keys.old tags.old table.old }
-    ensures packed_numbered { PackedNumbered text.now e (arrays known.old symbols.old purposes.old) (judged_number result)
-        (arrays known.new symbols.new purposes.new) }
-    ensures arrays_stay { ArraysStay (judged_number result) keys.new tags.new }
+    requires { Readied text.now packed symbols.old }
+    ensures { PackedNumbered text.now packed true symbols.old (judged_number result) symbols.new }
 {
     let kind = leading(text).kind;
-    if is_misplaced(known, kind) {
+    if is_misplaced(&symbols.known, kind) {
         return Err(Refusal::Misplaced);
     }
-    let c = start(known);
-    let form = read_statement(text, e.label, e.whole, known, table, keys, tags, c);
+    let c = start(&symbols.known);
+    let form = read_statement(
+        text,
+        packed.label,
+        packed.whole,
+        &symbols.known,
+        table,
+        mentioned,
+        c,
+    );
     let Some((_, d)) = form else {
         return Err(Refusal::BadForm);
     };
-    judge_statement(known, symbols, purposes, keys, tags, d, kind)
+    judge_statement(symbols, mentioned, d, kind)
 }
 
-// judges an entry; its packed text stands at the beginning of text
+// judges an entry; the packed text of a statement stands at the beginning of text
 fn judge_gathered(
     text: &[u8],
     e: Gathered,
-    known: &mut [u64; KNOWN],
-    symbols: &mut [u64; SYMBOLS],
-    purposes: &mut [u8; PURPOSES],
-    keys: &mut [u64; NAMES],
-    tags: &mut [u8; NAMES],
-    table: &mut [u8],
+    symbols: &mut Symbols,
+    mentioned: &mut Mentioned,
+    table: &mut [u8; TABLE_SIZE],
 ) -> Result<(), Refusal>
-    requires entered { Entered text.now e (arrays known.old symbols.old purposes.old) }
-    requires arrays_lent { ArraysLent keys.old tags.old table.old }
-    ensures entry_numbered { EntryNumbered text.now e (arrays known.old symbols.old purposes.old) (judged_number result)
-        (arrays known.new symbols.new purposes.new) }
-    ensures arrays_stay { ArraysStay (judged_number result) keys.new tags.new }
+    requires { Entered text.now e symbols.old }
+    ensures { EntryNumbered text.now e symbols.old (judged_number result) symbols.new }
 {
     if !e.sound {
         return Err(Refusal::BadLine);
     }
-    if e.skipped {
-        return Ok(());
+    match e.statement {
+        None => Ok(()),
+        Some(packed) => judge_packed(&text[..packed.length], packed, symbols, mentioned, table),
     }
-    judge_packed(
-        &text[..e.length],
-        e,
-        known,
-        symbols,
-        purposes,
-        keys,
-        tags,
-        table,
-    )
 }
 
 // 4 where END is missing, behind the last line
-fn ended(known: &[u64; KNOWN]) -> Result<(), Refused>
-    requires { length known.now ≡ environment_size }
+fn ended(known: &Known) -> Result<(), Refused>
     ensures { verdict_of result ≡ ended_in known.now }
 {
-    if known[ENDED] == 1 {
+    if known.ended {
         return Ok(());
     }
     Err(Refused {
@@ -127,47 +103,40 @@ fn ended(known: &[u64; KNOWN]) -> Result<(), Refused>
 // judges the deck's entries one after the other, and whether END is there
 fn judge_statements(
     deck: &[u8],
-    known: &mut [u64; KNOWN],
-    symbols: &mut [u64; SYMBOLS],
-    purposes: &mut [u8; PURPOSES],
+    symbols: &mut Symbols,
     text: &mut [u8; DECK],
-    keys: &mut [u64; NAMES],
-    tags: &mut [u8; NAMES],
-    table: &mut [u8],
+    mentioned: &mut Mentioned,
+    table: &mut [u8; TABLE_SIZE],
 ) -> Result<(), Refused>
-    requires arrays_hold { ArraysHold (arrays known.old symbols.old purposes.old) 0 empty_environment }
-    requires deck_len_bound { (length deck.now ≤ longest_deck) × (length text.old ≡ longest_text) }
-    requires arrays_lent { ArraysLent keys.old tags.old table.old }
-    ensures statements_judged { StatementsJudged deck.now (verdict_of result) (arrays known.new symbols.new purposes.new) }
-    ensures arrays_lent_2 { (verdict_of result).number ≡ 0 → ArraysLent keys.new tags.new table.new × (length text.new ≡ longest_text) }
+    requires symbols_hold { SymbolsHold symbols.old 0 empty_environment }
+    requires deck_len_bound { length deck.now ≤ longest_deck }
+    ensures { StatementsJudged deck.now (verdict_of result) symbols.new }
 {
     let mut from: usize = 0;
     let mut card: usize = 1;
+    // kept: from entry to entry: each says where the next begins and how many cards it has
     while from < deck.len() {
         let e = gather(deck, from, text);
-        let judged = judge_gathered(text, e, known, symbols, purposes, keys, tags, table);
+        let judged = judge_gathered(text, e, symbols, mentioned, table);
         judged.map_err(|refusal| Refused { refusal, card })?;
         card += e.lines;
         from = e.next;
     }
-    ended(known)
+    ended(&symbols.known)
 }
 
 // 11 and 12 of a deck whose statements passed
-fn closed(known: &[u64; KNOWN], symbols: &[u64], purposes: &[u8]) -> Result<(), Refused>
-    requires { ClosableIn (arrays known.now symbols.now purposes.now) }
-    ensures { verdict_of result ≡ closed_in (arrays known.now symbols.now purposes.now) }
+fn closed(symbols: &Symbols) -> Result<(), Refused>
+    requires { Closable symbols.now }
+    ensures { verdict_of result ≡ closed_in symbols.now }
 {
-    let use_keys = &symbols[NAMES..SCOPES];
-    let use_scopes = &symbols[SCOPES..];
-    let use_purposes = &purposes[NAMES..];
-    if undefined_or_crossing(known, use_keys, use_scopes, use_purposes) {
+    if undefined_or_crossing(symbols) {
         return Err(Refused {
             refusal: Refusal::BadLink,
             card: 0,
         });
     }
-    if executes_itself(known, use_keys, use_scopes, use_purposes) {
+    if executes_itself(symbols) {
         return Err(Refused {
             refusal: Refusal::Recursion,
             card: 0,
@@ -179,20 +148,15 @@ fn closed(known: &[u64; KNOWN], symbols: &[u64], purposes: &[u8]) -> Result<(), 
 // judges the whole deck
 pub fn judge_deck(
     deck: &[u8],
-    known: &mut [u64; KNOWN],
-    symbols: &mut [u64; SYMBOLS],
-    purposes: &mut [u8; PURPOSES],
+    symbols: &mut Symbols,
     text: &mut [u8; DECK],
-    keys: &mut [u64; NAMES],
-    tags: &mut [u8; NAMES],
-    table: &mut [u8],
+    mentioned: &mut Mentioned,
+    table: &mut [u8; TABLE_SIZE],
 ) -> Result<(), Refused>
-    requires arrays_hold { ArraysHold (arrays known.old symbols.old purposes.old) 0 empty_environment }
-    requires deck_len_bound { (length deck.now ≤ longest_deck) × (length text.old ≡ longest_text) }
-    requires arrays_lent { ArraysLent keys.old tags.old table.old }
-    ensures deck_judged { DeckJudged deck.now (verdict_of result) (arrays known.new symbols.new purposes.new) }
-    ensures arrays_lent_2 { (verdict_of result).number ≡ 0 → ArraysLent keys.new tags.new table.new × (length text.new ≡ longest_text) }
+    requires symbols_hold { SymbolsHold symbols.old 0 empty_environment }
+    requires deck_len_bound { length deck.now ≤ longest_deck }
+    ensures { DeckJudged deck.now (verdict_of result) symbols.new }
 {
-    judge_statements(deck, known, symbols, purposes, text, keys, tags, table)?;
-    closed(known, symbols, purposes)
+    judge_statements(deck, symbols, text, mentioned, table)?;
+    closed(symbols)
 }

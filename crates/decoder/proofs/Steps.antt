@@ -1,6 +1,8 @@
 -- What a row of the steps stands for, kind by kind. Assumes nothing.
+use Rattle.std.specs.Prelude as Prelude
+use Rattle.std.specs.Prelude.{Some, None}
 use mathlib.Core.List.{List}
-use mathlib.Core.Path.{◌≡◌, sym, ◌∙◌, ap, ap₂, subst}
+use mathlib.Core.Path.{◌≡◌, refl, sym, ◌∙◌, ap, ap₂, subst}
 use Prim.Native.Nat.{ℕ}
 use borrow.Author.Tests.{eq-eqb, ne_eqb}
 use Rattle.syntax.specs.Program as Program
@@ -8,17 +10,22 @@ use Rattle.encoding.specs.Kinds as Kinds
 use Rattle.encoding.specs.Kinds.{parts, both_steps, pattern_right}
 use Rattle.encoding.specs.Table.{Row}
 use Rattle.encoding.specs.TableReading.{part_of_cell, operand_of_cell, comparison_of, direction_of, steps_in, right_in, statement_of_row}
-use Rattle.decoder.specs.Meaning.{part_meaning, branch_meaning, direction_meaning, patterns_meaning, replacement_meaning}
+use Rattle.encoding.specs.Meaning.{branch_meaning, row_meaning}
+use Rattle.encoding.specs.declared.cells.Row as Cells
+use Rattle.decoder.specs.Meaning.{part_meaning, direction_meaning, patterns_meaning, replacement_meaning}
 use Rattle.decoder.specs.Reading.{StretchRead, BehindRead, ReplacementDecoded, IfDecoded, ScanDecoded, StatementDecoded}
 use Rattle.decoder.specs.declared.Part.{Part}
-use Rattle.decoder.specs.declared.Branch.{Branch}
+use Rattle.encoding.specs.declared.cells.Branch.{Branch}
 use Rattle.decoder.specs.declared.Stretch.{Stretch}
 use Rattle.decoder.specs.declared.If.{If}
 use Rattle.decoder.specs.declared.Direction.TheVariants.{Forward, Backward}
-use Rattle.decoder.specs.declared.Replacement.{Replacement}
-use Rattle.decoder.specs.declared.Replacement.TheVariants.{Nothing, By}
 use Rattle.decoder.specs.declared.Scan as Scan
 use Rattle.decoder.specs.declared.Statement.TheVariants as statements
+
+-- the steps of a row that leads to both
+pub branch_read : (r : Cells.Row) → branch_meaning r.branch ≡ steps_in both_steps (row_meaning r)
+unfolding steps_in
+branch_read r = refl
 
 -- the direction of a scan
 pub goes_forward : (flag : ℕ) → flag ≡ 1 → direction_meaning Forward ≡ direction_of flag
@@ -93,19 +100,19 @@ module _ (r : Row) (t : List ℕ) where
   -- SCAN and BACKSCAN, without a replacement and with one
   scan-row : r.kind ≡ (Kinds.scan_kind).number
       → statement_of_row t r
-      ≡ Program.scan (direction_of r.flag) (part_of_cell parts r.left) (right_in t pattern_right r.right) (replacement_meaning t Nothing)
+      ≡ Program.scan (direction_of r.flag) (part_of_cell parts r.left) (right_in t pattern_right r.right) (replacement_meaning t None)
       (steps_in both_steps r)
   unfolding statement_of_row
   scan-row h = rw h
 
   replace_row : (s : Stretch) → r.kind ≡ (Kinds.replace_kind).number → BehindRead r.right.value s
       → statement_of_row t r
-      ≡ Program.scan (direction_of r.flag) (part_of_cell parts r.left) (right_in t pattern_right r.right) (replacement_meaning t (By s))
+      ≡ Program.scan (direction_of r.flag) (part_of_cell parts r.left) (right_in t pattern_right r.right) (replacement_meaning t (Some s))
       (steps_in both_steps r)
   unfolding statement_of_row
   replace_row s h e = rw (h, e.from, e.count)
 
-  scans_by : (x : Scan.Scan) (put : Replacement)
+  scans_by : (x : Scan.Scan) (put : Prelude.Option Stretch)
       → statement_of_row t r
       ≡ Program.scan (direction_of r.flag) (part_of_cell parts r.left) (right_in t pattern_right r.right) (replacement_meaning t put)
       (steps_in both_steps r)
@@ -120,12 +127,12 @@ module _ (r : Row) (t : List ℕ) where
             record { pattern = e.pattern; replacement = subst (ReplacementDecoded r.right.value) (sym e.replacement) behind };
       }
 
-  pub scans : (x : Scan.Scan) → r.kind ≡ (Kinds.scan_kind).number → ScanDecoded r Nothing x → StatementDecoded t r (statements.Scan x)
-  scans x h e = scans_by x Nothing (scan-row h) tt e
+  pub scans : (x : Scan.Scan) → r.kind ≡ (Kinds.scan_kind).number → ScanDecoded r None x → StatementDecoded t r (statements.Scan x)
+  scans x h e = scans_by x None (scan-row h) tt e
 
-  pub replaces : (x : Scan.Scan) (s : Stretch) → r.kind ≡ (Kinds.replace_kind).number → BehindRead r.right.value s → ScanDecoded r (By s) x
+  pub replaces : (x : Scan.Scan) (s : Stretch) → r.kind ≡ (Kinds.replace_kind).number → BehindRead r.right.value s → ScanDecoded r (Some s) x
       → StatementDecoded t r (statements.Scan x)
-  replaces x s h b e = scans_by x (By s) (replace_row s h b) b e
+  replaces x s h b e = scans_by x (Some s) (replace_row s h b) b e
 
   read-row : r.kind ≡ (Kinds.read_kind).number → statement_of_row t r ≡ Program.read (part_of_cell parts r.left) (steps_in both_steps r)
   unfolding statement_of_row

@@ -1,5 +1,6 @@
 -- What a run may rely on in the decoded enums: places, steps, integers and ends are in range. Assumes nothing.
-use Rattle.std.specs.Prelude.{true, List, ◌≡◌, ℕ, ◌+◌, ◌*◌, ◌≤◌, ◌<◌}
+use Rattle.std.specs.Prelude as Prelude
+use Rattle.std.specs.Prelude.{Some, None, true, List, ◌≡◌, ℕ, ◌+◌, ◌*◌, ◌≤◌, ◌<◌}
 use Rattle.base.specs.Current.{table_size}
 use Rattle.base.specs.Limits as Limits
 use Rattle.encoding.specs.Rules.{balanced}
@@ -20,11 +21,9 @@ use Rattle.decoder.specs.declared.Element.{Element}
 use Rattle.decoder.specs.declared.Element.TheVariants as elements
 use Rattle.decoder.specs.declared.PatternElement.{PatternElement}
 use Rattle.decoder.specs.declared.PatternElement.TheVariants.{Value, Free, Fixed}
-use Rattle.decoder.specs.declared.Branch.{Branch}
+use Rattle.encoding.specs.declared.cells.Branch.{Branch}
 use Rattle.decoder.specs.declared.Stretch.{Stretch}
 use Rattle.decoder.specs.declared.If.{If}
-use Rattle.decoder.specs.declared.Replacement.{Replacement}
-use Rattle.decoder.specs.declared.Replacement.TheVariants.{Nothing, By}
 use Rattle.decoder.specs.declared.Scan as Scan
 use Rattle.decoder.specs.declared.Statement.{Statement}
 use Rattle.decoder.specs.declared.Statement.TheVariants as statements
@@ -96,9 +95,9 @@ pub record PatternsHold (t : List ℕ) (reference : ℕ) (s : Stretch) : Type 0 
   pub few : s.count ≤ Limits.row_elements
   pub each : (k : ℕ) (x : PatternElement) → StretchHas s k → PatternRead t (cell_at t (elements_at + 8 * k)) x → PatternHolds reference x
 
-abbrev pub ReplacementHolds : List ℕ → Replacement → Type 0
-ReplacementHolds t Nothing = Unit {0}
-ReplacementHolds t (By s) = ElementsHold t s
+abbrev pub ReplacementHolds : List ℕ → Prelude.Option Stretch → Type 0
+ReplacementHolds t None = Unit {0}
+ReplacementHolds t (Some s) = ElementsHold t s
 
 -- both ways lead to one of so many steps
 pub record BranchHolds (steps : ℕ) (b : Branch) : Type 0 where

@@ -15,9 +15,9 @@ use Rattle.encoding.specs.Rules.{place_of, roles_hold, is_among, named_by}
 use Rattle.numbers.specs.Laws.{in_range_lem}
 use Rattle.numbers.specs.Numbers.{IntInRange}
 use Rattle.numbers.specs.declared.Int.{Int}
-use Rattle.decoder.specs.Holds.{LengthHolds, PartHolds, OperandHolds, ItemHolds, searched_place}
-use Rattle.decoder.specs.Holds.{FillerHolds, BranchHolds, IfHolds}
-use Rattle.decoder.specs.Meaning.{length_meaning, part_meaning, operand_meaning, item_meaning, branch_meaning, if_meaning}
+use Rattle.decoder.specs.Holds.{LengthHolds, PartHolds, OperandHolds, ItemHolds, searched_place, FillerHolds, BranchHolds, IfHolds}
+use Rattle.encoding.specs.Meaning.{branch_meaning}
+use Rattle.decoder.specs.Meaning.{length_meaning, part_meaning, operand_meaning, item_meaning, if_meaning}
 use Rattle.decoder.specs.declared.Length.{Length}
 use Rattle.decoder.specs.declared.Length.TheVariants as lengths
 use Rattle.decoder.specs.declared.Part.{Part}
@@ -26,7 +26,7 @@ use Rattle.decoder.specs.declared.Operand.{Operand}
 use Rattle.decoder.specs.declared.Operand.TheVariants as operands
 use Rattle.decoder.specs.declared.Item.{Item}
 use Rattle.decoder.specs.declared.Item.TheVariants as items
-use Rattle.decoder.specs.declared.Branch.{Branch}
+use Rattle.encoding.specs.declared.cells.Branch.{Branch}
 use Rattle.decoder.specs.declared.If.{If}
 
 -- a constant that passes the test is in range

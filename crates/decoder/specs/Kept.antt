@@ -1,6 +1,7 @@
 -- What a table that keeps the rules lets callers rely on: each statement that is read from it holds, and a step behind it is there.
 -- Assumes nothing.
-use Rattle.std.specs.Prelude.{Bool, true, false, not, ◌&&◌, List, [], ◌∷◌, ◌++◌, map, ◌≡◌, leb, take, drop, get_or}
+use Rattle.std.specs.Prelude as Prelude
+use Rattle.std.specs.Prelude.{Some, None, Bool, true, false, not, ◌&&◌, List, [], ◌∷◌, ◌++◌, map, ◌≡◌, leb, take, drop, get_or}
 use Rattle.std.proofs.Math.Bool.{and-eq-true_iff}
 use Rattle.std.proofs.lemmas.Bool.{false≢true}
 use Rattle.std.proofs.Math.Option.{Option, none, some}
@@ -36,7 +37,8 @@ use Rattle.decoder.specs.Holds.{StretchHas, searched_place, BranchHolds, ScanHol
 use Rattle.decoder.specs.HoldsLaws.{place_is, is_other, roles_others, below-strings, part_holds_lem, item_holds_lem, text_holds, free_holds, fixed_holds}
 use Rattle.decoder.specs.HoldsLaws.{branch-holds, if_holds}
 use Rattle.decoder.specs.Meaning.{part_meaning, element_meaning, pattern_meaning, items_meaning, elements_meaning, direction_meaning}
-use Rattle.decoder.specs.Meaning.{patterns_meaning, branch_meaning, replacement_meaning, statement_meaning}
+use Rattle.encoding.specs.Meaning.{branch_meaning}
+use Rattle.decoder.specs.Meaning.{patterns_meaning, replacement_meaning, statement_meaning}
 use Rattle.decoder.specs.Reading.{ElementDecoded, PatternRead, StretchRead, ReplacementDecoded, ScanStretches, StretchesRead, StatementDecoded}
 use Rattle.decoder.specs.ReadingLaws.{element_cases, pattern_cases}
 use Rattle.decoder.specs.Regions.{RowPlace, RangeIs, row_range, program_in_range, kept_row, kept_literal}
@@ -44,10 +46,8 @@ use Rattle.decoder.specs.declared.Element.{Element}
 use Rattle.decoder.specs.declared.Element.TheVariants.{Literal, Part, Text}
 use Rattle.decoder.specs.declared.PatternElement.{PatternElement}
 use Rattle.decoder.specs.declared.PatternElement.TheVariants.{Value, Free, Fixed}
-use Rattle.decoder.specs.declared.Branch.{Branch}
+use Rattle.encoding.specs.declared.cells.Branch.{Branch}
 use Rattle.decoder.specs.declared.Stretch.{Stretch}
-use Rattle.decoder.specs.declared.Replacement.{Replacement}
-use Rattle.decoder.specs.declared.Replacement.TheVariants.{Nothing, By}
 use Rattle.decoder.specs.declared.Scan as Scan
 use Rattle.decoder.specs.declared.Statement.{Statement}
 use Rattle.decoder.specs.declared.Statement.TheVariants as statements
@@ -212,19 +212,19 @@ module _ (t : List ℕ) (kept : keeps_rules current t ≡ true) where
       elements_hold s (omega (arith, read.from, read.count, range.first, range.second)) (read.count ∙ range.second) h
 
   -- a replacement behind its pattern
-  replacement-holds : (x : Replacement) (v from count : ℕ) → RangeIs v from count (length (replacement_of (replacement_meaning t x)))
+  replacement-holds : (x : Prelude.Option Stretch) (v from count : ℕ) → RangeIs v from count (length (replacement_of (replacement_meaning t x)))
       → ReplacementDecoded v x → from + (count + length (replacement_of (replacement_meaning t x))) ≤ elements
       → Rules.row_holds current strings numbers steps (replacement_of (replacement_meaning t x)) ≡ true → ReplacementHolds t x
   unfolding replacement_of
-  replacement-holds Nothing v from count range read end h = tt
-  replacement-holds (By s) v from count range read end h =
+  replacement-holds None v from count range read end h = tt
+  replacement-holds (Some s) v from count range read end h =
       elements_hold s (omega (arith, read.from, read.count, range.first, range.second, range.third)) (read.count ∙ range.third) h
 
   -- the right cell of a scan has its pattern and what it puts
   scan_right : (element item : ℕ) (d : Program.Direction) (p : Program.Part) (xs : List Program.PatternElement)
       (r : Option (List Program.Element)) (b : Program.Branch)
       → (statement_row element item (Program.scan d p xs r b)).right ≡ range_cell element (length xs) (length (replacement_of r))
-  unfolding statement_row row_with replacement_of
+  unfolding statement_row replacement_of
   scan_right element item d p xs none b = refl
   scan_right element item d p xs (some ys) b = refl
 
@@ -271,7 +271,7 @@ module _ (t : List ℕ) (kept : keeps_rules current t ≡ true) where
   statement_kept : (at card : ℕ) (x : Statement) → RowPlace t at elements items card (statement_meaning t x)
       → StretchesRead (read_row_at t at).right.value x → Rules.statement_holds current strings numbers steps (statement_meaning t x) ≡ true
       → StatementHolds t steps x
-  unfolding Rules.statement_holds test_holds statement_row row_with elements_of items_of
+  unfolding Rules.statement_holds test_holds statement_row elements_of items_of
   statement_kept at card (statements.SetNumber i s) p r h =
       let l = items_meaning t s in
       let tests = number_parts current strings numbers steps i l h in

@@ -1,12 +1,10 @@
 -- The code's enums, as the program's own types, given the table's bytes. Assumes nothing.
-use Rattle.std.specs.Prelude.{List, ℕ, ◌-◌, take, drop}
+use Rattle.std.specs.Prelude as Prelude
+use Rattle.std.specs.Prelude.{Some, None, List, ℕ, ◌-◌, take, drop}
 use Rattle.std.proofs.Math.Option.{Option, none, some}
 use Rattle.syntax.specs.Program as Program
-use Rattle.encoding.specs.Table as Table
 use Rattle.encoding.specs.TableReading.{read_items, read_elements, read_pattern}
 use Rattle.numbers.specs.Numbers.{comparison_meaning}
-use Rattle.decoder.specs.declared.Cell.{Cell}
-use Rattle.decoder.specs.declared.Row.{Row}
 use Rattle.decoder.specs.declared.Length.{Length}
 use Rattle.decoder.specs.declared.Length.TheVariants as lengths
 use Rattle.decoder.specs.declared.Part.{Part}
@@ -23,29 +21,13 @@ use Rattle.decoder.specs.declared.Element.{Element}
 use Rattle.decoder.specs.declared.Element.TheVariants as elements
 use Rattle.decoder.specs.declared.PatternElement.{PatternElement}
 use Rattle.decoder.specs.declared.PatternElement.TheVariants.{Value, Free, Fixed}
-use Rattle.decoder.specs.declared.Branch.{Branch}
+use Rattle.encoding.specs.Meaning.{branch_meaning}
 use Rattle.decoder.specs.declared.Stretch.{Stretch}
 use Rattle.decoder.specs.declared.If.{If}
 use Rattle.decoder.specs.declared.Direction.{Direction}
 use Rattle.decoder.specs.declared.Direction.TheVariants.{Forward, Backward}
-use Rattle.decoder.specs.declared.Replacement.{Replacement}
-use Rattle.decoder.specs.declared.Replacement.TheVariants.{Nothing, By}
 use Rattle.decoder.specs.declared.Statement.{Statement}
 use Rattle.decoder.specs.declared.Statement.TheVariants as statements
-
-abbrev pub cell_meaning : Cell → Table.Cell
-cell_meaning c = record { kind = c.kind; place = c.place; value = c.value }
-
-abbrev pub row_meaning : Row → Table.Row
-row_meaning r =
-    record {
-      kind = r.kind;
-      flag = r.flag;
-      success = r.success;
-      failure = r.failure;
-      left = cell_meaning r.left;
-      right = cell_meaning r.right;
-    }
 
 abbrev pub length_meaning : Length → Program.Length
 length_meaning (lengths.Constant z) = Program.constantly z.value
@@ -87,9 +69,6 @@ pattern_meaning t (Value x) = Program.value (element_meaning t x)
 pattern_meaning t (Free s) = Program.free_filler s
 pattern_meaning t (Fixed s n) = Program.fixed_filler s (length_meaning n)
 
-abbrev pub branch_meaning : Branch → Program.Branch
-branch_meaning b = record { success = b.success; failure = b.failure }
-
 -- the items or elements of a stretch
 abbrev pub items_meaning : List ℕ → Stretch → List Program.Item
 items_meaning t s = read_items t s.from s.count
@@ -108,9 +87,9 @@ abbrev pub direction_meaning : Direction → Program.Direction
 direction_meaning Forward = Program.forward
 direction_meaning Backward = Program.backward
 
-abbrev pub replacement_meaning : List ℕ → Replacement → Option (List Program.Element)
-replacement_meaning t Nothing = none
-replacement_meaning t (By s) = some (elements_meaning t s)
+abbrev pub replacement_meaning : List ℕ → Prelude.Option Stretch → Option (List Program.Element)
+replacement_meaning t None = none
+replacement_meaning t (Some s) = some (elements_meaning t s)
 
 abbrev pub statement_meaning : List ℕ → Statement → Program.Statement
 statement_meaning t (statements.SetNumber i s) = Program.set_number i (items_meaning t s)

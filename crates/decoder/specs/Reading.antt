@@ -1,6 +1,6 @@
 -- What the code reads from a table's bytes: the enums stand for what the table's reading says, and stretches and literals lie where their
 -- ranges say. Assumes nothing.
-use Rattle.std.specs.Prelude.{cond, List, ◌≡◌, ℕ, ◌+◌, ◌<◌, ◌^◌, eqb}
+use Rattle.std.specs.Prelude.{Option, Some, None, cond, List, ◌≡◌, ℕ, ◌+◌, ◌<◌, ◌^◌, eqb}
 use Rattle.syntax.specs.Program.{Operator, plus, minus, times, over}
 use Rattle.encoding.specs.Kinds.{operator_number, parts, both_steps}
 use Rattle.encoding.specs.Numerals.{numeral_at}
@@ -9,39 +9,30 @@ use Rattle.encoding.specs.Table.{literals_at}
 use Rattle.encoding.specs.TableReading.{cell_at, read_row_at, range_from, range_count, range_more, element_of_cell, pattern_of_cell, comparison_of}
 use Rattle.encoding.specs.TableReading.{direction_of, operand_of_cell, part_of_cell, steps_in, statement_of_row}
 use Rattle.numbers.specs.Numbers.{comparison_meaning}
-use Rattle.decoder.specs.Meaning.{cell_meaning, row_meaning, part_meaning, operand_meaning, element_meaning, pattern_meaning, branch_meaning}
-use Rattle.decoder.specs.Meaning.{direction_meaning, statement_meaning}
-use Rattle.decoder.specs.declared.Cell.{Cell}
-use Rattle.decoder.specs.declared.Row.{Row}
-use Rattle.decoder.specs.declared.Counts.{Counts}
+use Rattle.encoding.specs.Meaning.{cell_meaning, row_meaning, branch_meaning}
+use Rattle.decoder.specs.Meaning.{part_meaning, operand_meaning, element_meaning, pattern_meaning, direction_meaning, statement_meaning}
+use Rattle.encoding.specs.declared.cells.Cell.{Cell}
+use Rattle.encoding.specs.declared.cells.Row.{Row}
+use Rattle.encoding.specs.declared.cells.Counts.{Counts}
 use Rattle.decoder.specs.declared.Element.{Element}
 use Rattle.decoder.specs.declared.Element.TheVariants.{Literal, Part, Text}
 use Rattle.decoder.specs.declared.PatternElement.{PatternElement}
 use Rattle.decoder.specs.declared.PatternElement.TheVariants.{Value, Free, Fixed}
 use Rattle.decoder.specs.declared.Stretch.{Stretch}
 use Rattle.decoder.specs.declared.If.{If}
-use Rattle.decoder.specs.declared.Replacement.{Replacement}
-use Rattle.decoder.specs.declared.Replacement.TheVariants.{Nothing, By}
 use Rattle.decoder.specs.declared.Scan as Scan
 use Rattle.decoder.specs.declared.Statement.{Statement}
 use Rattle.decoder.specs.declared.Statement.TheVariants as statements
 
--- the kind and the place of a cell have 1 byte, its value 6
-pub record CellSmall (c : Cell) : Type 0 where
-  pub kind : c.kind < 256
-  pub place : c.place < 256
-  pub value : c.value < 2 ^ 48
-
--- a cell that was read at a place
+-- a cell that was read at a place; its value has 6 bytes
 pub record CellDecoded (t : List ℕ) (at : ℕ) (c : Cell) : Type 0 where
   pub same : cell_meaning c ≡ cell_at t at
-  pub small : CellSmall c
+  pub small : c.value < 2 ^ 48
 
--- and so has the kind of a row
+-- and so have those of a row
 pub record SmallRow (r : Row) : Type 0 where
-  pub kind : r.kind < 256
-  pub left : CellSmall r.left
-  pub right : CellSmall r.right
+  pub left : r.left.value < 2 ^ 48
+  pub right : r.right.value < 2 ^ 48
 
 -- a row that was read at a place
 pub record RowDecoded (t : List ℕ) (at : ℕ) (r : Row) : Type 0 where
@@ -85,9 +76,9 @@ pub record BehindRead (range : ℕ) (s : Stretch) : Type 0 where
   pub from : s.from ≡ range_from range + range_count range
   pub count : s.count ≡ range_more range
 
-abbrev pub ReplacementDecoded : ℕ → Replacement → Type 0
-ReplacementDecoded range Nothing = Unit {0}
-ReplacementDecoded range (By s) = BehindRead range s
+abbrev pub ReplacementDecoded : ℕ → Option Stretch → Type 0
+ReplacementDecoded range None = Unit {0}
+ReplacementDecoded range (Some s) = BehindRead range s
 
 -- the stretches of a statement are those that the row's range says
 pub record ScanStretches (range : ℕ) (x : Scan.Scan) : Type 0 where
@@ -120,7 +111,7 @@ pub record IfDecoded (r : Table.Row) (x : If) : Type 0 where
   pub sign : comparison_meaning x.sign ≡ comparison_of r.flag
 
 -- a scan that was read from a row, with a replacement
-pub record ScanDecoded (r : Table.Row) (put : Replacement) (x : Scan.Scan) : Type 0 where
+pub record ScanDecoded (r : Table.Row) (put : Option Stretch) (x : Scan.Scan) : Type 0 where
   pub direction : direction_meaning x.direction ≡ direction_of r.flag
   pub part : part_meaning x.part ≡ part_of_cell parts r.left
   pub branch : branch_meaning x.branch ≡ steps_in both_steps r

@@ -83,7 +83,7 @@ cell-place t at place (x ∷ xs) (suc k) here literals d s inside e l =
 
 -- the kind of an element is read where its cell stands
 kind-read : (t : List ℕ) (at literals : ℕ) (x : PatternElement) → CellPlace t at literals x → (cell_at t at).kind ≡ (spell_pattern x).kind.number
-unfolding pattern_cell cell_for cell cell_bytes cell_at
+unfolding pattern_cell cell_for cell_bytes cell_at
 kind-read t at literals x p =
     let c = pattern_cell p.literal x in
     byte-read t at c.kind (c.place ∷ in_bytes 6 c.value) p.bytes
@@ -91,7 +91,7 @@ kind-read t at literals x p =
 -- the literal of a cell of its kind ends within the literals
 literal_end : (t : List ℕ) (at literals : ℕ) (x : PatternElement) → literals < 2 ^ 16 → CellPlace t at literals x
     → (cell_at t at).kind ≡ literal_kind.number → range_from (cell_at t at).value + range_count (cell_at t at).value ≤ literals
-unfolding pattern_cell literal_in cell spell_part spell_element spell_pattern
+unfolding pattern_cell literal_in spell_part spell_element spell_pattern
 literal_end t at literals (value (literal w)) small p h =
     let from = p.literal in
     let ranges = range_read from (length w) 0 (omega (arith, p.end)) (omega (arith, p.end)) (omega arith) in
@@ -130,7 +130,7 @@ pub record RangeIs (v from count more : ℕ) : Type 0 where
 -- are read where the row stands
 pub row_range : (t : List ℕ) (at card from count more : ℕ) (r : Row) → BytesStand t at (row_bytes card r) → r.right ≡ range_cell from count more
     → from + (count + more) < 2 ^ 16 → RangeIs (read_row_at t at).right.value from count more
-unfolding range_cell cell
+unfolding range_cell
 row_range t at card from count more r s e small =
     let ranges = range_read from count more (omega arith) (omega arith) (omega arith) in
     let same = ap (λ (c : Cell). c.value) e in

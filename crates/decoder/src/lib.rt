@@ -4,16 +4,16 @@
 
 ghost use Rattle.std.specs.Prelude.{List, ◌≡◌, ℕ, ◌+◌, ◌*◌, ◌≤◌, ◌<◌, ◌^◌, length};
 ghost use Rattle.base.specs.Current.{table_size};
-ghost use Rattle.encoding.specs.Kinds.{both_steps};
 ghost use Rattle.encoding.specs.Numerals.{numeral_at, unbiased};
 ghost use Rattle.encoding.specs.Table.{steps_at, elements_at, items_at};
-ghost use Rattle.encoding.specs.TableReading.{cell_at, read_row_at, part_of_cell, operand_of_cell, item_of_cell, comparison_of, direction_of, steps_in};
+ghost use Rattle.encoding.specs.TableReading.{cell_at, read_row_at, part_of_cell, operand_of_cell, item_of_cell, comparison_of, direction_of};
 ghost use Rattle.numbers.specs.Numbers.{comparison_meaning};
-ghost use Rattle.decoder.specs.Meaning.{cell_meaning, row_meaning, part_meaning, operand_meaning, operator_meaning, item_meaning};
-ghost use Rattle.decoder.specs.Meaning.{direction_meaning, branch_meaning};
-ghost use Rattle.decoder.specs.Reading.{operator_of_kind, CellSmall, CellDecoded, RowDecoded, SmallRow, StretchRead, BehindRead, ElementDecoded, PatternRead};
+ghost use Rattle.encoding.specs.Meaning.{cell_meaning, row_meaning};
+ghost use Rattle.decoder.specs.Meaning.{part_meaning, operand_meaning, operator_meaning, item_meaning, direction_meaning};
+ghost use Rattle.decoder.specs.Reading.{operator_of_kind, CellDecoded, RowDecoded, SmallRow, StretchRead, BehindRead, ElementDecoded, PatternRead};
 ghost use Rattle.decoder.specs.Reading.{IfDecoded, ScanDecoded, StatementDecoded, CountsRead};
 
+use encoding::cells::{Branch, Cell, Counts, Row};
 use encoding::{
     ELEMENTS_AT, ITEMS_AT, LITERALS_AT, RANGE_MORE, RANGE_STEP, STEP_ROW, STEPS_AT, TABLE_CELL,
     cell_kinds, step_kinds,
@@ -24,40 +24,8 @@ use store::spans::number2;
 // an integer is kept as a number with this much added
 const BIAS: i64 = encoding::BIAS as i64;
 
-// STRING(n,m) and a fixed filler whose n is a number
-const TEXT_BY_NUMBER: u8 = cell_kinds::TEXT + 1;
-
-const FIXED_BY_NUMBER: u8 = cell_kinds::FIXED + 1;
-
-// a cell: its kind, the place of a string or number, a value of 6 bytes
-#[derive(Clone, Copy)]
-pub struct Cell {
-    pub kind: usize,
-    pub place: usize,
-    pub value: usize,
-}
-
-// a row of the steps, without its card
-#[derive(Clone, Copy)]
-pub struct Row {
-    pub kind: usize,
-    pub flag: usize,
-    pub success: usize,
-    pub failure: usize,
-    pub left: Cell,
-    pub right: Cell,
-}
-
-// the counts of a table's header
-#[derive(Clone, Copy)]
-pub struct Counts {
-    pub steps: usize,
-    pub strings: usize,
-    pub numbers: usize,
-    pub elements: usize,
-    pub items: usize,
-    pub literals: usize,
-}
+// kept: that places and constants are in range (PartHolds and so on) is no ghost field of the types below: any table is decoded, not only one
+// that keeps its rules; so those who use what was decoded ask for it
 
 // the n of S$n or STRING(n,m): a constant, or the number of this place
 #[derive(Clone, Copy)]
@@ -119,13 +87,6 @@ pub enum PatternElement {
     Fixed(usize, Length),
 }
 
-// the steps of a branch field
-#[derive(Clone, Copy)]
-pub struct Branch {
-    pub success: usize,
-    pub failure: usize,
-}
-
 // so many items or elements, from a place among all of them on
 #[derive(Clone, Copy)]
 pub struct Stretch {
@@ -147,19 +108,13 @@ pub enum Direction {
     Backward,
 }
 
-#[derive(Clone, Copy)]
-pub enum Replacement {
-    Nothing,
-    By(Stretch),
-}
-
 // SCAN or BACKSCAN
 #[derive(Clone, Copy)]
 pub struct Scan {
     pub direction: Direction,
     pub part: Part,
     pub pattern: Stretch,
-    pub replacement: Replacement,
+    pub replacement: Option<Stretch>,
     pub branch: Branch,
 }
 
@@ -202,39 +157,40 @@ pub fn cell_at(t: &[u8], at: usize) -> Cell
     ensures { CellDecoded t.now at result }
 {
     Cell {
-        kind: t[at] as usize,
-        place: t[at + 1] as usize,
+        kind: t[at],
+        place: t[at + 1],
         value: number6(t, at + 2),
     }
 }
 
 // a string, or its first bytes by a constant or by a number; the first of their three kinds is given
+// kept: functions and no From, here and in those below of a Cell: each asks that the value is below 2^48, which From doesn't
 fn part_of(first: u8, c: Cell) -> Part
-    requires { (first ≤ 64) × CellSmall c }
+    requires { (first ≤ 64) × (c.value < 2 ^ 48) }
     ensures { part_meaning result ≡ part_of_cell first (cell_meaning c) }
 {
-    let kind = c.kind as u8;
+    let kind = c.kind;
+    let place = c.place as usize;
     if kind == first {
-        return Part::Whole(c.place);
+        return Part::Whole(place);
     }
     if kind == first + 1 {
-        return Part::First(c.place, Length::Constant(unbias(c.value)));
+        return Part::First(place, Length::Constant(unbias(c.value)));
     }
     if kind == first + 2 {
-        return Part::First(c.place, Length::Number(c.value));
+        return Part::First(place, Length::Number(c.value));
     }
     Part::Whole(0)
 }
 
 fn operand_of(c: Cell) -> Operand
-    requires { CellSmall c }
+    requires { c.value < 2 ^ 48 }
     ensures { operand_meaning result ≡ operand_of_cell (cell_meaning c) }
 {
-    let kind = c.kind as u8;
-    match kind {
+    match c.kind {
         cell_kinds::CONSTANT => Operand::Constant(unbias(c.value)),
-        cell_kinds::NUMBER => Operand::Number(c.place as u8),
-        cell_kinds::LENGTH => Operand::LengthOf(c.place),
+        cell_kinds::NUMBER => Operand::Number(c.place),
+        cell_kinds::LENGTH => Operand::LengthOf(c.place as usize),
         _ => Operand::NumberOf(part_of(cell_kinds::NUMBER_OF, c)),
     }
 }
@@ -252,11 +208,10 @@ pub fn operator_of(kind: u8) -> Operator
 }
 
 fn item_of(c: Cell) -> Item
-    requires { CellSmall c }
+    requires { c.value < 2 ^ 48 }
     ensures { item_meaning result ≡ item_of_cell (cell_meaning c) }
 {
-    let kind = c.kind as u8;
-    match kind {
+    match c.kind {
         cell_kinds::PLUS => Item::Operator(Operator::Plus),
         cell_kinds::MINUS => Item::Operator(Operator::Minus),
         cell_kinds::TIMES => Item::Operator(Operator::Times),
@@ -290,35 +245,38 @@ fn behind_of(range: usize) -> Stretch
 }
 
 fn element_of(c: Cell) -> Element
-    requires { CellSmall c }
+    requires { c.value < 2 ^ 48 }
     ensures { (t : List ℕ) → ElementDecoded t (cell_meaning c) result }
 {
-    let kind = c.kind as u8;
-    match kind {
+    match c.kind {
         cell_kinds::LITERAL => {
             let s = stretch_of(c.value);
             Element::Literal(LITERALS_AT + s.from, LITERALS_AT + s.from + s.count)
         }
-        cell_kinds::TEXT => Element::Text(Length::Constant(unbias(c.value)), c.place),
-        TEXT_BY_NUMBER => Element::Text(Length::Number(c.value), c.place),
+        cell_kinds::TEXT => Element::Text(Length::Constant(unbias(c.value)), c.place as usize),
+        cell_kinds::TEXT_BY => Element::Text(Length::Number(c.value), c.place as usize),
         _ => Element::Part(part_of(cell_kinds::STRING, c)),
     }
 }
 
 fn pattern_of(c: Cell) -> PatternElement
-    requires { CellSmall c }
+    requires { c.value < 2 ^ 48 }
     ensures { (t : List ℕ) → PatternRead t (cell_meaning c) result }
 {
-    let kind = c.kind as u8;
-    match kind {
-        cell_kinds::FREE => PatternElement::Free(c.place),
-        cell_kinds::FIXED => PatternElement::Fixed(c.place, Length::Constant(unbias(c.value))),
-        FIXED_BY_NUMBER => PatternElement::Fixed(c.place, Length::Number(c.value)),
+    match c.kind {
+        cell_kinds::FREE => PatternElement::Free(c.place as usize),
+        cell_kinds::FIXED => PatternElement::Fixed(
+            c.place as usize,
+            Length::Constant(unbias(c.value)),
+        ),
+        cell_kinds::FIXED_BY => PatternElement::Fixed(c.place as usize, Length::Number(c.value)),
         _ => PatternElement::Value(element_of(c)),
     }
 }
 
 // item k of all items
+// kept: this, operand_at, element_at and pattern_at are a line each; one function of a region and of what a cell is would say no less at its calls
+// kept: k has its bound in a clause: a type for it would be made anew at each turn of the loops that count it
 pub fn item_at(t: &[u8], k: usize) -> Item
     requires { (table_size ≤ length t.now) × (k < 1024) }
     ensures { item_meaning result ≡ item_of_cell (cell_at t.now (items_at + 8 * k)) }
@@ -327,6 +285,7 @@ pub fn item_at(t: &[u8], k: usize) -> Item
 }
 
 // the kind of item k of all items
+// kept: the number, here and in kind_at, as encoding/cell_kinds says: it is asked for alone, where the rest of the cell or row isn't
 pub fn item_kind(t: &[u8], k: usize) -> u8
     requires { (table_size ≤ length t.now) × (k < 1024) }
     ensures { result ≡ (cell_at t.now (items_at + 8 * k)).kind }
@@ -363,16 +322,19 @@ pub fn row_at(t: &[u8], at: usize) -> Row
     ensures { RowDecoded t.now at result }
 {
     Row {
-        kind: t[at] as usize,
-        flag: t[at + 1] as usize,
-        success: number2(t, at + 4),
-        failure: number2(t, at + 6),
+        kind: t[at],
+        flag: t[at + 1],
+        branch: Branch {
+            success: number2(t, at + 4),
+            failure: number2(t, at + 6),
+        },
         left: cell_at(t, at + 8),
         right: cell_at(t, at + 16),
     }
 }
 
-fn comparison_of(flag: usize) -> Comparison
+// kept: functions, as direction_of and operator_of, and no From: by their definitions any other number is the last one
+fn comparison_of(flag: u8) -> Comparison
     ensures { comparison_meaning result ≡ comparison_of flag }
 {
     match flag {
@@ -397,7 +359,7 @@ fn if_of(r: Row) -> If
     }
 }
 
-fn direction_of(flag: usize) -> Direction
+fn direction_of(flag: u8) -> Direction
     ensures { direction_meaning result ≡ direction_of flag }
 {
     match flag {
@@ -407,7 +369,7 @@ fn direction_of(flag: usize) -> Direction
 }
 
 // a scan with this replacement
-fn scan_of(r: Row, replacement: Replacement) -> Scan
+fn scan_of(r: Row, replacement: Option<Stretch>) -> Scan
     requires { SmallRow r }
     ensures { ScanDecoded (row_meaning r) replacement result }
 {
@@ -416,16 +378,7 @@ fn scan_of(r: Row, replacement: Replacement) -> Scan
         part: part_of(cell_kinds::STRING, r.left),
         pattern: stretch_of(r.right.value),
         replacement,
-        branch: branch_of(r),
-    }
-}
-
-fn branch_of(r: Row) -> Branch
-    ensures { branch_meaning result ≡ steps_in both_steps (row_meaning r) }
-{
-    Branch {
-        success: r.success,
-        failure: r.failure,
+        branch: r.branch,
     }
 }
 
@@ -434,29 +387,25 @@ fn statement_of(r: Row) -> Statement
     requires { SmallRow r }
     ensures { (t : List ℕ) → StatementDecoded t (row_meaning r) result }
 {
-    let kind = r.kind as u8;
-    match kind {
-        step_kinds::SET_NUMBER => Statement::SetNumber(r.left.place, stretch_of(r.right.value)),
+    match r.kind {
+        step_kinds::SET_NUMBER => Statement::SetNumber(
+            r.left.place as usize,
+            stretch_of(r.right.value),
+        ),
         step_kinds::SET_STRING => Statement::SetString(
             part_of(cell_kinds::STRING, r.left),
             stretch_of(r.right.value),
         ),
-        step_kinds::GOTO => Statement::Goto(r.success),
+        step_kinds::GOTO => Statement::Goto(r.branch.success),
         step_kinds::FINISH => Statement::Finish,
-        step_kinds::EXECUTE => Statement::Execute(r.success),
+        step_kinds::EXECUTE => Statement::Execute(r.branch.success),
         step_kinds::RETURN => Statement::Return,
-        step_kinds::NULL => Statement::IfNull(r.left.place, branch_of(r)),
-        step_kinds::NUMERIC => Statement::IfNumeric(
-            part_of(cell_kinds::STRING, r.left),
-            branch_of(r),
-        ),
-        step_kinds::COMPARE => Statement::If(if_of(r), branch_of(r)),
-        step_kinds::SCAN => Statement::Scan(scan_of(r, Replacement::Nothing)),
-        step_kinds::REPLACE => Statement::Scan(scan_of(
-            r,
-            Replacement::By(behind_of(r.right.value)),
-        )),
-        step_kinds::READ => Statement::Read(part_of(cell_kinds::STRING, r.left), branch_of(r)),
+        step_kinds::NULL => Statement::IfNull(r.left.place as usize, r.branch),
+        step_kinds::NUMERIC => Statement::IfNumeric(part_of(cell_kinds::STRING, r.left), r.branch),
+        step_kinds::COMPARE => Statement::If(if_of(r), r.branch),
+        step_kinds::SCAN => Statement::Scan(scan_of(r, None)),
+        step_kinds::REPLACE => Statement::Scan(scan_of(r, Some(behind_of(r.right.value)))),
+        step_kinds::READ => Statement::Read(part_of(cell_kinds::STRING, r.left), r.branch),
         step_kinds::WRITE => Statement::Write(stretch_of(r.right.value)),
         _ => Statement::Finish,
     }

@@ -1,6 +1,6 @@
 -- What statements ask for and leave in the buffers, as the machine's definitions have it. Assumes nothing.
 use Rattle.std.specs.Prelude as std
-use Rattle.std.specs.Prelude.{Option, Some, None, true, false, nat_abs, List, ◌≡◌, ℕ, ◌≤◌, ◌<◌, ltb, ℤ, length, take, drop, Ok, Err}
+use Rattle.std.specs.Prelude.{true, false, nat_abs, List, ◌≡◌, ℕ, ◌≤◌, ◌<◌, ltb, ℤ, length, take, drop, Ok, Err}
 use Rattle.encoding.specs.BufferLaws.{StoreGood}
 use Rattle.encoding.specs.Buffers.{strings_in, store_size}
 use Rattle.store.specs.Clauses.{string_of, string_replaced}
@@ -12,6 +12,7 @@ use Rattle.values.specs.Numbers.{is_negative}
 use Rattle.values.specs.Result.{Result, done, stop, with_notes}
 use Rattle.values.specs.Stops.{stop_number}
 use Rattle.values.specs.declared.Stop.{Stop}
+use Rattle.values.specs.declared.Stop.TheVariants.{NegativeLength}
 
 -- what a statement's work comes to in code: done, with so many notes, or what stops it
 abbrev pub Completion : Type 0
@@ -32,10 +33,10 @@ abbrev pub LeavesStore : Completion → (store left : List ℕ) → List ℤ →
 LeavesStore (Ok notes) store left numbers w = StoreStays store left × (w ≡ done (memory_of left numbers) notes)
 LeavesStore (Err s) store left numbers w = (left ≡ store) × (w ≡ stop (stop_number s))
 
--- how many bytes a length asks for; none if it is negative
-abbrev pub Asks : Option ℕ → ℤ → Type 0
-Asks None z = is_negative z ≡ true
-Asks (Some n) z = (is_negative z ≡ false) × (n ≡ nat_abs z)
+-- how many bytes a length asks for, or that it is negative
+abbrev pub Asks : std.Result ℕ Stop → ℤ → Type 0
+Asks (Err s) z = (is_negative z ≡ true) × (s ≡ NegativeLength)
+Asks (Ok n) z = (is_negative z ≡ false) × (n ≡ nat_abs z)
 
 -- a record to be read
 pub record Taking (store : List ℕ) (place : ℕ) (input : List ℕ) (from : ℕ) : Type 0 where

@@ -1,19 +1,32 @@
 -- What the statements leave that value an expression and keep it. Assumes nothing.
 use Rattle.std.specs.Prelude.{Ok, Err, cond, List, ◌≡◌, ℕ, ◌+◌, ◌≤◌, ◌<◌, ltb, ℤ, length, take, drop, get_or, set}
-use Rattle.base.specs.Current.{current}
+use Rattle.base.specs.Current.{current, table_size}
 use Rattle.encoding.specs.Buffers.{numbers_in}
 use Rattle.encoding.specs.Numerals.{biased}
 use Rattle.store.specs.Clauses.{string_of, string_replaced}
-use Rattle.evaluator.specs.Memory.{memory_in}
+use Rattle.evaluator.specs.Memory.{MemoryReady, memory_in}
 use Rattle.machine.specs.Expressions.{string_in}
 use Rattle.machine.specs.Scanning.{storing}
 use Rattle.machine.specs.State.{Memory, State, with_output}
 use Rattle.machine.specs.Step.{put_record, shortened}
+use Rattle.decoder.specs.Holds.{ItemsHold, ElementsHold}
 use Rattle.decoder.specs.Meaning.{elements_meaning}
 use Rattle.decoder.specs.declared.Stretch.{Stretch}
 use Rattle.values.specs.Result.{Result, done, stop, with_notes, ◌>>=◌}
 use Rattle.values.specs.Stops.{stop_number}
 use Rattle.effects.specs.Leaving.{Completion, LeavesStore, BufferSpells}
+
+-- a numeric expression of a table that can be valued in these buffers
+pub record Valuable (table store state : List ℕ) (s : Stretch) : Type 0 where
+  pub bytes : table_size ≤ length table
+  pub ready : MemoryReady store state
+  pub items : ItemsHold table s
+
+-- a string expression of a table that can be valued in these buffers
+pub record ValueSpellable (table store state : List ℕ) (s : Stretch) : Type 0 where
+  pub bytes : table_size ≤ length table
+  pub ready : MemoryReady store state
+  pub elements : ElementsHold table s
 
 -- a number of the work's value, with its notes
 pub record Assigned (state left : List ℕ) (place notes : ℕ) (w : Result ℤ) : Type 0 where

@@ -11,7 +11,7 @@ use decoder::{PatternElement, Stretch};
 use scanning::{LENGTHS_AT, START_AT};
 
 // the place of a filler, or one behind those of all strings
-// kept: a scan has its names as bytes, where 32 names nothing, and set_named tests that; an Option would be tested once more
+// kept: 32 for none, in a scan's bytes of names too: the one test of set_named says both that a place is named and that a store has it
 fn filler_of(x: PatternElement) -> usize
     ensures { (t : List ℕ) → result ≡ filler_of (pattern_meaning t x) }
 {
@@ -34,6 +34,8 @@ fn set_named(store: &mut [u8], place: usize, v: &[u8])
 }
 
 // Makes the fillers of a pattern null.
+// kept: by index, here and in copy_fillers: decoder reads an element by its place among all of them. One function for both would take a closure
+// that writes to a store, and its contract would say what any closure leaves
 pub fn null_fillers(table: &[u8], store: &mut [u8], pattern: Stretch)
     requires { Patterned table.now store.old pattern }
     ensures { Nulled table.now pattern store.old store.new }
@@ -45,6 +47,7 @@ pub fn null_fillers(table: &[u8], store: &mut [u8], pattern: Stretch)
 }
 
 // Names the pieces of a split, left to right: names has the place that each is to name, or none; the answer has the split.
+// kept: by the piece's index, names, answer and count side by side: neither a row nor an answer of the scan call (C interface) has the others
 pub fn name_fillers(store: &mut [u8], reference: &[u8], names: &[u8], answer: &[u32], count: usize)
     requires { Nameable store.old reference.now names.now answer.now count }
     ensures { PiecesNamed store.old store.new reference.now names.now answer.now count }

@@ -1,5 +1,6 @@
 // What statements leave in the buffers once their values are known: a record read or written, a stretch of a string set.
 // Each contract is an equation with the definitions of the crate machine. What stops a statement is found before anything is written.
+// kept: table, store and state come apart, as valued.rt says; out is a slice of 1,024 bytes, as crate evaluator says
 #![tactic(auto)]
 
 pub mod fillers;
@@ -21,6 +22,7 @@ use encoding::STATE_SIZE;
 use values::{Noted, Stop};
 
 // the bytes from..to of the string with this place
+// kept: that it lies in its string (Between) is no ghost field: that is a fact of the store too
 #[derive(Clone, Copy)]
 pub struct Span {
     pub place: usize,
@@ -28,17 +30,17 @@ pub struct Span {
     pub to: usize,
 }
 
-// How many bytes a length asks for; none if it is negative.
-fn asked(state: &[u64; STATE_SIZE], n: Length) -> Option<usize>
+// How many bytes a length asks for; a negative one stops the step.
+fn asked(state: &[u64; STATE_SIZE], n: Length) -> Result<usize, Stop>
     requires state_numbered { StateNumbered state.now }
     requires length_holds { LengthHolds n }
     ensures { (store : List ℕ) → Asks result (length_in (memory_in store state.now) (length_meaning n)) }
 {
     let z = evaluator::length_value(state, n);
     if numbers::is_negative(z) {
-        None
+        Err(Stop::NegativeLength)
     } else {
-        Some(numbers::size(z) as usize)
+        Ok(numbers::size(z) as usize)
     }
 }
 

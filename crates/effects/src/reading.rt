@@ -44,9 +44,7 @@ pub fn read_record(
     match p {
         Part::Whole(place) => Ok(read_next(store, state, input, place, LONGEST)),
         Part::First(place, n) => {
-            let Some(most) = asked(state, n) else {
-                return Err(Stop::NegativeLength);
-            };
+            let most = asked(state, n)?;
             Ok(read_next(store, state, input, place, most))
         }
     }

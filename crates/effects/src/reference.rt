@@ -3,7 +3,7 @@
 ghost use Rattle.std.specs.Prelude.{◌≡◌, ◌≤◌};
 ghost use Rattle.encoding.specs.BufferLaws.{StoreGood};
 ghost use Rattle.encoding.specs.Splices.{splice};
-ghost use Rattle.evaluator.specs.Memory.{MemoryReady, memory_in};
+ghost use Rattle.evaluator.specs.Memory.{memory_in};
 ghost use Rattle.machine.specs.Scanning.{searched_in, turned};
 ghost use Rattle.decoder.specs.Holds.{PartHolds};
 ghost use Rattle.decoder.specs.Meaning.{direction_meaning, part_meaning};
@@ -13,7 +13,7 @@ ghost use Rattle.effects.specs.Valued.{Between};
 use crate::{Span, asked};
 use base::LONGEST;
 use decoder::{Direction, Part};
-use encoding::STATE_SIZE;
+use evaluator::Memory;
 use values::Stop;
 
 // the first or the last n of a string's bytes
@@ -36,27 +36,19 @@ fn restrict(d: Direction, place: usize, n: usize, length: usize) -> Span
 }
 
 // where the reference of a scan lies
-pub fn reference_ends(
-    store: &[u8],
-    state: &[u64; STATE_SIZE],
-    d: Direction,
-    p: Part,
-) -> Result<Span, Stop>
-    requires memory_ready { MemoryReady store.now state.now }
-    requires part_holds { PartHolds p }
-    ensures { Refers result store.now p
-        (searched_in (memory_in store.now state.now) (direction_meaning d) (part_meaning p)) }
+pub fn reference_ends(memory: Memory, d: Direction, p: Part) -> Result<Span, Stop>
+    requires { PartHolds p }
+    ensures { Refers result memory.entry.store.now p
+        (searched_in (memory_in memory.entry.store.now memory.entry.state.now) (direction_meaning d) (part_meaning p)) }
 {
     match p {
         Part::Whole(place) => {
-            let length = store::string_length(store, place);
+            let length = store::string_length(memory.store, place);
             Ok(restrict(d, place, length, length))
         }
         Part::First(place, n) => {
-            let Some(most) = asked(state, n) else {
-                return Err(Stop::NegativeLength);
-            };
-            let length = store::string_length(store, place);
+            let most = asked(memory.state, n)?;
+            let length = store::string_length(memory.store, place);
             Ok(restrict(d, place, most.min(length), length))
         }
     }
@@ -74,7 +66,7 @@ pub fn copy_reference(store: &[u8], at: Span, d: Direction, out: &mut [u8; LONGE
     let a = start + at.from;
     let b = start + at.to;
     match d {
-        Direction::Forward => store::spans::copy(&store[a..b], out, 0),
+        Direction::Forward => store::spans::write(out, 0, &store[a..b]),
         Direction::Backward => store::spans::copy_turned(&store[a..b], out),
     }
 }

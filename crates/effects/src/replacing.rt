@@ -2,17 +2,17 @@
 // Each contract is an equation with the definitions of the crate machine.
 ghost use Rattle.std.specs.Prelude.{reverse, ◌≡◌, ◌≤◌, length, take};
 ghost use Rattle.encoding.specs.Splices.{splice};
-ghost use Rattle.evaluator.specs.Values.{ValueSpellable};
 ghost use Rattle.syntax.specs.Program.{backward};
 ghost use Rattle.decoder.specs.Meaning.{direction_meaning};
 ghost use Rattle.effects.specs.Replacing.{stored_turned};
-ghost use Rattle.effects.specs.Valued.{Between, ValueStored};
+ghost use Rattle.effects.specs.Valued.{Between, ValueSpellable, ValueStored};
 
 use crate::valued::set_value;
 use crate::{Span, set_between};
 use base::LONGEST;
 use decoder::{Direction, Stretch};
 use encoding::STATE_SIZE;
+use evaluator::Memory;
 use values::Stop;
 
 // copies the first n bytes of v, last byte first, to the front of a string's buffer
@@ -38,7 +38,7 @@ fn set_turned(
     ensures { ValueStored result store.old store.new state.now
         (stored_turned table.now store.old state.now backward at.place at.from at.to s) }
 {
-    let length = evaluator::string_value(table, store, state, s, out)?;
+    let length = evaluator::string_value(table, Memory { store, state }, s, out)?;
     if LONGEST < length.value {
         return Err(Stop::TooLong);
     }

@@ -3,18 +3,21 @@
 ghost use Rattle.std.specs.Prelude.{◌≡◌, ◌+◌, ◌<◌, ◌≤◌, length};
 ghost use Rattle.base.specs.Current.{current};
 ghost use Rattle.evaluator.specs.Memory.{memory_in};
-ghost use Rattle.evaluator.specs.Values.{Valuable, ValueSpellable};
 ghost use Rattle.machine.specs.Expressions.{numeric_in};
 ghost use Rattle.machine.specs.Step.{set_string_in};
 ghost use Rattle.decoder.specs.Holds.{PartHolds};
 ghost use Rattle.decoder.specs.Meaning.{items_meaning, elements_meaning, part_meaning};
-ghost use Rattle.effects.specs.Valued.{Assigns, Between, stored_between, ValueStored, Writing, tail_notes, ValueRecorded, StateWritable, Writes};
+ghost use Rattle.effects.specs.Valued.{Valuable, ValueSpellable, Assigns, Between, stored_between, ValueStored, Writing, tail_notes};
+ghost use Rattle.effects.specs.Valued.{ValueRecorded, StateWritable, Writes};
 
 use crate::{Span, asked, put_record, set_between};
 use base::LONGEST;
 use decoder::{Part, Stretch};
 use encoding::{STATE_SIZE, WRITTEN_AT};
+use evaluator::Memory;
 use values::{Noted, Stop};
+
+// kept: a statement writes the store or the state, so here and in execution they come apart; a Memory has them while values are found
 
 // a numeric expression's value becomes the number of this place
 pub fn assign(
@@ -29,7 +32,7 @@ pub fn assign(
     ensures { Assigns result state.old state.new place
         (numeric_in current (memory_in store.now state.old) (items_meaning table.now s)) }
 {
-    let number = evaluator::numeric_value(table, store, state, s)?;
+    let number = evaluator::numeric_value(table, Memory { store, state }, s)?;
     state::set_number(state, place, number.value);
     Ok(number.notes)
 }
@@ -49,7 +52,7 @@ pub fn set_value(
     ensures { ValueStored result store.old store.new state.now
         (stored_between table.now store.old state.now at.place at.from at.to s) }
 {
-    let length = evaluator::string_value(table, store, state, s, out)?;
+    let length = evaluator::string_value(table, Memory { store, state }, s, out)?;
     set_between(store, at, out, length)
 }
 
@@ -75,7 +78,7 @@ pub fn set_string(
             set_value(table, store, state, at, s, out)
         }
         Part::First(place, n) => {
-            let Some(most) = asked(state, n) else {
+            let Ok(most) = asked(state, n) else {
                 return Ok(1);
             };
             let to = most.min(store::string_length(store, place));
@@ -90,7 +93,7 @@ pub fn set_string(
 fn tail_notes(n: usize) -> u32
     ensures { (result ≡ tail_notes n) × (result ≤ 1) }
 {
-    if LONGEST < n { 1 } else { 0 }
+    u32::from(LONGEST < n)
 }
 
 // puts a record, of so many bytes of which v has the first 1,024, behind the output that the state knows of
@@ -123,6 +126,6 @@ pub fn write_record(
     requires out_len { length out.old ≡ 1024 }
     ensures { Writes result table.now store.now s state.old state.new output.old output.new }
 {
-    let length = evaluator::string_value(table, store, state, s, out)?;
+    let length = evaluator::string_value(table, Memory { store, state }, s, out)?;
     write_value(state, output, out, length)
 }

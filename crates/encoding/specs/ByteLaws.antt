@@ -20,8 +20,8 @@ use Rattle.encoding.specs.Numerals.{in_bytes}
 use Rattle.encoding.specs.RuleLaws.{patterns_all, steps_front, right_front}
 use Rattle.encoding.specs.Rules.{part_holds, operand_holds, item_holds, element_holds, pattern_holds, row_holds, patterns_hold, balanced}
 use Rattle.encoding.specs.Rules.{left_holds, right_holds, left_place, statement_holds, step_holds, is_program}
-use Rattle.encoding.specs.Table.{Cell, cell, no_cell, cell_bytes, part_cell, operand_cell, item_cell, pattern_cell}
-use Rattle.encoding.specs.Table.{right_elements, right_items, elements_of, items_of, Row, row_bytes, row_with, range_cell}
+use Rattle.encoding.specs.Table.{Cell, no_cell, cell_bytes, part_cell, operand_cell, item_cell, pattern_cell}
+use Rattle.encoding.specs.Table.{right_elements, right_items, elements_of, items_of, Row, row_bytes, range_cell}
 use Rattle.encoding.specs.Table.{comparison_number, direction_number, flag_number, left_cell, right_cell, row_for, statement_row, step_rows}
 use Rattle.encoding.specs.Table.{all_elements, all_items}
 use Rattle.encoding.specs.Table.{all_literals, literal_in, element_rows, item_rows, filled_to, steps_at, elements_at, items_at}
@@ -113,7 +113,7 @@ record SmallSteps (ss : List Step) : Type 0 where
 module _ (e : Edition) (strings numbers steps : ℕ) (short : strings ≤ 32) (few : numbers ≤ 32) where
   -- the kind and the place of a row's cells
   left_small : (l : Lefting) (w : LeftOf l) → left_holds e strings numbers steps l w ≡ true → SmallCell (left_cell l w)
-  unfolding left_holds left_cell part_holds operand_holds part_cell operand_cell no_cell cell
+  unfolding left_holds left_cell part_holds operand_holds part_cell operand_cell no_cell
   left_small no_left w h = record { kind = omega arith; place = omega arith }
   left_small number_left w h = class_small e strings numbers steps few short operand_class 0 (variable w) h
   left_small string_left w h = class_small e strings numbers steps few short part_class 0 (whole w) h
@@ -122,7 +122,7 @@ module _ (e : Edition) (strings numbers steps : ℕ) (short : strings ≤ 32) (f
 
   right_small : (b : Bool) (reference : ℕ) (r : Righting) (w : RightOf r) → right_holds e strings numbers steps b reference r w ≡ true
       → (element item : ℕ) → SmallCell (right_cell element item r w)
-  unfolding right_holds right_cell operand_holds operand_cell no_cell range_cell cell
+  unfolding right_holds right_cell operand_holds operand_cell no_cell range_cell
   right_small b reference no_right w h element item = record { kind = omega arith; place = omega arith }
   right_small b reference operand_right w h element item =
       class_small e strings numbers steps few short operand_class 0 w (both_true b (operand_holds e strings numbers steps w) h).1
@@ -170,7 +170,7 @@ module _ (e : Edition) (strings numbers steps : ℕ) (short : strings ≤ 32) (f
 
   -- what a statement that holds gives
   statement_small : (s : Statement) → statement_holds e strings numbers steps s ≡ true → SmallStatement s
-  unfolding statement_holds elements_of items_of statement_row row_for row_with
+  unfolding statement_holds elements_of items_of statement_row row_for
   statement_small s h =
       let x = spell_statement s in
       let k = x.kind in

@@ -19,7 +19,7 @@ use Rattle.encoding.specs.Kinds.{CellKind, Spelled, parts, spell_part, spell_pat
 use Rattle.encoding.specs.NumeralLaws.{BytesStand, stands_back, byte-read, bytes_read, number_read, biased_small, unbiased-biased}
 use Rattle.encoding.specs.Numerals.{in_bytes, bias}
 use Rattle.encoding.specs.Rules.{place_holds, value_holds, holds, part_holds, operand_holds, item_holds, element_holds, pattern_holds, place_of}
-use Rattle.encoding.specs.Table.{Cell, cell, cell_bytes, range_value, payload_value, literal_of, cell_for, part_cell, operand_cell, item_cell}
+use Rattle.encoding.specs.Table.{Cell, cell_bytes, range_value, payload_value, literal_of, cell_for, part_cell, operand_cell, item_cell}
 use Rattle.encoding.specs.Table.{element_cell, pattern_cell, literal_in, literals_at}
 use Rattle.encoding.specs.TableReading.{cell_at, range_from, range_count, range_more, payload_in, read_cell, other_part, part_of_cell}
 use Rattle.encoding.specs.TableReading.{operand_of_cell, item_of_cell, element_of_cell, pattern_of_cell}
@@ -63,7 +63,7 @@ kept_read t at back c x kept s = rw (cell-read t at c kept.small s) kept.same
 
 -- the place of a string or substring
 pub part_cell_place : (kind : ℕ) (p : Part) → (part_cell kind p).place ≡ place_of p
-unfolding part_cell cell_for spell_part place_of cell
+unfolding part_cell cell_for spell_part place_of
 part_cell_place kind (whole s) = refl
 part_cell_place kind (first s (constantly z)) = refl
 part_cell_place kind (first s (numbered i)) = refl
@@ -110,7 +110,7 @@ module _ (e : Edition) (strings numbers steps : ℕ) (few : numbers ≤ 32) wher
   -- the cell of what holds has bytes for kind and place
   pub class_small : strings ≤ 32 → {A : Type 0} {ks : List (CellKind A)} {spell : A → Spelled A} → KindClass ks spell → (at : ℕ) (x : A)
       → holds e strings numbers steps (spell x) ≡ true → SmallCell (cell_for at (spell x))
-  unfolding holds cell_for cell
+  unfolding holds cell_for
   class_small short {A} {ks} {spell} class at x h =
       let s = spell x in
       let k = s.kind in
@@ -150,7 +150,7 @@ module _ (e : Edition) (strings numbers steps : ℕ) (few : numbers ≤ 32) wher
         → BytesStand t (literals_at + at) (literal_of (spell x).kind.valuing (spell x).payload)
         → at + length (literal_of (spell x).kind.valuing (spell x).payload) < 2 ^ 16
         → CellKept (read_cell other ks t) (cell_for at (spell x)) x
-    unfolding holds cell_for cell
+    unfolding holds cell_for
     class_kept {A} {ks} {spell} class other t at x h stands inside =
         let s = spell x in
         let k = s.kind in

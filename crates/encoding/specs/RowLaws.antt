@@ -27,7 +27,7 @@ use Rattle.encoding.specs.Numerals.{in_bytes, numeral_at, bias}
 use Rattle.encoding.specs.RuleLaws.{branch_inside, patterns_all, steps_front, right_front}
 use Rattle.encoding.specs.Rules.{operand_holds, item_holds, element_holds, pattern_holds, row_holds, patterns_hold, branch_holds}
 use Rattle.encoding.specs.Rules.{balanced, left_holds, right_holds, steps_hold, left_place, statement_holds, step_holds}
-use Rattle.encoding.specs.Table.{Cell, cell, no_cell, cell_bytes, part_cell, operand_cell, item_cell, element_cell, pattern_cell, literal_in}
+use Rattle.encoding.specs.Table.{Cell, no_cell, cell_bytes, part_cell, operand_cell, item_cell, element_cell, pattern_cell, literal_in}
 use Rattle.encoding.specs.Table.{replacement_of, elements_of, items_of, right_elements, right_items, Row, row_bytes, row_with, range_cell, comparison_number}
 use Rattle.encoding.specs.Table.{direction_number, flag_number, success_of, failure_of, left_cell, right_cell, row_for, statement_row, step_rows}
 use Rattle.encoding.specs.Table.{all_elements, all_items, steps_at, elements_at, items_at, literals_at}
@@ -216,13 +216,13 @@ module _ (e : Edition) (limit : e.limit < bias) (strings numbers steps : ℕ) (f
 
   steps_back : (s : Stepping) (w : StepsOf s) (kind flag : ℕ) (left right : Cell)
       → steps_in s (row_with kind flag (success_of s w) (failure_of s w) left right) ≡ w
-  unfolding steps_in success_of failure_of row_with
+  unfolding steps_in success_of failure_of
   steps_back no_step w kind flag left right = refl
   steps_back one_step w kind flag left right = refl
   steps_back both_steps w kind flag left right = refl
 
   left-kept : (l : Lefting) (w : LeftOf l) → left_holds e strings numbers steps l w ≡ true → CellKept (left_in l) (left_cell l w) w
-  unfolding left_holds left_in left_cell no_cell cell operand_cell part_cell
+  unfolding left_holds left_in left_cell no_cell operand_cell part_cell
   left-kept no_left w h = record { small = omega arith; same = refl }
   left-kept number_left w h = record { small = omega arith; same = refl }
   left-kept string_left w h = record { small = omega arith; same = refl }
@@ -233,7 +233,7 @@ module _ (e : Edition) (limit : e.limit < bias) (strings numbers steps : ℕ) (f
       → right_holds e strings numbers steps b reference r w ≡ true → EachFrom (ElementStands t) element (right_elements r w)
       → EachFrom (ItemStands t) item (right_items r w) → element + length (right_elements r w) < 2 ^ 16
       → item + length (right_items r w) < 2 ^ 16 → CellKept (right_in t r) (right_cell element item r w) w
-  unfolding right_holds right_elements right_items right_in right_cell range_cell no_cell cell patterns_hold
+  unfolding right_holds right_elements right_items right_in right_cell range_cell no_cell patterns_hold
   right_kept b reference element item no_right w h es is few_elements few_items = record { small = omega arith; same = refl }
   right_kept b reference element item operand_right w h es is few_elements few_items =
       operand_kept e strings numbers steps few limit w (both_true b (operand_holds e strings numbers steps w) h).1
@@ -267,7 +267,7 @@ module _ (e : Edition) (limit : e.limit < bias) (strings numbers steps : ℕ) (f
   statement_kept : (element item : ℕ) (s : Statement) → statement_holds e strings numbers steps s ≡ true
       → EachFrom (ElementStands t) element (elements_of s) → EachFrom (ItemStands t) item (items_of s)
       → element + length (elements_of s) < 2 ^ 16 → item + length (items_of s) < 2 ^ 16 → RowKept t (statement_row element item s) s
-  unfolding statement_holds elements_of items_of statement_row row_for statement_of_row row_with
+  unfolding statement_holds elements_of items_of statement_row row_for statement_of_row
   statement_kept element item s h es is few_elements few_items =
       let x = spell_statement s in
       let k = x.kind in

@@ -41,7 +41,7 @@ pub record Cell : Type 0 where
   pub place : ℕ
   pub value : ℕ
 
-unfoldable pub cell : ℕ → ℕ → ℕ → Cell
+abbrev pub cell : ℕ → ℕ → ℕ → Cell
 cell k i v = record { kind = k; place = i; value = v }
 
 unfoldable pub no_cell : Cell
@@ -143,7 +143,7 @@ row_bytes card r =
     ∷ (in_bytes 2 card
     ++ (in_bytes 2 r.success ++ (in_bytes 2 r.failure ++ (cell_bytes r.left ++ cell_bytes r.right)))))
 
-unfoldable pub row_with : (kind flag success failure : ℕ) → Cell → Cell → Row
+abbrev pub row_with : (kind flag success failure : ℕ) → Cell → Cell → Row
 row_with kind flag success failure left right =
     record { kind = kind; flag = flag; success = success; failure = failure; left = left; right = right }
 

@@ -1,6 +1,7 @@
 // The kinds of a table's cells, as specs/Kinds has them (docs/TABLE.md lists all). Numbers leave room between classes, and each place where a
-// cell may stand takes one range of them. Where a length may be a constant or a number, the kind named is that of a constant, and the next
-// one is that of a number.
+// cell may stand takes one range of them. Where a length may be a constant or a number, the kind with BY, the next one, is that of a number.
+// kept: numbers, since a table's bytes are part of the C interface: what is read is matched once, straight to what it stands for (Item, Element,
+// CellRule and so on), and an enum between would be looked up first and then matched
 pub const NOTHING: u8 = 0;
 
 // items, from PLUS to LAST_ITEM: operators, signs of a first term, operands from CONSTANT on
@@ -22,13 +23,21 @@ pub const NUMBER: u8 = 33;
 
 pub const LENGTH: u8 = 34;
 
-// NUMBER of a string, and behind it of the first bytes of one
+// NUMBER of a string, and of the first bytes of one
 pub const NUMBER_OF: u8 = 36;
+
+pub const NUMBER_OF_FIRST: u8 = 37;
+
+pub const NUMBER_OF_FIRST_BY: u8 = 38;
 
 pub const LAST_ITEM: u8 = 63;
 
-// a string, and behind it the first bytes of one; these go up to LAST_PART
+// a string, and the first bytes of one; these go up to LAST_PART
 pub const STRING: u8 = 64;
+
+pub const FIRST: u8 = 65;
+
+pub const FIRST_BY: u8 = 66;
 
 pub const LAST_PART: u8 = 79;
 
@@ -38,12 +47,16 @@ pub const LITERAL: u8 = 80;
 // STRING(n,m)
 pub const TEXT: u8 = 81;
 
+pub const TEXT_BY: u8 = 82;
+
 pub const LAST_ELEMENT: u8 = 95;
 
 // elements of a pattern, from STRING to LAST_FILLER: elements, and fillers, free and fixed
 pub const FREE: u8 = 96;
 
 pub const FIXED: u8 = 97;
+
+pub const FIXED_BY: u8 = 98;
 
 pub const LAST_FILLER: u8 = 111;
 

@@ -1,8 +1,9 @@
-// Definitions: table, store and state as bytes and numbers. For code: the layouts of specs/Table and specs/Buffers, and the kinds of a table's
-// cells and steps.
+// Definitions: table, store and state as bytes and numbers. For code: the layouts of specs/Table and specs/Buffers, a table's cells and rows, and
+// their kinds.
 #![tactic(auto)]
 
 pub mod cell_kinds;
+pub mod cells;
 pub mod step_kinds;
 
 // where each region of a table starts, and where the last one ends
@@ -14,6 +15,7 @@ pub const ITEMS_AT: usize = 14_400;
 
 pub const LITERALS_AT: usize = 22_592;
 
+// kept: where a table is read it is a slice, whose length the clauses ask for: C lends one that may be longer, and no step copies it
 pub const TABLE_SIZE: usize = 28_672;
 
 // the bytes of a step's row, and of a cell
@@ -36,6 +38,7 @@ pub const STORE_SIZE: usize = 32_832;
 
 // a state's numbers, and where it has the status, the next step, how many returns are held, the input place, the output length, the returns,
 // the oldest first, and the numbers
+// kept: wherever a state is lent it is an array of so many numbers, the caller's, by the C interface
 pub const STATE_SIZE: usize = 64;
 
 pub const STATUS_AT: usize = 0;
@@ -53,6 +56,7 @@ pub const RETURNS_AT: usize = 5;
 pub const NUMBERS_AT: usize = 21;
 
 // what a state's status says
+// kept: numbers, since the state is C's array of numbers; crate state alone reads and writes them
 pub const RUNNING: u64 = 0;
 
 pub const FINISHED: u64 = 1;

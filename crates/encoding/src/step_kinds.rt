@@ -1,4 +1,5 @@
 // The kinds of a table's steps, as specs/Kinds has them. Numbers leave room between classes.
+// kept: numbers, as in cell_kinds
 pub const SET_NUMBER: u8 = 16;
 
 pub const SET_STRING: u8 = 17;

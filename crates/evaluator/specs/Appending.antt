@@ -6,7 +6,6 @@ use Rattle.decoder.specs.Holds.{ElementHolds}
 use Rattle.decoder.specs.declared.Element.{Element}
 use Rattle.values.specs.Result.{Result, done, stop}
 use Rattle.values.specs.Stops.{stop_number}
-use Rattle.evaluator.specs.Memory.{MemoryReady}
 use Rattle.evaluator.specs.Values.{KeepsValue}
 
 -- where a string was kept, it is kept with v behind it
@@ -18,9 +17,8 @@ pub record Appended (before after : List ℕ) (at : ℕ) (v : List ℕ) : Type 0
   pub follows : AppendedBehind before after at v
 
 -- an element that can be appended
-pub record Addable (table store state : List ℕ) (x : Element) (out : List ℕ) : Type 0 where
+pub record Addable (table : List ℕ) (x : Element) (out : List ℕ) : Type 0 where
   pub bytes : table_size ≤ length table
-  pub ready : MemoryReady store state
   pub holds : ElementHolds x
   pub room : length out ≡ 1024
 

@@ -13,8 +13,7 @@ use Rattle.encoding.specs.TableReading.{read_elements}
 use Rattle.syntax.specs.Program.{Part, whole, first, Operand, constant, variable, length_of, number_of}
 use Rattle.syntax.specs.Program.{Operator, plus, minus, times, over, Item, operand, operator, sign}
 use Rattle.syntax.specs.Program.{Element, literal, part, string_call}
-use Rattle.machine.specs.Expressions.{length_in, part_in, operand_in, operation, combined, item_in}
-use Rattle.machine.specs.Expressions.{element_in, string_in}
+use Rattle.machine.specs.Expressions.{length_in, part_in, operand_in, operation, combined, item_in, element_in, string_in}
 use Rattle.machine.specs.State.{Memory, number_at}
 use Rattle.values.specs.Conversion as Conversion
 use Rattle.values.specs.Conversion.{substring, unsigned_part, decimal, signed_by, text_of, filled, longest_string, sign_of, digits}

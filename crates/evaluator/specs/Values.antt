@@ -1,16 +1,13 @@
--- What the code's answers stand for, and what can be valued. Assumes nothing.
+-- What the code's answers stand for. Assumes nothing.
 use Rattle.std.specs.Prelude as std
 use Rattle.std.specs.Prelude.{Bool, List, ◌≡◌, ℕ, ◌-◌, ◌≤◌, ℤ, length, take, drop, Ok, Err}
 use Rattle.base.specs.Current.{current, table_size}
 use Rattle.numbers.specs.Text.{Text}
-use Rattle.decoder.specs.Holds.{ItemsHold, ElementsHold}
-use Rattle.decoder.specs.declared.Stretch.{Stretch}
 use Rattle.values.specs.Conversion.{number_of, is_numeric}
 use Rattle.values.specs.Result.{Result, done, stop, pure, ◌>>=◌}
 use Rattle.values.specs.Stops.{stop_number, worked}
 use Rattle.values.specs.declared.Noted.{Noted}
 use Rattle.values.specs.declared.Stop.{Stop}
-use Rattle.evaluator.specs.Memory.{MemoryReady}
 use Rattle.evaluator.specs.declared.Ends.{Ends}
 
 -- the bytes between two ends, with the notes made
@@ -36,18 +33,6 @@ then_number w = w >>= λ s. number_of current s
 
 abbrev pub then_numeric : Result (List ℕ) → Result Bool
 then_numeric w = w >>= λ s. pure (is_numeric s)
-
--- a numeric expression of a table that can be valued
-pub record Valuable (table store state : List ℕ) (s : Stretch) : Type 0 where
-  pub bytes : table_size ≤ length table
-  pub ready : MemoryReady store state
-  pub items : ItemsHold table s
-
--- a string expression of a table that can be valued
-pub record ValueSpellable (table store state : List ℕ) (s : Stretch) : Type 0 where
-  pub bytes : table_size ≤ length table
-  pub ready : MemoryReady store state
-  pub elements : ElementsHold table s
 
 -- 1,024 bytes keep a string: all of it, or its first 1,024 bytes if it is longer
 abbrev pub KeepsValue : (out v : List ℕ) → Type 0

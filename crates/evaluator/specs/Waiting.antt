@@ -11,7 +11,6 @@ use Rattle.decoder.specs.declared.Item.TheVariants as items
 use Rattle.values.specs.Result.{Result, done, stop}
 use Rattle.values.specs.Stops.{stop_number}
 use Rattle.values.specs.declared.Stop.{Stop}
-use Rattle.evaluator.specs.Memory.{MemoryReady}
 use Rattle.evaluator.specs.declared.Stack.{Stack}
 
 -- the first so many of them, the latest first
@@ -62,8 +61,7 @@ waiting_after known (items.Operand a) = known + 1
 waiting_after known (items.Operator o) = known - 1
 waiting_after known (items.Sign s) = known
 
-pub record Takable (store state : List ℕ) (x : Item) (s : Stack) : Type 0 where
-  pub ready : MemoryReady store state
+pub record Takable (x : Item) (s : Stack) : Type 0 where
   pub holds : ItemHolds x
   pub waits : Waits s
   pub finds : FindsWaiting s.count x

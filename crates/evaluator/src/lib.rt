@@ -2,8 +2,8 @@
 // that keeps the numbers with a bias added. Each contract is an equation with the definitions of the crate machine.
 #![tactic(auto)]
 
-ghost use Rattle.std.specs.Prelude.{List, ◌≡◌, ℕ, ◌+◌, ◌-◌, ◌<◌, length};
-ghost use Rattle.base.specs.Current.{current};
+ghost use Rattle.std.specs.Prelude.{List, ◌≡◌, ℕ, ◌+◌, ◌-◌, ◌<◌, ◌≤◌, length};
+ghost use Rattle.base.specs.Current.{current, table_size};
 ghost use Rattle.encoding.specs.BufferLaws.{StoreGood};
 ghost use Rattle.store.specs.Clauses.{string_of};
 ghost use Rattle.numbers.specs.Numbers.{IntInRange, BothInRange, GivesInt, NumberAnswers};
@@ -11,7 +11,7 @@ ghost use Rattle.syntax.specs.Program.{is_null, is_numeric};
 ghost use Rattle.machine.specs.Expressions as Expressions;
 ghost use Rattle.machine.specs.Expressions.{length_in, part_in, operand_in, item_in, numeric_in, element_in, string_in, test_in};
 ghost use Rattle.machine.specs.State.{number_at};
-ghost use Rattle.decoder.specs.Holds.{LengthHolds, PartHolds, OperandHolds, IfHolds};
+ghost use Rattle.decoder.specs.Holds.{LengthHolds, PartHolds, OperandHolds, IfHolds, ItemsHold, ElementsHold};
 ghost use Rattle.decoder.specs.Meaning.{length_meaning, part_meaning, operand_meaning, operator_meaning, sign_meaning, item_meaning, items_meaning};
 ghost use Rattle.decoder.specs.Meaning.{element_meaning, elements_meaning, if_meaning};
 ghost use Rattle.values.specs.Conversion.{substring, text_of};
@@ -19,7 +19,7 @@ ghost use Rattle.values.specs.Result.{done};
 ghost use Rattle.evaluator.specs.Appending.{Appended, Addable, Appends};
 ghost use Rattle.evaluator.specs.Memory.{memory_in, StateNumbered, MemoryReady};
 ghost use Rattle.evaluator.specs.Pairs.{PairAt};
-ghost use Rattle.evaluator.specs.Values.{spanned, Lies, Spans, then_number, Valuable, ValueSpellable, ValueWritten, truth_worked};
+ghost use Rattle.evaluator.specs.Values.{spanned, Lies, Spans, then_number, ValueWritten, truth_worked};
 ghost use Rattle.evaluator.specs.Waiting.{waiting_in, signed_as, Waits, Pushable, Poppable, OnTop, waiting_after, Takable, ItemTaken};
 
 use base::LONGEST;
@@ -28,10 +28,20 @@ use encoding::{NUMBERS_AT, STATE_SIZE, WAITING, cell_kinds};
 use numbers::Int;
 use values::{Noted, Stop};
 
-// kept: store and state come apart: those who call write one of them while they lend the other, and would join both anew for each call
+// kept: places and constants in range by clauses, as crate decoder says
 // kept: a string's buffer is a slice of 1,024 bytes, no array: callers lend a part of a longer one
 
+// what values are found in: the store has the strings, the state the numbers; both were checked when the call began
+// kept: the table comes beside it: parts, operands and comparisons are valued without one
+#[derive(Clone, Copy)]
+pub struct Memory<'a> {
+    pub store: &'a [u8],
+    pub state: &'a [u64; STATE_SIZE],
+    pub ghost ready: { MemoryReady store.now state.now },
+}
+
 // where bytes of the store lie, with the notes made on the way
+// kept: no Noted of a pair: from and to are told by their names at each use
 #[derive(Clone, Copy)]
 pub struct Ends {
     pub from: usize,
@@ -40,6 +50,7 @@ pub struct Ends {
 }
 
 // the numbers that wait for an operator, the latest last
+// kept: no ArrayVec of the kit, whose pop also tests and writes a blank: a deck of long expressions took 1.12 of the instructions, of short ones 1.03
 #[derive(Drop)]
 struct Stack {
     numbers: [i64; WAITING],
@@ -47,6 +58,7 @@ struct Stack {
 }
 
 // the number of this place
+// kept: the state alone, here and in length_value, with StateNumbered: effects asks for a length where the store is lent to be written
 pub fn number_at(state: &[u64; STATE_SIZE], place: usize) -> Int
     requires state_numbered { StateNumbered state.now }
     requires place_bound { place < 32 }
@@ -105,47 +117,40 @@ fn first_ends(store: &[u8], place: usize, n: Int) -> Ends
 }
 
 // where a part of a string lies
-pub fn part_ends(store: &[u8], state: &[u64; STATE_SIZE], p: Part) -> Ends
-    requires memory_ready { MemoryReady store.now state.now }
-    requires part_holds { PartHolds p }
-    ensures { Spans store.now result (part_in (memory_in store.now state.now) (part_meaning p)) }
+pub fn part_ends(memory: Memory, p: Part) -> Ends
+    requires { PartHolds p }
+    ensures { Spans memory.entry.store.now result (part_in (memory_in memory.entry.store.now memory.entry.state.now) (part_meaning p)) }
 {
     match p {
-        Part::Whole(s) => string_ends(store, s),
-        Part::First(s, n) => first_ends(store, s, length_value(state, n)),
+        Part::Whole(s) => string_ends(memory.store, s),
+        Part::First(s, n) => first_ends(memory.store, s, length_value(memory.state, n)),
     }
 }
 
 // NUMBER of a part of a string. A function of its own, never put into its caller: so operands that need no such work stay quick.
 #[inline(never)]
-fn part_number(store: &[u8], state: &[u64; STATE_SIZE], p: Part) -> Result<Noted<Int>, Stop>
-    requires memory_ready { MemoryReady store.now state.now }
-    requires part_holds { PartHolds p }
-    ensures { NumberAnswers result (then_number (part_in (memory_in store.now state.now) (part_meaning p))) }
+fn part_number(memory: Memory, p: Part) -> Result<Noted<Int>, Stop>
+    requires { PartHolds p }
+    ensures { NumberAnswers result (then_number (part_in (memory_in memory.entry.store.now memory.entry.state.now) (part_meaning p))) }
 {
-    let ends = part_ends(store, state, p);
-    let number = numbers::number_of(&store[ends.from..ends.to])?;
+    let ends = part_ends(memory, p);
+    let number = numbers::number_of(&memory.store[ends.from..ends.to])?;
     Ok(number.behind(ends.notes))
 }
 
 // a constant, a number, the length of a string, or NUMBER of a part of one
 #[inline]
-pub fn operand_value(
-    store: &[u8],
-    state: &[u64; STATE_SIZE],
-    a: Operand,
-) -> Result<Noted<Int>, Stop>
-    requires memory_ready { MemoryReady store.now state.now }
-    requires operand_holds { OperandHolds a }
-    ensures { NumberAnswers result (operand_in current (memory_in store.now state.now) (operand_meaning a)) }
+pub fn operand_value(memory: Memory, a: Operand) -> Result<Noted<Int>, Stop>
+    requires { OperandHolds a }
+    ensures { NumberAnswers result (operand_in current (memory_in memory.entry.store.now memory.entry.state.now) (operand_meaning a)) }
 {
     match a {
         Operand::Constant(z) => Ok(Noted::plain(z)),
-        Operand::Number(i) => Ok(Noted::plain(number_at(state, i as usize))),
+        Operand::Number(i) => Ok(Noted::plain(number_at(memory.state, i as usize))),
         Operand::LengthOf(s) => Ok(Noted::plain(numbers::int_of(
-            store::string_length(store, s) as u64,
+            store::string_length(memory.store, s) as u64,
         ))),
-        Operand::NumberOf(p) => part_number(store, state, p),
+        Operand::NumberOf(p) => part_number(memory, p),
     }
 }
 
@@ -196,19 +201,14 @@ fn signed(g: Sign, z: Int) -> Int
 }
 
 // an item changes the latest of the waiting numbers; gives the notes made
-fn take_item(
-    store: &[u8],
-    state: &[u64; STATE_SIZE],
-    x: Item,
-    waiting: &mut Stack,
-) -> Result<u32, Stop>
-    requires { Takable store.now state.now x waiting.old }
+fn take_item(memory: Memory, x: Item, waiting: &mut Stack) -> Result<u32, Stop>
+    requires { Takable x waiting.old }
     ensures { ItemTaken result waiting.new (waiting_after waiting.old.count x)
-        (item_in current (memory_in store.now state.now) (waiting_in waiting.old) (item_meaning x)) }
+        (item_in current (memory_in memory.entry.store.now memory.entry.state.now) (waiting_in waiting.old) (item_meaning x)) }
 {
     match x {
         Item::Operand(a) => {
-            let value = operand_value(store, state, a)?;
+            let value = operand_value(memory, a)?;
             waiting.push(value.value);
             Ok(value.notes)
         }
@@ -228,35 +228,26 @@ fn take_item(
 }
 
 // the value of two operands and the operator behind them
-fn pair_value(
-    table: &[u8],
-    store: &[u8],
-    state: &[u64; STATE_SIZE],
-    s: Stretch,
-) -> Result<Noted<Int>, Stop>
-    requires valuable { Valuable table.now store.now state.now s }
+fn pair_value(table: &[u8], memory: Memory, s: Stretch) -> Result<Noted<Int>, Stop>
+    requires items_hold { (table_size ≤ length table.now) × ItemsHold table.now s }
     requires pair_at { PairAt table.now s }
     ensures { NumberAnswers result
-        (numeric_in current (memory_in store.now state.now) (items_meaning table.now s)) }
+        (numeric_in current (memory_in memory.entry.store.now memory.entry.state.now) (items_meaning table.now s)) }
 {
     let from = s.from;
-    let a = operand_value(store, state, decoder::operand_at(table, from))?;
-    let b = operand_value(store, state, decoder::operand_at(table, from + 1))?;
+    let a = operand_value(memory, decoder::operand_at(table, from))?;
+    let b = operand_value(memory, decoder::operand_at(table, from + 1))?;
     let operator = decoder::operator_of(decoder::item_kind(table, from + 2));
     let made = operation(operator, a.value, b.value)?;
     Ok(made.behind(a.notes + b.notes))
 }
 
 // the value of a numeric expression, item by item; each operator finds its operands waiting
-fn items_value(
-    table: &[u8],
-    store: &[u8],
-    state: &[u64; STATE_SIZE],
-    s: Stretch,
-) -> Result<Noted<Int>, Stop>
-    requires { Valuable table.now store.now state.now s }
+// kept: by index, here and in string_value: decoder reads an item or element by its place among all of them
+fn items_value(table: &[u8], memory: Memory, s: Stretch) -> Result<Noted<Int>, Stop>
+    requires { (table_size ≤ length table.now) × ItemsHold table.now s }
     ensures { NumberAnswers result
-        (numeric_in current (memory_in store.now state.now) (items_meaning table.now s)) }
+        (numeric_in current (memory_in memory.entry.store.now memory.entry.state.now) (items_meaning table.now s)) }
 {
     let mut waiting = Stack {
         numbers: [0; WAITING],
@@ -265,7 +256,7 @@ fn items_value(
     let mut notes = 0;
     for at in s.from..s.from + s.count {
         let x = decoder::item_at(table, at);
-        notes += take_item(store, state, x, &mut waiting)?;
+        notes += take_item(memory, x, &mut waiting)?;
     }
     Ok(Noted {
         value: waiting.pop(),
@@ -274,22 +265,17 @@ fn items_value(
 }
 
 // the value of a numeric expression; most are a pair, for which no number has to wait
-pub fn numeric_value(
-    table: &[u8],
-    store: &[u8],
-    state: &[u64; STATE_SIZE],
-    s: Stretch,
-) -> Result<Noted<Int>, Stop>
-    requires { Valuable table.now store.now state.now s }
+pub fn numeric_value(table: &[u8], memory: Memory, s: Stretch) -> Result<Noted<Int>, Stop>
+    requires { (table_size ≤ length table.now) × ItemsHold table.now s }
     ensures { NumberAnswers result
-        (numeric_in current (memory_in store.now state.now) (items_meaning table.now s)) }
+        (numeric_in current (memory_in memory.entry.store.now memory.entry.state.now) (items_meaning table.now s)) }
 {
     if s.count == 3 {
         if cell_kinds::CONSTANT <= decoder::item_kind(table, s.from + 1) {
-            return pair_value(table, store, state, s);
+            return pair_value(table, memory, s);
         }
     }
-    items_value(table, store, state, s)
+    items_value(table, memory, s)
 }
 
 // writes v from a place of a string's buffer on, as far as there is room
@@ -325,56 +311,51 @@ fn append_text(n: Int, m: Int, out: &mut [u8], at: usize) -> Result<Noted<usize>
 {
     let mut text = [0u8; LONGEST];
     let length = numbers::text_of(n, m, &mut text)?;
-    append_between(
-        &text,
-        Ends {
-            from: 0,
-            to: length.value,
-            notes: length.notes,
-        },
-        out,
-        at,
-    )
+    append(&text[..length.value], out, at);
+    Ok(length)
 }
 
 // appends an element
 pub fn append_element(
     table: &[u8],
-    store: &[u8],
-    state: &[u64; STATE_SIZE],
+    memory: Memory,
     x: Element,
     out: &mut [u8],
     at: usize,
 ) -> Result<Noted<usize>, Stop>
-    requires { Addable table.now store.now state.now x out.old }
+    requires { Addable table.now x out.old }
     ensures { Appends result out.old out.new at
-        (element_in current (memory_in store.now state.now) (element_meaning table.now x)) }
+        (element_in current (memory_in memory.entry.store.now memory.entry.state.now) (element_meaning table.now x)) }
 {
     match x {
         Element::Literal(from, to) => append_between(table, Ends { from, to, notes: 0 }, out, at),
-        Element::Part(p) => append_between(store, part_ends(store, state, p), out, at),
-        Element::Text(n, m) => append_text(length_value(state, n), number_at(state, m), out, at),
+        Element::Part(p) => append_between(memory.store, part_ends(memory, p), out, at),
+        Element::Text(n, m) => append_text(
+            length_value(memory.state, n),
+            number_at(memory.state, m),
+            out,
+            at,
+        ),
     }
 }
 
 // the value of a string expression, element by element: its length, and in out its bytes, of which only the first 1,024 have room
 pub fn string_value(
     table: &[u8],
-    store: &[u8],
-    state: &[u64; STATE_SIZE],
+    memory: Memory,
     s: Stretch,
     out: &mut [u8],
 ) -> Result<Noted<usize>, Stop>
-    requires value_spellable { ValueSpellable table.now store.now state.now s }
+    requires elements_hold { (table_size ≤ length table.now) × ElementsHold table.now s }
     requires out_len { length out.old ≡ 1024 }
     ensures { ValueWritten result out.new
-        (string_in current (memory_in store.now state.now) (elements_meaning table.now s)) }
+        (string_in current (memory_in memory.entry.store.now memory.entry.state.now) (elements_meaning table.now s)) }
 {
     let mut length = 0;
     let mut notes: u32 = 0;
     for at in s.from..s.from + s.count {
         let x = decoder::element_at(table, at);
-        let more = append_element(table, store, state, x, out, length)?;
+        let more = append_element(table, memory, x, out, length)?;
         length += more.value;
         notes += more.notes;
     }
@@ -394,26 +375,24 @@ pub fn is_null(store: &[u8], place: usize) -> Result<Noted<bool>, Stop>
 }
 
 // whether a part of a string is numeric
-pub fn is_numeric(store: &[u8], state: &[u64; STATE_SIZE], p: Part) -> Result<Noted<bool>, Stop>
-    requires memory_ready { MemoryReady store.now state.now }
-    requires part_holds { PartHolds p }
-    ensures { truth_worked result ≡ test_in current (memory_in store.now state.now) (is_numeric (part_meaning p)) }
+pub fn is_numeric(memory: Memory, p: Part) -> Result<Noted<bool>, Stop>
+    requires { PartHolds p }
+    ensures { truth_worked result ≡ test_in current (memory_in memory.entry.store.now memory.entry.state.now) (is_numeric (part_meaning p)) }
 {
-    let ends = part_ends(store, state, p);
+    let ends = part_ends(memory, p);
     Ok(Noted {
-        value: numbers::is_numeric(&store[ends.from..ends.to]),
+        value: numbers::is_numeric(&memory.store[ends.from..ends.to]),
         notes: ends.notes,
     })
 }
 
 // whether two operands compare as the sign says, the left one valued first
-pub fn compares(store: &[u8], state: &[u64; STATE_SIZE], x: If) -> Result<Noted<bool>, Stop>
-    requires memory_ready { MemoryReady store.now state.now }
-    requires if_holds { IfHolds x }
-    ensures { truth_worked result ≡ test_in current (memory_in store.now state.now) (if_meaning x) }
+pub fn compares(memory: Memory, x: If) -> Result<Noted<bool>, Stop>
+    requires { IfHolds x }
+    ensures { truth_worked result ≡ test_in current (memory_in memory.entry.store.now memory.entry.state.now) (if_meaning x) }
 {
-    let left = operand_value(store, state, x.left)?;
-    let right = operand_value(store, state, x.right)?;
+    let left = operand_value(memory, x.left)?;
+    let right = operand_value(memory, x.right)?;
     Ok(Noted {
         value: numbers::compare(x.sign, left.value, right.value),
         notes: left.notes + right.notes,

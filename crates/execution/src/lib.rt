@@ -1,24 +1,29 @@
 // Each kind of statement carried out on the buffers, the state moved on with it; a scan is not among them.
 // Each contract says what the machine's work on the statement comes to (machine/Step: execution) and what that leaves in the buffers.
+// kept: table, store and state come apart, as effects/valued.rt says; a string's buffer is a slice, as crate evaluator says
+// kept: next, one behind the state's step, is handed on: interpreter has read the step already, and it would be read again
 #![tactic(auto)]
 
 ghost use Rattle.std.specs.Prelude.{List, ◌≡◌, ℕ, ◌+◌, ◌≤◌, ◌<◌, length, get_or};
 ghost use Rattle.calls.specs.Calls.{buffers};
 ghost use Rattle.encoding.specs.BufferLaws.{StoreGood};
 ghost use Rattle.evaluator.specs.Memory.{MemoryReady};
-ghost use Rattle.evaluator.specs.Values.{ValueSpellable, Valuable};
 ghost use Rattle.syntax.specs.Program as Program;
 ghost use Rattle.machine.specs.Step.{chosen};
 ghost use Rattle.decoder.specs.Holds.{PartHolds, IfHolds};
-ghost use Rattle.decoder.specs.Meaning.{part_meaning, if_meaning, branch_meaning, items_meaning, elements_meaning};
-ghost use Rattle.effects.specs.Valued.{StateWritable};
+ghost use Rattle.encoding.specs.Meaning.{branch_meaning};
+ghost use Rattle.decoder.specs.Meaning.{part_meaning, if_meaning, items_meaning, elements_meaning};
+ghost use Rattle.effects.specs.Valued.{ValueSpellable, Valuable, StateWritable};
 ghost use Rattle.execution.specs.Executing.{Does, MovesOn, TakesBranch};
 
-use decoder::{Branch, If, Part, Stretch};
+use decoder::{If, Part, Stretch};
 use encoding::STATE_SIZE;
+use encoding::cells::Branch;
+use evaluator::Memory;
 use values::{Noted, Stop};
 
 // the step of a branch field
+// kept: success is a truth with no value beside it: what a test, a READ or a scan came to
 #[tactic(auto, unfolding(machine::specs::Step::chosen))]
 pub fn choose(success: bool, b: Branch) -> usize
     ensures { result ≡ chosen success (branch_meaning b) }
@@ -36,6 +41,7 @@ fn move_on(state: &mut [u64; STATE_SIZE], k: usize, did: Result<u32, Stop>) -> R
 }
 
 // a number set to an expression's value
+// kept: set_number, set_string and write differ in what they lend to which work; move_on is what they share
 pub fn set_number(
     table: &[u8],
     store: &[u8],
@@ -130,7 +136,7 @@ pub fn if_numeric(
     ensures { (input output : List ℕ) → Does (Program.if_test (Program.is_numeric (part_meaning p)) (branch_meaning b)) result
         (buffers store.now state.old output) (buffers store.now state.new output) input }
 {
-    let t = evaluator::is_numeric(store, state, p);
+    let t = evaluator::is_numeric(Memory { store, state }, p);
     take_branch(state, t, b)
 }
 
@@ -146,7 +152,7 @@ pub fn if_compares(
     ensures { (input output : List ℕ) → Does (Program.if_test (if_meaning x) (branch_meaning b)) result
         (buffers store.now state.old output) (buffers store.now state.new output) input }
 {
-    let t = evaluator::compares(store, state, x);
+    let t = evaluator::compares(Memory { store, state }, x);
     take_branch(state, t, b)
 }
 

@@ -33,7 +33,8 @@ use Rattle.machine.specs.State.{State, is_running}
 use Rattle.machine.specs.Step.{Done, chosen, execution, concluded, lacks_return, most_returns, no_scan, scanned_to, statement_at, step, turned_down_by}
 use Rattle.decoder.specs.Holds.{StatementHolds}
 use Rattle.decoder.specs.Kept.{kept_statement, kept-steps, statement_is, step_count}
-use Rattle.decoder.specs.Meaning.{branch_meaning, statement_meaning}
+use Rattle.encoding.specs.Meaning.{branch_meaning}
+use Rattle.decoder.specs.Meaning.{statement_meaning}
 use Rattle.decoder.specs.Reading.{StatementDecoded}
 use Rattle.decoder.specs.declared.Scan.{Scan}
 use Rattle.decoder.specs.declared.Statement.{Statement}

@@ -7,7 +7,6 @@ pub mod scans;
 
 ghost use Rattle.std.specs.Prelude.{List, ◌≡◌, ℕ, length, replicate};
 ghost use Rattle.base.specs.Current.{current};
-ghost use Rattle.encoding.specs.Buffers.{state_size};
 ghost use Rattle.calls.specs.Calls.{step_call, buffers};
 ghost use Rattle.calls.specs.Promises.{StepPromise, step_back};
 ghost use Rattle.encoding.specs.Table.{Row};
@@ -27,11 +26,11 @@ use values::Stop;
 // what turns a step or a run down
 #[derive(Clone, Copy, PartialEq, Eq)]
 pub enum Refusal {
-    ShortTable,
-    BadTable,
-    BadStore,
-    BadState,
-    Ended,
+    ShortTable = 2,
+    BadTable = 13,
+    BadStore = 14,
+    BadState = 15,
+    Ended = 16,
 }
 
 impl Refusal {
@@ -39,13 +38,7 @@ impl Refusal {
     pub fn number(self) -> u32
         ensures { result ≡ refusal_number self }
     {
-        match self {
-            Refusal::ShortTable => 2,
-            Refusal::BadTable => 13,
-            Refusal::BadStore => 14,
-            Refusal::BadState => 15,
-            Refusal::Ended => 16,
-        }
+        self as u32
     }
 }
 
@@ -69,6 +62,9 @@ fn lacks_return(kind: u8, held: usize) -> bool
 
 // carries out the statement of the next step; a string's value is kept in front of values on the way, and the answer, which must say that
 // nothing was scanned, gets what a scan found
+// kept: one match with an arm for each kind: the arms lend different buffers, all of which each closure of a table would have to take
+// kept: the buffers come one by one, here, in run and in scans, as C lends them; as fields of a struct each `&mut` takes a clause more in every contract
+// kept: values and kept with ScanLent: as in scan_statement, where a struct of the two was tried
 fn execute_statement(
     table: &[u8],
     store: &mut [u8],
@@ -193,8 +189,7 @@ pub fn check_fit(
     input: usize,
     output: usize,
 ) -> Result<(), Refusal>
-    ensures { (checked_number result ≡ unfit_number table.now store.now state.now input output)
-        × (length state.now ≡ state_size) }
+    ensures { checked_number result ≡ unfit_number table.now store.now state.now input output }
 {
     if table.len() < TABLE_SIZE {
         return Err(Refusal::ShortTable);

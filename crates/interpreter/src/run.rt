@@ -14,27 +14,24 @@ use scanning::ANSWER_SIZE;
 // how a run ended
 #[derive(Clone, Copy, PartialEq, Eq)]
 pub enum Outcome {
-    Finished,
-    Stopped,
-    Spent,
-    Refused,
+    Finished = 0,
+    Stopped = 1,
+    Spent = 2,
+    Refused = 3,
 }
 
 impl Outcome {
     // its number in a result
+    #[tactic(auto, unfolding(calls::specs::Calls::outcome_number))]
     fn number(self) -> u64
         ensures { result ≡ outcome_number (outcome_meaning self) }
     {
-        match self {
-            Outcome::Finished => 0,
-            Outcome::Stopped => 1,
-            Outcome::Spent => 2,
-            Outcome::Refused => 3,
-        }
+        self as u64
     }
 }
 
 // a run that was made: how it ended, by which number or 0, the steps done and their notes
+// kept: number stands beside the outcome: C and the closing line have both, and a refused deck's is the deck call's, which Halt doesn't know
 #[derive(Clone, Copy)]
 pub struct Ran {
     pub outcome: Outcome,

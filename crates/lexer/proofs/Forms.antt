@@ -1,23 +1,28 @@
 -- Names, constants and kinds of statements by the tests that the code makes. Assumes nothing.
-use mathlib.Core.Bool.{true, false, ◌&&◌}
-use lib.Dec.{ltb}
+use mathlib.Core.Bool.{true, false, ◌&&◌, true≢false}
+use lib.Dec.{leb, ltb}
 use denote.Ref.{Bor}
 use mathlib.Core.List.{List, [], ◌∷◌, ◌++◌, map}
-use mathlib.Core.Path.{◌≡◌, sym, ap, ◌∙◌}
+use mathlib.Core.Path.{◌≡◌, refl, sym, ap, subst, ◌∙◌}
 use Prim.Native.Nat.{ℕ, ◌+◌, ◌≤◌, ◌<◌}
 use lib.ListN.{length, take, drop, get_or}
 use lib.Seq.{drop-drop}
-use borrow.Author.Tests.{le-leb, lt-leb, lt-ltb, le-ltb}
+use native.Mathlib.Omega.{arith}
+use borrow.Author.Tests.{le-leb, lt-leb, lt-ltb, le-ltb, leb-true, leb-false}
+use Rattle.std.specs.Prelude.{Option, Some, None}
+use Rattle.std.specs.Bool.{then_some}
+use Rattle.base.specs.Choice.{test_cases}
 use Rattle.std.proofs.lemmas.List.{map-append}
 use Rattle.base.specs.Current.{current, limit}
 use Rattle.base.specs.Lists.{begins}
 use Rattle.base.specs.Text.{bytes}
-use Rattle.cards.specs.Bytes.{is_letter, is_digit, is_name_byte}
+use Rattle.cards.specs.Bytes.{between, is_letter, is_digit, is_name_byte}
 use Rattle.numbers.specs.Numbers.{Capped}
 use Rattle.syntax.specs.Keywords.{StatementKind, Leading, REPLACEMENT, UNKNOWN, longest, keywords, leading, bound_length, is_replacement}
 use Rattle.syntax.specs.Parsing.{broken, succeed}
 use Rattle.syntax.specs.Lexemes.{run_length, name_length, decimal_from, unsigned}
 use Rattle.lexer.specs.Kinds.{kind_of, leads}
+use Rattle.lexer.specs.Places.{CountedBytes, NameFound, BoundFound}
 use Rattle.lexer.specs.declared.keywords.Keyword.{Keyword}
 use Rattle.lexer.specs.declared.keywords.Kind.{Kind}
 
@@ -29,11 +34,11 @@ module _ (bs : List ℕ) where
   name_none e = rw (name_length, e)
 
   module _ (n : ℕ) (e : n ≡ run_length is_name_byte bs) (letter : is_letter (get_or bs 0 0) ≡ true) where
-    pub name-is : n ≤ 8 → n ≡ name_length bs
+    name-is : n ≤ 8 → n ≡ name_length bs
     unfolding name_length
     name-is h = rw (name_length, letter, ← e, le-leb n 8 h)
 
-    pub name_long : 8 < n → 0 ≡ name_length bs
+    name_long : 8 < n → 0 ≡ name_length bs
     unfolding name_length
     name_long h = rw (name_length, letter, ← e, lt-leb n 8 h)
 
@@ -61,29 +66,58 @@ module _ (bs : List ℕ) where
     unsigned_is h = rw (unsigned, ← e, le-leb 1 n some, ← c.same h, le-leb v limit h) (rw (← e, ← c.same h))
 
   -- a replacement, by the tests in their order
-  module _ (n : ℕ) (name : n ≡ name_length bs) where
-    pub no_name : n ≡ 0 → false ≡ is_replacement bs
-    unfolding is_replacement
-    no_name z = rw (is_replacement, ← name, z)
+  pub no_name : 0 ≡ name_length bs → false ≡ is_replacement bs
+  unfolding is_replacement
+  no_name e = rw (is_replacement, ← e)
 
-    module _ (some : 1 ≤ n) where
-      pub replaces : begins (61 ∷ []) (drop n bs) ≡ true → true ≡ is_replacement bs
+  module _ (n : ℕ) (name : n ≡ name_length bs) (some : 1 ≤ n) where
+    pub replaces : true ≡ begins (61 ∷ []) (drop n bs) → true ≡ is_replacement bs
+    unfolding is_replacement bytes
+    replaces e = rw (is_replacement, ← name, le-leb 1 n some, ← e)
+
+    module _ (other : false ≡ begins (61 ∷ []) (drop n bs)) where
+      pub no_bound : false ≡ begins (36 ∷ []) (drop n bs) → false ≡ is_replacement bs
       unfolding is_replacement bytes
-      replaces e = rw (is_replacement, ← name, le-leb 1 n some, e)
+      no_bound e = rw (is_replacement, ← name, le-leb 1 n some, ← other, ← e)
 
-      module _ (other : begins (61 ∷ []) (drop n bs) ≡ false) where
-        pub no_bound : begins (36 ∷ []) (drop n bs) ≡ false → false ≡ is_replacement bs
+      module _ (dollar : true ≡ begins (36 ∷ []) (drop n bs)) where
+        pub bad_bound : 0 ≡ bound_length (drop (n + 1) bs) → false ≡ is_replacement bs
         unfolding is_replacement bytes
-        no_bound e = rw (is_replacement, ← name, le-leb 1 n some, other, e)
+        bad_bound e = rw (is_replacement, ← name, le-leb 1 n some, ← other, ← dollar, drop-drop 1 n bs, ← e)
 
-        module _ (dollar : begins (36 ∷ []) (drop n bs) ≡ true) (m : ℕ) (bound : m ≡ bound_length (drop (n + 1) bs)) where
-          pub bad_bound : m ≡ 0 → false ≡ is_replacement bs
-          unfolding is_replacement bytes
-          bad_bound z = rw (is_replacement, ← name, le-leb 1 n some, other, dollar, drop-drop 1 n bs, ← bound, z)
+        pub bound_replaces : (m : ℕ) → m ≡ bound_length (drop (n + 1) bs) → 1 ≤ m → begins (61 ∷ []) (drop (n + 1 + m) bs) ≡ is_replacement bs
+        unfolding is_replacement bytes
+        bound_replaces m bound h =
+            rw (is_replacement, ← name, le-leb 1 n some, ← other, ← dollar, drop-drop 1 n bs, ← bound, le-leb 1 m h, drop-drop)
 
-          pub bound_replaces : 1 ≤ m → begins (61 ∷ []) (drop (n + 1 + m) bs) ≡ is_replacement bs
-          unfolding is_replacement bytes
-          bound_replaces h = rw (is_replacement, ← name, le-leb 1 n some, other, dollar, drop-drop 1 n bs, ← bound, le-leb 1 m h, drop-drop)
+-- a run of letters and digits that begins with a letter has one, and is a name if it isn't too long
+no_byte : is_letter 0 ≡ false
+unfolding is_letter between
+no_byte = refl
+
+run_some : (bs : List ℕ) → is_letter (get_or bs 0 0) ≡ true → 1 ≤ run_length is_name_byte bs
+unfolding run_length is_name_byte
+run_some [] e = absurd (true≢false (sym e ∙ no_byte))
+run_some (b ∷ bs) e =
+    let letter : is_letter b ≡ true = e in
+    let passes : is_name_byte b ≡ true = rw letter in
+    rw (run_length, passes) (omega arith)
+
+module _ (text : List ℕ) (at n : ℕ) where
+  pub name_of_letters : CountedBytes text at (run_length is_name_byte (drop at text)) n → is_letter (get_or (drop at text) 0 0) ≡ true
+      → {r : Option ℕ} → r ≡ then_some (leb n 8) n → NameFound text at r
+  name_of_letters a first e =
+      subst (NameFound text at) (sym e)
+      (test_cases (λ t. NameFound text at (then_some t n)) (leb n 8)
+      (λ s.
+      let h = leb-true n 8 s in
+      (record { is = name-is (drop at text) n a.is first h; short = h; inside = a.inside }, omega (arith, a.is, run_some (drop at text) first)))
+      (λ s. record { is = name_long (drop at text) n a.is first (leb-false n 8 s); short = omega arith; inside = omega arith }))
+
+  -- what may stand behind `$`, where no digit does
+  pub bound_named : (r : Option ℕ) → n ≡ run_length is_digit (drop at text) → n < 1 → NameFound text at r → BoundFound text at r
+  bound_named (Some m) e h a = (record { is = bound-name (drop at text) n m e h a.0.is; inside = a.0.inside }, a.1)
+  bound_named None e h a = record { is = bound-name (drop at text) n 0 e h a.is; inside = a.inside }
 
 -- the longest keyword: one more, and those behind it
 module _ (w : List ℕ) (k : StatementKind) (bs : List ℕ) (best : Leading) where

@@ -1,6 +1,29 @@
 -- What the answers of the code tell: the name that so many bytes are, names and their keys, and a constant once its case is known.
 -- Assumes nothing.
-use Rattle.std.specs.Prelude.{Bool, true, false, ◌&&◌, List, [], ◌∷◌, ◌≡◌, refl, ℕ, suc, ◌≤◌, ◌<◌, leb, Option, Some, None, length, take, drop, get_or}
+use Rattle.std.specs.Prelude.{
+  Bool,
+  true,
+  false,
+  ◌&&◌,
+  List,
+  [],
+  ◌∷◌,
+  ◌≡◌,
+  refl,
+  ℕ,
+  suc,
+  ◌≤◌,
+  ◌<◌,
+  leb,
+  Option,
+  Some,
+  None,
+  length,
+  take,
+  drop,
+  get_or,
+}
+use Rattle.std.specs.Option.{unwrap_or}
 use Rattle.std.proofs.Math.Bool.{and-eq-true_iff}
 use Rattle.std.proofs.Common.{sym, ap, subst, ◌∙◌, arith}
 use borrow.Author.Tests.{leb-true, le-leb, lt-leb}
@@ -15,6 +38,7 @@ use Rattle.syntax.specs.Lexemes.{run_length, name_length, name, unsigned, signed
 use Rattle.card_reader.specs.KeyLaws.{name-bytes}
 use Rattle.card_reader.specs.Keys.{is_key_byte}
 use Rattle.lexer.specs.Constants.{InLimit, ConstantEnds, read_as, ConstantRead, SignedInRange, ReadsSigned}
+use Rattle.lexer.specs.Places.{NameAt, NameFound}
 use Rattle.lexer.specs.declared.constants.Constant.{Constant}
 
 -- n bytes are the name in front, and 0 are none
@@ -26,6 +50,11 @@ module _ (bs : List ℕ) (n : ℕ) (is : n ≡ name_length bs) where
   pub name_broken : n < 1 → name bs ≡ broken
   unfolding name
   name_broken h = rw (name, ← is, lt-leb 1 n h)
+
+-- of a name found or not: where there is none it has 0 bytes
+pub name_counted : {text : List ℕ} {at : ℕ} (r : Option ℕ) → NameFound text at r → NameAt text at (unwrap_or r 0)
+name_counted (Some n) a = a.0
+name_counted None a = a
 
 -- a name has at most 8 bytes
 pub name_short : (bs : List ℕ) → name_length bs ≤ 8
@@ -71,9 +100,6 @@ module _ {text : List ℕ} {at : ℕ} {r : Option (Constant ℕ)} (a : ConstantR
 
     pub constant_ends : (at < c.next) × (c.next ≤ length text)
     constant_ends = subst (ConstantEnds text at) e a.ends
-
-  pub constant_broken : r ≡ None → unsigned current (drop at text) ≡ broken
-  constant_broken e = sym a.read ∙ ap (read_as (λ (v : ℕ). v) text) e
 
 -- the same of one that may have a sign
 module _ {text : List ℕ} {at : ℕ} {r : Option (Constant Int)} (a : ReadsSigned text at r) where

@@ -22,7 +22,7 @@ pub fn unsigned(text: &[u8], at: usize) -> Option<Constant<u64>>
         return None;
     }
     let next = at + n;
-    let value = numbers::decimal_from(&text[at..next], 0);
+    let value = numbers::decimal_of(&text[at..next]);
     if value <= LIMIT {
         return Some(Constant { value, next });
     }

@@ -29,6 +29,7 @@ pub enum Kind {
 }
 
 // a kind with how many bytes its keyword has
+// kept: Unknown is a kind, and no None: 4 is judged by the kind of a statement that begins with no keyword, before 5
 #[derive(Clone, Copy)]
 pub struct Keyword {
     pub kind: Kind,
@@ -58,20 +59,18 @@ const KEYWORDS: [(&[u8], Kind); 15] = [
 pub fn is_replacement(text: &[u8]) -> bool
     ensures { result ≡ is_replacement text.now }
 {
-    let n = name_length(text, 0);
-    if n == 0 {
+    let Some(n) = name_length(text, 0) else {
         return false;
-    }
+    };
     if stands_at(text, n, b'=') {
         return true;
     }
     if !stands_at(text, n, b'$') {
         return false;
     }
-    let m = bound_length(text, n + 1);
-    if m == 0 {
+    let Some(m) = bound_length(text, n + 1) else {
         return false;
-    }
+    };
     stands_at(text, n + 1 + m, b'=')
 }
 

@@ -14,7 +14,10 @@ ghost use Rattle.syntax.specs.Lexemes.{is_sign};
 use card_reader::line::behind;
 use classes::is_digit;
 
+// kept: a text and a place in it come apart: the place is the readers' cursor's, and the text is the same for all of them
+
 // the byte at a place, 0 behind the end
+// kept: 0 behind the end and no Option, as document 01's reading (get_or) has it; each caller asks for a class that 0 isn't of
 pub fn byte_at(text: &[u8], at: usize) -> u8
     ensures { result ≡ get_or (drop at text.now) 0 0 }
 {

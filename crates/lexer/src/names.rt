@@ -2,10 +2,9 @@
 // Assumes nothing.
 ghost use Rattle.std.specs.Prelude.{◌≡◌, take, drop};
 ghost use Rattle.cards.specs.Bytes.{is_digit};
-ghost use Rattle.syntax.specs.Keywords.{bound_length};
 ghost use Rattle.syntax.specs.Lexemes.{run_length};
 ghost use Rattle.card_reader.specs.Keys.{key_of};
-ghost use Rattle.lexer.specs.Places.{CountedBytes, NameAt, NameStands};
+ghost use Rattle.lexer.specs.Places.{BoundFound, CountedBytes, NameFound, NameStands};
 
 use crate::byte_at;
 use card_reader::keys;
@@ -22,26 +21,30 @@ pub fn digit_count(text: &[u8], at: usize) -> usize
         .count()
 }
 
-// how many bytes of a name stand at a place, 0 for none
-pub fn name_length(text: &[u8], at: usize) -> usize
-    ensures { NameAt text.now at result }
+// how many bytes the name at a place has, if one stands there
+pub fn name_length(text: &[u8], at: usize) -> Option<usize>
+    ensures { NameFound text.now at result }
 {
     if !is_letter(byte_at(text, at)) {
-        return 0;
+        return None;
     }
     let n = behind(text, at)
         .iter()
         .take_while(|b| is_letter_or_digit(**b))
         .count();
-    if n <= 8 { n } else { 0 }
+    (n <= 8).then_some(n)
 }
 
-// how many bytes of what may stand behind `$` stand at a place: digits or a name
-pub fn bound_length(text: &[u8], at: usize) -> usize
-    ensures { CountedBytes text.now at (bound_length (drop at text.now)) result }
+// how many bytes what may stand behind `$` has at a place, if it stands there: digits or a name
+pub fn bound_length(text: &[u8], at: usize) -> Option<usize>
+    ensures { BoundFound text.now at result }
 {
     let n = digit_count(text, at);
-    if 1 <= n { n } else { name_length(text, at) }
+    if 1 <= n {
+        Some(n)
+    } else {
+        name_length(text, at)
+    }
 }
 
 // the key of the name of n bytes at a place

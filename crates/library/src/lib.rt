@@ -1,5 +1,7 @@
 // The calls open to C, each with its promise: all that the library exports, on one page. Each is the call of the same name of the crate that does
 // its work.
+// kept: numbers, by the C interface: within, they are enums with a method `number`, but for read's 1 and 2 and start's 14, said by the call
+// kept: by the C interface the calls' signatures stand here again, and their parameters are as C passes them: numbers, buffers one by one, arrays
 #![tactic(auto)]
 
 ghost use Rattle.base.specs.Current.{current};

@@ -4,8 +4,7 @@ use mathlib.Core.Bool.{Bool, true, false, not, ◌&&◌, ◌||◌, and-eq-true_i
 use mathlib.Core.List.{List}
 use mathlib.Core.Logic.{inl, inr}
 use mathlib.Core.Path.{◌≡◌, refl, sym, ap, ap₂, ◌∙◌}
-use Prim.Native.Nat.{ℕ, zero, suc, ◌+◌, ◌<◌}
-use lib.Dec.{eqb}
+use Prim.Native.Nat.{ℕ, zero, suc, ◌<◌}
 use lib.ListN.{length, get_or}
 use Rattle.base.specs.Choice.{either_true, neither_true, same_truth}
 use Rattle.base.specs.ListLaws.{same_true}
@@ -14,15 +13,18 @@ use Rattle.validation.specs.Chains.{executes}
 use Rattle.validation.specs.Deck.{is11, is12, executed_by, executed_by_all, reached, with_new}
 use Rattle.validation.specs.Environment.{Label, Routine, Use, is_one_of}
 use Rattle.validation.specs.Rounds.{named_some, some_named, executed_by_lem, executed_by_all_lem, with_new_lem, executed_passes}
-use Rattle.symbols.specs.Entries.{name_of}
-use Rattle.symbols.specs.Holding.{uses_from}
-use Rattle.symbols.specs.Environment.{labels_in, routines_down, routines_in, routine_count_at, routine_keys_at, use_count_at}
+use Rattle.syntax.specs.Parsing.{for_label, for_routine, same_purpose}
+use Rattle.symbols.specs.Entries.{name_of, purpose_meaning}
+use Rattle.symbols.specs.Holding.{uses_in}
+use Rattle.symbols.specs.Environment.{labels_in, routines_in}
+use Rattle.symbols.specs.declared.known.Symbols.{Symbols}
+use Rattle.symbols.specs.declared.tags.Purpose.TheVariants.{Program}
 use Rattle.symbols.specs.EnvironmentLaws.{name-same, length-routines}
 use Rattle.link_checks.proofs.Losses.{any-routines, any_uses}
 use Rattle.link_checks.proofs.Turns.{gone_same}
 use Rattle.link_checks.specs.Below.{below, below-same, below_find, below-found}
 use Rattle.link_checks.specs.Held.{held_in}
-use Rattle.link_checks.specs.Pairs.{pair_in, NotedAll, by_use, use_pairs}
+use Rattle.link_checks.specs.Pairs.{pair_in, routine_count, routine_key, NotedAll, by_use, use_pairs}
 use Rattle.link_checks.specs.Rounds.{go_on, gone_on}
 
 -- routines by their places
@@ -89,49 +91,45 @@ module _ (count : ℕ) (name : ℕ → List ℕ) where
 abbrev pub back_at : (pairs : List Bool) → (count i : ℕ) → Bool
 back_at pairs count i = gone_on count (pair_in pairs) count (pair_in pairs i) i
 
-module _ (known keys scopes purposes : List ℕ) where
+module _ (s : Symbols) where
   abbrev name : ℕ → List ℕ
-  name i = name_of (get_or known (routine_keys_at + i) 0)
+  name i = name_of (routine_key s.known i)
 
   abbrev used : List Use
-  used = uses_from 2 keys scopes purposes 0 (get_or known use_count_at 0)
+  used = uses_in for_routine s.uses
 
-  executes-pairs : (i j : ℕ) → executes used (name i) (name j) ≡ below (use_pairs known keys scopes purposes i j) (get_or known use_count_at 0)
-  unfolding use_pairs by_use
+  executes-pairs : (i j : ℕ) → executes used (name i) (name j) ≡ below (use_pairs s.known s.uses i j) s.uses.count
+  unfolding use_pairs by_use uses_in
   executes-pairs i j =
-      any_uses (λ u. same (name i) u.scope && same (name j) u.name) 2 keys scopes purposes (get_or known use_count_at 0)
-      ∙ below-same _ _ (get_or known use_count_at 0)
+      let us = s.uses in
+      any_uses (λ u. same (name i) u.scope && same (name j) u.name) for_routine us.keys us.scopes us.purposes us.count
+      ∙ below-same _ _ us.count
       (λ u _.
-      ap₂ {C = Bool} (λ x y. eqb (get_or purposes u 0) 2 && (x && y))
-      (name-same (get_or known (routine_keys_at + i) 0) (get_or scopes u 0))
-      (name-same (get_or known (routine_keys_at + j) 0) (get_or keys u 0)))
+      ap₂ {C = Bool} (λ x y. same_purpose for_routine (purpose_meaning (get_or us.purposes u Program)) && (x && y))
+      (name-same (routine_key s.known i) (get_or us.scopes u 0)) (name-same (routine_key s.known j) (get_or us.keys u 0)))
 
-  all_placed : is11 (held_in known keys scopes purposes) ≡ false → AllPlaced (get_or known routine_count_at 0) name used
-  unfolding is11 held_in routines_in
+  all_placed : is11 (held_in s) ≡ false → AllPlaced (routine_count s.known) name used
+  unfolding is11 held_in
   all_placed e =
       let crossing : Bool =
-      any (λ (u : Use). not (any (λ (l : Label). same u.name l.name && same u.scope l.scope) (labels_in known)))
-      (uses_from 1 keys scopes purposes 0 (get_or known use_count_at 0)) in
-      let undeclared : Bool = any (λ (u : Use). not (any (λ (r : Routine). same u.name r.name) (routines_in known))) used in
+      any (λ (u : Use). not (any (λ (l : Label). same u.name l.name && same u.scope l.scope) (labels_in s.known))) (uses_in for_label s.uses) in
+      let undeclared : Bool = any (λ (u : Use). not (any (λ (r : Routine). same u.name r.name) (routines_in s.known))) used in
       let parts = neither_true crossing undeclared e in
-      ap (λ (f : List ℕ → Bool). any (λ (u : Use). not (f u.name)) used)
-      (λ t x. sym (any-routines (same x) known (get_or known routine_count_at 0)) t)
-      ∙ parts.1
+      ap (λ (f : List ℕ → Bool). any (λ (u : Use). not (f u.name)) used) (λ t x. sym (any-routines (same x) s.known) t) ∙ parts.1
 
-  pub pairs_12 : (pairs : List Bool) → NotedAll known (get_or known routine_count_at 0) keys scopes purposes pairs →
-      is11 (held_in known keys scopes purposes) ≡ false →
-      below (back_at pairs (get_or known routine_count_at 0)) (get_or known routine_count_at 0) ≡ is12 (held_in known keys scopes purposes)
+  pub pairs_12 : (pairs : List Bool) → NotedAll s pairs → is11 (held_in s) ≡ false →
+      below (back_at pairs (routine_count s.known)) (routine_count s.known) ≡ is12 (held_in s)
   unfolding is12 held_in routines_in
   pairs_12 pairs noted none =
-      let count = get_or known routine_count_at 0 in
+      let count = routine_count s.known in
       let all = all_placed none in
       let alike : (i j : ℕ) → i < count → j < count → executes used (name i) (name j) ≡ pair_in pairs i j =
       λ i j hi hj. executes-pairs i j ∙ sym (noted.pair i j hi hj) in
       sym
-      (any-routines (λ x. is_one_of (reached (length (routines_down known count)) used (executed_by used x)) x) known count
+      (any-routines (λ x. is_one_of (reached (length (routines_in s.known)) used (executed_by used x)) x) s.known
       ∙ below-same _ _ count
       (λ i h.
-      ap (λ n. is_one_of (reached n used (executed_by used (name i))) (name i)) (length-routines known count)
+      ap (λ n. is_one_of (reached n used (executed_by used (name i))) (name i)) (length-routines s.known.routines.items)
       ∙ reached_placed count name used all count (executed_by used (name i)) (first_placed count name used all (name i)) i
       ∙ gone_same (λ a b. executes used (name a) (name b)) (pair_in pairs) count alike count
       (λ j. is_one_of (executed_by used (name i)) (name j)) (pair_in pairs i)

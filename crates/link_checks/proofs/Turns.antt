@@ -6,7 +6,7 @@ use mathlib.Core.Path.{◌≡◌, refl, sym, ap, ap₂, ◌∙◌}
 use Prim.Native.Nat.{ℕ, zero, suc, ◌+◌, ◌-◌, ◌≤◌, ◌<◌}
 use native.Mathlib.Omega.{arith}
 use lib.Dec.{eqb}
-use lib.ListN.{length, set, length-set}
+use lib.ListN.{length, set}
 use lib.Seq.{get_or-set_same, get_or-set_other}
 use borrow.Author.Tests.{eqb-true, eqb-false}
 use Rattle.base.specs.Choice.{test_cases}
@@ -15,26 +15,24 @@ use Rattle.link_checks.specs.Pairs.{pair_in}
 use Rattle.link_checks.specs.Rounds.{MarksRow, mark_at, go_on, gone_on}
 
 -- marks set one by one
-pub row_none : (marks : List Bool) (marked : ℕ → Bool) → length marks ≡ 17 → MarksRow 0 marks marked
-row_none marks marked e = record { size = e; mark = λ j h. absurd (omega arith) }
+pub row_none : (marks : List Bool) (marked : ℕ → Bool) → MarksRow 0 marks marked
+row_none marks marked = record { mark = λ j h. absurd (omega arith) }
 
-pub row_more : (n : ℕ) (marks : List Bool) (marked : ℕ → Bool) (v : Bool) → MarksRow n marks marked → n < 17 → v ≡ marked n →
+pub row_more : (n : ℕ) (marks : List Bool) (marked : ℕ → Bool) (v : Bool) → length marks ≡ 17 → MarksRow n marks marked → n < 17 → v ≡ marked n →
     MarksRow (n + 1) (set marks n v) marked
-row_more n marks marked v r h e =
+row_more n marks marked v size r h e =
     record {
-      size = length-set marks n v ∙ r.size;
       mark =
           λ j under.
           test_cases (λ _. mark_at (set marks n v) j ≡ marked j) (eqb j n)
           (λ t.
           let here = eqb-true j n t in
-          let s = r.size in
           ap (mark_at (set marks n v)) here ∙ get_or-set_same marks n v false (omega arith) ∙ e ∙ ap marked (sym here))
           (λ t. let other = eqb-false j n t in get_or-set_other marks n j v false other ∙ r.mark j (omega arith));
     }
 
 pub row-all : (i n : ℕ) (marks : List Bool) (marked : ℕ → Bool) → MarksRow i marks marked → n ≤ i → MarksRow n marks marked
-row-all i n marks marked r h = record { size = r.size; mark = λ j under. r.mark j (omega arith) }
+row-all i n marks marked r h = record { mark = λ j under. r.mark j (omega arith) }
 
 -- what agrees at so many places goes on alike
 module _ (executes executes' : ℕ → ℕ → Bool) (count : ℕ)
@@ -57,7 +55,6 @@ module _ (executes executes' : ℕ → ℕ → Bool) (count : ℕ)
 -- n rounds have been gone, of as many as there are places, from place i on
 pub record Turned (pairs : List Bool) (count i n : ℕ) (marks : List Bool) : Type 0 where
   pub within : n ≤ count
-  pub size : length marks ≡ 17
   pub whole : gone_on count (pair_in pairs) count (pair_in pairs i) i ≡ gone_on (count - n) (pair_in pairs) count (mark_at marks) i
 
 module _ (pairs : List Bool) (count i : ℕ) (inside : i < count) where
@@ -65,7 +62,6 @@ module _ (pairs : List Bool) (count i : ℕ) (inside : i < count) where
   turned_none marks r =
       record {
         within = omega arith;
-        size = r.size;
         whole =
             let all : count - 0 ≡ count = omega arith in
             rw all
@@ -79,7 +75,6 @@ module _ (pairs : List Bool) (count i : ℕ) (inside : i < count) where
   turned_more n marks marks' t h r =
       record {
         within = omega arith;
-        size = r.size;
         whole =
             let left : count - n ≡ suc (count - (n + 1)) = omega arith in
             t.whole

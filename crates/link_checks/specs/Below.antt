@@ -1,5 +1,5 @@
 -- Some number below n passes a test; with its laws. Assumes nothing.
-use Rattle.std.specs.Prelude.{Bool, true, false, ◌&&◌, ◌||◌, ◌≡◌, refl, ℕ, zero, suc, ◌+◌, ◌≤◌, ◌<◌, eqb}
+use Rattle.std.specs.Prelude.{Bool, true, false, ◌&&◌, ◌||◌, ◌≡◌, refl, ℕ, zero, suc, ◌+◌, ◌<◌, eqb}
 use Rattle.std.proofs.lemmas.Bool.{false≢true, eqb-false}
 use Rattle.std.proofs.Math.Bool.{or_assoc, or_comm, and-eq-true_iff}
 use Rattle.std.proofs.Common.{inl, inr, sym, ap, ap₂, ◌∙◌, add-zero, zero-add, add-one, arith, eq-eqb, eqb-true}
@@ -9,7 +9,7 @@ unfoldable pub below : (ℕ → Bool) → ℕ → Bool
 below f zero = false
 below f (suc n) = below f n || f n
 
--- a loop over the numbers: none yet, one more, all
+-- number by number: none yet, one more
 pub below_none : (f : ℕ → Bool) → false ≡ below f 0
 unfolding below
 below_none f = refl
@@ -17,13 +17,6 @@ below_none f = refl
 pub below_more : (f : ℕ → Bool) (n : ℕ) (found test : Bool) → found ≡ below f n → test ≡ f n → (found || test) ≡ below f (n + 1)
 unfolding below
 below_more f n found test e t = ap₂ {C = Bool} ◌||◌ e t ∙ ap (below f) (sym (add-one n))
-
-pub below_all : (f : ℕ → Bool) (i n : ℕ) (found : Bool) → found ≡ below f i → i ≤ n → n ≤ i → found ≡ below f n
-below_all f i n found e low high = let here : i ≡ n = omega arith in e ∙ ap (below f) here
-
--- a loop that stops at the first: none passed yet, one passes, none has passed
-pub below_passed : (f : ℕ → Bool) (n : ℕ) → false ≡ below f n → false ≡ f n → false ≡ below f (n + 1)
-below_passed f n e t = below_more f n false false e t
 
 -- tests that agree below n
 pub below-same : (f g : ℕ → Bool) (n : ℕ) → ((i : ℕ) → i < n → f i ≡ g i) → below f n ≡ below g n

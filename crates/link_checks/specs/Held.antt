@@ -1,31 +1,29 @@
--- What 11 and 12 look at, as the arrays hold it. Assumes nothing.
-use Rattle.std.specs.Prelude.{false, List, [], ◌≡◌, ℕ, ◌≤◌, length, get_or}
+-- What 11 and 12 look at, as the symbol table holds it. Assumes nothing.
+use Rattle.std.specs.Prelude.{false, [], ◌≤◌}
+use Rattle.syntax.specs.Parsing.{for_label, for_routine}
 use Rattle.validation.specs.Environment.{Environment}
 use Rattle.symbols.specs.Clauses.{names_room}
-use Rattle.symbols.specs.Holding.{uses_from}
-use Rattle.symbols.specs.Environment.{CountsInRange, labels_in, routines_in, use_count_at}
+use Rattle.symbols.specs.Environment.{labels_in, routines_in}
+use Rattle.symbols.specs.Holding.{uses_in}
+use Rattle.symbols.specs.declared.known.Symbols.{Symbols}
 
--- the arrays have their sizes, and the counts lie within
-pub record Closable (known keys scopes purposes : List ℕ) : Type 0 where
-  pub counted : CountsInRange known
-  pub uses : get_or known use_count_at 0 ≤ names_room
-  pub keys_size : length keys ≡ names_room
-  pub scopes_size : length scopes ≡ names_room
-  pub purposes_size : length purposes ≡ names_room
+-- there are no more uses than there is room for
+pub record Closable (s : Symbols) : Type 0 where
+  pub uses : s.uses.count ≤ names_room
 
 -- labels and routines declared, and those used; nothing else of the environment
-unfoldable pub held_in : (known keys scopes purposes : List ℕ) → Environment
-held_in known keys scopes purposes =
+unfoldable pub held_in : Symbols → Environment
+held_in s =
     record {
       statements = 0;
       steps = 0;
       ended = false;
       scope = [];
       names = [];
-      labels = labels_in known;
-      routines = routines_in known;
-      branches = uses_from 1 keys scopes purposes 0 (get_or known use_count_at 0);
-      executes = uses_from 2 keys scopes purposes 0 (get_or known use_count_at 0);
+      labels = labels_in s.known;
+      routines = routines_in s.known;
+      branches = uses_in for_label s.uses;
+      executes = uses_in for_routine s.uses;
       elements = 0;
       items = 0;
       literals = 0;

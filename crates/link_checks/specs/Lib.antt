@@ -1,4 +1,4 @@
--- What 11 and 12 look at, as the arrays hold it (Held), with laws for callers (HeldLaws); the tests by keys: some number below another
+-- What 11 and 12 look at, as the symbol table holds it (Held), with laws for callers (HeldLaws); the tests by keys: some number below another
 -- passes (Below), labels and routines that are not declared (Lost), which routine executes which (Pairs), and going on from there (Rounds).
 pub mod Below
 pub mod Held

@@ -1,19 +1,21 @@
 -- Labels and routines used that are not declared, by keys. Assumes nothing.
-use Rattle.std.specs.Prelude.{Bool, false, cond, not, ◌&&◌, List, ℕ, ◌+◌, eqb, get_or}
-use Rattle.symbols.specs.Environment.{label_count_at, routine_count_at, label_keys_at, label_scopes_at, routine_keys_at, keys_have}
-use Rattle.link_checks.specs.Below.{below}
+use Rattle.std.specs.Prelude.{Bool, false, not, ◌&&◌, ◌==◌, ℕ}
+use Rattle.std.specs.List.{list_any}
+use Rattle.symbols.specs.declared.known.Known.{Known}
+use Rattle.symbols.specs.declared.tags.Purpose.{Purpose}
+use Rattle.symbols.specs.declared.tags.Purpose.TheVariants.{Program, Label, Routine, Number, String}
 
--- label i has this key and stands in this scope
-unfoldable pub label_at : (known : List ℕ) → (key scope i : ℕ) → Bool
-label_at known key scope i = eqb key (get_or known (label_keys_at + i) 0) && eqb scope (get_or known (label_scopes_at + i) 0)
+-- a label with this key stands in this scope
+abbrev pub has_label : (known : Known) → (key scope : ℕ) → Bool
+has_label known key scope = list_any (λ l. (l.key == key) && (l.scope == scope)) known.labels.items
 
-unfoldable pub has_label : (known : List ℕ) → (key scope : ℕ) → Bool
-has_label known key scope = below (label_at known key scope) (get_or known label_count_at 0)
+abbrev pub has_routine : (known : Known) → (key : ℕ) → Bool
+has_routine known key = list_any (λ r. r.key == key) known.routines.items
 
-abbrev pub has_routine : (known : List ℕ) → (key : ℕ) → Bool
-has_routine known = keys_have known routine_keys_at (get_or known routine_count_at 0)
-
--- a label (1) that its scope does not have, a routine (2) that is not declared
-unfoldable pub is_lost : (known : List ℕ) → (key scope purpose : ℕ) → Bool
-is_lost known key scope purpose =
-    cond (eqb purpose 1) (not (has_label known key scope)) (cond (eqb purpose 2) (not (has_routine known key)) false)
+-- a label that its scope does not have, a routine that is not declared
+abbrev pub is_lost : (known : Known) → (key scope : ℕ) → Purpose → Bool
+is_lost known key scope Program = false
+is_lost known key scope Label = not (has_label known key scope)
+is_lost known key scope Routine = not (has_routine known key)
+is_lost known key scope Number = false
+is_lost known key scope String = false

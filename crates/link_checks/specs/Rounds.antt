@@ -1,5 +1,5 @@
 -- Going on from some places to those that they execute, round by round. Assumes nothing.
-use Rattle.std.specs.Prelude.{Bool, false, ◌&&◌, ◌||◌, List, ◌≡◌, ℕ, zero, suc, ◌≤◌, ◌<◌, length, get_or}
+use Rattle.std.specs.Prelude.{Bool, false, ◌&&◌, ◌||◌, List, ◌≡◌, ℕ, zero, suc, ◌<◌, get_or}
 use Rattle.link_checks.specs.Below.{below}
 
 abbrev pub mark_at : List Bool → ℕ → Bool
@@ -14,13 +14,6 @@ unfoldable pub gone_on : (times : ℕ) → (executes : ℕ → ℕ → Bool) →
 gone_on zero executes count marked = marked
 gone_on (suc n) executes count marked = gone_on n executes count (go_on executes count marked)
 
--- marks and pairs of so many places
-pub record Turning (marks pairs : List Bool) (count : ℕ) : Type 0 where
-  pub marks_size : length marks ≡ 17
-  pub size : length pairs ≡ 289
-  pub few : count ≤ 17
-
 -- a mark for each place
 pub record MarksRow (count : ℕ) (marks : List Bool) (marked : ℕ → Bool) : Type 0 where
-  pub size : length marks ≡ 17
   pub mark : (j : ℕ) → j < count → mark_at marks j ≡ marked j

@@ -1,29 +1,25 @@
 // Going on from the places that are executed to those that these execute, round by round.
 // Assumes nothing.
-ghost use Rattle.std.specs.Prelude.{false, ◌≡◌, ◌<◌};
-ghost use Rattle.link_checks.specs.Pairs.{pair_in, PairPlaces};
-ghost use Rattle.link_checks.specs.Rounds.{MarksRow, mark_at, go_on, gone_on, Turning};
+ghost use Rattle.std.specs.Prelude.{false, ◌≡◌, ◌<◌, ◌≤◌};
+ghost use Rattle.link_checks.specs.Pairs.{pair_in};
+ghost use Rattle.link_checks.specs.Rounds.{MarksRow, mark_at, go_on, gone_on};
 
 use crate::executed::{PAIRS, PLACES};
 
+// kept: pairs and count one by one, count's bound by a clause: a struct would be made for one call, executes_itself, and opened in each function
 // whether a place is marked, or a marked one executes it
 fn is_next(marks: &[bool; PLACES], pairs: &[bool; PAIRS], count: usize, j: usize) -> bool
-    requires turning { Turning marks.now pairs.now count }
+    requires few { count ≤ 17 }
     requires j_lt_count { j < count }
     ensures { result ≡ go_on (pair_in pairs.now) count (mark_at marks.now) j }
 {
-    for i in 0..count {
-        let marked = marks[i];
-        if marked && pairs[PLACES * i + j] {
-            return true;
-        }
-    }
-    marks[j]
+    marks[j] || (0..count).any(|i| marks[i] && pairs[PLACES * i + j])
 }
 
 // the marks behind one round more
+// kept: by its place, which is_next takes; iter_mut with enumerate would name it all the same
 fn next_marks(marks: &[bool; PLACES], pairs: &[bool; PAIRS], count: usize) -> [bool; PLACES]
-    requires { Turning marks.now pairs.now count }
+    requires { count ≤ 17 }
     ensures { MarksRow count result (go_on (pair_in pairs.now) count (mark_at marks.now)) }
 {
     let mut next = [false; PLACES];
@@ -35,7 +31,7 @@ fn next_marks(marks: &[bool; PLACES], pairs: &[bool; PAIRS], count: usize) -> [b
 
 // the places that place i executes
 fn row_of(pairs: &[bool; PAIRS], count: usize, i: usize) -> [bool; PLACES]
-    requires pair_places { PairPlaces pairs.now count }
+    requires few { count ≤ 17 }
     requires i_lt_count { i < count }
     ensures { MarksRow count result (pair_in pairs.now i) }
 {
@@ -47,7 +43,7 @@ fn row_of(pairs: &[bool; PAIRS], count: usize, i: usize) -> [bool; PLACES]
 
 // whether place i is executed by those that it executes, in as many rounds as there are places
 pub fn comes_back(pairs: &[bool; PAIRS], count: usize, i: usize) -> bool
-    requires pair_places { PairPlaces pairs.now count }
+    requires few { count ≤ 17 }
     requires i_lt_count { i < count }
     ensures { result ≡ gone_on count (pair_in pairs.now) count (pair_in pairs.now i) i }
 {

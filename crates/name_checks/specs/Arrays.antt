@@ -1,61 +1,48 @@
--- What the arrays show: the environment, and the names mentioned by a statement. Assumes nothing.
-use Rattle.std.specs.Prelude.{List, ℕ, ◌-◌, eqb, take, drop, get_or}
+-- What the symbol table shows of a deck's environment, and the names that a statement mentions. Assumes nothing.
+use Rattle.std.specs.Prelude.{List, ℕ, ◌-◌, get_or}
 use Rattle.validation.specs.Environment.{Environment}
-use Rattle.symbols.specs.Clauses.{names_room}
+use Rattle.syntax.specs.Parsing.{for_label, for_routine}
+use Rattle.symbols.specs.declared.Mentioned.{Mentioned}
+use Rattle.symbols.specs.declared.known.Symbols.{Symbols}
+use Rattle.symbols.specs.declared.tags.Tag.{Tag}
+use Rattle.symbols.specs.declared.tags.Tag.TheVariants.{ProgramDeclared}
 use Rattle.symbols.specs.Entries.{NameEntry, entry, name_of}
 use Rattle.symbols.specs.From.{values_from}
-use Rattle.symbols.specs.Holding.{Arrays, names_in, uses_in}
-use Rattle.symbols.specs.Environment.{labels_in, routines_in, statement_count_at, step_count_at, ended_at, scope_at, element_count_at, item_count_at, literal_count_at}
+use Rattle.symbols.specs.Holding.{names_in, uses_in}
+use Rattle.symbols.specs.Environment.{labels_in, routines_in}
 
--- The arrays by the regions of two: symbols has the keys of names, of uses and of the uses' scopes; purposes those of names and of uses.
-abbrev pub arrays : (known symbols purposes : List ℕ) → Arrays
-arrays known symbols purposes =
+-- all that the symbol table shows
+unfoldable pub environment_in : Symbols → Environment
+environment_in s =
     record {
-      known = known;
-      name_keys = take names_room symbols;
-      name_purposes = take names_room purposes;
-      use_keys = take names_room (drop names_room symbols);
-      use_scopes = drop names_room (drop names_room symbols);
-      use_purposes = drop names_room purposes;
+      statements = s.known.statements;
+      steps = s.known.steps;
+      ended = s.known.ended;
+      scope = name_of s.known.scope;
+      names = names_in s.names;
+      labels = labels_in s.known;
+      routines = routines_in s.known;
+      branches = uses_in for_label s.uses;
+      executes = uses_in for_routine s.uses;
+      elements = s.known.elements;
+      items = s.known.items;
+      literals = s.known.literals;
     }
 
--- the arrays with other names
-abbrev pub names_put : Arrays → (keys purposes : List ℕ) → Arrays
-names_put a keys purposes =
-    record {
-      known = a.known;
-      name_keys = keys;
-      name_purposes = purposes;
-      use_keys = a.use_keys;
-      use_scopes = a.use_scopes;
-      use_purposes = a.use_purposes;
-    }
+-- name i mentioned, by its key and its tag
+abbrev pub key_in : Mentioned → ℕ → ℕ
+key_in m i = get_or m.keys i 0
 
--- all that the arrays show
-unfoldable pub environment_in : Arrays → Environment
-environment_in a =
-    record {
-      statements = get_or a.known statement_count_at 0;
-      steps = get_or a.known step_count_at 0;
-      ended = eqb (get_or a.known ended_at 0) 1;
-      scope = name_of (get_or a.known scope_at 0);
-      names = names_in a;
-      labels = labels_in a.known;
-      routines = routines_in a.known;
-      branches = uses_in 1 a;
-      executes = uses_in 2 a;
-      elements = get_or a.known element_count_at 0;
-      items = get_or a.known item_count_at 0;
-      literals = get_or a.known literal_count_at 0;
-    }
+abbrev pub tag_in : Mentioned → ℕ → Tag
+tag_in m i = get_or m.tags i ProgramDeclared
 
--- name i mentioned, and n names mentioned from place i on
-abbrev pub entry_in : (keys tags : List ℕ) → ℕ → NameEntry
-entry_in keys tags i = entry (get_or keys i 0) (get_or tags i 0)
+abbrev pub entry_in : Mentioned → ℕ → NameEntry
+entry_in m i = entry (key_in m i) (tag_in m i)
 
-abbrev pub entries_from : (keys tags : List ℕ) → (i n : ℕ) → List NameEntry
-entries_from keys tags = values_from (entry_in keys tags)
+-- n names mentioned from place i on
+abbrev pub entries_from : Mentioned → (i n : ℕ) → List NameEntry
+entries_from m = values_from (entry_in m)
 
 -- the names mentioned from place i on, of so many
-abbrev pub entries_left : (keys tags : List ℕ) → (met i : ℕ) → List NameEntry
-entries_left keys tags met i = entries_from keys tags i (met - i)
+abbrev pub entries_left : Mentioned → (met i : ℕ) → List NameEntry
+entries_left m met i = entries_from m i (met - i)

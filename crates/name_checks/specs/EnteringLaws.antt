@@ -1,317 +1,151 @@
--- Names put behind those known in their arrays, one by one. Assumes nothing.
-use Rattle.std.specs.Prelude.{Bool, true, false, cond, ◌||◌, ◌≡◌, refl, ℕ, ◌+◌, ◌-◌, ◌/◌, ◌%◌, ◌≤◌, ◌<◌, eqb, get_or, Result, Ok, Err}
+-- Names put behind those known in the symbol table, one by one. Assumes nothing.
+use Rattle.std.specs.Prelude.{Bool, true, false, cond, ◌||◌, ◌≡◌, refl, ℕ, ◌+◌, ◌≤◌, ◌<◌, get_or, Result, Ok, Err}
 use Rattle.std.specs.Bool.{beq}
+use Rattle.std.specs.Result.{result_and}
 use mathlib.Core.List.{List, [], ◌∷◌, ◌++◌, append-nil}
-use Rattle.std.proofs.Common.{append_assoc, sym, ◌∙◌}
-use Rattle.std.proofs.Math.Path.{ap, ap₂, subst}
-use native.Mathlib.Omega.{arith}
-use Rattle.std.proofs.Math.ListN.{length, set, length-set, length-append}
+use Rattle.std.proofs.Common.{sym, ◌∙◌, ap, ap₂, subst, arith}
+use Rattle.std.proofs.Math.ListN.{length, set, length-append}
 use Rattle.std.proofs.Math.Seq.{get_or-set_same, get_or-set_other}
-use Rattle.std.proofs.lemmas.Result.{IfOk-weaker, IfErr-weaker}
-use Rattle.base.specs.Choice.{test_cases, cond_cases}
-use Rattle.syntax.specs.Parsing.{Mention}
-use Rattle.symbols.specs.Clauses.{names_room}
-use Rattle.symbols.specs.Entries.{NameEntry, entry, mention_of, declares_name, gather}
-use Rattle.symbols.specs.EntryLaws.{gather_append}
-use Rattle.symbols.specs.From.{values_from, from-turn, from_last}
-use Rattle.symbols.specs.Holding.{mention_in, names_from}
-use Rattle.validation.specs.RefusalNumbers.{refusal_number, refusal_number_some}
+use Rattle.validation.specs.RefusalNumbers.{judged_number, refusal_number_some}
 use Rattle.validation.specs.declared.Refusal.{Refusal}
 use Rattle.validation.specs.declared.Refusal.TheVariants.{NameClash}
+use Rattle.syntax.specs.Parsing.{Mention}
+use Rattle.symbols.specs.declared.Mentioned.{Mentioned}
+use Rattle.symbols.specs.declared.known.Names.{Names}
+use Rattle.symbols.specs.declared.tags.Purpose.{Purpose}
+use Rattle.symbols.specs.declared.tags.Purpose.TheVariants.{Program}
+use Rattle.symbols.specs.Clauses.{names_room}
+use Rattle.symbols.specs.Entries.{NameEntry, entry, tag_purpose, tag_declares, mention_of, declares_name, gather}
+use Rattle.symbols.specs.EntryLaws.{gather_append}
+use Rattle.symbols.specs.From.{values_from, from_last}
+use Rattle.symbols.specs.Holding.{mention_in, names_in}
 use Rattle.name_checks.specs.ArrayLaws.{names_kept}
-use Rattle.name_checks.specs.Arrays.{entry_in, entries_from, entries_left}
+use Rattle.name_checks.specs.Arrays.{key_in, tag_in, entry_in, entries_from, entries_left}
 use Rattle.name_checks.specs.LoopLaws.{from_parts}
 use Rattle.name_checks.specs.NameLaws.{enters-append, conflicts-append}
-use Rattle.name_checks.specs.Names.{key_mention, standing, meet, enters, conflicts, chosen_by, NamesSized, Stopped, Enters}
+use Rattle.name_checks.specs.Names.{key_mention, standing, meet, enters, conflicts, chosen_by, chosen_in, Enters}
 
 -- no name, and names behind names
-pub enters_none : (keys purposes : List ℕ) (before : ℕ) → length keys ≡ names_room → length purposes ≡ names_room
-    → Enters keys purposes before [] keys purposes (Ok before)
+pub enters_none : (names : Names) → Enters names [] names (Ok tt)
 unfolding enters conflicts
-enters_none keys purposes before s t =
+enters_none names =
+    record { clash = refl; so = refl; few = omega arith; more = omega arith; keys_kept = λ i h. refl; purposes_kept = λ i h. refl }
+
+-- the first clash is told
+clash_then : (r q : Result (Unit {0}) Refusal) (a b : Bool) → judged_number r ≡ cond a 6 0 → judged_number q ≡ cond b 6 0
+    → judged_number (result_and r q) ≡ cond (a || b) 6 0
+clash_then (Ok x) q true b e f = absurd (omega (arith, e))
+clash_then (Ok x) q false b e f = f
+clash_then (Err x) q true b e f = e
+clash_then (Err x) q false b e f = absurd (refusal_number_some x e)
+
+pub enters_then : (names names' names'' : Names) (xs ys : List Mention) (r q : Result (Unit {0}) Refusal) → Enters names xs names' r
+    → Enters names' ys names'' q → Enters names (xs ++ ys) names'' (result_and r q)
+enters_then names names' names'' xs ys r q m w =
+    let first = names_in names in
     record {
-      keys_size = s;
-      purposes_size = t;
-      clash = refl;
-      names = refl;
-      few = omega arith;
-      more = omega arith;
-      stopped = tt;
-      keys_kept = λ i h. refl;
-      purposes_kept = λ i h. refl;
+      clash =
+          clash_then r q (conflicts first xs) (conflicts (enters first xs) ys) m.clash (w.clash ∙ ap (λ ns. cond (conflicts ns ys) 6 0) m.so)
+          ∙ ap (λ t. cond t 6 0) (sym (conflicts-append first xs ys));
+      so = w.so ∙ ap (λ ns. enters ns ys) m.so ∙ sym (enters-append first xs ys);
+      few = omega (arith, m.few, w.few, length-append xs ys);
+      more = omega (arith, m.more, w.more);
+      keys_kept = λ i h. w.keys_kept i (omega (arith, m.more)) ∙ m.keys_kept i h;
+      purposes_kept = λ i h. w.purposes_kept i (omega (arith, m.more)) ∙ m.purposes_kept i h;
     }
 
--- the first so many stay
-pub first_kept : (keys purposes keys' purposes' : List ℕ) (before : ℕ) (xs : List Mention) (r : Result ℕ Refusal)
-    → Enters keys purposes before xs keys' purposes' r → names_from keys' purposes' 0 before ≡ names_from keys purposes 0 before
-first_kept keys purposes keys' purposes' before xs r m =
-    names_kept keys purposes keys' purposes' 0 before (λ j h. m.keys_kept j (omega arith)) (λ j h. m.purposes_kept j (omega arith))
-
-module _ (keys purposes keys' purposes' : List ℕ) (before : ℕ) (xs ys : List Mention) where
-  abbrev first : List Mention
-  first = names_from keys purposes 0 before
-
-  -- of more names the same
-  stopped_more : Stopped keys purposes before xs keys' purposes' → Stopped keys purposes before (xs ++ ys) keys' purposes'
-  stopped_more s =
-      record {
-        ahead = s.ahead;
-        it = s.it;
-        behind = s.behind ++ ys;
-        parts = ap (λ (l : List Mention). l ++ ys) s.parts ∙ append_assoc s.ahead (s.it ∷ s.behind) ys;
-        clear = s.clear;
-        other = s.other;
-        count = s.count;
-        names = s.names;
-        few = s.few;
-        more = s.more;
-      }
-
-  -- the first names are refused, and so all
-  pub enters_refused : {e : Refusal} → Enters keys purposes before xs keys' purposes' (Err e)
-      → Enters keys purposes before (xs ++ ys) keys' purposes' (Err e)
-  enters_refused {e} m =
-      record {
-        keys_size = m.keys_size;
-        purposes_size = m.purposes_size;
-        clash =
-            cond_cases (λ n. refusal_number e ≡ n → refusal_number e ≡ cond (conflicts first (xs ++ ys)) 6 0) (conflicts first xs)
-            (λ c q. q ∙ rw (conflicts-append first xs ys, c))
-            (λ _ q. absurd (refusal_number_some e q)) m.clash;
-        names = tt;
-        few = tt;
-        more = tt;
-        stopped = stopped_more m.stopped;
-        keys_kept = m.keys_kept;
-        purposes_kept = m.purposes_kept;
-      }
-
-  pub enters_then : (keys'' purposes'' : List ℕ) {n : ℕ} (r : Result ℕ Refusal) → Enters keys purposes before xs keys' purposes' (Ok n)
-      → Enters keys' purposes' n ys keys'' purposes'' r → Enters keys purposes before (xs ++ ys) keys'' purposes'' r
-  enters_then keys'' purposes'' {n} r m w =
-      let more : before ≤ n = m.more in
-      let clear : conflicts first xs ≡ false = test_cases (λ t. conflicts first xs ≡ t → t ≡ false) (conflicts first xs)
-      (λ _ c. absurd (let six : 0 ≡ 6 = m.clash ∙ ap (λ t. cond t 6 0) c in omega arith)) (λ _ _. refl) refl in
-      record {
-        keys_size = w.keys_size;
-        purposes_size = w.purposes_size;
-        clash = w.clash ∙ ap (λ ns. cond (conflicts ns ys) 6 0) m.names ∙ rw (conflicts-append first xs ys, clear);
-        names = IfOk-weaker r _ _ (λ q e. e ∙ ap (λ ns. enters ns ys) m.names ∙ sym (enters-append first xs ys)) w.names;
-        few = IfOk-weaker r _ _ (λ q h. omega (arith, h, m.few, length-append xs ys)) w.few;
-        more = IfOk-weaker r _ _ (λ q h. omega (arith, h, more)) w.more;
-        stopped =
-            IfErr-weaker r _ _
-            (λ e s.
-            record {
-              ahead = xs ++ s.ahead;
-              it = s.it;
-              behind = s.behind;
-              parts = ap (λ (l : List Mention). xs ++ l) s.parts ∙ sym (append_assoc xs s.ahead (s.it ∷ s.behind));
-              clear =
-                  conflicts-append first xs s.ahead
-                  ∙ ap (λ t. t || conflicts (enters first xs) s.ahead) clear
-                  ∙ ap (λ ns. conflicts ns s.ahead) (sym m.names)
-                  ∙ s.clear;
-              other =
-                  ap (λ ns. standing ns s.it) (enters-append first xs s.ahead)
-                  ∙ ap (λ ns. standing (enters ns s.ahead) s.it) (sym m.names)
-                  ∙ s.other;
-              count = s.count;
-              names = s.names ∙ ap (λ ns. enters ns s.ahead) m.names ∙ sym (enters-append first xs s.ahead);
-              few = omega (arith, s.few, m.few, length-append xs s.ahead);
-              more = omega (arith, s.more, more);
-            }) w.stopped;
-        keys_kept = λ i h. w.keys_kept i (omega arith) ∙ m.keys_kept i h;
-        purposes_kept = λ i h. w.purposes_kept i (omega arith) ∙ m.purposes_kept i h;
-      }
-
 -- one name: known with its purpose, known with another, new
-module _ (keys purposes : List ℕ) (before key p : ℕ) (sized : NamesSized keys purposes (before + 1)) where
+module _ (names : Names) (key : ℕ) (p : Purpose) where
   abbrev known : List Mention
-  known = names_from keys purposes 0 before
+  known = names_in names
 
-  pub enters-known : standing known (key_mention key p) ≡ 1 → Enters keys purposes before (key_mention key p ∷ []) keys purposes (Ok before)
+  pub enters-known : standing known (key_mention key p) ≡ 1 → Enters names (key_mention key p ∷ []) names (Ok tt)
   unfolding enters meet conflicts
   enters-known e =
-      record {
-        keys_size = sized.keys_size;
-        purposes_size = sized.others_size;
-        clash = rw e;
-        names = rw e;
-        few = omega arith;
-        more = omega arith;
-        stopped = tt;
-        keys_kept = λ i h. refl;
-        purposes_kept = λ i h. refl;
-      }
+      record { clash = rw e; so = rw e; few = omega arith; more = omega arith; keys_kept = λ i h. refl; purposes_kept = λ i h. refl }
 
-  pub enters-other : standing known (key_mention key p) ≡ 2
-      → Enters keys purposes before (key_mention key p ∷ []) keys purposes (Err NameClash)
-  unfolding enters conflicts
-  enters-other e =
-      record {
-        keys_size = sized.keys_size;
-        purposes_size = sized.others_size;
-        clash = rw e;
-        names = tt;
-        few = tt;
-        more = tt;
-        stopped =
-            record {
-              ahead = [];
-              it = key_mention key p;
-              behind = [];
-              parts = refl;
-              clear = refl;
-              other = e;
-              count = before;
-              names = refl;
-              few = omega arith;
-              more = omega arith;
-            };
-        keys_kept = λ i h. refl;
-        purposes_kept = λ i h. refl;
-      }
-
-  last : names_from (set keys before key) (set purposes before p) 0 (before + 1) ≡ known ++ (key_mention key p ∷ [])
-  unfolding mention_in
-  last =
-      let n = before in
-      let keys' = set keys n key in
-      let purposes' = set purposes n p in
-      let kept =
-      names_kept keys purposes keys' purposes' 0 n (λ j h. get_or-set_other keys n j key 0 (λ e. omega arith))
-      (λ j h. get_or-set_other purposes n j p 0 (λ e. omega arith))
-      in
-      let inside = get_or-set_same keys n key 0 (omega (arith, sized.keys_size, sized.room)) in
-      let inside' = get_or-set_same purposes n p 0 (omega (arith, sized.others_size, sized.room)) in
-      from_last (mention_in keys' purposes') n
-      ∙ ap (λ (l : List Mention). l ++ (key_mention (get_or keys' n 0) (get_or purposes' n 0) ∷ [])) kept
-      ∙ ap₂ {C = List Mention} (λ k q. known ++ (key_mention k q ∷ [])) inside inside'
-
-  pub enters_new : standing known (key_mention key p) ≡ 0
-      → Enters keys purposes before (key_mention key p ∷ []) (set keys before key) (set purposes before p) (Ok (before + 1))
+  pub enters-other : standing known (key_mention key p) ≡ 2 → Enters names (key_mention key p ∷ []) names (Err NameClash)
   unfolding enters meet conflicts
-  enters_new e =
-      record {
-        keys_size = length-set keys before key ∙ sized.keys_size;
-        purposes_size = length-set purposes before p ∙ sized.others_size;
-        clash = rw e;
-        names = rw e last;
-        few = omega arith;
-        more = omega arith;
-        stopped = tt;
-        keys_kept = λ j h. get_or-set_other keys before j key 0 (λ z. omega arith);
-        purposes_kept = λ j h. get_or-set_other purposes before j p 0 (λ z. omega arith);
-      }
+  enters-other e =
+      record { clash = rw e; so = rw e; few = omega arith; more = omega arith; keys_kept = λ i h. refl; purposes_kept = λ i h. refl }
 
--- i of the entries are entered, so many names are known
-pub record Entering (keys₀ purposes₀ keys tags : List ℕ) (met : ℕ) (declared : Bool) (before : ℕ) (keys' purposes' : List ℕ) (n i : ℕ)
-    : Type 0 where
-  pub inside : i ≤ met
-  pub room : n + length (gather (chosen_by declared) (entries_left keys tags met i)) ≤ names_room
-  pub so : Enters keys₀ purposes₀ before (gather (chosen_by declared) (entries_from keys tags 0 i)) keys' purposes' (Ok n)
+  abbrev with_name : Names
+  with_name = record { keys = set names.keys names.count key; purposes = set names.purposes names.count p; count = names.count + 1 }
 
-module _ (keys₀ purposes₀ keys tags : List ℕ) (met : ℕ) (declared : Bool) (before : ℕ) where
-  pub entering_none : NamesSized keys₀ purposes₀ (before + length (gather (chosen_by declared) (entries_from keys tags 0 met)))
-      → Entering keys₀ purposes₀ keys tags met declared before keys₀ purposes₀ before 0
+  module _ (inside : names.count < length names.keys) (inside' : names.count < length names.purposes) where
+    last : names_in with_name ≡ known ++ (key_mention key p ∷ [])
+    unfolding names_in mention_in
+    last =
+        let n = names.count in
+        let kept =
+        names_kept names.keys names.purposes with_name.keys with_name.purposes 0 n
+        (λ j h. get_or-set_other names.keys n j key 0 (λ e. omega arith))
+        (λ j h. get_or-set_other names.purposes n j p Program (λ e. omega arith))
+        in
+        from_last (mention_in with_name.keys with_name.purposes) n
+        ∙ ap (λ (l : List Mention). l ++ (key_mention (get_or with_name.keys n 0) (get_or with_name.purposes n Program) ∷ [])) kept
+        ∙ ap₂ {C = List Mention} (λ k q. known ++ (key_mention k q ∷ []))
+        (get_or-set_same names.keys n key 0 inside) (get_or-set_same names.purposes n p Program inside')
+
+    pub enters_new : standing known (key_mention key p) ≡ 0 → Enters names (key_mention key p ∷ []) with_name (Ok tt)
+    unfolding enters meet conflicts
+    enters_new e =
+        record {
+          clash = rw e;
+          so = rw e last;
+          few = omega arith;
+          more = omega arith;
+          keys_kept = λ j h. get_or-set_other names.keys names.count j key 0 (λ z. omega arith);
+          purposes_kept = λ j h. get_or-set_other names.purposes names.count j p Program (λ z. omega arith);
+        }
+
+-- the names of the entries, one by one
+module _ (names : Names) (m : Mentioned) (met : ℕ) (declared : Bool) where
+  pub entering_none : Enters names (chosen_in declared m 0) names (Ok tt)
   unfolding values_from gather
-  entering_none s =
-      let all : met - 0 ≡ met = omega arith in
-      let sizes = ap (λ m. length (gather (chosen_by declared) (entries_from keys tags 0 m))) all in
-      record {
-        inside = omega arith;
-        room = omega (arith, sizes, s.room);
-        so = enters_none keys₀ purposes₀ before s.keys_size s.others_size;
-      }
+  entering_none = enters_none names
 
-  module _ (keys' purposes' : List ℕ) (n i : ℕ) (m : Entering keys₀ purposes₀ keys tags met declared before keys' purposes' n i) (h : i < met) where
-    here : NameEntry
-    here = entry (get_or keys i 0) (get_or tags i 0)
-
+  module _ (names' : Names) (r : Result (Unit {0}) Refusal) (i : ℕ) (n : Enters names (chosen_in declared m i) names' r) where
     abbrev f : NameEntry → List Mention
     f = chosen_by declared
 
     abbrev xs : List Mention
-    xs = gather f (entries_from keys tags 0 i)
+    xs = chosen_in declared m i
 
-    left : length (gather f (entries_left keys tags met i)) ≡ length (f here) + length (gather f (entries_left keys tags met (i + 1)))
-    unfolding gather here
-    left =
-        ap (λ es. length (gather f es)) (from-turn (entry_in keys tags) met i h)
-        ∙ length-append (f here) (gather f (entries_left keys tags met (i + 1)))
-
-    done : gather f (entries_from keys tags 0 (i + 1)) ≡ xs ++ f here
-    unfolding gather here
+    done : chosen_in declared m (i + 1) ≡ xs ++ f (entry_in m i)
+    unfolding gather
     done =
-        ap (gather f) (from_last (entry_in keys tags) i)
-        ∙ gather_append f (entries_from keys tags 0 i) (here ∷ [])
-        ∙ ap (λ (l : List Mention). xs ++ l) (append-nil (f here))
+        ap (gather f) (from_last (entry_in m) i)
+        ∙ gather_append f (entries_from m 0 i) (entry_in m i ∷ [])
+        ∙ ap (λ (l : List Mention). xs ++ l) (append-nil (f (entry_in m i)))
 
     -- the entry is chosen
-    module _ (e : beq (eqb (get_or tags i 0 / 8 % 2) 1) declared ≡ true) where
-      it : f here ≡ key_mention (get_or keys i 0) (get_or tags i 0 % 8) ∷ []
-      unfolding chosen_by here entry mention_of declares_name
+    module _ (e : beq (tag_declares (tag_in m i)) declared ≡ true) where
+      it : f (entry_in m i) ≡ key_mention (key_in m i) (tag_purpose (tag_in m i)) ∷ []
+      unfolding chosen_by entry mention_of declares_name
       it = rw e
 
-      pub meeting_room : NamesSized keys' purposes' (n + 1)
-      meeting_room =
-          let one = ap length it in
-          record { keys_size = m.so.keys_size; others_size = m.so.purposes_size; room = omega (arith, m.room, left) }
-
-      pub meeting_one : (keys'' purposes'' : List ℕ) {q : ℕ}
-          → Enters keys' purposes' n (key_mention (get_or keys i 0) (get_or tags i 0 % 8) ∷ []) keys'' purposes'' (Ok q)
-          → Entering keys₀ purposes₀ keys tags met declared before keys'' purposes'' q (i + 1)
-      meeting_one keys'' purposes'' {q} w =
-          let one = ap length it in
-          record {
-            inside = omega arith;
-            room = omega (arith, m.room, left, w.few);
-            so =
-                subst (λ l. Enters keys₀ purposes₀ before l keys'' purposes'' (Ok q)) (sym (done ∙ ap (λ (l : List Mention). xs ++ l) it))
-                (enters_then keys₀ purposes₀ keys' purposes' before xs _ keys'' purposes'' (Ok q) m.so w);
-          }
-
-      -- it is refused, and so all
-      pub meeting_refused : (keys'' purposes'' : List ℕ) {e : Refusal}
-          → Enters keys' purposes' n (key_mention (get_or keys i 0) (get_or tags i 0 % 8) ∷ []) keys'' purposes'' (Err e)
-          → Enters keys₀ purposes₀ before (gather f (entries_from keys tags 0 met)) keys'' purposes'' (Err e)
-      meeting_refused keys'' purposes'' {e} w =
-          let upto : Enters keys₀ purposes₀ before (gather f (entries_from keys tags 0 (i + 1))) keys'' purposes'' (Err e) =
-          subst (λ l. Enters keys₀ purposes₀ before l keys'' purposes'' (Err e)) (sym (done ∙ ap (λ (l : List Mention). xs ++ l) it))
-          (enters_then keys₀ purposes₀ keys' purposes' before xs _ keys'' purposes'' (Err e) m.so w)
+      pub meeting_room : i < met → names.count + length (chosen_in declared m met) ≤ names_room → names'.count < names_room
+      meeting_room h room =
+          let left = gather f (entries_left m met (i + 1)) in
+          let all : chosen_in declared m (i + 1) ++ left ≡ chosen_in declared m met =
+          sym (gather_append f (entries_from m 0 (i + 1)) (entries_left m met (i + 1)))
+          ∙ ap (gather f) (from_parts (entry_in m) met (i + 1) (omega arith))
           in
-          let all : gather f (entries_from keys tags 0 (i + 1)) ++ gather f (entries_left keys tags met (i + 1)) ≡ gather f (entries_from keys tags 0 met) =
-          sym (gather_append f (entries_from keys tags 0 (i + 1)) (entries_left keys tags met (i + 1)))
-          ∙ ap (gather f) (from_parts (entry_in keys tags) met (i + 1) (omega arith))
-          in
-          subst (λ l. Enters keys₀ purposes₀ before l keys'' purposes'' (Err e)) all
-          (enters_refused keys₀ purposes₀ keys'' purposes'' before _ _ upto)
+          let one = ap length it in
+          let these = ap length done ∙ length-append xs (f (entry_in m i)) in
+          let those = sym (ap length all) ∙ length-append (chosen_in declared m (i + 1)) left in
+          omega (arith, n.few)
 
-    pub meeting_other : beq (eqb (get_or tags i 0 / 8 % 2) 1) declared ≡ false → Entering keys₀ purposes₀ keys tags met declared before keys' purposes' n (i + 1)
-    unfolding chosen_by here entry declares_name
+      pub meeting_one : (names'' : Names) (q : Result (Unit {0}) Refusal)
+          → Enters names' (key_mention (key_in m i) (tag_purpose (tag_in m i)) ∷ []) names'' q
+          → Enters names (chosen_in declared m (i + 1)) names'' (result_and r q)
+      meeting_one names'' q w =
+          subst (λ l. Enters names l names'' (result_and r q)) (sym (done ∙ ap (λ (l : List Mention). xs ++ l) it))
+          (enters_then names names' names'' xs _ r q n w)
+
+    pub meeting_other : beq (tag_declares (tag_in m i)) declared ≡ false → Enters names (chosen_in declared m (i + 1)) names' r
+    unfolding chosen_by entry declares_name
     meeting_other e =
-        let it : f here ≡ [] = rw e in
-        let none = ap length it in
-        record {
-          inside = omega arith;
-          room = omega (arith, m.room, left);
-          so =
-              subst (λ l. Enters keys₀ purposes₀ before l keys' purposes' (Ok n))
-              (sym (done ∙ ap (λ (l : List Mention). xs ++ l) it ∙ append-nil xs)) m.so;
-        }
-
-  pub entering_all : (keys' purposes' : List ℕ) (n i : ℕ) → Entering keys₀ purposes₀ keys tags met declared before keys' purposes' n i
-      → met ≤ i → Enters keys₀ purposes₀ before (gather (chosen_by declared) (entries_from keys tags 0 met)) keys' purposes' (Ok n)
-  entering_all keys' purposes' n i m h =
-      let all : i ≡ met = omega (arith, m.inside) in
-      subst (λ k. Enters keys₀ purposes₀ before (gather (chosen_by declared) (entries_from keys tags 0 k)) keys' purposes' (Ok n)) all m.so
-
-  -- the same by other names of the arrays
-  pub entering_same : {keys' keys'' purposes' purposes'' : List ℕ} {n q i : ℕ} → keys' ≡ keys'' → purposes' ≡ purposes'' → n ≡ q
-      → Entering keys₀ purposes₀ keys tags met declared before keys'' purposes'' q i
-      → Entering keys₀ purposes₀ keys tags met declared before keys' purposes' n i
-  entering_same {keys'} {keys''} {purposes'} {purposes''} {n} {q} {i} d e f m =
-      subst (λ k. Entering keys₀ purposes₀ keys tags met declared before k purposes' n i) (sym d)
-      (subst (λ k. Entering keys₀ purposes₀ keys tags met declared before keys'' k n i) (sym e)
-      (subst (λ k. Entering keys₀ purposes₀ keys tags met declared before keys'' purposes'' k i) (sym f) m))
+        let it : f (entry_in m i) ≡ [] = rw e in
+        subst (λ l. Enters names l names' r) (sym (done ∙ ap (λ (l : List Mention). xs ++ l) it ∙ append-nil xs)) n

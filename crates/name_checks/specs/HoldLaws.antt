@@ -1,22 +1,26 @@
--- What arrays hold is what they show; arrays of zeros hold nothing; entries noted stand in the arrays. Assumes nothing.
-use Rattle.std.specs.Prelude.{List, [], ◌∷◌, ◌++◌, map, ◌≡◌, refl, ℕ, zero, suc, ◌*◌, ◌≤◌, length, drop, get_or, replicate}
-use Rattle.std.proofs.Common.{sym, ap, ◌∙◌, arith, length-drop, length-take-le}
+-- What the symbol table holds is what it shows; before the first statement that is nothing; entries noted stand among the names mentioned.
+-- Assumes nothing.
+use Rattle.std.specs.Prelude.{List, [], ◌∷◌, ◌++◌, map, ◌≡◌, refl, ℕ, zero, suc, ◌≤◌, length}
+use Rattle.std.proofs.Common.{sym, ap, ap₂, ◌∙◌, arith}
 use Rattle.base.specs.Lists.{any, keep}
 use Rattle.encoding.specs.Splices.{splice}
 use Rattle.validation.specs.Environment as Environment
 use Rattle.validation.specs.Environment.{Environment, empty_environment, names_for}
 use Rattle.validation.specs.Refusals.{has_other_purpose}
-use Rattle.symbols.specs.Clauses.{names_room}
+use Rattle.symbols.specs.declared.Mentioned.{Mentioned}
+use Rattle.symbols.specs.declared.known.Known.{Known}
+use Rattle.symbols.specs.declared.known.Symbols.{Symbols}
+use Rattle.symbols.specs.declared.tags.Tag.{Tag}
 use Rattle.symbols.specs.Entries.{NameEntry, entry, name_of, name_from}
 use Rattle.symbols.specs.From.{values_from}
-use Rattle.symbols.specs.Holding.{Arrays, ArraysHold, names_in, uses_in, uses_from}
-use Rattle.symbols.specs.Environment.{string_keys, number_keys, labels_in, routines_in, routines_down, environment_size}
-use Rattle.name_checks.specs.Arrays.{environment_in, entries_from, arrays}
+use Rattle.symbols.specs.Holding.{SymbolsHold, names_in, uses_in, uses_from}
+use Rattle.symbols.specs.Environment.{nothing_known, labels_in, routines_in, latest_first}
+use Rattle.name_checks.specs.Arrays.{environment_in, entry_in, entries_from}
 
 -- what is held is what is shown
-pub held-shown : (a : Arrays) (taken : ℕ) (k : Environment) → ArraysHold a taken k → environment_in a ≡ k
+pub held-shown : (s : Symbols) (taken : ℕ) (k : Environment) → SymbolsHold s taken k → environment_in s ≡ k
 unfolding environment_in
-held-shown a taken k h =
+held-shown s taken k h =
     λ t.
     record {
       statements = h.statements t;
@@ -34,16 +38,10 @@ held-shown a taken k h =
     }
 
 -- so what is shown is held, and with more bytes taken
-pub shown-held : (a : Arrays) (taken more : ℕ) (k : Environment) → taken ≤ more → ArraysHold a taken k → ArraysHold a more (environment_in a)
-shown-held a taken more k le h =
-    let is = sym (held-shown a taken k h) in
+pub shown-held : (s : Symbols) (taken more : ℕ) (k : Environment) → taken ≤ more → SymbolsHold s taken k → SymbolsHold s more (environment_in s)
+shown-held s taken more k le h =
+    let is = sym (held-shown s taken k h) in
     record {
-      counted = h.counted;
-      name_keys_size = h.name_keys_size;
-      name_purposes_size = h.name_purposes_size;
-      use_keys_size = h.use_keys_size;
-      use_scopes_size = h.use_scopes_size;
-      use_purposes_size = h.use_purposes_size;
       few_names = omega (arith, h.few_names);
       few_uses = omega (arith, h.few_uses);
       few_statements = h.few_statements;
@@ -72,68 +70,61 @@ shown-held a taken more k le h =
       single = ap (λ (k : Environment). any (has_other_purpose k.names) k.names) (sym is) ∙ h.single;
     }
 
--- zeros hold nothing
-pub nothing_held : (symbols purposes : List ℕ) → length symbols ≡ 3 * names_room → length purposes ≡ 2 * names_room
-    → ArraysHold (arrays (replicate environment_size 0) symbols purposes) 0 empty_environment
-unfolding empty_environment names_in uses_in values_from uses_from string_keys number_keys labels_in routines_in routines_down name_of name_from Environment.strings_of Environment.numbers_of names_for keep any
-nothing_held symbols purposes e f =
-    let behind = length-drop names_room symbols in
-    let scopes = length-drop names_room (drop names_room symbols) in
-    let used = length-drop names_room purposes in
+-- before the first statement nothing is held
+pub nothing_held : (s : Symbols) → s.known ≡ nothing_known → s.names.count ≡ 0 → s.uses.count ≡ 0 → SymbolsHold s 0 empty_environment
+unfolding empty_environment names_in uses_in values_from uses_from labels_in routines_in latest_first name_of name_from Environment.strings_of
+    Environment.numbers_of names_for keep any
+nothing_held s known names uses =
+    let count = λ (f : Known → ℕ). ap f known in
     record {
-      counted = record { size = refl; strings = omega arith; numbers = omega arith; labels = omega arith; routines = omega arith };
-      name_keys_size = length-take-le names_room symbols (omega arith);
-      name_purposes_size = length-take-le names_room purposes (omega arith);
-      use_keys_size = length-take-le names_room (drop names_room symbols) (omega arith);
-      use_scopes_size = omega arith;
-      use_purposes_size = omega arith;
-      few_names = omega arith;
-      few_uses = omega arith;
-      few_statements = omega arith;
-      few_steps = omega arith;
-      few_strings = omega arith;
-      few_numbers = omega arith;
-      few_labels = omega arith;
-      few_routines = omega arith;
-      few_elements = omega arith;
-      few_items = omega arith;
-      few_literals = omega arith;
-      statements = refl;
-      steps = refl;
-      ended = refl;
-      scope = refl;
-      strings = refl;
-      numbers = refl;
-      names = refl;
-      labels = refl;
-      routines = refl;
-      branches = refl;
-      executes = refl;
-      elements = refl;
-      items = refl;
-      literals = refl;
+      few_names = omega (arith, names);
+      few_uses = omega (arith, uses);
+      few_statements = omega (arith, count (λ k. k.statements));
+      few_steps = omega (arith, count (λ k. k.steps));
+      few_strings = omega (arith, count (λ k. length k.strings.items));
+      few_numbers = omega (arith, count (λ k. length k.numbers.items));
+      few_labels = omega (arith, count (λ k. length k.labels.items));
+      few_routines = omega (arith, count (λ k. length k.routines.items));
+      few_elements = omega (arith, count (λ k. k.elements));
+      few_items = omega (arith, count (λ k. k.items));
+      few_literals = omega (arith, count (λ k. k.literals));
+      statements = count (λ k. k.statements);
+      steps = count (λ k. k.steps);
+      ended = ap (λ (k : Known). k.ended) known;
+      scope = ap (λ (k : Known). name_of k.scope) known;
+      strings = ap (λ (k : Known). map name_of k.strings.items) known;
+      numbers = ap (λ (k : Known). map name_of k.numbers.items) known;
+      names = rw names;
+      labels = ap labels_in known;
+      routines = ap routines_in known;
+      branches = rw uses;
+      executes = rw uses;
+      elements = count (λ k. k.elements);
+      items = count (λ k. k.items);
+      literals = count (λ k. k.literals);
       single = refl;
     }
 
--- behind a first number of each, places are one less
-entries-behind : (x y : ℕ) (keys tags : List ℕ) (i n : ℕ) → entries_from (x ∷ keys) (y ∷ tags) (suc i) n ≡ entries_from keys tags i n
+-- behind a first name, places are one less
+entries-behind : (x : ℕ) (y : Tag) (keys : List ℕ) (tags : List Tag) (i n : ℕ)
+    → entries_from (record { keys = x ∷ keys; tags = y ∷ tags }) (suc i) n ≡ entries_from (record { keys = keys; tags = tags }) i n
 unfolding values_from
 entries-behind x y keys tags i zero = refl
 entries-behind x y keys tags i (suc n) =
-    ap (λ (es : List NameEntry). entry (get_or keys i 0) (get_or tags i 0) ∷ es) (entries-behind x y keys tags (suc i) n)
+    ap (λ (es : List NameEntry). entry_in (record { keys = keys; tags = tags }) i ∷ es) (entries-behind x y keys tags (suc i) n)
 
--- entries that stand at the beginning of the arrays are those there
-entries-first : (es : List NameEntry) (behind behind' : List ℕ)
-    → entries_from (map (λ x. x.key) es ++ behind) (map (λ x. x.tag) es ++ behind') 0 (length es) ≡ es
+-- entries that stand first are those there
+entries-first : (es : List NameEntry) (keys : List ℕ) (tags : List Tag)
+    → entries_from (record { keys = map (λ x. x.key) es ++ keys; tags = map (λ x. x.tag) es ++ tags }) 0 (length es) ≡ es
 unfolding values_from entry
-entries-first [] behind behind' = refl
-entries-first (e ∷ es) behind behind' =
+entries-first [] keys tags = refl
+entries-first (e ∷ es) keys tags =
     ap (λ (fs : List NameEntry). e ∷ fs)
-    (entries-behind e.key e.tag (map (λ x. x.key) es ++ behind) (map (λ x. x.tag) es ++ behind') 0 (length es)
-    ∙ entries-first es behind behind')
+    (entries-behind e.key e.tag (map (λ x. x.key) es ++ keys) (map (λ x. x.tag) es ++ tags) 0 (length es) ∙ entries-first es keys tags)
 
 -- entries noted from the beginning on are those there
-pub entries-noted : (keys tags keys' tags' : List ℕ) (es : List NameEntry) → keys' ≡ splice keys 0 (map (λ x. x.key) es)
-    → tags' ≡ splice tags 0 (map (λ x. x.tag) es) → entries_from keys' tags' 0 (length es) ≡ es
+pub entries-noted : (m m' : Mentioned) (es : List NameEntry) → m'.keys ≡ splice m.keys 0 (map (λ x. x.key) es)
+    → m'.tags ≡ splice m.tags 0 (map (λ x. x.tag) es) → entries_from m' 0 (length es) ≡ es
 unfolding splice
-entries-noted keys tags keys' tags' es p q = rw (p, q) (entries-first es _ _)
+entries-noted m m' es p q =
+    ap₂ (λ (ks : List ℕ) (ts : List Tag). entries_from (record { keys = ks; tags = ts }) 0 (length es)) p q ∙ entries-first es _ _

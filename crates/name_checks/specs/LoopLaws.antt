@@ -1,6 +1,6 @@
 -- What each loop over names, keys and entries finds at a place. Assumes nothing.
 use Rattle.std.specs.Prelude.{Bool, true, ◌||◌, ◌≡◌, refl, ℕ, zero, suc, ◌+◌, ◌-◌, ◌≤◌, ◌<◌, eqb, ltb, ◌==◌, get_or, take, length, Some, None}
-use Rattle.std.specs.List.{position, position_or_len}
+use Rattle.std.specs.List.{position, position_or_len, list_any, range_with_len}
 use Rattle.std.proofs.Math.Bool.{false, cond}
 use mathlib.Core.List.{List, [], ◌∷◌, ◌++◌, append_assoc}
 use Rattle.std.proofs.Common.{sym, ◌∙◌, arith, eq-eqb, ne_eqb, eqb-true, ltb-false}
@@ -13,8 +13,11 @@ use Rattle.base.specs.Choice.{test_cases}
 use Rattle.base.specs.Lists.{any}
 use Rattle.validation.specs.Environment.{same_mention}
 use Rattle.validation.specs.Names.{any_append}
-use Rattle.syntax.specs.Parsing.{purpose_number, same_purpose, Mention}
-use Rattle.symbols.specs.Entries.{NameEntry, entry, purpose_of, mention_of, declares_name, gather, declared_by}
+use Rattle.syntax.specs.Parsing.{same_purpose, Mention}
+use Rattle.symbols.specs.declared.Mentioned.{Mentioned}
+use Rattle.symbols.specs.declared.tags.Purpose.{Purpose}
+use Rattle.symbols.specs.declared.tags.Purpose.TheVariants.{Program}
+use Rattle.symbols.specs.Entries.{NameEntry, purpose_meaning, mention_of, declares_name, gather, declared_by}
 use Rattle.symbols.specs.From.{values_from, from-turn, from_none, from_more}
 use Rattle.symbols.specs.Holding.{mention_in, names_from}
 use Rattle.symbols.specs.EnvironmentLaws.{name-same}
@@ -23,31 +26,31 @@ use Rattle.name_checks.specs.Declaring.{again, again_at}
 use Rattle.name_checks.specs.Names.{key_mention, standing}
 
 -- a name among those from a place on
-abbrev pub stands_from : (keys purposes : List ℕ) (n key p : ℕ) → ℕ → ℕ
+abbrev pub stands_from : (keys : List ℕ) (purposes : List Purpose) (n key : ℕ) (p : Purpose) → ℕ → ℕ
 stands_from keys purposes n key p i = standing (names_from keys purposes i (n - i)) (key_mention key p)
 
-module _ (keys purposes : List ℕ) (n key p i : ℕ) where
+module _ (keys : List ℕ) (purposes : List Purpose) (n key : ℕ) (p : Purpose) (i : ℕ) where
   module _ (h : i < n) where
     standing-turn : stands_from keys purposes n key p i
         ≡ cond (eqb key (get_or keys i 0))
-        (cond (eqb (purpose_number (purpose_of p)) (purpose_number (purpose_of (get_or purposes i 0)))) 1 2)
+        (cond (same_purpose (purpose_meaning p) (purpose_meaning (get_or purposes i Program))) 1 2)
         (stands_from keys purposes n key p (i + 1))
-    unfolding standing mention_in same_purpose
+    unfolding standing mention_in
     standing-turn =
         ap (λ l. standing l (key_mention key p)) (from-turn (mention_in keys purposes) n i h)
         ∙ ap
         (λ b.
-        cond b (cond (eqb (purpose_number (purpose_of p)) (purpose_number (purpose_of (get_or purposes i 0)))) 1 2)
+        cond b (cond (same_purpose (purpose_meaning p) (purpose_meaning (get_or purposes i Program))) 1 2)
         (stands_from keys purposes n key p (i + 1)))
         (name-same key (get_or keys i 0))
 
-    pub standing-same : get_or keys i 0 ≡ key → purpose_number (purpose_of p) ≡ purpose_number (purpose_of (get_or purposes i 0))
+    pub standing-same : get_or keys i 0 ≡ key → same_purpose (purpose_meaning p) (purpose_meaning (get_or purposes i Program)) ≡ true
         → stands_from keys purposes n key p i ≡ 1
-    standing-same e f = standing-turn ∙ rw (eq-eqb key (get_or keys i 0) (sym e), eq-eqb (purpose_number (purpose_of p)) (purpose_number (purpose_of (get_or purposes i 0))) f)
+    standing-same e f = standing-turn ∙ rw (eq-eqb key (get_or keys i 0) (sym e), f)
 
-    pub standing-other : get_or keys i 0 ≡ key → (purpose_number (purpose_of p) ≡ purpose_number (purpose_of (get_or purposes i 0)) → ⊥)
+    pub standing-other : get_or keys i 0 ≡ key → same_purpose (purpose_meaning p) (purpose_meaning (get_or purposes i Program)) ≡ false
         → stands_from keys purposes n key p i ≡ 2
-    standing-other e f = standing-turn ∙ rw (eq-eqb key (get_or keys i 0) (sym e), ne_eqb (purpose_number (purpose_of p)) (purpose_number (purpose_of (get_or purposes i 0))) f)
+    standing-other e f = standing-turn ∙ rw (eq-eqb key (get_or keys i 0) (sym e), f)
 
     pub standing-next : (get_or keys i 0 ≡ key → ⊥) → stands_from keys purposes n key p i ≡ stands_from keys purposes n key p (i + 1)
     standing-next f = standing-turn ∙ rw (ne_eqb key (get_or keys i 0) (λ e. f (sym e)))
@@ -56,13 +59,14 @@ module _ (keys purposes : List ℕ) (n key p i : ℕ) where
   unfolding standing
   standing_end h = ap (λ l. standing l (key_mention key p)) (from_none (mention_in keys purposes) n i h)
 
-pub standing-whole : (keys purposes : List ℕ) (n key p : ℕ) → stands_from keys purposes n key p 0 ≡ standing (names_from keys purposes 0 n) (key_mention key p)
+pub standing-whole : (keys : List ℕ) (purposes : List Purpose) (n key : ℕ) (p : Purpose)
+    → stands_from keys purposes n key p 0 ≡ standing (names_from keys purposes 0 n) (key_mention key p)
 standing-whole keys purposes n key p =
     let all : n - 0 ≡ n = omega arith in
     ap (λ m. standing (names_from keys purposes 0 m) (key_mention key p)) all
 
 -- how a name stands by the first place that has its key
-module _ (keys purposes : List ℕ) (n key p : ℕ) (inside : n ≤ length keys) where
+module _ (keys : List ℕ) (purposes : List Purpose) (n key : ℕ) (p : Purpose) (inside : n ≤ length keys) where
   abbrev stands : ℕ
   stands = standing (names_from keys purposes 0 n) (key_mention key p)
 
@@ -71,7 +75,9 @@ module _ (keys purposes : List ℕ) (n key p : ℕ) (inside : n ≤ length keys)
   passed zero h f = standing-whole keys purposes n key p
   passed (suc i) h f =
       let next : suc i ≡ i + 1 = omega arith in
-      let other : get_or keys i 0 ≡ key → ⊥ = λ e. eqb-false (get_or (take n keys) i 0) key (f i (omega arith)) (get_or-take n keys i 0 (omega arith) ∙ e) in
+      let other : get_or keys i 0 ≡ key → ⊥ =
+      λ e. eqb-false (get_or (take n keys) i 0) key (f i (omega arith)) (get_or-take n keys i 0 (omega arith) ∙ e)
+      in
       ap (stands_from keys purposes n key p) next
       ∙ sym (standing-next keys purposes n key p i (omega arith) other)
       ∙ passed i (omega arith) (λ j l. f j (omega arith))
@@ -104,51 +110,64 @@ module _ (keys purposes : List ℕ) (n key p : ℕ) (inside : n ≤ length keys)
     before : stands_from keys purposes n key p i ≡ stands
     before = passed i (omega (arith, stands_inside)) found.2
 
-    pub stands_same : purpose_number (purpose_of p) ≡ purpose_number (purpose_of (get_or purposes i 0)) → stands ≡ 1
+    pub stands_same : same_purpose (purpose_meaning p) (purpose_meaning (get_or purposes i Program)) ≡ true → stands ≡ 1
     stands_same f = sym before ∙ standing-same keys purposes n key p i stands_inside here f
 
-    pub stands_other : (purpose_number (purpose_of p) ≡ purpose_number (purpose_of (get_or purposes i 0)) → ⊥) → stands ≡ 2
+    pub stands_other : same_purpose (purpose_meaning p) (purpose_meaning (get_or purposes i Program)) ≡ false → stands ≡ 2
     stands_other f = sym before ∙ standing-other keys purposes n key p i stands_inside here f
 
 -- a test of each entry left, one by one
-module _ {A : Type 0} (f : A → Bool) (g : NameEntry → List A) (keys tags : List ℕ) (met : ℕ) where
+module _ {A : Type 0} (f : A → Bool) (g : NameEntry → List A) (m : Mentioned) (met : ℕ) where
   abbrev pub any_from : ℕ → Bool
-  any_from i = any f (gather g (entries_left keys tags met i))
+  any_from i = any f (gather g (entries_left m met i))
 
-  pub any-turn : (i : ℕ) → i < met → any_from i ≡ (any f (g (entry (get_or keys i 0) (get_or tags i 0))) || any_from (i + 1))
+  pub any_turn : (i : ℕ) → i < met → any_from i ≡ (any f (g (entry_in m i)) || any_from (i + 1))
   unfolding gather
-  any-turn i h =
-      ap (λ es. any f (gather g es)) (from-turn (entry_in keys tags) met i h)
-      ∙ any_append f (g (entry (get_or keys i 0) (get_or tags i 0))) (gather g (entries_left keys tags met (i + 1)))
+  any_turn i h =
+      ap (λ es. any f (gather g es)) (from-turn (entry_in m) met i h)
+      ∙ any_append f (g (entry_in m i)) (gather g (entries_left m met (i + 1)))
 
   pub any_end : (i : ℕ) → met ≤ i → any_from i ≡ false
   unfolding gather any
-  any_end i h = ap (λ es. any f (gather g es)) (from_none (entry_in keys tags) met i h)
+  any_end i h = ap (λ es. any f (gather g es)) (from_none (entry_in m) met i h)
 
-  pub any-whole : any_from 0 ≡ any f (gather g (entries_from keys tags 0 met))
-  any-whole = let all : met - 0 ≡ met = omega arith in ap (λ m. any f (gather g (entries_from keys tags 0 m))) all
+  any_over : (i n : ℕ) → i + n ≡ met → list_any (λ j. any f (g (entry_in m j))) (range_with_len i n) ≡ any_from i
+  any_over i zero h = sym (any_end i (omega arith))
+  any_over i (suc n) h =
+      ap (λ b. any f (g (entry_in m i)) || b) (any_over (i + 1) n (omega arith)) ∙ sym (any_turn i (omega arith))
+
+  pub any_all : list_any (λ j. any f (g (entry_in m j))) (range_with_len 0 met) ≡ any f (gather g (entries_from m 0 met))
+  any_all = let all : met - 0 ≡ met = omega arith in any_over 0 met (omega arith) ∙ ap (λ n. any f (gather g (entries_from m 0 n))) all
+
+pub ruleset any_steps = (any_turn, any_end)
 
 -- names declared again, one by one
-module _ (f : Mention → Bool) (keys tags : List ℕ) (met : ℕ) where
-  abbrev pub again_from : ℕ → Bool
-  again_from i = again f (gather declared_by (entries_left keys tags met i))
+module _ (f : Mention → Bool) (m : Mentioned) (met : ℕ) where
+  abbrev again_from : ℕ → Bool
+  again_from i = again f (gather declared_by (entries_left m met i))
 
-  pub again-turn : (i : ℕ) → i < met → again_from i ≡ (again_at f keys tags met i || again_from (i + 1))
+  again_turn : (i : ℕ) → i < met → again_from i ≡ (again_at f m met i || again_from (i + 1))
   unfolding gather declared_by again again_at
-  again-turn i h =
-      let x = entry (get_or keys i 0) (get_or tags i 0) in
-      let behind = gather declared_by (entries_left keys tags met (i + 1)) in
-      ap (λ es. again f (gather declared_by es)) (from-turn (entry_in keys tags) met i h)
+  again_turn i h =
+      let x = entry_in m i in
+      let behind = gather declared_by (entries_left m met (i + 1)) in
+      ap (λ es. again f (gather declared_by es)) (from-turn (entry_in m) met i h)
       ∙ test_cases
       (λ t. again f (cond t (mention_of x ∷ []) [] ++ behind)
       ≡ (cond t (f (mention_of x) || any (same_mention (mention_of x)) behind) false || again f behind)) (declares_name x) (λ _. refl) (λ _. refl)
 
-  pub again_end : (i : ℕ) → met ≤ i → again_from i ≡ false
+  again_end : (i : ℕ) → met ≤ i → again_from i ≡ false
   unfolding gather again
-  again_end i h = ap (λ es. again f (gather declared_by es)) (from_none (entry_in keys tags) met i h)
+  again_end i h = ap (λ es. again f (gather declared_by es)) (from_none (entry_in m) met i h)
 
-  pub again-whole : again_from 0 ≡ again f (gather declared_by (entries_from keys tags 0 met))
-  again-whole = let all : met - 0 ≡ met = omega arith in ap (λ m. again f (gather declared_by (entries_from keys tags 0 m))) all
+  again_over : (i n : ℕ) → i + n ≡ met → list_any (again_at f m met) (range_with_len i n) ≡ again_from i
+  again_over i zero h = sym (again_end i (omega arith))
+  again_over i (suc n) h = ap (λ b. again_at f m met i || b) (again_over (i + 1) n (omega arith)) ∙ sym (again_turn i (omega arith))
+
+  pub again_all : list_any (again_at f m met) (range_with_len 0 met) ≡ again f (gather declared_by (entries_from m 0 met))
+  again_all =
+      let all : met - 0 ≡ met = omega arith in
+      again_over 0 met (omega arith) ∙ ap (λ n. again f (gather declared_by (entries_from m 0 n))) all
 
 -- the values up to a place and those from it on
 pub from_parts : {A : Type 0} (f : ℕ → A) (n i : ℕ) → i ≤ n → values_from f 0 i ++ values_from f i (n - i) ≡ values_from f 0 n

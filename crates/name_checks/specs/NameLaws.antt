@@ -110,7 +110,8 @@ conflict-is ns (x ∷ xs) =
     any_append (other x) ns (x ∷ xs) ∙ ap (λ b. has_other_purpose ns x || (b || has_other_purpose xs x)) (other_self x)
     in
     ap (λ b. has_other_purpose ns x || b) rest
-    ∙ ap (λ b. has_other_purpose ns x || b) (parts ∙ sym (absorbs (has_other_purpose xs x) (any (has_other_purpose ns) xs) (any (has_other_purpose xs) xs))
+    ∙ ap (λ b. has_other_purpose ns x || b)
+    (parts ∙ sym (absorbs (has_other_purpose xs x) (any (has_other_purpose ns) xs) (any (has_other_purpose xs) xs))
     ∙ ap (λ b. has_other_purpose xs x || b) (sym parts))
     ∙ sym (or_assoc (has_other_purpose ns x) (has_other_purpose xs x) behind)
     ∙ ap (λ b. b || behind) (sym here)
@@ -208,7 +209,9 @@ unfolding conflicts conflict
 one_by_one ns [] h = refl
 one_by_one ns (x ∷ xs) h =
     let s = stands ns x h in
-    test_cases (λ t. has_other_purpose ns x ≡ t → (eqb (standing ns x) 2 || conflicts (meet ns x) xs) ≡ (t || conflict (added ns x) xs)) (has_other_purpose ns x)
+    test_cases
+    (λ t. has_other_purpose ns x ≡ t → (eqb (standing ns x) 2 || conflicts (meet ns x) xs) ≡ (t || conflict (added ns x) xs))
+    (has_other_purpose ns x)
     (λ _ e. ap (λ b. b || conflicts (meet ns x) xs) (sym s.others ∙ e))
     (λ _ e.
     ap (λ b. b || conflicts (meet ns x) xs) (sym s.others ∙ e)

@@ -1,20 +1,22 @@
 -- How names are put behind those known one by one, and what tells that one has two purposes. Assumes nothing.
-use Rattle.std.specs.Prelude.{Bool, false, cond, ◌||◌, List, [], ◌∷◌, ◌++◌, ◌≡◌, ℕ, ◌+◌, ◌≤◌, ◌<◌, eqb, length, get_or, Result, IfOk}
-use Rattle.std.specs.Result.{IfErr}
+use Rattle.std.specs.Prelude.{Bool, false, cond, ◌||◌, List, [], ◌∷◌, ◌++◌, ◌≡◌, ℕ, ◌+◌, ◌≤◌, ◌<◌, eqb, length, get_or, Result}
 use Rattle.std.specs.Bool.{beq}
 use Rattle.base.specs.Lists.{same, any}
-use Rattle.validation.specs.Refusals.{has_other_purpose}
-use Rattle.syntax.specs.Parsing.{same_purpose, Mention}
-use Rattle.symbols.specs.Clauses.{names_room}
-use Rattle.symbols.specs.Entries.{NameEntry, name_of, purpose_of, mention_of, declares_name, gather}
-use Rattle.symbols.specs.Holding.{names_from}
-use Rattle.name_checks.specs.Arrays.{entries_from}
 use Rattle.validation.specs.RefusalNumbers.{judged_number}
+use Rattle.validation.specs.Refusals.{has_other_purpose}
 use Rattle.validation.specs.declared.Refusal.{Refusal}
+use Rattle.syntax.specs.Parsing.{same_purpose, Mention}
+use Rattle.symbols.specs.declared.Mentioned.{Mentioned}
+use Rattle.symbols.specs.declared.known.Names.{Names}
+use Rattle.symbols.specs.declared.tags.Purpose.{Purpose}
+use Rattle.symbols.specs.declared.tags.Purpose.TheVariants.{Program}
+use Rattle.symbols.specs.Entries.{NameEntry, name_of, purpose_meaning, mention_of, declares_name, gather}
+use Rattle.symbols.specs.Holding.{names_in}
+use Rattle.name_checks.specs.Arrays.{entries_from}
 
--- a name by key and purpose's number
-abbrev pub key_mention : (key purpose : ℕ) → Mention
-key_mention key p = record { purpose = purpose_of p; name = name_of key }
+-- a name by key and purpose
+abbrev pub key_mention : (key : ℕ) (purpose : Purpose) → Mention
+key_mention key p = record { purpose = purpose_meaning p; name = name_of key }
 
 -- each name has one purpose
 abbrev pub Single : List Mention → Type 0
@@ -43,37 +45,14 @@ unfoldable pub chosen_by : (declared : Bool) → NameEntry → List Mention
 chosen_by declared x = cond (beq (declares_name x) declared) (mention_of x ∷ []) []
 
 -- the same of the names met
-abbrev pub chosen_in : (declared : Bool) → (keys tags : List ℕ) → (met : ℕ) → List Mention
-chosen_in declared keys tags met = gather (chosen_by declared) (entries_from keys tags 0 met)
+abbrev pub chosen_in : (declared : Bool) → Mentioned → (met : ℕ) → List Mention
+chosen_in declared m met = gather (chosen_by declared) (entries_from m 0 met)
 
--- two arrays of names have their sizes, and room for n
-pub record NamesSized (keys others : List ℕ) (n : ℕ) : Type 0 where
-  pub keys_size : length keys ≡ names_room
-  pub others_size : length others ≡ names_room
-  pub room : n ≤ names_room
-
--- of the names xs one stands with another purpose, the first that does so; those ahead of it were put behind the first so many
-pub record Stopped (keys purposes : List ℕ) (before : ℕ) (xs : List Mention) (keys' purposes' : List ℕ) : Type 0 where
-  pub ahead : List Mention
-  pub it : Mention
-  pub behind : List Mention
-  pub parts : xs ≡ ahead ++ (it ∷ behind)
-  pub clear : conflicts (names_from keys purposes 0 before) ahead ≡ false
-  pub other : standing (enters (names_from keys purposes 0 before) ahead) it ≡ 2
-  pub count : ℕ
-  pub names : names_from keys' purposes' 0 count ≡ enters (names_from keys purposes 0 before) ahead
-  pub few : count ≤ before + length ahead
-  pub more : before ≤ count
-
--- the names xs were put behind the first so many, and there are so many then; or one of them stands with another purpose, told as 6, and
--- those ahead of it were put. The first so many stay.
-pub record Enters (keys purposes : List ℕ) (before : ℕ) (xs : List Mention) (keys' purposes' : List ℕ) (r : Result ℕ Refusal) : Type 0 where
-  pub keys_size : length keys' ≡ names_room
-  pub purposes_size : length purposes' ≡ names_room
-  pub clash : judged_number r ≡ cond (conflicts (names_from keys purposes 0 before) xs) 6 0
-  pub names : IfOk r (λ n. names_from keys' purposes' 0 n ≡ enters (names_from keys purposes 0 before) xs)
-  pub few : IfOk r (λ n. n ≤ before + length xs)
-  pub more : IfOk r (λ n. before ≤ n)
-  pub stopped : IfErr r (λ e. Stopped keys purposes before xs keys' purposes')
-  pub keys_kept : (i : ℕ) → i < before → get_or keys' i 0 ≡ get_or keys i 0
-  pub purposes_kept : (i : ℕ) → i < before → get_or purposes' i 0 ≡ get_or purposes i 0
+-- The names xs were put behind those known, which stay. Where one of them stands with another purpose it is told as 6, and the others are put.
+pub record Enters (names : Names) (xs : List Mention) (names' : Names) (r : Result (Unit {0}) Refusal) : Type 0 where
+  pub clash : judged_number r ≡ cond (conflicts (names_in names) xs) 6 0
+  pub so : names_in names' ≡ enters (names_in names) xs
+  pub few : names'.count ≤ names.count + length xs
+  pub more : names.count ≤ names'.count
+  pub keys_kept : (i : ℕ) → i < names.count → get_or names'.keys i 0 ≡ get_or names.keys i 0
+  pub purposes_kept : (i : ℕ) → i < names.count → get_or names'.purposes i Program ≡ get_or names.purposes i Program

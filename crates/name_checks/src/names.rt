@@ -1,41 +1,30 @@
 // The names known, each once with its purpose, and how a statement's names are put behind them.
 // Assumes nothing.
-ghost use Rattle.std.specs.Prelude.{◌≡◌, [], ◌∷◌, ◌+◌, length};
-ghost use Rattle.syntax.specs.Parsing.{purpose_number};
-ghost use Rattle.symbols.specs.Entries.{purpose_of};
-ghost use Rattle.name_checks.specs.Names.{key_mention, chosen_in, NamesSized, Enters};
+ghost use Rattle.std.specs.Prelude.{◌≡◌, [], ◌∷◌, ◌+◌, ◌≤◌, ◌<◌, length};
+ghost use Rattle.symbols.specs.Clauses.{names_room};
+ghost use Rattle.name_checks.specs.Names.{key_mention, chosen_in, Enters};
 
-use symbols::tags::STRING;
-use symbols::{NAMES, place};
+use symbols::known::Names;
+use symbols::tags::Purpose;
+use symbols::{Mentioned, place};
 use validation::Refusal;
 
-// the number of a purpose: all from that of strings on are strings
-pub fn purpose(p: u8) -> u8
-    ensures { result ≡ purpose_number (purpose_of p) }
+// puts a name behind those known if it is new; one of them may not have another purpose
+fn enter_name(names: &mut Names, key: u64, purpose: Purpose) -> Result<(), Refusal>
+    requires { names.old.count < names_room }
+    ensures { Enters names.old (key_mention key purpose ∷ []) names.new result }
 {
-    p.min(STRING)
-}
-
-// puts a name behind the first so many if it is new, and tells how many there are then; one of them may not have another purpose
-fn enter_name(
-    name_keys: &mut [u64],
-    name_purposes: &mut [u8],
-    count: usize,
-    key: u64,
-    p: u8,
-) -> Result<usize, Refusal>
-    requires { NamesSized name_keys.old name_purposes.old (count + 1) }
-    ensures { Enters name_keys.old name_purposes.old count (key_mention key p ∷ []) name_keys.new name_purposes.new result }
-{
-    match place(&name_keys[..count], key) {
+    let n = names.count;
+    match place(&names.keys[..n], key) {
         None => {
-            name_keys[count] = key;
-            name_purposes[count] = p;
-            Ok(count + 1)
+            names.keys[n] = key;
+            names.purposes[n] = purpose;
+            names.count = n + 1;
+            Ok(())
         }
         Some(i) => {
-            if purpose(name_purposes[i]) == purpose(p) {
-                Ok(count)
+            if names.purposes[i] == purpose {
+                Ok(())
             } else {
                 Err(Refusal::NameClash)
             }
@@ -43,26 +32,23 @@ fn enter_name(
     }
 }
 
-// puts the names declared, or those used, behind the first so many, and tells how many there are then
+// puts the names declared, or those used, behind those known; one that clashes is told, and the others are put
+// kept: declared is compared with what is_declared answers; an enum of the two would be turned back into that answer
 pub(crate) fn enter_names(
-    name_keys: &mut [u64],
-    name_purposes: &mut [u8],
-    keys: &[u64; NAMES],
-    tags: &[u8; NAMES],
+    names: &mut Names,
+    mentioned: &Mentioned,
     met: usize,
     declared: bool,
-    before: usize,
-) -> Result<usize, Refusal>
-    requires { NamesSized name_keys.old name_purposes.old (before + length (chosen_in declared keys.now tags.now met)) × NamesSized keys.now tags.now met }
-    ensures { Enters name_keys.old name_purposes.old before (chosen_in declared keys.now tags.now met)
-        name_keys.new name_purposes.new result }
+) -> Result<(), Refusal>
+    requires { (names.old.count + length (chosen_in declared mentioned.now met) ≤ names_room) × (met ≤ names_room) }
+    ensures { Enters names.old (chosen_in declared mentioned.now met) names.new result }
 {
-    let mut count = before;
+    let mut outcome = Ok(());
     for i in 0..met {
-        let tag = tags[i];
-        if (tag / 8 % 2 == 1) == declared {
-            count = enter_name(name_keys, name_purposes, count, keys[i], tag % 8)?;
+        let tag = mentioned.tags[i];
+        if tag.is_declared() == declared {
+            outcome = outcome.and(enter_name(names, mentioned.keys[i], tag.purpose()));
         }
     }
-    Ok(count)
+    outcome
 }

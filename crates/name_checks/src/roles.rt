@@ -1,71 +1,73 @@
 // 8 of a SCAN: the reference is also a filler, or a pattern string has the name of a filler left of it.
 // Assumes nothing.
-ghost use Rattle.std.specs.Prelude.{◌≡◌, [], ◌+◌};
+ghost use Rattle.std.specs.Prelude.{◌≡◌, [], ◌≤◌, ◌<◌};
 ghost use Rattle.validation.specs.Refusals.{clashes};
+ghost use Rattle.symbols.specs.Clauses.{names_room};
 ghost use Rattle.symbols.specs.Entries.{gather, roles_by};
 ghost use Rattle.name_checks.specs.Arrays.{entries_from};
-ghost use Rattle.name_checks.specs.Names.{NamesSized};
-ghost use Rattle.name_checks.specs.Roles.{role_by, fillers_have, Unclashed, clash_at, searched_behind};
+ghost use Rattle.name_checks.specs.Roles.{fillers_have, Unclashed, clash_at, searched_behind};
 
-use symbols::NAMES;
-use symbols::tags::{FILLER_ROLE, REFERENCE_ROLE, SOUGHT_ROLE};
-
-// the role of a name mentioned, if it has this key, else 0
-fn role_by(k: u64, tag: u8, key: u64) -> u8
-    ensures { result ≡ role_by k tag key }
-{
-    if k == key { tag / 16 } else { 0 }
-}
+use symbols::Mentioned;
+use symbols::tags::Tag;
 
 // whether a filler before place n has this key, where no string before n clashes: the latest string or filler with the key tells
-fn is_filler_before(keys: &[u64; NAMES], tags: &[u8; NAMES], n: usize, key: u64) -> bool
-    requires { NamesSized keys.now tags.now n × Unclashed keys.now tags.now n }
-    ensures { result ≡ fillers_have keys.now tags.now n key }
+// kept: a loop: a chain would be a find_map over pairs that makes of two tags true and false, and none of the others
+#[tactic(auto, using(crate::specs::RoleLaws::fillers_turn), unfolding(crate::specs::Roles::fillers_have, crate::specs::Roles::is_filler))]
+fn is_filler_before(mentioned: &Mentioned, n: usize, key: u64) -> bool
+    requires { (n ≤ names_room) × Unclashed mentioned.now n }
+    ensures { result ≡ fillers_have mentioned.now n key }
 {
     for i in (0..n).rev() {
-        match role_by(keys[i], tags[i], key) {
-            FILLER_ROLE => return true,
-            SOUGHT_ROLE => return false,
-            _ => {}
+        if mentioned.keys[i] == key {
+            match mentioned.tags[i] {
+                Tag::FillerUsed => return true,
+                Tag::SoughtUsed => return false,
+                _ => {}
+            }
         }
     }
     false
 }
 
 // whether the role at a place clashes with those before it, with this key of the reference
-fn clashes_at(keys: &[u64; NAMES], tags: &[u8; NAMES], i: usize, searched: u64) -> bool
-    requires { NamesSized keys.now tags.now (i + 1) × Unclashed keys.now tags.now i }
-    ensures { result ≡ clash_at keys.now tags.now i searched }
+#[tactic(auto, unfolding(crate::specs::Roles::clash_at, crate::specs::Roles::clash_of))]
+fn clashes_at(mentioned: &Mentioned, i: usize, searched: u64) -> bool
+    requires { (i < names_room) × Unclashed mentioned.now i }
+    ensures { result ≡ clash_at mentioned.now i searched }
 {
-    match tags[i] / 16 {
-        SOUGHT_ROLE => is_filler_before(keys, tags, i, keys[i]),
-        FILLER_ROLE => searched == keys[i],
+    let key = mentioned.keys[i];
+    match mentioned.tags[i] {
+        Tag::SoughtUsed => is_filler_before(mentioned, i, key),
+        Tag::FillerUsed => searched == key,
         _ => false,
     }
 }
 
-// the key of the reference behind a name
-fn searched_behind(key: u64, tag: u8, searched: u64) -> u64
+// the key of the reference behind a name: 0, which shows no name, as long as there is none
+// kept: 0 is the key of the empty name, with which document 01's clashes begins; None would answer otherwise of a filler that has this key
+#[tactic(auto, unfolding(crate::specs::Roles::searched_behind))]
+fn searched_behind(key: u64, tag: Tag, searched: u64) -> u64
     ensures { result ≡ searched_behind key tag searched }
 {
-    if tag / 16 == REFERENCE_ROLE {
-        key
-    } else {
-        searched
+    match tag {
+        Tag::ReferenceUsed => key,
+        _ => searched,
     }
 }
 
 // 8: whether the roles of the names mentioned clash
-pub fn has_clash(keys: &[u64; NAMES], tags: &[u8; NAMES], met: usize) -> bool
-    requires { NamesSized keys.now tags.now met }
-    ensures { result ≡ clashes [] [] (gather roles_by (entries_from keys.now tags.now 0 met)) }
+// kept: a loop: the key of the reference goes along from name to name, so a chain would be a try_fold that fails where a clash is found
+#[tactic(auto, using(crate::specs::RoleLaws::clash_steps))]
+pub fn has_clash(mentioned: &Mentioned, met: usize) -> bool
+    requires { met ≤ names_room }
+    ensures { result ≡ clashes [] [] (gather roles_by (entries_from mentioned.now 0 met)) }
 {
     let mut searched: u64 = 0;
     for i in 0..met {
-        if clashes_at(keys, tags, i, searched) {
+        if clashes_at(mentioned, i, searched) {
             return true;
         }
-        searched = searched_behind(keys[i], tags[i], searched);
+        searched = searched_behind(mentioned.keys[i], mentioned.tags[i], searched);
     }
     false
 }

@@ -8,6 +8,7 @@ use lib.Dec.{ltb, eqb, leb-suc-suc}
 use lib.IntN.{pos, neg_ℤ, nat_abs}
 use lib.ListN.{length, take, drop, get_or, drop_of_length-le, length-drop}
 use lib.Seq.{take_all}
+use mir.Val.{bool_byte}
 use borrow.Author.Tests.{ltb-true, eq-eqb, ne_eqb, le-ltb, lt-ltb}
 use Rattle.std.specs.List.{list_all, starts_with}
 use Rattle.std.proofs.Common.{eqb-true}
@@ -47,20 +48,11 @@ unfolding begins same
 starts-begins c [] = refl
 starts-begins c (b ∷ s) = ap (λ t. t && true) (same_truth (eqb c b) (eqb b c) (λ e. eq-eqb b c (sym (eqb-true c b e))) (λ e. eq-eqb c b (sym (eqb-true b c e))))
 
-module _ (s : List ℕ) where
-  pub sign_plus : starts_with eqb s (43 ∷ []) ≡ true → sign_length s ≡ 1
-  unfolding sign_length is_signed bytes
-  sign_plus plus = rw (sym (starts-begins 43 s) ∙ plus)
-
-  pub sign_minus : starts_with eqb s (45 ∷ []) ≡ true → sign_length s ≡ 1
-  unfolding sign_length is_signed bytes
-  sign_minus minus =
-      ap (λ t. cond (begins (43 ∷ []) s || t) 1 0) (sym (starts-begins 45 s) ∙ minus)
-      ∙ test_cases (λ t. ◌≡◌ {A = ℕ} (cond (t || true) 1 0) 1) (begins (43 ∷ []) s) (λ _. refl) (λ _. refl)
-
-  pub sign_neither : starts_with eqb s (43 ∷ []) ≡ false → starts_with eqb s (45 ∷ []) ≡ false → sign_length s ≡ 0
-  unfolding sign_length is_signed bytes
-  sign_neither plus minus = rw (sym (starts-begins 43 s) ∙ plus, sym (starts-begins 45 s) ∙ minus)
+-- the sign's length, where code tells whether the string begins with one
+pub sign_told : (s : List ℕ) (signed : Bool) → signed ≡ (starts_with eqb s (43 ∷ []) || starts_with eqb s (45 ∷ [])) → bool_byte signed ≡ sign_length s
+unfolding sign_length is_signed bytes
+sign_told s signed told =
+    rw (← starts-begins 43 s, ← starts-begins 45 s, ← told) (test_cases (λ t. bool_byte t ≡ cond t 1 0) signed (λ _. refl) (λ _. refl))
 
 unsigned-drop : (s : List ℕ) → unsigned_part s ≡ drop (sign_length s) s
 unfolding unsigned_part sign_length

@@ -2,7 +2,7 @@
 // Assumes nothing.
 #![tactic(auto)]
 
-ghost use Rattle.std.specs.Prelude.{◌≡◌, ◌+◌, ◌≤◌, ◌<◌, ◌^◌, cond, pos, neg_ℤ, nat_abs, length, drop, replicate};
+ghost use Rattle.std.specs.Prelude.{◌≡◌, ◌+◌, ◌≤◌, ◌<◌, ◌^◌, cond, pos, neg_ℤ, nat_abs, length, replicate};
 ghost use Rattle.base.specs.Current.{current, limit};
 ghost use Rattle.machine.specs.Expressions.{compared};
 ghost use Rattle.values.specs.Conversion.{digit_of, decimal, digits, is_numeric, number_of, sign_of};
@@ -19,6 +19,7 @@ use values::{Noted, Stop};
 pub const LIMIT: u64 = 8_388_607;
 
 // a number of the language
+// kept: that it is in range is no ghost field: decoder makes one of any 6 bytes of a table, and an operator one that held then turns down
 #[derive(Clone, Copy, PartialEq, Eq)]
 pub struct Int {
     pub value: i64,
@@ -57,6 +58,7 @@ pub fn negate(z: Int) -> Int
 }
 
 // a natural number as a number
+// kept: a function and no From, as decoder's unbias and symbols' with_bias: each asks for a bound of its number, which From doesn't
 pub fn int_of(n: u64) -> Int
     requires { n ≤ limit }
     ensures { GivesInt result (pos n) }
@@ -133,11 +135,7 @@ pub fn compare(c: Comparison, a: Int, b: Int) -> bool
 fn sign_length(s: &[u8]) -> usize
     ensures { result ≡ sign_length s.now }
 {
-    if s.starts_with(b"+") || s.starts_with(b"-") {
-        1
-    } else {
-        0
-    }
+    usize::from(s.starts_with(b"+") || s.starts_with(b"-"))
 }
 
 pub fn is_numeric(s: &[u8]) -> bool
@@ -154,13 +152,12 @@ fn digit_of(b: u8) -> u64
     if b < b'0' { 0 } else { u64::from(b - b'0') }
 }
 
-// the value of the digits from start on, or one that is above LIMIT if that is
-pub fn decimal_from(s: &[u8], start: usize) -> u64
-    requires { start ≤ length s.now }
-    ensures { Capped result (decimal 0 (drop start s.now)) }
+// the value of the digits, or one that is above LIMIT if that is
+pub fn decimal_of(digits: &[u8]) -> u64
+    ensures { Capped result (decimal 0 digits.now) }
 {
     let mut v = 0;
-    for b in &s[start..] {
+    for b in digits {
         v = v * 10 + digit_of(*b);
         if LIMIT < v {
             return v;
@@ -178,7 +175,7 @@ pub fn number_of(s: &[u8]) -> Result<Noted<Int>, Stop>
             notes: 1,
         });
     }
-    let v = decimal_from(s, sign_length(s));
+    let v = decimal_of(&s[sign_length(s)..]);
     if LIMIT < v {
         return Err(Stop::OutOfRange);
     }

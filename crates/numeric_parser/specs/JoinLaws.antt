@@ -17,6 +17,7 @@ use Rattle.symbols.specs.EntryLaws.{mentions_both}
 use Rattle.symbols.specs.Items.{with_items, items-append}
 use Rattle.symbols.specs.ParsingLaws.{mentioning_nothing}
 use Rattle.symbols.specs.declared.Cursor.{Cursor}
+use Rattle.symbols.specs.declared.Mentioned.{Mentioned}
 use Rattle.card_reader.specs.Letters.{letters, letters_on}
 use Rattle.numeric_parser.specs.Joins.{waited, Joins, WaitedRead, Joining}
 use Rattle.numeric_parser.specs.declared.Mark.{Mark}
@@ -27,10 +28,10 @@ use Rattle.numeric_parser.specs.Operands.{cursor_moved, ReaderReady}
 use Rattle.numeric_parser.specs.Reads.{GetsItems, ItemsRead, waiting}
 
 -- nothing more is read
-nothing_read : (before : List Item) {text table keys tags : List ℕ} {c : Cursor} → ReaderReady text keys tags c
-    → GetsItems before text table keys tags c (succeed before (drop c.at text)) table keys tags c
+nothing_read : (before : List Item) {text table : List ℕ} {m : Mentioned} {c : Cursor} → ReaderReady text c
+    → GetsItems before text table m c (succeed before (drop c.at text)) table m c
 unfolding succeed no_mentions mentions_in gather with_items
-nothing_read before {text} {table} {keys} {tags} {c} ready =
+nothing_read before {text} {table} {m} {c} ready =
     record {
       items = [];
       entries = [];
@@ -51,8 +52,8 @@ module _ (one : Reader) (more : More) (ps before : List Item) where
       ap (λ (z : Parsed (List Item)). mentioning (mentions_in [] (length ps) [] 0) (z >>= λ (u, rest). more (before ++ (u ++ ps)) rest)) h
 
   -- a form is read, ps are written, then more is read
-  module _ (c : Cursor) {text table keys tags : List ℕ} {t₁ k₁ g₁ : List ℕ} {d : Cursor}
-      (a : GetsItems [] text table keys tags (cursor_moved c (length ps)) (one (drop (c.at + length ps) text)) t₁ k₁ g₁ d) where
+  module _ (c : Cursor) {text table : List ℕ} {m : Mentioned} {t₁ : List ℕ} {m₁ : Mentioned} {d : Cursor}
+      (a : GetsItems [] text table m (cursor_moved c (length ps)) (one (drop (c.at + length ps) text)) t₁ m₁ d) where
     waited_then : (r : Parsed (List Item)) → more (before ++ (a.items ++ ps)) (drop d.at text) ≡ r
         → waited one more ps before (drop (c.at + length ps) text)
         ≡ mentioning (mentions_in [] (length ps) [] 0) (mentioning (mentions_in a.entries (length a.items) [] 0) r)
@@ -61,12 +62,12 @@ module _ (one : Reader) (more : More) (ps before : List Item) where
         ap (λ (z : Parsed (List Item)). mentioning (mentions_in [] (length ps) [] 0) (z >>= λ (u, rest). more (before ++ (u ++ ps)) rest)) a.is
         ∙ ap (λ (z : Parsed (List Item)). mentioning (mentions_in [] (length ps) [] 0) (mentioning (mentions_in a.entries (length a.items) [] 0) z)) e
 
-    waited-read : {t₂ : List ℕ} {e : Cursor} → ReaderReady text keys tags (cursor_moved c (length ps)) → ItemsPut t₁ d ps t₂ e → (r : Option Cursor)
-        → {t₃ k₂ g₂ : List ℕ}
-        → ItemsRead (before ++ (a.items ++ ps)) text t₂ k₁ g₁ e (more (before ++ (a.items ++ ps)) (drop e.at text)) r t₃ k₂ g₂
-        → ItemsRead before text table keys tags c (waited one more ps before (drop (c.at + length ps) text)) r t₃ k₂ g₂
+    waited-read : {t₂ : List ℕ} {e : Cursor} → ItemsPut t₁ d ps t₂ e → (r : Option Cursor)
+        → {t₃ : List ℕ} {m₂ : Mentioned}
+        → ItemsRead (before ++ (a.items ++ ps)) text t₂ m₁ e (more (before ++ (a.items ++ ps)) (drop e.at text)) r t₃ m₂
+        → ItemsRead before text table m c (waited one more ps before (drop (c.at + length ps) text)) r t₃ m₂
     unfolding mentioning
-    waited-read {t₂} {e} ready put (Some f) b =
+    waited-read {t₂} {e} put (Some f) b =
         let q = b.answer in
         let us = a.items in
         let n = length ps in
@@ -98,7 +99,7 @@ module _ (one : Reader) (more : More) (ps before : List Item) where
                     ∙ sym (items-append table c.items us ps))
                     ∙ ap (λ j. with_items (with_items table c.items (us ++ ps)) j q.items) next
                     ∙ sym (items-append table c.items (us ++ ps) q.items);
-                noting = noting_more (omega (arith, ready)) (omega (arith, ready)) (omega (arith, a.goes, on)) a.noting q.noting;
+                noting = noting_more (omega (arith, a.goes, on)) a.noting q.noting;
                 goes =
                     record {
                       names = omega (arith, a.goes, on, q.goes);
@@ -114,22 +115,22 @@ module _ (one : Reader) (more : More) (ps before : List Item) where
                 short = omega (arith, a.short, q.short, put.at);
               };
         }
-    waited-read ready put None b =
+    waited-read put None b =
         record {
           answer = waited_then broken (ap (λ j. more (before ++ (a.items ++ ps)) (drop j text)) (sym put.at) ∙ b.answer);
         }
 
 -- a loop begins, where there is room for what waits
-pub joining_begins : {one : Reader} {more : More} {text table keys tags : List ℕ} {mark : Option Mark} {d : Cursor} → ReaderReady text keys tags d
-    → d.items + length (waiting mark) + length text ≤ far_enough + d.at → Joining one more text table keys tags mark d table keys tags mark d
+pub joining_begins : {one : Reader} {more : More} {text table : List ℕ} {m : Mentioned} {mark : Option Mark} {d : Cursor} → ReaderReady text d
+    → d.items + length (waiting mark) + length text ≤ far_enough + d.at → Joining one more text table m mark d table m mark d
 joining_begins ready room =
-    record { same_size = refl; later = omega arith; ready = ready; room = room; goes = λ r p. p }
+    record { later = omega arith; ready = ready; room = room; goes = λ r p. p }
 
 -- and behind the sign of the first term
-pub joining_signed : {one : Reader} {more : More} {text table keys tags : List ℕ} {c : Cursor} {mark : Option Mark} {n : ℕ} {d : Cursor}
-    → ReaderReady text keys tags c → SignAt text c.at mark → n ≡ length (waiting mark) → d ≡ cursor_moved c n
-    → Joining one more text table keys tags mark d table keys tags mark d
-joining_signed {text = text} {keys = keys} {tags = tags} {n = n} ready s size skips =
+pub joining_signed : {one : Reader} {more : More} {text table : List ℕ} {m : Mentioned} {c : Cursor} {mark : Option Mark} {n : ℕ} {d : Cursor}
+    → ReaderReady text c → SignAt text c.at mark → n ≡ length (waiting mark) → d ≡ cursor_moved c n
+    → Joining one more text table m mark d table m mark d
+joining_signed {text = text} {n = n} ready s size skips =
     let inside = s.inside ready.inside in
     let at = ap (λ (z : Cursor). z.at) skips in
     let items = ap (λ (z : Cursor). z.items) skips in
@@ -137,13 +138,13 @@ joining_signed {text = text} {keys = keys} {tags = tags} {n = n} ready s size sk
     (omega (arith, at, items, size, ready.items))
 
 -- a turn: a form is read
-module _ {one : Reader} {more : More} {text table₀ keys₀ tags₀ : List ℕ} {mark₀ : Option Mark} {d₀ : Cursor} {table keys tags : List ℕ} {mark : Option Mark}
-    {d : Cursor} (i : Joining one more text table₀ keys₀ tags₀ mark₀ d₀ table keys tags mark d) {r₁ : Option Cursor} {t₁ k₁ g₁ : List ℕ}
-    (a : ItemsRead [] text table keys tags d (one (drop d.at text)) r₁ t₁ k₁ g₁) where
-  pub joining_broken : r₁ ≡ None → {r : Option Cursor} → r ≡ None → {t k g : List ℕ}
-      → WaitedRead one more text table₀ keys₀ tags₀ mark₀ d₀ r t k g
-  joining_broken e none {t} {k} {g} =
-      subst (λ z. WaitedRead one more text table₀ keys₀ tags₀ mark₀ d₀ z t k g) (sym none) (i.goes None (λ c at before.
+module _ {one : Reader} {more : More} {text table₀ : List ℕ} {m₀ : Mentioned} {mark₀ : Option Mark} {d₀ : Cursor} {table : List ℕ}
+    {m : Mentioned} {mark : Option Mark} {d : Cursor} (i : Joining one more text table₀ m₀ mark₀ d₀ table m mark d) {r₁ : Option Cursor}
+    {t₁ : List ℕ} {m₁ : Mentioned} (a : ItemsRead [] text table m d (one (drop d.at text)) r₁ t₁ m₁) where
+  pub joining_broken : r₁ ≡ None → {r : Option Cursor} → r ≡ None → {t : List ℕ} {m₂ : Mentioned}
+      → WaitedRead one more text table₀ m₀ mark₀ d₀ r t m₂
+  joining_broken e none {t} {m₂} =
+      subst (λ z. WaitedRead one more text table₀ m₀ mark₀ d₀ z t m₂) (sym none) (i.goes None (λ c at before.
       record {
         answer =
             waited_broken one more (waiting mark) before (drop (c.at + length (waiting mark)) text)
@@ -152,15 +153,15 @@ module _ {one : Reader} {more : More} {text table₀ keys₀ tags₀ : List ℕ}
 
   module _ {e : Cursor} (is : r₁ ≡ Some e) {t₂ : List ℕ} {f : Cursor} (put : ItemsPut t₁ e (waiting mark) t₂ f) where
     -- what waited is written, and more is read
-    joining_more : (r : Option Cursor) {t k g : List ℕ}
-        → ((before : List Item) → ItemsRead before text t₂ k₁ g₁ f (more before (drop f.at text)) r t k g)
-        → WaitedRead one more text table keys tags mark d r t k g
-    joining_more r m c at before =
+    joining_more : (r : Option Cursor) {t : List ℕ} {m₂ : Mentioned}
+        → ((before : List Item) → ItemsRead before text t₂ m₁ f (more before (drop f.at text)) r t m₂)
+        → WaitedRead one more text table m mark d r t m₂
+    joining_more r b c at before =
         let x =
-        subst (λ (z : Cursor). GetsItems [] text table keys tags z (one (drop z.at text)) t₁ k₁ g₁ e) at (items_case a is) in
-        waited-read one more (waiting mark) before c x (subst (ReaderReady text keys tags) at i.ready) put r (m _)
+        subst (λ (z : Cursor). GetsItems [] text table m z (one (drop z.at text)) t₁ m₁ e) at (items_case a is) in
+        waited-read one more (waiting mark) before c x put r (b _)
 
-    pub ready_behind : ReaderReady text k₁ g₁ f
+    pub ready_behind : ReaderReady text f
     ready_behind =
         let x = items_case a is in
         ready_here x.ready put.at (omega (arith, put.goes)) (omega (arith, i.room, x.goes, x.short, put.goes, put.at))
@@ -168,28 +169,27 @@ module _ {one : Reader} {more : More} {text table₀ keys₀ tags₀ : List ℕ}
 
     -- by the operator behind the form
     module _ {mark' : Option Mark} (o : Joins one more text f.at mark') where
-      pub joining_ends : is_some mark' ≡ false → WaitedRead one more text table₀ keys₀ tags₀ mark₀ d₀ (Some f) t₂ k₁ g₁
+      pub joining_ends : is_some mark' ≡ false → WaitedRead one more text table₀ m₀ mark₀ d₀ (Some f) t₂ m₁
       joining_ends none =
           i.goes (Some f) (joining_more (Some f) (λ before.
           record {
-            answer = subst (λ y. GetsItems before text t₂ k₁ g₁ f y t₂ k₁ g₁ f) (sym (o.ends none before)) (nothing_read before ready_behind);
+            answer = subst (λ y. GetsItems before text t₂ m₁ f y t₂ m₁ f) (sym (o.ends none before)) (nothing_read before ready_behind);
           }))
 
       module _ (some : is_some mark' ≡ true) {d' : Cursor} (skips : d' ≡ cursor_moved f 1) where
-        pub joining_again : length t₂ ≡ length table₀ → Joining one more text table₀ keys₀ tags₀ mark₀ d₀ t₂ k₁ g₁ mark' d'
-        joining_again same =
+        pub joining_again : Joining one more text table₀ m₀ mark₀ d₀ t₂ m₁ mark' d'
+        joining_again =
             let x = items_case a is in
             let at = ap (λ (z : Cursor). z.at) skips in
             let items = ap (λ (z : Cursor). z.items) skips in
             record {
-              same_size = same;
               later = omega (arith, i.later, x.short, put.at, at);
               ready = ready_on 1 ready_behind skips (omega (arith, o.further some));
               room = omega (arith, at, items, ready_behind.items, waiting_one mark' some);
               goes =
-                  λ r {t} {k} {g} p.
+                  λ r {t} {m'} p.
                   i.goes r (joining_more r (λ before.
-                  subst (λ y. ItemsRead before text t₂ k₁ g₁ f y r t k g) (sym (o.goes some before))
+                  subst (λ y. ItemsRead before text t₂ m₁ f y r t m') (sym (o.goes some before))
                   (p f (skips ∙ ap (cursor_moved f) (waiting_one mark' some)) before)));
             }
 
@@ -231,13 +231,13 @@ module _ (p : Resolution) (depth : ℕ) {text : List ℕ} {at : ℕ} {mark : Opt
   product-joins = operator_joins (more_factors_is current p depth (drop at text))
 
 -- an expression is terms joined, the first with its sign
-pub expression_joined : (p : Resolution) (depth : ℕ) {text table keys tags : List ℕ} (c : Cursor) {mark : Option Mark} {n : ℕ} {d : Cursor} {r : Option Cursor}
-    {t k g : List ℕ} → SignAt text c.at mark → n ≡ length (waiting mark) → d ≡ cursor_moved c n
-    → WaitedRead (term_from current p depth) (more_terms_from current p depth) text table keys tags mark d r t k g
-    → ItemsRead [] text table keys tags c (expression_from current p depth (drop c.at text)) r t k g
+pub expression_joined : (p : Resolution) (depth : ℕ) {text table : List ℕ} {m : Mentioned} (c : Cursor) {mark : Option Mark} {n : ℕ} {d : Cursor}
+    {r : Option Cursor} {t : List ℕ} {m₁ : Mentioned} → SignAt text c.at mark → n ≡ length (waiting mark) → d ≡ cursor_moved c n
+    → WaitedRead (term_from current p depth) (more_terms_from current p depth) text table m mark d r t m₁
+    → ItemsRead [] text table m c (expression_from current p depth (drop c.at text)) r t m₁
 unfolding expression_by ◌>>=◌
-expression_joined p depth {text} {table} {keys} {tags} c {r = r} {t} {k} {g} s size skips w =
-    subst (λ y. ItemsRead [] text table keys tags c y r t k g)
+expression_joined p depth {text} {table} {m} c {r = r} {t} {m₁} s size skips w =
+    subst (λ y. ItemsRead [] text table m c y r t m₁)
     (sym
     (expression_is current p depth (drop c.at text)
     ∙ ap
@@ -256,7 +256,8 @@ first_waits : (more : More) (x : Parsed (List Item))
     → (x >>= λ (u, rest). more u rest) ≡ mentioning (mentions_in [] 0 [] 0) (x >>= λ (u, rest). more (u ++ []) rest)
 unfolding ◌>>=◌
 first_waits more (got u m rest) =
-    none_mentioned (mentioning m (more u rest)) ∙ ap (λ (l : List Item). mentioning (mentions_in [] 0 [] 0) (mentioning m (more l rest))) (sym (append-nil u))
+    none_mentioned (mentioning m (more u rest))
+    ∙ ap (λ (l : List Item). mentioning (mentions_in [] 0 [] 0) (mentioning m (more l rest))) (sym (append-nil u))
 first_waits more broken = none_mentioned broken
 
 -- a cursor moved by nothing
@@ -273,12 +274,12 @@ moved_none c =
     }
 
 -- a term is factors joined
-pub term_joined : (p : Resolution) (depth : ℕ) {text table keys tags : List ℕ} (c : Cursor) {r : Option Cursor} {t k g : List ℕ}
-    → WaitedRead (factor_from current p depth) (more_factors_from current p depth) text table keys tags None c r t k g
-    → ItemsRead [] text table keys tags c (term_from current p depth (drop c.at text)) r t k g
+pub term_joined : (p : Resolution) (depth : ℕ) {text table : List ℕ} {m : Mentioned} (c : Cursor) {r : Option Cursor} {t : List ℕ} {m₁ : Mentioned}
+    → WaitedRead (factor_from current p depth) (more_factors_from current p depth) text table m None c r t m₁
+    → ItemsRead [] text table m c (term_from current p depth (drop c.at text)) r t m₁
 unfolding term_by
-term_joined p depth {text} {table} {keys} {tags} c {r} {t} {k} {g} w =
-    subst (λ y. ItemsRead [] text table keys tags c y r t k g)
+term_joined p depth {text} {table} {m} c {r} {t} {m₁} w =
+    subst (λ y. ItemsRead [] text table m c y r t m₁)
     (sym
     (term_is current p depth (drop c.at text)
     ∙ first_waits (more_factors_from current p depth) (factor_from current p depth (drop c.at text))

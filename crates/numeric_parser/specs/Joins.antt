@@ -7,6 +7,7 @@ use Rattle.syntax.specs.Parsing.{succeed, mentioning, ◌>>=◌}
 use Rattle.symbols.specs.Bounds.{far_enough}
 use Rattle.symbols.specs.Entries.{mentions_in}
 use Rattle.symbols.specs.declared.Cursor.{Cursor}
+use Rattle.symbols.specs.declared.Mentioned.{Mentioned}
 use Rattle.numeric_parser.specs.Operands.{cursor_moved, ReaderReady}
 use Rattle.numeric_parser.specs.declared.Mark.{Mark}
 use Rattle.numeric_parser.specs.Reads.{ItemsRead, waiting}
@@ -23,19 +24,18 @@ pub record Joins (one : Reader) (more : More) (text : List ℕ) (at : ℕ) (mark
   pub further : is_some mark ≡ true → at < length text
 
 -- what is read from d on, while what the mark stands for has been passed and waits
-abbrev pub WaitedRead : (one : Reader) (more : More) (text table keys tags : List ℕ) (mark : Option Mark) (d : Cursor) → Option Cursor
-    → (table' keys' tags' : List ℕ) → Type 0
-WaitedRead one more text table keys tags mark d r table' keys' tags' =
+abbrev pub WaitedRead : (one : Reader) (more : More) (text table : List ℕ) (m : Mentioned) (mark : Option Mark) (d : Cursor) → Option Cursor
+    → (table' : List ℕ) (m' : Mentioned) → Type 0
+WaitedRead one more text table m mark d r table' m' =
     (c : Cursor) → d ≡ cursor_moved c (length (waiting mark)) → (before : List Item)
-    → ItemsRead before text table keys tags c (waited one more (waiting mark) before (drop (c.at + length (waiting mark)) text)) r
-    table' keys' tags'
+    → ItemsRead before text table m c (waited one more (waiting mark) before (drop (c.at + length (waiting mark)) text)) r
+    table' m'
 
 -- what a loop over joined forms keeps: whatever is read from here on, with it all is read from the start on
-pub record Joining (one : Reader) (more : More) (text table₀ keys₀ tags₀ : List ℕ) (mark₀ : Option Mark) (d₀ : Cursor) (table keys tags : List ℕ)
-    (mark : Option Mark) (d : Cursor) : Type 0 where
-  pub same_size : length table ≡ length table₀
+pub record Joining (one : Reader) (more : More) (text table₀ : List ℕ) (m₀ : Mentioned) (mark₀ : Option Mark) (d₀ : Cursor) (table : List ℕ)
+    (m : Mentioned) (mark : Option Mark) (d : Cursor) : Type 0 where
   pub later : d₀.at ≤ d.at
-  pub ready : ReaderReady text keys tags d
+  pub ready : ReaderReady text d
   pub room : d.items + length (waiting mark) + length text ≤ far_enough + d.at
-  pub goes : (r : Option Cursor) {t k g : List ℕ} → WaitedRead one more text table keys tags mark d r t k g
-      → WaitedRead one more text table₀ keys₀ tags₀ mark₀ d₀ r t k g
+  pub goes : (r : Option Cursor) {t : List ℕ} {m' : Mentioned} → WaitedRead one more text table m mark d r t m'
+      → WaitedRead one more text table₀ m₀ mark₀ d₀ r t m'

@@ -22,11 +22,12 @@ use Rattle.syntax.specs.Lexemes.{Resolution, is_sign}
 use Rattle.symbols.specs.Entries.{gather, mentions_in}
 use Rattle.symbols.specs.Items.{with_item, with_items}
 use Rattle.symbols.specs.declared.Cursor.{Cursor}
+use Rattle.symbols.specs.declared.Mentioned.{Mentioned}
 use Rattle.numeric_parser.specs.Kinds.{mark_at, SignAt, OperatorAt, SumAt, ProductAt, PutsCell, ItemsPut, closes}
 use Rattle.numeric_parser.specs.OperandLaws.{onward_none, chosen, then_broken}
 use Rattle.numeric_parser.specs.Operands.{cursor_moved}
 use Rattle.numeric_parser.specs.ReadLaws.{inside_then, inside_open, inside_broken}
-use Rattle.numeric_parser.specs.Reads.{GetsItems, ItemsAnswer, ItemsRead, waiting}
+use Rattle.numeric_parser.specs.Reads.{GetsItems, ItemsAnswer, ItemsRead, mark_item, waiting}
 use Rattle.numeric_parser.specs.declared.Mark.{Mark}
 use Rattle.numeric_parser.specs.declared.Mark.TheVariants.{Plus, Minus, Times, Over, Positive, Negative}
 
@@ -35,20 +36,22 @@ pub waiting_one : (mark : Option Mark) → is_some mark ≡ true → 1 ≡ lengt
 waiting_one (Some m) e = refl
 waiting_one None e = absurd (false≢true e)
 
--- nothing is written where nothing waits
-pub puts_none : (table : List ℕ) (c : Cursor) (l : List Item) → length l ≡ 0 → ItemsPut table c l table c
-unfolding with_items
-puts_none table c [] e = record { written = refl; goes = onward_none c; at = refl }
-puts_none table c (x ∷ l) e = absurd (omega (arith, e))
+-- the item that waits is written; nothing where none waits
+module _ {table : List ℕ} {c : Cursor} {mark : Option Mark} where
+  pub puts_waiting : {k : Mark} {v : Table.Cell} {table' : List ℕ} {d : Cursor} → mark ≡ Some k → v ≡ item_cell (mark_item k)
+      → PutsCell table c v table' d → ItemsPut table c (waiting mark) table' d
+  unfolding with_items
+  puts_waiting {table' = table'} {d} e is p =
+      subst (λ k. ItemsPut table c (waiting k) table' d) (sym e)
+      (record { written = p.written ∙ ap (with_item table c.items) is; goes = p.goes; at = p.at })
 
--- the one item is written
-pub puts_one : {table : List ℕ} {c : Cursor} {v : Table.Cell} {i : Item} {table' : List ℕ} {d : Cursor} → v ≡ item_cell i
-    → PutsCell table c v table' d → ItemsPut table c (i ∷ []) table' d
-unfolding with_items
-puts_one {table} {c} is p = record { written = p.written ∙ ap (with_item table c.items) is; goes = p.goes; at = p.at }
+  pub puts_nothing : mark ≡ None → ItemsPut table c (waiting mark) table c
+  unfolding with_items
+  puts_nothing e = subst (λ k. ItemsPut table c (waiting k) table c) (sym e) (record { written = refl; goes = onward_none c; at = refl })
 
 -- what holds of a mark, by which stands
-told : (P : Option Mark → Type 0) (w : ℕ) (k : Mark) (v : ℕ) (l : Mark) (text : List ℕ) (at : ℕ) → (begins (w ∷ []) (drop at text) ≡ true → P (Some k))
+told : (P : Option Mark → Type 0) (w : ℕ) (k : Mark) (v : ℕ) (l : Mark) (text : List ℕ) (at : ℕ)
+    → (begins (w ∷ []) (drop at text) ≡ true → P (Some k))
     → (begins (w ∷ []) (drop at text) ≡ false → begins (v ∷ []) (drop at text) ≡ true → P (Some l))
     → (begins (w ∷ []) (drop at text) ≡ false → begins (v ∷ []) (drop at text) ≡ false → P None) → {mark : Option Mark}
     → mark ≡ mark_at w k v l text at → P mark
@@ -117,7 +120,8 @@ module _ (text : List ℕ) (at w v : ℕ) where
     second-mark : waiting mark ≡ operator b ∷ [] → is_some mark ≡ true → begins (w ∷ []) (drop at text) ≡ false
         → begins (v ∷ []) (drop at text) ≡ true → OperatorAt marked (marked_by a b) text at mark
     second-mark waits some other e =
-        operator_at b waits some (omega (arith, begins_inside v [] text at e)) (true_behind (begins (w ∷ []) (drop at text)) _ e) (chosen _ _ other ∙ chosen _ _ e)
+        operator_at b waits some (omega (arith, begins_inside v [] text at e)) (true_behind (begins (w ∷ []) (drop at text)) _ e)
+        (chosen _ _ other ∙ chosen _ _ e)
 
   no_mark : {x : Parsed Operator} → begins (w ∷ []) (drop at text) ≡ false → begins (v ∷ []) (drop at text) ≡ false
       → OperatorAt marked x text at None
@@ -160,32 +164,32 @@ module _ (text : List ℕ) (at : ℕ) where
   product_told = told (ProductAt text at) 42 Times 47 Over text at product-times product_over product_none
 
 -- the outcome by its case
-module _ {before : List Item} {text table keys tags : List ℕ} {c : Cursor} {x : Parsed (List Item)} {r : Option Cursor} {t k g : List ℕ}
-    (a : ItemsRead before text table keys tags c x r t k g) where
-  pub items_case : {d : Cursor} → r ≡ Some d → GetsItems before text table keys tags c x t k g d
-  items_case e = subst (λ z. ItemsAnswer before text table keys tags c x z t k g) e a.answer
+module _ {before : List Item} {text table : List ℕ} {m : Mentioned} {c : Cursor} {x : Parsed (List Item)} {r : Option Cursor} {t : List ℕ}
+    {m₁ : Mentioned} (a : ItemsRead before text table m c x r t m₁) where
+  pub items_case : {d : Cursor} → r ≡ Some d → GetsItems before text table m c x t m₁ d
+  items_case e = subst (λ z. ItemsAnswer before text table m c x z t m₁) e a.answer
 
   pub items_none : r ≡ None → x ≡ broken
-  items_none e = subst (λ z. ItemsAnswer before text table keys tags c x z t k g) e a.answer
+  items_none e = subst (λ z. ItemsAnswer before text table m c x z t m₁) e a.answer
 
 -- broken items
-pub items_lost : {before : List Item} {text table keys tags : List ℕ} {c : Cursor} {x : Parsed (List Item)} {r : Option Cursor} {t k g : List ℕ}
-    → r ≡ None → x ≡ broken → ItemsRead before text table keys tags c x r t k g
-items_lost {before} {text} {table} {keys} {tags} {c} {x} {t = t} {k} {g} e h =
-    subst (λ z. ItemsRead before text table keys tags c x z t k g) (sym e) (record { answer = h })
+pub items_lost : {before : List Item} {text table : List ℕ} {m : Mentioned} {c : Cursor} {x : Parsed (List Item)} {r : Option Cursor}
+    {t : List ℕ} {m₁ : Mentioned} → r ≡ None → x ≡ broken → ItemsRead before text table m c x r t m₁
+items_lost {before} {text} {table} {m} {c} {x} {t = t} {m₁} e h =
+    subst (λ z. ItemsRead before text table m c x z t m₁) (sym e) (record { answer = h })
 
 -- an expression in parentheses
-module _ (p : Resolution) (depth : ℕ) (c : Cursor) {text table keys tags : List ℕ} {t k g : List ℕ}
+module _ (p : Resolution) (depth : ℕ) (c : Cursor) {text table : List ℕ} {m : Mentioned} {t : List ℕ} {m₁ : Mentioned}
     (paren : begins (bytes "(") (drop c.at text) ≡ true) (shallow : ltb depth deepest ≡ true) where
   pub inside_closed : (r : Option Cursor)
-      → ItemsRead [] text table keys tags (cursor_moved c 1) (expression_from current p (suc depth) (drop (c.at + 1) text)) r t k g
-      → ItemsRead [] text table keys tags c (factor_from current p depth (drop c.at text)) (closes text r) t k g
+      → ItemsRead [] text table m (cursor_moved c 1) (expression_from current p (suc depth) (drop (c.at + 1) text)) r t m₁
+      → ItemsRead [] text table m c (factor_from current p depth (drop c.at text)) (closes text r) t m₁
   inside_closed (Some d) a =
       test_cases
       (λ b.
       begins (41 ∷ []) (drop d.at text) ≡ b
-      → ItemsRead [] text table keys tags c (factor_from current p depth (drop c.at text))
-      (elim b [ true ↦ Some (cursor_moved d 1) | false ↦ None ]) t k g)
+      → ItemsRead [] text table m c (factor_from current p depth (drop c.at text))
+      (elim b [ true ↦ Some (cursor_moved d 1) | false ↦ None ]) t m₁)
       (begins (41 ∷ []) (drop d.at text))
       (λ _ e. record { answer = inside_then p depth c paren shallow a.answer e })
       (λ _ e. record { answer = inside_open p depth c paren shallow a.answer e }) refl
@@ -203,11 +207,12 @@ unfolding factor_by
 operand_broken p depth bs open' h = factor_is current p depth bs ∙ chosen _ _ open' ∙ then_broken _ h
 
 -- an expression one deeper, as the code counts
-pub deeper : (p : Resolution) (depth : ℕ) {text table keys tags : List ℕ} (c : Cursor) {b : Cursor} {r : Option Cursor} {t k g : List ℕ} → b ≡ cursor_moved c 1
-    → ItemsRead [] text table keys tags b (expression_from current p (depth + 1) (drop b.at text)) r t k g
-    → ItemsRead [] text table keys tags (cursor_moved c 1) (expression_from current p (suc depth) (drop (c.at + 1) text)) r t k g
-deeper p depth {text} {table} {keys} {tags} c {r = r} {t} {k} {g} e a =
+pub deeper : (p : Resolution) (depth : ℕ) {text table : List ℕ} {m : Mentioned} (c : Cursor) {b : Cursor} {r : Option Cursor} {t : List ℕ}
+    {m₁ : Mentioned} → b ≡ cursor_moved c 1
+    → ItemsRead [] text table m b (expression_from current p (depth + 1) (drop b.at text)) r t m₁
+    → ItemsRead [] text table m (cursor_moved c 1) (expression_from current p (suc depth) (drop (c.at + 1) text)) r t m₁
+deeper p depth {text} {table} {m} c {r = r} {t} {m₁} e a =
     let next : depth + 1 ≡ suc depth = omega arith in
     subst
-    (λ (j : ℕ). ItemsRead [] text table keys tags (cursor_moved c 1) (expression_from current p j (drop (c.at + 1) text)) r t k g) next
-    (subst (λ (z : Cursor). ItemsRead [] text table keys tags z (expression_from current p (depth + 1) (drop z.at text)) r t k g) e a)
+    (λ (j : ℕ). ItemsRead [] text table m (cursor_moved c 1) (expression_from current p j (drop (c.at + 1) text)) r t m₁) next
+    (subst (λ (z : Cursor). ItemsRead [] text table m z (expression_from current p (depth + 1) (drop z.at text)) r t m₁) e a)

@@ -11,6 +11,8 @@ use Rattle.syntax.specs.Lexemes.{is_sign}
 use Rattle.symbols.specs.Entries.{mentions_in}
 use Rattle.symbols.specs.Items.{with_item, with_items}
 use Rattle.symbols.specs.declared.Cursor.{Cursor}
+use Rattle.symbols.specs.declared.Mentioned.{Mentioned}
+use Rattle.symbols.specs.declared.known.Known.{Known}
 use Rattle.numeric_parser.specs.Operands.{Onward, behind_mark}
 use Rattle.numeric_parser.specs.declared.Mark.{Mark}
 use Rattle.numeric_parser.specs.Reads.{waiting, FactorRead}
@@ -60,9 +62,10 @@ pub record ItemsPut (table : List ℕ) (c : Cursor) (is : List Item) (table' : L
   pub at : d.at ≡ c.at
 
 -- where no parenthesis stands, a factor at any depth
-abbrev pub OperandWritten : (text known table keys tags : List ℕ) (c : Cursor) → Option Cursor → (table' keys' tags' : List ℕ) → Type 0
-OperandWritten text known table keys tags c r table' keys' tags' =
-    (depth : ℕ) → begins (bytes "(") (drop c.at text) ≡ false → FactorRead text known table keys tags c depth r table' keys' tags'
+abbrev pub OperandWritten : (text : List ℕ) (known : Known) (table : List ℕ) (m : Mentioned) (c : Cursor) → Option Cursor
+    → (table' : List ℕ) (m' : Mentioned) → Type 0
+OperandWritten text known table m c r table' m' =
+    (depth : ℕ) → begins (bytes "(") (drop c.at text) ≡ false → FactorRead text known table m c depth r table' m'
 
 -- the cursor before `)` goes behind it
 abbrev pub closes : List ℕ → Option Cursor → Option Cursor

@@ -1,7 +1,8 @@
 -- What the readers of operands do: the value read, the names noted, the bytes left. Assumes nothing.
-use Rattle.std.specs.Prelude.{Option, Some, None, true, false, List, [], ◌∷◌, map, ◌≡◌, ℕ, ◌+◌, ◌/◌, ◌%◌, ◌≤◌, ◌<◌, pos, length, drop}
+use Rattle.std.specs.Prelude.{Option, Some, None, true, false, List, [], ◌∷◌, map, ◌≡◌, ℕ, ◌+◌, ◌≤◌, ◌<◌, pos, length, drop}
 use Rattle.base.specs.Current.{current}
 use Rattle.base.specs.Lists.{all, begins}
+use Rattle.encoding.specs.Meaning.{cell_meaning}
 use Rattle.encoding.specs.Numerals.{biased}
 use Rattle.encoding.specs.Splices.{splice}
 use Rattle.encoding.specs.Table as Table
@@ -16,10 +17,14 @@ use Rattle.symbols.specs.Clauses.{names_room}
 use Rattle.symbols.specs.Entries.{NameEntry, entry, role_of, mentions_in}
 use Rattle.symbols.specs.Environment.{places_in}
 use Rattle.symbols.specs.declared.Cursor.{Cursor}
+use Rattle.symbols.specs.declared.Mentioned.{Mentioned}
+use Rattle.symbols.specs.declared.known.Known.{Known}
+use Rattle.symbols.specs.declared.tags.Role.{Role}
+use Rattle.symbols.specs.declared.tags.Tag.{Tag}
 use Rattle.card_reader.specs.Keys.{key_of, is_key_byte}
 use Rattle.card_reader.specs.Letters.{letters}
-use Rattle.numeric_parser.specs.declared.operands.Cell.{Cell}
 use Rattle.card_reader.specs.Packs.{longest_text}
+use Rattle.encoding.specs.declared.cells.Cell.{Cell}
 
 -- a cursor d behind c by so many names and items
 pub record Onward (c : Cursor) (n i : ℕ) (d : Cursor) : Type 0 where
@@ -46,108 +51,102 @@ pub record Skips (c : Cursor) (n : ℕ) (d : Cursor) : Type 0 where
   pub at : d.at ≡ c.at + n
   pub goes : Onward c 0 0 d
 
--- the arrays have their sizes, with room for a name for each letter left; the cursor has noted no more than the bytes behind it allow
-pub record ReaderReady (text keys tags : List ℕ) (c : Cursor) : Type 0 where
+-- there is room for a name for each letter left; the cursor has noted no more than the bytes behind it allow
+pub record ReaderReady (text : List ℕ) (c : Cursor) : Type 0 where
   pub text_size : length text ≤ longest_text
   pub inside : c.at ≤ length text
   pub names : c.names + letters (drop c.at text) ≤ names_room
   pub items : c.items + length text ≤ far_enough + c.at
   pub elements : c.elements + length text ≤ far_enough + c.at
   pub literals : c.literals + length text ≤ far_enough + c.at
-  pub keys_size : length keys ≡ names_room
-  pub tags_size : length tags ≡ names_room
 
 -- entries stand noted from place n on
-pub record Noting (keys tags : List ℕ) (n : ℕ) (es : List NameEntry) (keys' tags' : List ℕ) : Type 0 where
-  pub keyed : keys' ≡ splice keys n (map (λ x. x.key) es)
-  pub tagged : tags' ≡ splice tags n (map (λ x. x.tag) es)
+pub record Noting (m : Mentioned) (n : ℕ) (es : List NameEntry) (m' : Mentioned) : Type 0 where
+  pub keyed : m'.keys ≡ splice m.keys n (map (λ x. x.key) es)
+  pub tagged : m'.tags ≡ splice m.tags n (map (λ x. x.tag) es)
 
 -- the reading x gives a value that the code's v stands for
-pub record Gets {A C : Type 0} (f : A → C) (v : C) (text keys tags : List ℕ) (c : Cursor) (x : Parsed A) (keys' tags' : List ℕ) (d : Cursor)
+pub record Gets {A C : Type 0} (f : A → C) (v : C) (text : List ℕ) (m : Mentioned) (c : Cursor) (x : Parsed A) (m' : Mentioned) (d : Cursor)
     : Type 0 where
   pub value : A
   pub entries : List NameEntry
   pub is : x ≡ got value (mentions_in entries 0 [] 0) (drop d.at text)
   pub made : f value ≡ v
-  pub noting : Noting keys tags c.names entries keys' tags'
+  pub noting : Noting m c.names entries m'
   pub goes : Onward c (length entries) 0 d
-  pub ready : ReaderReady text keys' tags' d
+  pub ready : ReaderReady text d
   pub few : length entries + letters (drop d.at text) ≤ letters (drop c.at text)
   pub further : c.at < d.at
 
--- the tag of a string that is used: 4, and 16 times the number of its role in a SCAN
-pub record StringTag (tag : ℕ) : Type 0 where
-  pub is : tag % 16 ≡ 4
-
 -- a name, mentioned as an entry with a tag
-pub record NameParsed (text keys tags : List ℕ) (c : Cursor) (tag key : ℕ) (keys' tags' : List ℕ) (d : Cursor) : Type 0 where
+pub record NameParsed (text : List ℕ) (m : Mentioned) (c : Cursor) (tag : Tag) (key : ℕ) (m' : Mentioned) (d : Cursor) : Type 0 where
   pub bytes : List ℕ
   pub shown : all is_key_byte bytes ≡ true
   pub keyed : key ≡ key_of bytes
   pub is : Words.name (drop c.at text) ≡ succeed bytes (drop d.at text)
-  pub noting : Noting keys tags c.names (entry key tag ∷ []) keys' tags'
+  pub noting : Noting m c.names (entry key tag ∷ []) m'
   pub goes : Onward c 1 0 d
-  pub ready : ReaderReady text keys' tags' d
+  pub ready : ReaderReady text d
   pub few : letters (drop d.at text) < letters (drop c.at text)
   pub further : c.at < d.at
 
-abbrev pub NameAnswer : (text keys tags : List ℕ) (c : Cursor) (tag : ℕ) → Option (ℕ × Cursor) → (keys' tags' : List ℕ) → Type 0
-NameAnswer text keys tags c tag (Some (key, d)) keys' tags' = NameParsed text keys tags c tag key keys' tags' d
-NameAnswer text keys tags c tag None keys' tags' = Words.name (drop c.at text) ≡ broken
+abbrev pub NameAnswer : (text : List ℕ) (m : Mentioned) (c : Cursor) (tag : Tag) → Option (ℕ × Cursor) → (m' : Mentioned) → Type 0
+NameAnswer text m c tag (Some (key, d)) m' = NameParsed text m c tag key m' d
+NameAnswer text m c tag None m' = Words.name (drop c.at text) ≡ broken
 
-pub record NameRead (text keys tags : List ℕ) (c : Cursor) (tag : ℕ) (r : Option (ℕ × Cursor)) (keys' tags' : List ℕ) : Type 0 where
-  pub answer : NameAnswer text keys tags c tag r keys' tags'
+pub record NameRead (text : List ℕ) (m : Mentioned) (c : Cursor) (tag : Tag) (r : Option (ℕ × Cursor)) (m' : Mentioned) : Type 0 where
+  pub answer : NameAnswer text m c tag r m'
 
 -- a reading answered by a place of a name, and one answered by a cell
-abbrev pub PlaceAnswer : (text keys tags : List ℕ) (c : Cursor) → Parsed ℕ → Option (ℕ × Cursor) → (keys' tags' : List ℕ) → Type 0
-PlaceAnswer text keys tags c x (Some (place, d)) keys' tags' = Gets (λ n. n) place text keys tags c x keys' tags' d
-PlaceAnswer text keys tags c x None keys' tags' = x ≡ broken
+abbrev pub PlaceAnswer : (text : List ℕ) (m : Mentioned) (c : Cursor) → Parsed ℕ → Option (ℕ × Cursor) → (m' : Mentioned) → Type 0
+PlaceAnswer text m c x (Some (place, d)) m' = Gets (λ n. n) place text m c x m' d
+PlaceAnswer text m c x None m' = x ≡ broken
 
-pub record PlaceRead (text keys tags : List ℕ) (c : Cursor) (x : Parsed ℕ) (r : Option (ℕ × Cursor)) (keys' tags' : List ℕ) : Type 0 where
-  pub answer : PlaceAnswer text keys tags c x r keys' tags'
+pub record PlaceRead (text : List ℕ) (m : Mentioned) (c : Cursor) (x : Parsed ℕ) (r : Option (ℕ × Cursor)) (m' : Mentioned) : Type 0 where
+  pub answer : PlaceAnswer text m c x r m'
 
-abbrev pub meaning : Cell → Table.Cell
-meaning x = Table.cell x.kind x.place x.value
+abbrev pub CellAnswer : {A : Type 0} (f : A → Table.Cell) (text : List ℕ) (m : Mentioned) (c : Cursor) → Parsed A → Option (Cell × Cursor)
+    → (m' : Mentioned) → Type 0
+CellAnswer f text m c x (Some (v, d)) m' = Gets f (cell_meaning v) text m c x m' d
+CellAnswer f text m c x None m' = x ≡ broken
 
-abbrev pub CellAnswer : {A : Type 0} (f : A → Table.Cell) (text keys tags : List ℕ) (c : Cursor) → Parsed A → Option (Cell × Cursor)
-    → (keys' tags' : List ℕ) → Type 0
-CellAnswer f text keys tags c x (Some (v, d)) keys' tags' = Gets f (meaning v) text keys tags c x keys' tags' d
-CellAnswer f text keys tags c x None keys' tags' = x ≡ broken
-
-pub record OperandRead {A : Type 0} (f : A → Table.Cell) (text keys tags : List ℕ) (c : Cursor) (x : Parsed A) (r : Option (Cell × Cursor))
-    (keys' tags' : List ℕ) : Type 0 where
-  pub answer : CellAnswer f text keys tags c x r keys' tags'
+pub record OperandRead {A : Type 0} (f : A → Table.Cell) (text : List ℕ) (m : Mentioned) (c : Cursor) (x : Parsed A) (r : Option (Cell × Cursor))
+    (m' : Mentioned) : Type 0 where
+  pub answer : CellAnswer f text m c x r m'
 
 -- each reader of document 01 at the cursor
-abbrev pub NumberRead : (text known keys tags : List ℕ) (c : Cursor) → Option (ℕ × Cursor) → (keys' tags' : List ℕ) → Type 0
-NumberRead text known keys tags c = PlaceRead text keys tags c (number_name current (places_in known) (drop c.at text))
+abbrev pub NumberRead : (text : List ℕ) (known : Known) (m : Mentioned) (c : Cursor) → Option (ℕ × Cursor) → (m' : Mentioned) → Type 0
+NumberRead text known m c = PlaceRead text m c (number_name current (places_in known) (drop c.at text))
 
-abbrev pub StringRead : (text known keys tags : List ℕ) (c : Cursor) (tag : ℕ) → Option (ℕ × Cursor) → (keys' tags' : List ℕ) → Type 0
-StringRead text known keys tags c tag =
-    PlaceRead text keys tags c (string_name current (places_in known) (role_of (tag / 16)) (drop c.at text))
+abbrev pub StringRead : (text : List ℕ) (known : Known) (m : Mentioned) (c : Cursor) (role : Option Role) → Option (ℕ × Cursor)
+    → (m' : Mentioned) → Type 0
+StringRead text known m c role =
+    PlaceRead text m c (string_name current (places_in known) (role_of role) (drop c.at text))
 
-abbrev pub ConstantRead : (text keys tags : List ℕ) (c : Cursor) (kind place : ℕ) → Option (Cell × Cursor) → Type 0
-ConstantRead text keys tags c kind place r =
-    OperandRead (λ v. Table.cell kind place (biased (pos v))) text keys tags c (unsigned current (drop c.at text)) r keys tags
+abbrev pub ConstantRead : (text : List ℕ) (m : Mentioned) (c : Cursor) (kind place : ℕ) → Option (Cell × Cursor) → Type 0
+ConstantRead text m c kind place r =
+    OperandRead (λ v. Table.cell kind place (biased (pos v))) text m c (unsigned current (drop c.at text)) r m
 
 -- a cell with a length: of a kind with the constant, or of the next one with the place of the number
 unfoldable pub length_cell : (kind place : ℕ) → Length → Table.Cell
 length_cell kind place (constantly z) = Table.cell kind place (biased z)
 length_cell kind place (numbered n) = Table.cell (kind + 1) place n
 
-abbrev pub BoundRead : (text known keys tags : List ℕ) (c : Cursor) (kind place : ℕ) → Option (Cell × Cursor) → (keys' tags' : List ℕ) → Type 0
-BoundRead text known keys tags c kind place =
-    OperandRead (length_cell kind place) text keys tags c (bound current (places_in known) (drop c.at text))
+abbrev pub BoundRead : (text : List ℕ) (known : Known) (m : Mentioned) (c : Cursor) (kind place : ℕ) → Option (Cell × Cursor) → (m' : Mentioned)
+    → Type 0
+BoundRead text known m c kind place =
+    OperandRead (length_cell kind place) text m c (bound current (places_in known) (drop c.at text))
 
-abbrev pub PartRead : (text known keys tags : List ℕ) (c : Cursor) (kind tag : ℕ) → Option (Cell × Cursor) → (keys' tags' : List ℕ) → Type 0
-PartRead text known keys tags c kind tag =
-    OperandRead (part_cell kind) text keys tags c (part_name current (places_in known) (role_of (tag / 16)) (drop c.at text))
+abbrev pub PartRead : (text : List ℕ) (known : Known) (m : Mentioned) (c : Cursor) (kind : ℕ) (role : Option Role) → Option (Cell × Cursor)
+    → (m' : Mentioned) → Type 0
+PartRead text known m c kind role =
+    OperandRead (part_cell kind) text m c (part_name current (places_in known) (role_of role) (drop c.at text))
 
-abbrev pub CalledRead : (text known keys tags : List ℕ) (c : Cursor) → Option (Cell × Cursor) → (keys' tags' : List ℕ) → Type 0
-CalledRead text known keys tags c = OperandRead operand_cell text keys tags c (called_or_number current (places_in known) (drop c.at text))
+abbrev pub CalledRead : (text : List ℕ) (known : Known) (m : Mentioned) (c : Cursor) → Option (Cell × Cursor) → (m' : Mentioned) → Type 0
+CalledRead text known m c = OperandRead operand_cell text m c (called_or_number current (places_in known) (drop c.at text))
 
-abbrev pub PlainRead : (text known keys tags : List ℕ) (c : Cursor) → Option (Cell × Cursor) → (keys' tags' : List ℕ) → Type 0
-PlainRead text known keys tags c = OperandRead operand_cell text keys tags c (plain_factor current (places_in known) (drop c.at text))
+abbrev pub PlainRead : (text : List ℕ) (known : Known) (m : Mentioned) (c : Cursor) → Option (Cell × Cursor) → (m' : Mentioned) → Type 0
+PlainRead text known m c = OperandRead operand_cell text m c (plain_factor current (places_in known) (drop c.at text))
 
 -- a place in a cell of a kind and a value
 abbrev pub placed_in : (kind value : ℕ) → Option (ℕ × Cursor) → Option (Cell × Cursor)

@@ -19,19 +19,21 @@ use Rattle.symbols.specs.EntryLaws.{mentions_more}
 use Rattle.symbols.specs.Items.{with_item, with_items}
 use Rattle.symbols.specs.ParsingLaws.{expect_then, expect_broken}
 use Rattle.symbols.specs.declared.Cursor.{Cursor}
+use Rattle.symbols.specs.declared.Mentioned.{Mentioned}
 use Rattle.card_reader.specs.Letters.{letters, letters_on}
 use Rattle.numeric_parser.specs.OperandLaws.{onward-moved, onward_then, skipped, ready_here, ready_moved, then_broken, chosen, mentions_nothing}
 use Rattle.numeric_parser.specs.Kinds.{PutsCell}
-use Rattle.numeric_parser.specs.Operands.{cursor_moved, ReaderReady, Gets, meaning}
+use Rattle.encoding.specs.Meaning.{cell_meaning}
+use Rattle.numeric_parser.specs.Operands.{cursor_moved, ReaderReady, Gets}
 use Rattle.numeric_parser.specs.Reads.{GetsItems, ItemsRead}
-use Rattle.numeric_parser.specs.declared.operands.Cell.{Cell}
+use Rattle.encoding.specs.declared.cells.Cell.{Cell}
 
 -- an operand is one item
-pub operand_written : (p : Resolution) (depth : ℕ) {text table keys tags : List ℕ} {c : Cursor} (v : Cell) {k g : List ℕ} {d : Cursor}
-    → ReaderReady text keys tags c → begins (bytes "(") (drop c.at text) ≡ false
-    → Gets operand_cell (meaning v) text keys tags c (plain_factor current p (drop c.at text)) k g d → {t : List ℕ} {e : Cursor}
-    → PutsCell table d (meaning v) t e
-    → ItemsRead [] text table keys tags c (factor_from current p depth (drop c.at text)) (Some e) t k g
+pub operand_written : (p : Resolution) (depth : ℕ) {text table : List ℕ} {m : Mentioned} {c : Cursor} (v : Cell) {m₁ : Mentioned} {d : Cursor}
+    → ReaderReady text c → begins (bytes "(") (drop c.at text) ≡ false
+    → Gets operand_cell (cell_meaning v) text m c (plain_factor current p (drop c.at text)) m₁ d → {t : List ℕ} {e : Cursor}
+    → PutsCell table d (cell_meaning v) t e
+    → ItemsRead [] text table m c (factor_from current p depth (drop c.at text)) (Some e) t m₁
 unfolding factor_by ◌>>=◌ mentioning with_items item_cell operand_cell one_item mentions_in gather
 operand_written p depth {text} {table} {c = c} v {d = d} ready open' a {t} {e} put =
     let on = put.goes in
@@ -44,7 +46,7 @@ operand_written p depth {text} {table} {c = c} v {d = d} ready open' a {t} {e} p
                 factor_is current p depth (drop c.at text)
                 ∙ chosen _ _ open'
                 ∙ ap (λ (z : Parsed Operand). z >>= λ (x, rest). got (operand x ∷ []) one_item rest) a.is
-                ∙ ap (λ (m : Mentions). got (operand a.value ∷ []) m (drop d.at text)) (mentions_more a.entries 0 1 [] [] 0 0)
+                ∙ ap (λ (z : Mentions). got (operand a.value ∷ []) z (drop d.at text)) (mentions_more a.entries 0 1 [] [] 0 0)
                 ∙ ap (λ j. got (operand a.value ∷ []) (mentions_in a.entries 1 [] 0) (drop j text)) (sym put.at);
             written =
                 put.written
@@ -76,9 +78,9 @@ module _ (p : Resolution) (depth : ℕ) (bs : List ℕ) (paren : begins (bytes "
       → factor_from current p depth bs ≡ broken
   inside_broken e h = inside e ∙ then_broken _ h
 
-module _ (p : Resolution) (depth : ℕ) (c : Cursor) {text table keys tags : List ℕ} {t k g : List ℕ} {d : Cursor}
+module _ (p : Resolution) (depth : ℕ) (c : Cursor) {text table : List ℕ} {m : Mentioned} {t : List ℕ} {m₁ : Mentioned} {d : Cursor}
     (paren : begins (bytes "(") (drop c.at text) ≡ true) (shallow : ltb depth deepest ≡ true)
-    (a : GetsItems [] text table keys tags (cursor_moved c 1) (expression_from current p (suc depth) (drop (c.at + 1) text)) t k g d) where
+    (a : GetsItems [] text table m (cursor_moved c 1) (expression_from current p (suc depth) (drop (c.at + 1) text)) t m₁ d) where
   closing : (r : Parsed (List Item))
       → (expect (bytes ")") (drop d.at text) >>= λ (_, rest). succeed a.items rest) ≡ r
       → factor_from current p depth (drop c.at text) ≡ mentioning (mentions_in a.entries (length a.items) [] 0) r
@@ -93,7 +95,7 @@ module _ (p : Resolution) (depth : ℕ) (c : Cursor) {text table keys tags : Lis
       ∙ ap (mentioning (mentions_in a.entries (length a.items) [] 0)) e
 
   pub inside_then : begins (41 ∷ []) (drop d.at text) ≡ true
-      → GetsItems [] text table keys tags c (factor_from current p depth (drop c.at text)) t k g (cursor_moved d 1)
+      → GetsItems [] text table m c (factor_from current p depth (drop c.at text)) t m₁ (cursor_moved d 1)
   unfolding bytes mentioning succeed
   inside_then e =
       record {
@@ -102,7 +104,7 @@ module _ (p : Resolution) (depth : ℕ) (c : Cursor) {text table keys tags : Lis
         is =
             closing _
             (expect_then (41 ∷ []) (drop d.at text) (λ (_, rest). succeed a.items rest) e ∙ ap (succeed a.items) (drop-drop 1 d.at text))
-            ∙ ap (λ (m : Mentions). got a.items m (drop (d.at + 1) text)) (mentions_nothing (mentions_in a.entries (length a.items) [] 0));
+            ∙ ap (λ (z : Mentions). got a.items z (drop (d.at + 1) text)) (mentions_nothing (mentions_in a.entries (length a.items) [] 0));
         written = a.written;
         noting = a.noting;
         goes = onward_then (skipped c 1 refl).goes (onward-moved 1 a.goes) (omega arith) (omega arith);

@@ -1,25 +1,27 @@
-// The parsers of numeric expressions: what they read goes to the item rows of the table, the names mentioned to their arrays.
+// The parsers of numeric expressions: what they read goes to the item rows of the table, the names mentioned behind those before.
 // Assumes nothing.
 #![tactic(auto)]
 
 pub mod operands;
 
-ghost use Rattle.std.specs.Prelude.{◌≡◌, ◌≤◌, ◌<◌, length};
-ghost use Rattle.base.specs.Current.{table_size};
+ghost use Rattle.std.specs.Prelude.{◌≡◌, ◌≤◌, length};
+ghost use Rattle.encoding.specs.Meaning.{cell_meaning};
 ghost use Rattle.encoding.specs.Table.{cell, item_cell};
 ghost use Rattle.symbols.specs.Bounds.{far_enough};
-ghost use Rattle.symbols.specs.Environment.{CountsInRange};
 ghost use Rattle.numeric_parser.specs.Operands.{ReaderReady};
 ghost use Rattle.numeric_parser.specs.Kinds.{mark_at, PutsCell, ItemsPut, OperandWritten};
 ghost use Rattle.numeric_parser.specs.Reads.{mark_item, waiting, FactorRead, ExpressionRead, TermRead};
 
 use base::DEEPEST;
-use encoding::cell_kinds;
+use encoding::cells::Cell;
+use encoding::{TABLE_SIZE, cell_kinds};
 use lexer::stands_at;
 use operands::{marked, plain, skip};
-use symbols::{Cursor, KNOWN, NAMES, put_item};
+use symbols::known::Known;
+use symbols::{Cursor, Mentioned, put_item};
 
 // a mark whose item waits for what stands behind it: an operator, or the sign of an expression
+// kept: decoder has Operator and Sign apart, since in a run one takes two numbers, the other one; here all six are written alike, by their kinds
 #[derive(Clone, Copy, PartialEq, Eq)]
 pub enum Mark {
     Plus,
@@ -52,30 +54,25 @@ fn mark_at(text: &[u8], at: usize, first: u8, one: Mark, second: u8, other: Mark
     ensures { result ≡ mark_at first one second other text.now at }
 {
     if stands_at(text, at, first) {
-        return Some(one);
+        Some(one)
+    } else {
+        stands_at(text, at, second).then_some(other)
     }
-    if stands_at(text, at, second) {
-        return Some(other);
-    }
-    None
 }
 
 // how many items wait
 fn size(mark: Option<Mark>) -> usize
     ensures { result ≡ length (waiting mark) }
 {
-    match mark {
-        Some(_) => 1,
-        None => 0,
-    }
+    usize::from(mark.is_some())
 }
 
 // writes the next item
-fn put(table: &mut [u8], c: Cursor, kind: u8, place: u8, value: usize) -> Cursor
-    requires { (table_size ≤ length table.old) × (c.items ≤ far_enough) }
-    ensures { PutsCell table.old c (cell kind place value) table.new result }
+fn put(table: &mut [u8; TABLE_SIZE], c: Cursor, cell: Cell) -> Cursor
+    requires { c.items ≤ far_enough }
+    ensures { PutsCell table.old c (cell_meaning cell) table.new result }
 {
-    put_item(table, c.items, kind, place, value);
+    put_item(table, c.items, cell);
     Cursor {
         items: c.items + 1,
         ..c
@@ -83,57 +80,61 @@ fn put(table: &mut [u8], c: Cursor, kind: u8, place: u8, value: usize) -> Cursor
 }
 
 // writes what waits
-fn put_mark(table: &mut [u8], c: Cursor, mark: Option<Mark>) -> Cursor
-    requires { (table_size ≤ length table.old) × (c.items ≤ far_enough) }
+#[tactic(auto, using(crate::specs::KindLaws::puts_waiting, crate::specs::KindLaws::puts_nothing))]
+fn put_mark(table: &mut [u8; TABLE_SIZE], c: Cursor, mark: Option<Mark>) -> Cursor
+    requires { c.items ≤ far_enough }
     ensures { ItemsPut table.old c (waiting mark) table.new result }
 {
     match mark {
-        Some(mark) => put(table, c, mark.kind(), 0, 0),
+        Some(mark) => {
+            let cell = Cell {
+                kind: mark.kind(),
+                place: 0,
+                value: 0,
+            };
+            put(table, c, cell)
+        }
         None => c,
     }
 }
 
 // writes the operand at the cursor
+#[tactic(auto, using(crate::specs::KindLaws::items_lost, crate::specs::KindLaws::operand_broken, crate::specs::ReadLaws::operand_written))]
 fn write_operand(
     text: &[u8],
-    known: &[u64; KNOWN],
-    table: &mut [u8],
-    keys: &mut [u64; NAMES],
-    tags: &mut [u8; NAMES],
+    known: &Known,
+    table: &mut [u8; TABLE_SIZE],
+    mentioned: &mut Mentioned,
     c: Cursor,
 ) -> Option<Cursor>
-    requires reader_ready { ReaderReady text.now keys.old tags.old c }
-    requires counts_in_range { CountsInRange known.now }
-    requires table_size_in_bounds { table_size ≤ length table.old }
-    ensures { OperandWritten text.now known.now table.old keys.old tags.old c result
-        table.new keys.new tags.new }
+    requires { ReaderReady text.now c }
+    ensures { OperandWritten text.now known.now table.old mentioned.old c result
+        table.new mentioned.new }
 {
-    let (cell, d) = plain(text, known, keys, tags, c)?;
-    Some(put(table, d, cell.kind, cell.place, cell.value))
+    let (cell, d) = plain(text, known, mentioned, c)?;
+    Some(put(table, d, cell))
 }
 
 // an expression at a depth of parentheses: each operator, and the sign of the first term, is written behind the term it stands before
+// kept: a loop from mark to mark, here and of a term, which counts nothing; as an iterator it would be a struct of all six parameters
 #[cycle(expression_factor_term)]
 pub fn expression(
     text: &[u8],
-    known: &[u64; KNOWN],
-    table: &mut [u8],
-    keys: &mut [u64; NAMES],
-    tags: &mut [u8; NAMES],
+    known: &Known,
+    table: &mut [u8; TABLE_SIZE],
+    mentioned: &mut Mentioned,
     c: Cursor,
     depth: usize,
 ) -> Option<Cursor>
-    requires reader_ready { ReaderReady text.now keys.old tags.old c }
-    requires counts_in_range { CountsInRange known.now }
-    requires table_size_in_bounds { table_size ≤ length table.old }
-    ensures { ExpressionRead text.now known.now table.old keys.old tags.old c depth result
-        table.new keys.new tags.new }
+    requires { ReaderReady text.now c }
+    ensures { ExpressionRead text.now known.now table.old mentioned.old c depth result
+        table.new mentioned.new }
 {
     // what waits for the next term
     let mut mark = mark_at(text, c.at, b'+', Mark::Positive, b'-', Mark::Negative);
     let mut d = skip(c, size(mark));
     loop {
-        let e = term(text, known, table, keys, tags, d, depth)?;
+        let e = term(text, known, table, mentioned, d, depth)?;
         let f = put_mark(table, e, mark);
         mark = mark_at(text, f.at, b'+', Mark::Plus, b'-', Mark::Minus);
         if mark.is_none() {
@@ -148,24 +149,21 @@ pub fn expression(
 #[cycle(expression_factor_term)]
 fn term(
     text: &[u8],
-    known: &[u64; KNOWN],
-    table: &mut [u8],
-    keys: &mut [u64; NAMES],
-    tags: &mut [u8; NAMES],
+    known: &Known,
+    table: &mut [u8; TABLE_SIZE],
+    mentioned: &mut Mentioned,
     c: Cursor,
     depth: usize,
 ) -> Option<Cursor>
-    requires reader_ready { ReaderReady text.now keys.old tags.old c }
-    requires counts_in_range { CountsInRange known.now }
-    requires table_size_in_bounds { table_size ≤ length table.old }
-    ensures { TermRead text.now known.now table.old keys.old tags.old c depth result
-        table.new keys.new tags.new }
+    requires { ReaderReady text.now c }
+    ensures { TermRead text.now known.now table.old mentioned.old c depth result
+        table.new mentioned.new }
 {
     // what waits for the next factor: nothing at first
     let mut mark: Option<Mark> = None;
     let mut d = c;
     loop {
-        let e = factor(text, known, table, keys, tags, d, depth)?;
+        let e = factor(text, known, table, mentioned, d, depth)?;
         let f = put_mark(table, e, mark);
         mark = mark_at(text, f.at, b'*', Mark::Times, b'/', Mark::Over);
         if mark.is_none() {
@@ -179,25 +177,22 @@ fn term(
 #[cycle(expression_factor_term)]
 fn factor(
     text: &[u8],
-    known: &[u64; KNOWN],
-    table: &mut [u8],
-    keys: &mut [u64; NAMES],
-    tags: &mut [u8; NAMES],
+    known: &Known,
+    table: &mut [u8; TABLE_SIZE],
+    mentioned: &mut Mentioned,
     c: Cursor,
     depth: usize,
 ) -> Option<Cursor>
-    requires reader_ready { ReaderReady text.now keys.old tags.old c }
-    requires counts_in_range { CountsInRange known.now }
-    requires table_size_in_bounds { table_size ≤ length table.old }
-    ensures { FactorRead text.now known.now table.old keys.old tags.old c depth result
-        table.new keys.new tags.new }
+    requires { ReaderReady text.now c }
+    ensures { FactorRead text.now known.now table.old mentioned.old c depth result
+        table.new mentioned.new }
 {
     if !stands_at(text, c.at, b'(') {
-        return write_operand(text, known, table, keys, tags, c);
+        return write_operand(text, known, table, mentioned, c);
     }
     if DEEPEST <= depth {
         return None;
     }
-    let d = expression(text, known, table, keys, tags, skip(c, 1), depth + 1)?;
+    let d = expression(text, known, table, mentioned, skip(c, 1), depth + 1)?;
     marked(text, d, b')')
 }

@@ -1,26 +1,22 @@
 // Operands: names, constants, LENGTH and NUMBER, each read as a cell of the table.
 // Assumes nothing.
-ghost use Rattle.std.specs.Prelude.{List, Some, ◌≡◌, ℕ, ◌+◌, ◌≤◌, ◌<◌, length};
-ghost use Rattle.numeric_parser.specs.Operands.{ReaderReady, cursor_moved, StringTag, NameRead, NumberRead, StringRead, ConstantRead};
+// kept: text, names known and mentioned, table and cursor are passed one by one, and ReaderReady is asked of text and cursor. In one struct with
+// ReaderReady as its ghost field each function has to promise that the text stays, a clause for each that goes, and the proofs of this crate grow by
+// half, or by three quarters where the struct is lent as `&mut`: tried, in four forms
+ghost use Rattle.std.specs.Prelude.{Some, ◌≡◌, ◌+◌, ◌≤◌, ◌<◌};
+ghost use Rattle.numeric_parser.specs.Operands.{ReaderReady, cursor_moved, NameRead, NumberRead, StringRead, ConstantRead};
 ghost use Rattle.numeric_parser.specs.Operands.{InText, BoundRead, PartRead, behind_mark, behind_parenthesis, CalledRead, PlainRead};
 ghost use Rattle.symbols.specs.Bounds.{far_enough};
-ghost use Rattle.symbols.specs.Environment.{CountsInRange};
 
 use classes::is_digit;
 use encoding::cell_kinds;
+use encoding::cells::Cell;
 use lexer::constants::unsigned;
 use lexer::names::{key_of, name_length};
 use lexer::{begins_at, byte_at, stands_at};
-use symbols::tags::{NUMBER, STRING};
-use symbols::{BIAS, Cursor, KNOWN, NAMES, note_name, number_place, string_place};
-
-// a cell of the table
-#[derive(Clone, Copy)]
-pub struct Cell {
-    pub kind: u8,
-    pub place: u8,
-    pub value: usize,
-}
+use symbols::known::Known;
+use symbols::tags::{Role, Tag};
+use symbols::{BIAS, Cursor, Mentioned};
 
 // the cursor so many bytes further
 pub fn skip(c: Cursor, n: usize) -> Cursor
@@ -35,98 +31,85 @@ pub fn marked(text: &[u8], c: Cursor, mark: u8) -> Option<Cursor>
     requires { InText text.now c }
     ensures { result ≡ behind_mark text.now mark c }
 {
-    if stands_at(text, c.at, mark) {
-        Some(skip(c, 1))
-    } else {
-        None
-    }
+    stands_at(text, c.at, mark).then_some(skip(c, 1))
 }
 
 // a name, noted with a tag
+#[tactic(auto, using(crate::specs::OperandLaws::name_got, crate::specs::OperandLaws::name_lost, crate::specs::OperandLaws::name_notable))]
 pub fn read_name(
     text: &[u8],
-    keys: &mut [u64; NAMES],
-    tags: &mut [u8; NAMES],
+    mentioned: &mut Mentioned,
     c: Cursor,
-    tag: u8,
+    tag: Tag,
 ) -> Option<(u64, Cursor)>
-    requires { ReaderReady text.now keys.old tags.old c }
-    ensures { NameRead text.now keys.old tags.old c tag result keys.new tags.new }
+    requires { ReaderReady text.now c }
+    ensures { NameRead text.now mentioned.old c tag result mentioned.new }
 {
-    let at = c.at;
-    let n = name_length(text, at);
-    if n == 0 {
-        return None;
-    }
-    let key = key_of(text, at, n);
-    Some((key, skip(note_name(keys, tags, c, key, tag), n)))
+    let n = name_length(text, c.at)?;
+    let key = key_of(text, c.at, n);
+    Some((key, skip(mentioned.note(c, key, tag), n)))
 }
 
 // a number's name
+#[tactic(auto, using(crate::specs::OperandLaws::place_lost, crate::specs::OperandLaws::number_broken, crate::specs::OperandLaws::number_got))]
 pub fn read_number(
     text: &[u8],
-    known: &[u64; KNOWN],
-    keys: &mut [u64; NAMES],
-    tags: &mut [u8; NAMES],
+    known: &Known,
+    mentioned: &mut Mentioned,
     c: Cursor,
 ) -> Option<(u8, Cursor)>
-    requires reader_ready { ReaderReady text.now keys.old tags.old c }
-    requires counts_in_range { CountsInRange known.now }
-    ensures { NumberRead text.now known.now keys.old tags.old c result keys.new tags.new }
+    requires { ReaderReady text.now c }
+    ensures { NumberRead text.now known.now mentioned.old c result mentioned.new }
 {
-    let (key, d) = read_name(text, keys, tags, c, NUMBER)?;
-    Some((number_place(known, key), d))
+    let (key, d) = read_name(text, mentioned, c, Tag::NumberUsed)?;
+    Some((known.number_place(key), d))
 }
 
-// a string's name, noted with a tag that tells its role
+// a string's name, with the role that it has in a SCAN
+#[tactic(auto, using(crate::specs::OperandLaws::place_lost, crate::specs::OperandLaws::string_broken, crate::specs::OperandLaws::string_got))]
 pub fn read_string(
     text: &[u8],
-    known: &[u64; KNOWN],
-    keys: &mut [u64; NAMES],
-    tags: &mut [u8; NAMES],
+    known: &Known,
+    mentioned: &mut Mentioned,
     c: Cursor,
-    tag: u8,
+    role: Option<Role>,
 ) -> Option<(u8, Cursor)>
-    requires reader_ready { ReaderReady text.now keys.old tags.old c }
-    requires counts_in_range { CountsInRange known.now }
-    requires string_tag { StringTag tag }
-    ensures { StringRead text.now known.now keys.old tags.old c tag result keys.new tags.new }
+    requires { ReaderReady text.now c }
+    ensures { StringRead text.now known.now mentioned.old c role result mentioned.new }
 {
-    let (key, d) = read_name(text, keys, tags, c, tag)?;
-    Some((string_place(known, key), d))
+    let (key, d) = read_name(text, mentioned, c, Tag::of_string(role))?;
+    Some((known.string_place(key), d))
 }
 
 // a constant at the cursor, in the cell of a kind and a place
+#[tactic(auto, using(lexer::specs::Laws::constant_range, lexer::specs::Laws::constant_ends))]
 fn constant(text: &[u8], c: Cursor, kind: u8, place: u8) -> Option<(Cell, Cursor)>
     requires { InText text.now c }
-    ensures { (keys tags : List ℕ) → ReaderReady text.now keys tags c → ConstantRead text.now keys tags c kind place result }
+    ensures { (m : Mentioned) → ReaderReady text.now c → ConstantRead text.now m c kind place result }
 {
-    let at = c.at;
-    let number = unsigned(text, at)?;
+    let number = unsigned(text, c.at)?;
     let value = number.value as usize + BIAS;
-    Some((Cell { kind, place, value }, skip(c, number.next - at)))
+    Some((Cell { kind, place, value }, skip(c, number.next - c.at)))
 }
 
 // the n of S$n, in the cell of this kind and place, or for a number of the next kind
+#[tactic(auto, using(crate::specs::OperandLaws::bound_read))]
 pub fn read_bound(
     text: &[u8],
-    known: &[u64; KNOWN],
-    keys: &mut [u64; NAMES],
-    tags: &mut [u8; NAMES],
+    known: &Known,
+    mentioned: &mut Mentioned,
     c: Cursor,
     kind: u8,
     place: u8,
 ) -> Option<(Cell, Cursor)>
-    requires reader_ready { ReaderReady text.now keys.old tags.old c }
-    requires counts_in_range { CountsInRange known.now }
+    requires reader_ready { ReaderReady text.now c }
     requires kind_bound { kind < 200 }
-    ensures { BoundRead text.now known.now keys.old tags.old c kind place result keys.new tags.new }
+    ensures { BoundRead text.now known.now mentioned.old c kind place result mentioned.new }
 {
-    let at = c.at;
-    if is_digit(byte_at(text, at)) {
+    if is_digit(byte_at(text, c.at)) {
         return constant(text, c, kind, place);
     }
-    let (number, d) = read_number(text, known, keys, tags, c)?;
+    let (number, d) = read_number(text, known, mentioned, c)?;
     let cell = Cell {
         kind: kind + 1,
         place,
@@ -136,23 +119,22 @@ pub fn read_bound(
 }
 
 // a string or a substring, in a cell of this kind, or for the first bytes of one of the next two kinds
+#[tactic(auto, using(crate::specs::OperandLaws::part_read))]
 pub fn read_part(
     text: &[u8],
-    known: &[u64; KNOWN],
-    keys: &mut [u64; NAMES],
-    tags: &mut [u8; NAMES],
+    known: &Known,
+    mentioned: &mut Mentioned,
     c: Cursor,
     kind: u8,
-    tag: u8,
+    role: Option<Role>,
 ) -> Option<(Cell, Cursor)>
-    requires reader_ready { ReaderReady text.now keys.old tags.old c }
-    requires counts_in_range { CountsInRange known.now }
-    requires kind_bound { (kind < 100) × StringTag tag }
-    ensures { PartRead text.now known.now keys.old tags.old c kind tag result keys.new tags.new }
+    requires reader_ready { ReaderReady text.now c }
+    requires kind_bound { kind < 100 }
+    ensures { PartRead text.now known.now mentioned.old c kind role result mentioned.new }
 {
-    let (place, d) = read_string(text, known, keys, tags, c, tag)?;
+    let (place, d) = read_string(text, known, mentioned, c, role)?;
     if stands_at(text, d.at, b'$') {
-        return read_bound(text, known, keys, tags, skip(d, 1), kind + 1, place);
+        return read_bound(text, known, mentioned, skip(d, 1), kind + 1, place);
     }
     let value = 0;
     Some((Cell { kind, place, value }, d))
@@ -170,47 +152,42 @@ pub fn closed(text: &[u8], cell: Cell, c: Cursor) -> Option<(Cell, Cursor)>
 // LENGTH, NUMBER or a number
 pub fn read_called(
     text: &[u8],
-    known: &[u64; KNOWN],
-    keys: &mut [u64; NAMES],
-    tags: &mut [u8; NAMES],
+    known: &Known,
+    mentioned: &mut Mentioned,
     c: Cursor,
 ) -> Option<(Cell, Cursor)>
-    requires reader_ready { ReaderReady text.now keys.old tags.old c }
-    requires counts_in_range { CountsInRange known.now }
-    ensures { CalledRead text.now known.now keys.old tags.old c result keys.new tags.new }
+    requires { ReaderReady text.now c }
+    ensures { CalledRead text.now known.now mentioned.old c result mentioned.new }
 {
-    let at = c.at;
     let value = 0;
-    if begins_at(text, at, b"LENGTH(") {
-        let (place, d) = read_string(text, known, keys, tags, skip(c, 7), STRING)?;
+    if begins_at(text, c.at, b"LENGTH(") {
+        let (place, d) = read_string(text, known, mentioned, skip(c, 7), None)?;
         let kind = cell_kinds::LENGTH;
         return closed(text, Cell { kind, place, value }, d);
     }
-    if begins_at(text, at, b"NUMBER(") {
+    if begins_at(text, c.at, b"NUMBER(") {
         let kind = cell_kinds::NUMBER_OF;
-        let (cell, d) = read_part(text, known, keys, tags, skip(c, 7), kind, STRING)?;
+        let (cell, d) = read_part(text, known, mentioned, skip(c, 7), kind, None)?;
         return closed(text, cell, d);
     }
-    let (place, d) = read_number(text, known, keys, tags, c)?;
+    let (place, d) = read_number(text, known, mentioned, c)?;
     let kind = cell_kinds::NUMBER;
     Some((Cell { kind, place, value }, d))
 }
 
 // a factor but for parentheses
+#[tactic(auto, using(crate::specs::OperandLaws::plain_constant, crate::specs::OperandLaws::plain_called))]
 pub fn plain(
     text: &[u8],
-    known: &[u64; KNOWN],
-    keys: &mut [u64; NAMES],
-    tags: &mut [u8; NAMES],
+    known: &Known,
+    mentioned: &mut Mentioned,
     c: Cursor,
 ) -> Option<(Cell, Cursor)>
-    requires reader_ready { ReaderReady text.now keys.old tags.old c }
-    requires counts_in_range { CountsInRange known.now }
-    ensures { PlainRead text.now known.now keys.old tags.old c result keys.new tags.new }
+    requires { ReaderReady text.now c }
+    ensures { PlainRead text.now known.now mentioned.old c result mentioned.new }
 {
-    let at = c.at;
-    if is_digit(byte_at(text, at)) {
+    if is_digit(byte_at(text, c.at)) {
         return constant(text, c, cell_kinds::CONSTANT, 0);
     }
-    read_called(text, known, keys, tags, c)
+    read_called(text, known, mentioned, c)
 }

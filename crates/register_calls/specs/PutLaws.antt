@@ -6,7 +6,7 @@ use Rattle.std.proofs.Common.{drop-drop, subst, ◌∙◌, zero-add, take-append
 use Prim.Native.Nat.{ℕ, ◌+◌, ◌*◌, ◌-◌, ◌≤◌, ◌<◌}
 use native.Mathlib.Omega.{arith}
 use Rattle.std.proofs.Math.ListN.{get_or-eq_default, length, drop, replicate, length-append, replicate-append-replicate}
-use Rattle.std.proofs.lemmas.List.{length-replicate}
+use Rattle.std.proofs.lemmas.List.{length-map, length-replicate}
 use Rattle.std.proofs.Math.Seq.{take_at}
 use Rattle.std.specs.Prelude.{Option, Some, None, Result, Ok, Err}
 use Rattle.register.specs.Refusals.{number_of, refusal_number}
@@ -33,8 +33,8 @@ use Rattle.register.specs.RegisterLaws.{OfferTaken, all_forms, house_open, store
 use Rattle.register_lines.specs.FieldLaws.{contract_size, count_none, four-fields}
 use Rattle.register_lines.specs.Fields.{FormFound, RunOfBytes, field_count, is_count}
 use Rattle.register_reading.specs.KeyLaws.{key-read, keys_hold}
-use Rattle.register_reading.specs.ReadLaws.{here-form, opened_refused}
-use Rattle.register_reading.specs.Reading.{OpenedRead, Placed, RegisterReady, slot_at}
+use Rattle.register_reading.specs.ReadLaws.{opened_ready, here-form, opened_refused}
+use Rattle.register_reading.specs.Reading.{OpenedRead, Placed, RegisterReady, key_in, slot_at}
 use Rattle.register_calls.specs.Putting.{OfferJudged, Keyed, stored_by}
 
 refusal_some : (refusal : Refusal) → ¬ (refusal_number refusal ≡ 0)
@@ -168,35 +168,36 @@ fields_in (Ok form) = Some form.fields
 fields_in (Err refusal) = None
 
 -- The number for a line offered, by what the code asks: its form, whether its key is among the others, whether all places are taken
-module _ (line keys : List ℕ) (n contract key : ℕ) (run : RunOfBytes is_name_byte line 0 contract)
+module _ (line keys : List ℕ) (contract key : ℕ) (run : RunOfBytes is_name_byte line 0 contract)
     (k : key ≡ key_of (without_blanks (take 8 (take contract line)))) where
-  held-is : (held : Lines) → Keyed held n keys → has_form line ≡ true → among key (take n keys) ≡ is_held held (contract_of line)
+  held-is : (held : Lines) → Keyed held keys → has_form line ≡ true → among key keys ≡ is_held held (contract_of line)
   held-is held r form =
       ap₂ {C = Bool} among (k ∙ key-read line contract form (contract_size line contract run form)) r.keyed
       ∙ keys_hold held line r.good form
 
-  full_is : (held : Lines) → Keyed held n keys → eqb n most_lines ≡ leb most_lines (length held)
+  full_is : (held : Lines) → Keyed held keys → eqb (length keys) most_lines ≡ leb most_lines (length held)
   full_is held r =
-      same_truth (eqb n most_lines) (leb most_lines (length held))
-      (λ e. le-leb most_lines (length held) (omega (arith, eqb-true n most_lines e, r.count)))
-      (λ e. eq-eqb n most_lines (omega (arith, leb-true most_lines (length held) e, r.count, r.few)))
+      let count : length keys ≡ length held = ap length r.keyed ∙ length-map held key_in in
+      same_truth (eqb (length keys) most_lines) (leb most_lines (length held))
+      (λ e. le-leb most_lines (length held) (omega (arith, eqb-true (length keys) most_lines e, count)))
+      (λ e. eq-eqb (length keys) most_lines (omega (arith, leb-true most_lines (length held) e, count, r.few)))
 
-  pub held_judged : has_form line ≡ true → among key (take n keys) ≡ true → OfferJudged line n keys (Err ContractHeld)
+  pub held_judged : has_form line ≡ true → among key keys ≡ true → OfferJudged line keys (Err ContractHeld)
   unfolding offer_number lowest_of
   held_judged form found =
       record { judged = λ held r. rw (form, sym (held-is held r form) ∙ found); counted = λ f e. cc }
 
-  module _ (form : has_form line ≡ true) (other : among key (take n keys) ≡ false) where
-    pub full_judged : n ≡ most_lines → OfferJudged line n keys (Err Full)
+  module _ (form : has_form line ≡ true) (other : among key keys ≡ false) where
+    pub full_judged : length keys ≡ most_lines → OfferJudged line keys (Err Full)
     unfolding offer_number lowest_of
     full_judged e =
-        record { judged = λ held r. rw (form, sym (held-is held r form) ∙ other, sym (full_is held r) ∙ eq-eqb n most_lines e); counted = λ f k. cc }
+        record { judged = λ held r. rw (form, sym (held-is held r form) ∙ other, sym (full_is held r) ∙ eq-eqb (length keys) most_lines e); counted = λ f k. cc }
 
-    pub taken_judged : (found : Form) → field_count line ≡ Some found.fields → ¬ (n ≡ most_lines) → OfferJudged line n keys (Ok found)
+    pub taken_judged : (found : Form) → field_count line ≡ Some found.fields → ¬ (length keys ≡ most_lines) → OfferJudged line keys (Ok found)
     unfolding offer_number lowest_of fields_in
     taken_judged found count e =
         record {
-          judged = λ held r. rw (form, sym (held-is held r form) ∙ other, sym (full_is held r) ∙ ne_eqb n most_lines e);
+          judged = λ held r. rw (form, sym (held-is held r form) ∙ other, sym (full_is held r) ∙ ne_eqb (length keys) most_lines e);
           counted = λ f k. count ∙ ap (λ (r : Result Form Refusal). fields_in r) k;
         }
 
@@ -210,77 +211,87 @@ pub none_known : (line : List ℕ) (r : Option Form) → FormFound line r → r 
 unfolding FormFound
 none_known line r found is = subst (FormFound line) is found
 
-pub bad_judged : (line keys : List ℕ) (n : ℕ) → field_count line ≡ None → OfferJudged line n keys (Err BadLine)
+pub bad_judged : (line keys : List ℕ) → field_count line ≡ None → OfferJudged line keys (Err BadLine)
 unfolding offer_number lowest_of
-bad_judged line keys n none = record { judged = λ held r. rw (count_none line none); counted = λ f e. cc }
+bad_judged line keys none = record { judged = λ held r. rw (count_none line none); counted = λ f e. cc }
 
 -- An offer to an opened register of n lines, by its number
-module _ (buffer line keys : List ℕ) (n : ℕ) (ready : RegisterReady buffer n keys) (r : Result Form Refusal) (j : OfferJudged line n keys r) where
-  is_ready : buffer_open buffer ≡ true
-  is_ready = open_keeps buffer ready.counted.keeps ∙ ready.counted.is_open_lem
+module _
+    (buffer line keys held : List ℕ)
+    (n : ℕ)
+    (read : OpenedRead buffer keys (Ok n))
+    (same : held ≡ keys)
+    (r : Result Form Refusal)
+    (j : OfferJudged line held r)
+  where
+    ready : RegisterReady buffer n keys
+    ready = opened_ready buffer keys n read
 
-  keyed : Keyed (register_in buffer).lines n keys
-  keyed =
-      let s = read_sound buffer ready.counted.keeps in
-      record { good = all_forms (register_in buffer) s; few = s.few; count = ready.counted.count; keyed = ready.keyed }
+    is_ready : buffer_open buffer ≡ true
+    is_ready = open_keeps buffer ready.counted.keeps ∙ ready.counted.is_open_lem
 
-  number_is : offer_number (register_in buffer).lines line ≡ number_of r
-  number_is = sym (j.judged (register_in buffer).lines keyed)
+    keyed : Keyed (register_in buffer).lines held
+    keyed =
+        let s = read_sound buffer ready.counted.keeps in
+        record { good = all_forms (register_in buffer) s; few = s.few; keyed = same ∙ ready.keyed }
 
-  pub offer_kept : (refusal : Refusal) → r ≡ Err refusal → buffer_back (number_of r) buffer ≡ offer_call buffer line
-  offer_kept refusal e = sym (offer_declined buffer line (number_of r) is_ready number_is (λ z. refusal_some refusal (sym (ap number_of e) ∙ z)))
+    number_is : offer_number (register_in buffer).lines line ≡ number_of r
+    number_is = sym (j.judged (register_in buffer).lines keyed)
 
-  module _ (form : Form) (ok : r ≡ Ok form) where
-    abbrev fields : ℕ
-    fields = form.fields
+    pub offer_kept : (refusal : Refusal) → r ≡ Err refusal → buffer_back (number_of r) buffer ≡ offer_call buffer line
+    offer_kept refusal e = sym (offer_declined buffer line (number_of r) is_ready number_is (λ z. refusal_some refusal (sym (ap number_of e) ∙ z)))
 
-    zero_is : number_of r ≡ 0
-    zero_is = ap number_of ok
+    module _ (form : Form) (ok : r ≡ Ok form) where
+      abbrev fields : ℕ
+      fields = form.fields
 
-    f : field_count line ≡ Some fields
-    f = j.counted form ok
+      zero_is : number_of r ≡ 0
+      zero_is = ap number_of ok
 
-    takes : OfferTaken (register_in buffer).lines line
-    takes = taken (register_in buffer).lines line (number_is ∙ zero_is)
+      f : field_count line ≡ Some fields
+      f = j.counted form ok
 
-    currency_is : is_currency (register_in buffer).house ≡ true
-    currency_is = house_open (register_in buffer) (read_sound buffer ready.counted.keeps).home ready.counted.is_open_lem
+      takes : OfferTaken (register_in buffer).lines line
+      takes = taken (register_in buffer).lines line (number_is ∙ zero_is)
 
-    -- the house currency stands in the first three bytes
-    house-here : take 3 buffer ≡ (register_in buffer).house
-    unfolding register_in
-    house-here =
-        let h = text_in (header_in buffer) in
-        sym (take-take 3 header_size buffer (omega arith))
-        ∙ ap (take 3) (sym (text_front (header_in buffer)))
-        ∙ take_at h (drop (length h) (header_in buffer)) 3 (currency_size h currency_is)
+      currency_is : is_currency (register_in buffer).house ≡ true
+      currency_is = house_open (register_in buffer) (read_sound buffer ready.counted.keeps).home ready.counted.is_open_lem
 
-    text_is : stored_by fields (take 3 buffer) line ≡ stored (register_in buffer).house line
-    text_is = ap (λ h. stored_by fields h line) house-here ∙ stored_is fields (register_in buffer).house line f
+      -- the house currency stands in the first three bytes
+      house-here : take 3 buffer ≡ (register_in buffer).house
+      unfolding register_in
+      house-here =
+          let h = text_in (header_in buffer) in
+          sym (take-take 3 header_size buffer (omega arith))
+          ∙ ap (take 3) (sym (text_front (header_in buffer)))
+          ∙ take_at h (drop (length h) (header_in buffer)) 3 (currency_size h currency_is)
 
-    fits : length (stored (register_in buffer).house line) ≤ slot_size
-    fits =
-        let text = stored (register_in buffer).house line in
-        (line_size_lem text (record_form text (stored_record (register_in buffer).house currency_is line takes.form))).1
+      text_is : stored_by fields (take 3 buffer) line ≡ stored (register_in buffer).house line
+      text_is = ap (λ h. stored_by fields h line) house-here ∙ stored_is fields (register_in buffer).house line f
 
-    pub offer_room : slot_at n + length (stored_by fields (take 3 buffer) line) ≤ length buffer
-    offer_room =
-        omega (
-          arith,
-          line_room buffer ready.counted.keeps (stored (register_in buffer).house line) fits takes.room,
-          ready.counted.count,
-          ap length text_is,
-        )
+      fits : length (stored (register_in buffer).house line) ≤ slot_size
+      fits =
+          let text = stored (register_in buffer).house line in
+          (line_size_lem text (record_form text (stored_record (register_in buffer).house currency_is line takes.form))).1
 
-    pub offer_put : (left : List ℕ) → left ≡ splice buffer (slot_at n) (stored_by fields (take 3 buffer) line)
-        → buffer_back 0 left ≡ offer_call buffer line
-    offer_put left put =
-        let at : splice buffer (slot_at n) (stored_by fields (take 3 buffer) line)
-        ≡ splice buffer (slot_at (length (register_in buffer).lines)) (stored (register_in buffer).house line) =
-        ap₂ {C = List ℕ} (λ m t. splice buffer (slot_at m) t) ready.counted.count text_is in
-        ap (buffer_back 0)
-        (put ∙ at ∙ line-put buffer ready.counted.keeps (stored (register_in buffer).house line) fits takes.room)
-        ∙ sym (offer_taken buffer line is_ready (number_is ∙ zero_is))
+      pub offer_room : slot_at n + length (stored_by fields (take 3 buffer) line) ≤ length buffer
+      offer_room =
+          omega (
+            arith,
+            line_room buffer ready.counted.keeps (stored (register_in buffer).house line) fits takes.room,
+            ready.counted.count,
+            ap length text_is,
+          )
+
+      pub offer_put : (left : List ℕ) → left ≡ splice buffer (slot_at n) (stored_by fields (take 3 buffer) line)
+          → buffer_back 0 left ≡ offer_call buffer line
+      offer_put left put =
+          let at : splice buffer (slot_at n) (stored_by fields (take 3 buffer) line)
+          ≡ splice buffer (slot_at (length (register_in buffer).lines)) (stored (register_in buffer).house line) =
+          ap₂ {C = List ℕ} (λ m t. splice buffer (slot_at m) t) ready.counted.count text_is in
+          ap (buffer_back 0)
+          (put ∙ at ∙ line-put buffer ready.counted.keeps (stored (register_in buffer).house line) fits takes.room)
+          ∙ sym (offer_taken buffer line is_ready (number_is ∙ zero_is))
 
 pub offer_refuses : (buffer line : List ℕ) → buffer_open buffer ≡ false → buffer_back 14 buffer ≡ offer_call buffer line
 unfolding register_turned_down

@@ -13,15 +13,14 @@ use Rattle.register_lines.specs.declared.Form.{Form}
 use Rattle.register_reading.specs.Reading.{keys_of}
 
 -- lines with their keys
-pub record Keyed (held : Lines) (n : ℕ) (keys : List ℕ) : Type 0 where
+pub record Keyed (held : Lines) (keys : List ℕ) : Type 0 where
   pub good : all has_form held ≡ true
   pub few : length held ≤ most_lines
-  pub count : n ≡ length held
-  pub keyed : take n keys ≡ keys_of held
+  pub keyed : keys ≡ keys_of held
 
 -- the number for a line offered, whatever lines have these keys; and the fields of one that is taken
-pub record OfferJudged (line : List ℕ) (n : ℕ) (keys : List ℕ) (r : Result Form Refusal) : Type 0 where
-  pub judged : (held : Lines) → Keyed held n keys → number_of r ≡ offer_number held line
+pub record OfferJudged (line keys : List ℕ) (r : Result Form Refusal) : Type 0 where
+  pub judged : (held : Lines) → Keyed held keys → number_of r ≡ offer_number held line
   pub counted : (form : Form) → r ≡ Ok form → field_count line ≡ Some form.fields
 
 -- a line of so many fields as it is stored: one of four with a comma and the house currency behind it

@@ -12,6 +12,7 @@ ghost use Rattle.register.specs.Refusals.{number_of};
 ghost use Rattle.register_calls.specs.Putting.{OfferJudged, WrittenOut, stored_by};
 ghost use Rattle.register_reading.specs.Reading.{Unopened};
 
+use arrayvec::ArrayVec;
 use card_reader::keys;
 use register::{CURRENCY, HEADER, LINE_SIZE, LINES, OLD_FIELDS, Refusal, SLOT, number_of};
 use register_lines::{Form, form_of, is_currency};
@@ -35,6 +36,7 @@ fn write_currency(buffer: &mut [u8], at: usize, currency: &[u8])
 }
 
 // writes a currency behind each of the n lines of a register that isn't opened
+// kept: by the slot's place: chunks_exact_mut lends the buffer till the loop ends, and the invariant is of the whole buffer so far
 fn write_out(buffer: &mut [u8], n: usize, currency: &[u8])
     requires { Unopened buffer.old n × (is_currency currency.now ≡ true) }
     ensures { WrittenOut buffer.old currency.now buffer.new }
@@ -62,7 +64,7 @@ fn open(buffer: &mut [u8], currency: &[u8]) -> Result<(), Refusal>
     if !is_currency(currency) {
         return Err(Refusal::BadCurrency);
     }
-    let mut keys = [0; LINES];
+    let mut keys = ArrayVec::new();
     match read_register(buffer, &mut keys).ok_or(Refusal::BadBuffer)? {
         Held::Opened(_) => tell_house(buffer, currency),
         Held::Old(n) => open_old(buffer, n, currency),
@@ -77,17 +79,15 @@ pub fn strigol_register_open(buffer: &mut [u8], currency: &[u8]) -> u32
     number_of(open(buffer, currency))
 }
 
-// the form of a line offered to a register of n lines with these keys; or the lowest number's refusal, of those that apply
-fn judge(line: &[u8], n: usize, keys: &[u64]) -> Result<Form, Refusal>
-    requires { n ≤ length keys.now }
-    ensures { OfferJudged line.now n keys.now result }
+// the form of a line offered to a register whose lines have these keys; or the lowest number's refusal, of those that apply
+fn judge(line: &[u8], held: &[u64]) -> Result<Form, Refusal>
+    ensures { OfferJudged line.now held.now result }
 {
     let form = form_of(line).ok_or(Refusal::BadLine)?;
-    let key = keys::key_of(&line[..form.contract]);
-    if keys[..n].contains(&key) {
+    if held.contains(&keys::key_of(&line[..form.contract])) {
         return Err(Refusal::ContractHeld);
     }
-    if n == LINES {
+    if held.len() == LINES {
         return Err(Refusal::Full);
     }
     Ok(form)
@@ -110,9 +110,9 @@ fn put_stored(buffer: &mut [u8], at: usize, line: &[u8], fields: usize)
 fn offer(buffer: &mut [u8], line: &[u8]) -> Result<(), Refusal>
     ensures { buffer_back (number_of result) buffer.new ≡ offer_call buffer.old line.now }
 {
-    let mut keys = [0; LINES];
+    let mut keys = ArrayVec::new();
     let n = read_opened(buffer, &mut keys)?;
-    let form = judge(line, n, &keys)?;
+    let form = judge(line, keys.as_slice())?;
     put_stored(buffer, HEADER + SLOT * n, line, form.fields);
     Ok(())
 }
@@ -134,7 +134,7 @@ fn hand_out(
     requires { (line.old ≡ replicate line_size 0) × (length.old ≡ 0) }
     ensures { line_back (number_of result) line.new length.new ≡ line_call buffer.now place }
 {
-    let mut keys = [0; LINES];
+    let mut keys = ArrayVec::new();
     let n = read_opened(buffer, &mut keys)?;
     if place < n as u64 {
         let held = line_in(buffer, place as usize);

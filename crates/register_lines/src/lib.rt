@@ -29,6 +29,7 @@ pub struct Form {
 }
 
 // how many letters and digits bytes begin with
+// kept: three chains that differ in their test alone; one function of a test would only wrap take_while and count
 fn names_len(bytes: &[u8]) -> usize
     ensures { result ≡ prefix_len (λ b. is_ascii_uppercase b || is_ascii_digit b) bytes.now }
 {
@@ -61,6 +62,7 @@ fn is_number(line: &[u8], at: usize, n: usize, most: usize) -> bool
     (1..=most).contains(&n) && line[at] != b'0'
 }
 
+// kept: a line and a place in it come apart: the place is what each reading answers, and the next one takes it with the same line
 fn has_comma(line: &[u8], at: usize) -> bool
     ensures { result ≡ eqb (get_or line.now at 0) 44 }
 {

@@ -1,7 +1,8 @@
 -- Contracts as keys: a key shows its contract, so keys are compared for contracts; marks tell which keys can't be held. Assumes nothing.
-use Rattle.std.specs.Prelude.{Bool, true, false, not, ◌||◌, List, [], ◌∷◌, ◌++◌, ◌≡◌, refl, ℕ, zero, suc, ◌+◌, ◌*◌, ◌%◌, ◌≤◌, ◌<◌, eqb, length, take, get_or, set}
+use Rattle.std.specs.Prelude.{Bool, true, false, not, ◌||◌, List, [], ◌∷◌, ◌++◌, ◌≡◌, refl, ℕ, ◌+◌, ◌*◌, ◌%◌, ◌≤◌, eqb, length, take, get_or, set}
 use Rattle.std.proofs.lemmas.Bool.{false≢true, eqb-false}
-use Rattle.std.proofs.Common.{sym, ap, ap₂, ◌∙◌, arith, length-set, take-suc, take_all, get_or-set_same, get_or-set_other, eqb-true, eq-eqb, ne_eqb}
+use Rattle.std.proofs.Common.{sym, ap, ap₂, ◌∙◌, arith, length-set, take_all, get_or-set_same, get_or-set_other, eqb-true, eq-eqb, ne_eqb}
+use Rattle.std.proofs.Math.Bool.{or-false}
 use Rattle.std.specs.Prelude.{nat_eq}
 use Rattle.std.specs.List.{fold, list_any}
 use Rattle.base.specs.Choice.{both_true, same_truth, test_cases}
@@ -107,55 +108,49 @@ key-read line n e size =
     ∙ ap key_of (name-whole (contract_of line) c.names)
 
 -- Marks. No key is marked at first; a key whose place has no mark is none of those marked; and one more is marked.
-pub none_marked : (keys marks : List ℕ) → length marks ≡ mark_count → Marked keys marks 0
-none_marked keys marks e = record { few = omega arith; size = e; each = λ j h. absurd (omega arith) }
-
-among-at : (key : ℕ) (keys : List ℕ) (k : ℕ) → k ≤ length keys → ((j : ℕ) → j < k → ¬ (key ≡ get_or keys j 0)) → among key (take k keys) ≡ false
+pub none_marked : (keys : List ℕ) (marks : List Bool) → keys ≡ [] → length marks ≡ mark_count → Marked keys marks
 unfolding among
-among-at key keys zero h none = refl
-among-at key keys (suc k) h none =
-    ap (among key) (take-suc keys k 0 h)
-    ∙ among-append key (take k keys) (get_or keys k 0 ∷ [])
-    ∙ rw (among-at key keys k (omega arith) (λ j l. none j (omega arith)), ne_eqb key (get_or keys k 0) (none k (omega arith)))
+none_marked keys marks none e = record { size = e; each = λ key is. absurd (false≢true (sym (ap (among key) none) ∙ is)) }
 
-pub unmarked : (keys marks : List ℕ) (k key : ℕ) → Marked keys marks k → get_or marks (key % mark_count) 0 ≡ 0 → among key (take k keys) ≡ false
-unmarked keys marks k key m e =
-    among-at key keys k m.few (λ j l same. m.each j l (ap (λ x. get_or marks (x % mark_count) 0) (sym same) ∙ e))
+pub unmarked : (keys : List ℕ) (marks : List Bool) (key : ℕ) → Marked keys marks → get_or marks (key % mark_count) false ≡ false
+    → among key keys ≡ false
+unmarked keys marks key m e =
+    test_cases (λ t. t ≡ false) (among key keys) (λ is. absurd (false≢true (sym e ∙ m.each key is))) (λ _. refl)
 
-module _ (keys marks : List ℕ) (k key : ℕ) (m : Marked keys marks k) (h : k < length keys) where
-  marked-here : (i : ℕ) → i ≡ key % mark_count → get_or (set marks (key % mark_count) 1) i 0 ≡ 1
-  marked-here i e =
-      ap (λ n. get_or (set marks (key % mark_count) 1) n 0) e ∙ get_or-set_same marks (key % mark_count) 1 0 (omega (arith, m.size))
+module _ (keys : List ℕ) (marks : List Bool) (key : ℕ) (m : Marked keys marks) where
+  abbrev place : ℕ
+  place = key % mark_count
 
-  -- the key just set, and those before it
-  mark_last : (j : ℕ) → j ≡ k → ¬ (get_or (set marks (key % mark_count) 1) (get_or (set keys k key) j 0 % mark_count) 0 ≡ 0)
-  mark_last j is z =
-      let at : get_or (set keys k key) j 0 ≡ key = ap (λ n. get_or (set keys k key) n 0) is ∙ get_or-set_same keys k key 0 h in
-      omega (arith, z, marked-here (get_or (set keys k key) j 0 % mark_count) (ap (λ n. n % mark_count) at))
+  marked-here : get_or (set marks place true) place false ≡ true
+  marked-here = get_or-set_same marks place true false (omega (arith, m.size))
 
-  mark_earlier : (j : ℕ) → j < k + 1 → ¬ (j ≡ k) → ¬ (get_or (set marks (key % mark_count) 1) (get_or (set keys k key) j 0 % mark_count) 0 ≡ 0)
-  mark_earlier j l other z =
-      let at : get_or (set keys k key) j 0 ≡ get_or keys j 0 = get_or-set_other keys k j key 0 other in
-      let place = get_or keys j 0 % mark_count in
-      let zero : get_or (set marks (key % mark_count) 1) place 0 ≡ 0 =
-      ap (λ n. get_or (set marks (key % mark_count) 1) (n % mark_count) 0) (sym at) ∙ z in
-      test_cases (λ _. ⊥) (eqb place (key % mark_count))
-      (λ e. omega (arith, zero, marked-here place (eqb-true place (key % mark_count) e)))
-      (λ e. m.each j (omega arith) (sym (get_or-set_other marks (key % mark_count) place 1 0 (eqb-false place (key % mark_count) e)) ∙ zero))
+  -- the key just noted, and those before it
+  mark-kept : (x : ℕ) → (among x keys || among x (key ∷ [])) ≡ true → get_or (set marks place true) (x % mark_count) false ≡ true
+  unfolding among
+  mark-kept x is =
+      let own = x % mark_count in
+      test_cases (λ _. get_or (set marks place true) own false ≡ true) (eqb own place)
+      (λ e. ap (λ n. get_or (set marks place true) n false) (eqb-true own place e) ∙ marked-here)
+      (λ e. get_or-set_other marks place own true false (eqb-false own place e) ∙ m.each x (before (eqb-false own place e) is))
+    where
+      before : ¬ (x % mark_count ≡ place) → (among x keys || among x (key ∷ [])) ≡ true → among x keys ≡ true
+      before other is =
+          let apart : eqb x key ≡ false = ne_eqb x key (λ e. other (ap (λ n. n % mark_count) e)) in
+          sym (or-false (among x keys)) ∙ ap (λ t. among x keys || (t || false)) (sym apart) ∙ is
 
-  marked_more : Marked (set keys k key) (set marks (key % mark_count) 1) (k + 1)
-  marked_more =
+  pub noted : (keys' : List ℕ) → keys' ≡ keys ++ key ∷ [] → among key keys ≡ false → KeyNoted keys key true keys' (set marks place true)
+  noted keys' pushed e =
       record {
-        few = omega (arith, length-set keys k key);
-        size = length-set marks (key % mark_count) 1 ∙ m.size;
-        each = λ j l.
-            test_cases (λ _. ¬ (get_or (set marks (key % mark_count) 1) (get_or (set keys k key) j 0 % mark_count) 0 ≡ 0)) (eqb j k)
-            (λ e. mark_last j (eqb-true j k e)) (λ e. mark_earlier j l (eqb-false j k e));
+        new = ap not (sym e);
+        kept = λ _. pushed;
+        marked =
+            λ _.
+            record {
+              size = length-set marks place true ∙ m.size;
+              each = λ x is. mark-kept x (sym (ap (among x) pushed ∙ among-append x keys (key ∷ [])) ∙ is);
+            };
       }
 
-  pub noted : among key (take k keys) ≡ false → KeyNoted keys k key true (set keys k key) (set marks (key % mark_count) 1)
-  noted e = record { new = ap not (sym e); kept = λ _. refl; marked = λ _. marked_more }
-
-pub declined : (keys : List ℕ) (k key : ℕ) (keys' marks' : List ℕ) → among key (take k keys) ≡ true → KeyNoted keys k key false keys' marks'
-declined keys k key keys' marks' e =
+pub declined : (keys : List ℕ) (key : ℕ) (keys' : List ℕ) (marks' : List Bool) → among key keys ≡ true → KeyNoted keys key false keys' marks'
+declined keys key keys' marks' e =
     record { new = ap not (sym e); kept = λ f. absurd (false≢true f); marked = λ f. absurd (false≢true f) }

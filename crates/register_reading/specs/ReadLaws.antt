@@ -117,18 +117,18 @@ form-fields house =
     (λ _ i line. four-fields line i) (λ _ i line. five_fields line i)
 
 -- Reading: a buffer that is too small, one whose header breaks its rule, and one that is judged by its slots
-read_broken : (buffer keys : List ℕ) → length keys ≡ most_lines → buffer_keeps buffer ≡ false → RegisterRead buffer keys None
+read_broken : (buffer keys : List ℕ) → buffer_keeps buffer ≡ false → RegisterRead buffer keys None
 unfolding RegisterReads
-read_broken buffer keys size e = record { finds = e; size = size }
+read_broken buffer keys e = record { finds = e }
 
-module _ (buffer keys : List ℕ) (size : length keys ≡ most_lines) where
+module _ (buffer keys : List ℕ) where
   pub buffer_small : length buffer < register_size → RegisterRead buffer keys None
   unfolding buffer_keeps
-  buffer_small h = read_broken buffer keys size (ap (λ b. b && register_keeps_rules buffer) (lt-leb register_size (length buffer) h))
+  buffer_small h = read_broken buffer keys (ap (λ b. b && register_keeps_rules buffer) (lt-leb register_size (length buffer) h))
 
   pub header_bad : register_size ≤ length buffer → header_fields (header_in buffer) ≡ None → RegisterRead buffer keys None
   unfolding buffer_keeps register_keeps_rules
-  header_bad h e = read_broken buffer keys size (rw (le-leb register_size (length buffer) h, header_lacks (header_in buffer) e))
+  header_bad h e = read_broken buffer keys (rw (le-leb register_size (length buffer) h, header_lacks (header_in buffer) e))
 
 module _ (buffer : List ℕ) (fields : ℕ) (h : register_size ≤ length buffer) (is : header_fields (header_in buffer) ≡ Some fields) where
   fields_are : fields ≡ fields_of (text_in (header_in buffer))
@@ -170,7 +170,7 @@ module _ (buffer : List ℕ) (fields : ℕ) (h : register_size ≤ length buffer
 
     pub read_refused : Found None → RegisterRead buffer keys None
     unfolding SlotsFound
-    read_refused found = read_broken buffer keys found.size (judged ∙ found.finds)
+    read_refused found = read_broken buffer keys (judged ∙ found.finds)
 
     module _ (n : ℕ) (found : Found (Some n)) where
       pub read_opened : fields ≡ 5 → RegisterRead buffer keys (Some (Opened n))
@@ -182,7 +182,6 @@ module _ (buffer : List ℕ) (fields : ℕ) (h : register_size ≤ length buffer
                   counted = record { keeps = judged ∙ found.finds.0; is_open_lem = open_is false (sym five); count = found.finds.1 };
                   keyed = found.finds.2;
                 };
-            size = found.size;
           }
 
       pub read_old : ¬ (fields ≡ 5) → RegisterRead buffer keys (Some (Old n))
@@ -190,7 +189,6 @@ module _ (buffer : List ℕ) (fields : ℕ) (h : register_size ≤ length buffer
       read_old n5 =
           record {
             finds = record { keeps = judged ∙ found.finds.0; is_old = open_is true (sym (not_five n5)); count = found.finds.1 };
-            size = found.size;
           }
 
 -- What was read, by what came back; W10.6 the buffers that every call but opening turns down.
@@ -209,26 +207,21 @@ module _ (buffer keys : List ℕ) where
 
   pub opened_is : (n : ℕ) → RegisterRead buffer keys (Some (Opened n)) → OpenedRead buffer keys (Ok n)
   unfolding OpenedReads
-  opened_is n read = record { finds = is_opened_lem n read; size = read.size }
+  opened_is n read = record { finds = is_opened_lem n read }
 
   pub old_refused : (n : ℕ) → RegisterRead buffer keys (Some (Old n)) → OpenedRead buffer keys (Err BadBuffer)
   unfolding OpenedReads
-  old_refused n read = let u = is_old n read in record { finds = (refl, open_keeps buffer u.keeps ∙ u.is_old); size = read.size }
+  old_refused n read = let u = is_old n read in record { finds = (refl, open_keeps buffer u.keeps ∙ u.is_old) }
 
   pub broken_refused : RegisterRead buffer keys None → OpenedRead buffer keys (Err BadBuffer)
   unfolding OpenedReads
-  broken_refused read = record { finds = (refl, open_broken buffer (is_broken read)); size = read.size }
+  broken_refused read = record { finds = (refl, open_broken buffer (is_broken read)) }
 
 -- what is known of an opened register that was read, and of any other buffer
 module _ (buffer keys : List ℕ) where
   pub opened_ready : (n : ℕ) → OpenedRead buffer keys (Ok n) → RegisterReady buffer n keys
   unfolding OpenedReads
   opened_ready n read = read.finds
-
-  pub opened_few : (n : ℕ) → OpenedRead buffer keys (Ok n) → n ≤ length keys
-  opened_few n read =
-      let ready = (opened_ready n read).counted in
-      omega (arith, read.size, ready.count, (read_sound buffer ready.keeps).few)
 
   pub opened_refused : (refusal : Refusal) → OpenedRead buffer keys (Err refusal) → (refusal ≡ BadBuffer) × (buffer_open buffer ≡ false)
   unfolding OpenedReads

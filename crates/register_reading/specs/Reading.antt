@@ -1,5 +1,5 @@
 -- What the code says of a register in a buffer: the contracts of its lines as keys, and what reading it found. Assumes nothing.
-use Rattle.std.specs.Prelude.{Bool, true, false, cond, not, ◌&&◌, List, map, ◌≡◌, ℕ, ◌+◌, ◌*◌, ◌-◌, ◌%◌, ◌≤◌, ◌<◌, length, take, drop, get_or, set}
+use Rattle.std.specs.Prelude.{Bool, true, false, cond, not, ◌&&◌, List, [], ◌∷◌, ◌++◌, map, ◌≡◌, ℕ, ◌+◌, ◌*◌, ◌-◌, ◌%◌, ◌≤◌, ◌<◌, length, drop, get_or}
 use Rattle.std.specs.Prelude.{Option, Some, None, Result, Ok, Err}
 use Rattle.base.specs.Lists.{all, among, is_nil}
 use Rattle.card_reader.specs.Keys.{key_of}
@@ -38,17 +38,16 @@ slot_key fields slot = cond (slot_cell_keeps (has_fields fields) slot) (Some (ke
 abbrev pub mark_count : ℕ
 mark_count = 4093
 
--- The first k keys are marked. So a key whose place has no mark is none of them.
-pub record Marked (keys marks : List ℕ) (k : ℕ) : Type 0 where
-  pub few : k ≤ length keys
+-- The keys are marked. So a key whose place has no mark is none of them.
+pub record Marked (keys : List ℕ) (marks : List Bool) : Type 0 where
   pub size : length marks ≡ mark_count
-  pub each : (j : ℕ) → j < k → ¬ (get_or marks (get_or keys j 0 % mark_count) 0 ≡ 0)
+  pub each : (key : ℕ) → among key keys ≡ true → get_or marks (key % mark_count) false ≡ true
 
--- a key noted behind k others, unless it is one of them
-pub record KeyNoted (keys : List ℕ) (k key : ℕ) (r : Bool) (keys' marks' : List ℕ) : Type 0 where
-  pub new : r ≡ not (among key (take k keys))
-  pub kept : r ≡ true → keys' ≡ set keys k key
-  pub marked : r ≡ true → Marked keys' marks' (k + 1)
+-- a key noted behind others, unless it is one of them
+pub record KeyNoted (keys : List ℕ) (key : ℕ) (r : Bool) (keys' : List ℕ) (marks' : List Bool) : Type 0 where
+  pub new : r ≡ not (among key keys)
+  pub kept : r ≡ true → keys' ≡ keys ++ key ∷ []
+  pub marked : r ≡ true → Marked keys' marks'
 
 -- the rules of the slots: 2, 3 and 4
 unfoldable pub slots_hold : (fields : ℕ) (slots : List ℕ) → Bool
@@ -56,12 +55,11 @@ slots_hold fields slots = slots_keep (has_fields fields) most_lines slots && dif
 
 -- what was found, of slots that keep the rules or not: how many lines, with their keys
 unfoldable pub SlotsFound : (keeps : Bool) → Lines → (keys : List ℕ) → Option ℕ → Type 0
-SlotsFound keeps held keys (Some n) = (keeps ≡ true) × (n ≡ length held) × (take n keys ≡ keys_of held)
+SlotsFound keeps held keys (Some n) = (keeps ≡ true) × (n ≡ length held) × (keys ≡ keys_of held)
 SlotsFound keeps held keys None = keeps ≡ false
 
 pub record SlotsHold (keeps : Bool) (held : Lines) (keys : List ℕ) (r : Option ℕ) : Type 0 where
   pub finds : SlotsFound keeps held keys r
-  pub size : length keys ≡ most_lines
 
 -- how many fields lines have in a register with this house currency; and under this header, none where it breaks its rule
 unfoldable pub fields_of : (house : List ℕ) → ℕ
@@ -78,7 +76,7 @@ pub record LinesCounted (buffer : List ℕ) (n : ℕ) : Type 0 where
 
 pub record RegisterReady (buffer : List ℕ) (n : ℕ) (keys : List ℕ) : Type 0 where
   pub counted : LinesCounted buffer n
-  pub keyed : take n keys ≡ keys_of (register_in buffer).lines
+  pub keyed : keys ≡ keys_of (register_in buffer).lines
 
 pub record Unopened (buffer : List ℕ) (n : ℕ) : Type 0 where
   pub keeps : buffer_keeps buffer ≡ true
@@ -93,7 +91,6 @@ RegisterReads buffer keys None = buffer_keeps buffer ≡ false
 
 pub record RegisterRead (buffer keys : List ℕ) (r : Option Held) : Type 0 where
   pub finds : RegisterReads buffer keys r
-  pub size : length keys ≡ most_lines
 
 unfoldable pub OpenedReads : (buffer keys : List ℕ) → Result ℕ Refusal → Type 0
 OpenedReads buffer keys (Ok n) = RegisterReady buffer n keys
@@ -101,7 +98,6 @@ OpenedReads buffer keys (Err refusal) = (refusal ≡ BadBuffer) × (buffer_open 
 
 pub record OpenedRead (buffer keys : List ℕ) (r : Result ℕ Refusal) : Type 0 where
   pub finds : OpenedReads buffer keys r
-  pub size : length keys ≡ most_lines
 
 -- a buffer with a register that has a line at a place
 pub record Placed (buffer : List ℕ) (place : ℕ) : Type 0 where

@@ -1,17 +1,17 @@
 -- Slots read one after the other: the line of a slot, the lines and keys so far, and what each end of the reading finds. Assumes nothing.
-use Rattle.std.specs.Prelude.{Bool, ◌&&◌, ◌≡◌, ℕ, zero, suc, ◌+◌, ◌*◌, ◌-◌, ◌≤◌, ◌<◌, eqb, drop, get_or}
+use Rattle.std.specs.Prelude.{Bool, ◌&&◌, ◌≡◌, ℕ, zero, suc, ◌+◌, ◌*◌, ◌-◌, ◌≤◌, ◌<◌, drop, get_or}
 use Rattle.std.proofs.Math.Bool.{true, false, cond, and-false}
 use Rattle.std.proofs.lemmas.Bool.{false≢true}
 use mathlib.Core.List.{List, [], ◌∷◌, ◌++◌, append_assoc, append-nil, map-append}
 use Rattle.std.proofs.Math.Path.{refl, sym, ap, ap₂}
-use Rattle.std.proofs.Common.{subst, ◌∙◌, add-zero, add-one, take-append-drop, drop-drop, get_or-drop, take_at}
+use Rattle.std.proofs.Common.{subst, ◌∙◌, add-zero, take-append-drop, drop-drop, drop_at, get_or-drop, length-drop, take_at}
 use native.Mathlib.Omega.{arith}
-use Rattle.std.proofs.Math.ListN.{length, take, length-append, length-set, get_or-append}
-use Rattle.std.proofs.Math.Seq.{length-take-le, take-suc-set}
+use Rattle.std.proofs.Math.ListN.{length, take, length-append, get_or-append}
+use Rattle.std.proofs.Math.Seq.{length-take-le}
 use borrow.Author.Tests.{eq-eqb, ne_eqb, not-true}
 use Rattle.std.specs.Prelude.{Option, Some, None, reverse}
 use Rattle.std.specs.List.{prefix_len, suffix_len}
-use Rattle.std.proofs.lemmas.List.{drop-append-le, get_or_push, length-reverse, reverse-append, reverse-reverse}
+use Rattle.std.proofs.lemmas.List.{drop-append-le, get_or_push, length-map, length-reverse, reverse-append, reverse-reverse}
 use Rattle.base.specs.Choice.{both_true, both_pass, cond_cases, test_cases}
 use Rattle.base.specs.ListLaws.{all_append, all_end, all_inside, stretch_end}
 use Rattle.base.specs.Lists.{all, among}
@@ -97,16 +97,24 @@ last_some line rest form =
     ∙ not-true (is_zero (get_or line (length line - 1) 0)) (all_inside is_text line 0 (line_text line form) (length line - 1) (omega arith))
 
 -- Slots read up to slot k: the lines so far, with their keys, all marked; what is left to read, and to judge.
-pub record SlotsReadTo (fields : ℕ) (slots keys marks : List ℕ) (k : ℕ) : Type 0 where
+pub record SlotsReadTo (fields : ℕ) (slots keys : List ℕ) (marks : List Bool) (k : ℕ) : Type 0 where
   pub done : Lines
   pub count : length done ≡ k
+  pub few : k ≤ most_lines
   pub lines : lines_in most_lines slots ≡ done ++ lines_in (most_lines - k) (drop (slot_size * k) slots)
   pub keep : slots_keep (has_fields fields) most_lines slots ≡ slots_keep (has_fields fields) (most_lines - k) (drop (slot_size * k) slots)
   pub good : all has_form done ≡ true
   pub different : differ done ≡ true
-  pub keyed : take k keys ≡ keys_of done
-  pub marked : Marked keys marks k
-  pub size : length keys ≡ most_lines
+  pub keyed : keys ≡ keys_of done
+  pub marked : Marked keys marks
+
+-- slot k cut off, with those before it read, and what is behind it
+pub record SlotNext (fields : ℕ) (slots keys : List ℕ) (marks : List Bool) (slot behind : List ℕ) (k : ℕ) : Type 0 where
+  pub read : SlotsReadTo fields slots keys marks k
+  pub inside : k < most_lines
+  pub is : take slot_size (drop (slot_size * k) slots) ≡ slot
+  pub first : get_or slots (slot_size * k) 0 ≡ get_or slot 0 0
+  pub rest : behind ≡ drop (slot_size * (k + 1)) slots
 
 -- The text of a slot, for lines of a form, whichever it is.
 module _ (form : List ℕ → Bool) (has : (line : List ℕ) → form line ≡ true → has_form line ≡ true) (slot : List ℕ) (n : ℕ) (t : Trimmed slot n) where
@@ -140,19 +148,19 @@ module _ (form : List ℕ → Bool) (has : (line : List ℕ) → form line ≡ t
       let size : length (take n slot) ≡ n = length-take-le n slot t.inside in
       both_pass (ap form is ∙ good) (ap (λ k. all is_zero (drop k slot)) (ap length is ∙ size) ∙ t.zeros)
 
--- the bits of all bytes from a place on tell whether they are zero
-pub zeros-behind : (l : List ℕ) (at bits : ℕ) → eqb bits 0 ≡ all is_zero (take (length l - at) (drop at l)) → all is_zero (drop at l) ≡ eqb bits 0
-zeros-behind l at bits e = ap (all is_zero) (sym (stretch_end l at (length l - at) refl)) ∙ sym e
+-- whether all bytes from a place on are zero, as the code asks it
+pub zeros-behind : (l : List ℕ) (at : ℕ) (r : Bool) → r ≡ all is_zero (take (length l - at) (drop at l)) → all is_zero (drop at l) ≡ r
+zeros-behind l at r e = ap (all is_zero) (sym (stretch_end l at (length l - at) refl)) ∙ sym e
 
 -- what a reading finds
-found-lines : (keeps : Bool) (held : Lines) (keys : List ℕ) (n : ℕ) → length keys ≡ most_lines → keeps ≡ true → n ≡ length held
-    → take n keys ≡ keys_of held → SlotsHold keeps held keys (Some n)
+found-lines : (keeps : Bool) (held : Lines) (keys : List ℕ) (n : ℕ) → keeps ≡ true → n ≡ length held
+    → keys ≡ keys_of held → SlotsHold keeps held keys (Some n)
 unfolding SlotsFound
-found-lines keeps held keys n size e count keyed = record { finds = (e, count, keyed); size = size }
+found-lines keeps held keys n e count keyed = record { finds = (e, count, keyed) }
 
-pub found_broken : (keeps : Bool) (held : Lines) (keys : List ℕ) → length keys ≡ most_lines → keeps ≡ false → SlotsHold keeps held keys None
+pub found_broken : (keeps : Bool) (held : Lines) (keys : List ℕ) → keeps ≡ false → SlotsHold keeps held keys None
 unfolding SlotsFound
-found_broken keeps held keys size e = record { finds = e; size = size }
+found_broken keeps held keys e = record { finds = e }
 
 -- what is found at slot k, where the lines end
 pub end_found : (slots : List ℕ) (k : ℕ) → all is_zero (drop (slot_size * k) slots) ≡ true → EndFound slots k (Some k)
@@ -223,19 +231,19 @@ module _ (fields : ℕ) where
       lacks true e = cc
       lacks false e = refl
 
-  pub read_none : (slots keys marks : List ℕ) → length keys ≡ most_lines → length marks ≡ mark_count → SlotsReadTo fields slots keys marks 0
+  pub read_none : (slots keys : List ℕ) (marks : List Bool) → keys ≡ [] → length marks ≡ mark_count → SlotsReadTo fields slots keys marks 0
   unfolding all differ
-  read_none slots keys marks size marked =
+  read_none slots keys marks none marked =
       record {
         done = [];
         count = refl;
+        few = omega arith;
         lines = refl;
         keep = refl;
         good = refl;
         different = refl;
-        keyed = refl;
-        marked = none_marked keys marks marked;
-        size = size;
+        keyed = none;
+        marked = none_marked keys marks none marked;
       }
 
   -- one slot of several
@@ -296,8 +304,27 @@ module _ (fields : ℕ) where
           ∙ keep-first (most_lines - (k + 1)) here (ap is_zero first-is ∙ z)
           ∙ ap (λ l. slot_cell_keeps (has_fields fields) (take slot_size here) && slots_keep (has_fields fields) (most_lines - (k + 1)) l) next-is
 
+  -- slot k as the loop has it, the front of what is left
+  pub slot_next : (slots keys : List ℕ) (marks : List Bool) (left slot behind : List ℕ) (k n : ℕ) → SlotsReadTo fields slots keys marks n
+      → left ≡ drop (slot_size * n) slots
+      → length slots ≡ slot_size * most_lines → k ≡ n → left ≡ slot ++ behind → length slot ≡ slot_size
+      → SlotNext fields slots keys marks slot behind k
+  slot_next slots keys marks left slot behind k n r e whole same cut size =
+      let at : drop (slot_size * k) slots ≡ slot ++ behind = ap (λ m. drop (slot_size * m) slots) same ∙ sym e ∙ cut in
+      let h : k < most_lines = omega (arith, whole, length-drop (slot_size * k) slots, ap length at, length-append slot behind, size) in
+      record {
+        read = subst (SlotsReadTo fields slots keys marks) (sym same) r;
+        inside = h;
+        is = ap (take slot_size) at ∙ take_at slot behind slot_size size;
+        first = sym (first-is slots k h) ∙ ap (λ l. get_or l 0 0) at ∙ get_or-append slot behind 0 0 (omega (arith, size));
+        rest = sym (drop_at slot behind slot_size size) ∙ ap (drop slot_size) (sym at) ∙ next-is slots k h;
+      }
+
   -- The reading at slot k: it ends, breaks off or goes on.
-  module _ (slots keys marks : List ℕ) (k : ℕ) (r : SlotsReadTo fields slots keys marks k) where
+  module _ (slots keys : List ℕ) (marks : List Bool) (k : ℕ) (r : SlotsReadTo fields slots keys marks k) where
+    pub slots_noted : length keys ≡ k
+    slots_noted = ap length r.keyed ∙ length-map r.done key_in ∙ r.count
+
     -- all slots are read
     pub read_all : k ≡ most_lines → SlotsHold (slots_hold fields slots) (lines_in most_lines slots) keys (Some k)
     unfolding slots_hold lines_in slots_keep
@@ -307,7 +334,7 @@ module _ (fields : ℕ) where
         r.lines ∙ ap (λ n. r.done ++ lines_in n (drop (slot_size * k) slots)) none ∙ append-nil r.done in
         let keep : slots_keep (has_fields fields) most_lines slots ≡ true = r.keep ∙ ap
         (λ n. slots_keep (has_fields fields) n (drop (slot_size * k) slots)) none in
-        found-lines (slots_hold fields slots) (lines_in most_lines slots) keys k r.size
+        found-lines (slots_hold fields slots) (lines_in most_lines slots) keys k
         (both_pass keep (ap differ lines ∙ r.different)) (sym r.count ∙ sym (ap length lines)) (r.keyed ∙ sym (ap keys_of lines))
 
     module _ (h : k < most_lines) where
@@ -323,12 +350,12 @@ module _ (fields : ℕ) where
         unfolding EndFinds slots_hold
         read_ends (Some n) e =
             let is = e.finds.0 in
-            found-lines (slots_hold fields slots) (lines_in most_lines slots) keys n r.size
+            found-lines (slots_hold fields slots) (lines_in most_lines slots) keys n
             (both_pass (ended_keep ∙ e.finds.1) (ap differ ended_lines ∙ r.different))
             (is ∙ sym r.count ∙ sym (ap length ended_lines))
-            (ap (λ m. take m keys) is ∙ r.keyed ∙ sym (ap keys_of ended_lines))
+            (r.keyed ∙ sym (ap keys_of ended_lines))
         read_ends None e =
-            found_broken (slots_hold fields slots) (lines_in most_lines slots) keys r.size
+            found_broken (slots_hold fields slots) (lines_in most_lines slots) keys
             (ap (λ b. b && differ (lines_in most_lines slots)) (ended_keep ∙ e.finds))
 
       -- slot k has a line
@@ -340,7 +367,7 @@ module _ (fields : ℕ) where
         unfolding slots_hold
         read_bad none =
             let lacks = key_lacks slot none in
-            found_broken (slots_hold fields slots) (lines_in most_lines slots) keys r.size
+            found_broken (slots_hold fields slots) (lines_in most_lines slots) keys
             (ap (λ b. b && differ (lines_in most_lines slots))
             (r.keep ∙ keep-more slots k h z ∙ ap (λ b. b && slots_keep (has_fields fields) (most_lines - (k + 1))
             (drop (slot_size * (k + 1)) slots)) lacks))
@@ -362,31 +389,31 @@ module _ (fields : ℕ) where
           all_lines = r.lines ∙ ap (λ l. r.done ++ l) (lines_more slots k h z)
 
           -- whether the contract is held is whether its key is among those noted
-          held-is : among key (take k keys) ≡ is_held r.done (contract_of line)
+          held-is : among key keys ≡ is_held r.done (contract_of line)
           held-is =
               ap₂ {C = Bool} among holds-slot.1 r.keyed ∙ keys_hold r.done line r.good form
 
-          pub read_twice : (keys' : List ℕ) → length keys' ≡ most_lines → among key (take k keys) ≡ true
+          pub read_twice : (keys' : List ℕ) → among key keys ≡ true
               → SlotsHold (slots_hold fields slots) (lines_in most_lines slots) keys' None
           unfolding slots_hold
-          read_twice keys' size found =
+          read_twice keys' found =
               let same : differ (lines_in most_lines slots) ≡ false =
               test_cases (λ t. differ (lines_in most_lines slots) ≡ t → t ≡ false) (differ (lines_in most_lines slots))
               (λ e _.
               let apart = differ-split r.done line rest (sym (ap differ all_lines) ∙ e) in
               absurd (false≢true (sym apart ∙ (sym held-is ∙ found))))
               (λ _ _. refl) refl in
-              found_broken (slots_hold fields slots) (lines_in most_lines slots) keys' size
+              found_broken (slots_hold fields slots) (lines_in most_lines slots) keys'
               (ap (λ b. slots_keep (has_fields fields) most_lines slots && b) same ∙ and-false (slots_keep (has_fields fields) most_lines slots))
 
-          pub read_more : (keys' marks' : List ℕ) → KeyNoted keys k key true keys' marks' → SlotsReadTo fields slots keys' marks' (k + 1)
+          pub read_more : (keys' : List ℕ) (marks' : List Bool) → KeyNoted keys key true keys' marks' → SlotsReadTo fields slots keys' marks' (k + 1)
           unfolding all
           read_more keys' marks' noted =
-              let fresh = not-true (among key (take k keys)) (sym noted.new) in
-              let kept = noted.kept refl in
+              let fresh = not-true (among key keys) (sym noted.new) in
               record {
                 done = r.done ++ (line ∷ []);
                 count = omega (arith, length-append r.done (line ∷ []), r.count);
+                few = omega arith;
                 lines = all_lines ∙ sym (append_assoc r.done (line ∷ []) rest);
                 keep =
                     r.keep
@@ -395,10 +422,8 @@ module _ (fields : ℕ) where
                 good = all_append has_form r.done (line ∷ []) r.good (both_pass form refl);
                 different = differ-more r.done line r.different (sym held-is ∙ fresh);
                 keyed =
-                    ap₂ {C = List ℕ} take (add-one k) kept
-                    ∙ take-suc-set keys k key (omega (arith, r.size))
+                    noted.kept refl
                     ∙ ap₂ {C = List ℕ} (λ l x. l ++ (x ∷ [])) r.keyed holds-slot.1
                     ∙ sym (map-append key_in r.done (line ∷ []));
                 marked = noted.marked refl;
-                size = ap length kept ∙ length-set keys k key ∙ r.size;
               }

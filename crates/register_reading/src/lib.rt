@@ -5,11 +5,13 @@
 
 ghost use Rattle.std.specs.Prelude.{false, fold, ◌==◌, ◌||◌, ◌≡◌, ◌*◌, ◌<◌, ◌≤◌, length};
 ghost use Rattle.std.specs.List.{suffix_len};
+ghost use Rattle.arrayvec.specs.ArrayVec.{array_vec_len};
 ghost use Rattle.register.specs.Buffer.{header_size, is_zero, lines_in, register_in, slot_size};
 ghost use Rattle.register.specs.Register.{line_at, most_lines};
 ghost use Rattle.register_reading.specs.Reading.{EndFound, SlotsHold, Marked, KeyNoted, OpenedRead, Placed, RegisterRead, Trimmed};
 ghost use Rattle.register_reading.specs.Reading.{header_fields, slot_key, slots_hold};
 
+use arrayvec::ArrayVec;
 use card_reader::keys;
 use register::{CURRENCY, FIELDS, HEADER, LINES, OLD_FIELDS, Refusal, SIZE, SLOT};
 use register_lines::{form_of, is_currency};
@@ -27,24 +29,24 @@ pub enum Held {
 
 // whether a key is among others; all are compared, so that this becomes vector code
 // kept: contains, which leaves at the first that is the same, took twice as long over contracts made against the marks
-fn is_among(keys: &[u64], key: u64) -> bool
+pub fn is_among(keys: &[u64], key: u64) -> bool
     ensures { result ≡ fold (λ found held. found || held == key) false keys.now }
 {
     keys.iter()
         .fold(false, |found, held| found | (*held == key))
 }
 
-// Notes a key behind k others and marks it, unless it is one of them. It is compared with them only where its mark is there.
-fn note(keys: &mut [u64], marks: &mut [u8], k: usize, key: u64) -> bool
-    requires { Marked keys.old marks.old k × (k < length keys.old) }
-    ensures { KeyNoted keys.old k key result keys.new marks.new }
+// Notes a key behind the others and marks it, unless it is one of them. It is compared with them only where its mark is there.
+fn note(keys: &mut ArrayVec<u64, LINES>, marks: &mut [bool], key: u64) -> bool
+    requires { Marked keys.old.items marks.old × (array_vec_len keys.old < most_lines) }
+    ensures { KeyNoted keys.old.items key result keys.new.items marks.new }
 {
     let place = key as usize % MARKS;
-    if marks[place] != 0 && is_among(&keys[..k], key) {
+    if marks[place] && is_among(keys.as_slice(), key) {
         return false;
     }
-    marks[place] = 1;
-    keys[k] = key;
+    marks[place] = true;
+    keys.push(key);
     true
 }
 
@@ -79,7 +81,7 @@ fn found_end(slots: &[u8], k: usize) -> Option<usize>
     requires { (length slots.now ≡ slot_size * most_lines) × (k < most_lines) }
     ensures { EndFound slots.now k result }
 {
-    if spans::marks(&slots[SLOT * k..]) == 0 {
+    if spans::are_zero(&slots[SLOT * k..]) {
         Some(k)
     } else {
         None
@@ -87,18 +89,18 @@ fn found_end(slots: &[u8], k: usize) -> Option<usize>
 }
 
 // how many lines are in the slots, which should have so many fields, with their keys; None where the slots break their rules
-fn read_slots(slots: &[u8], fields: usize, keys: &mut [u64; LINES]) -> Option<usize>
-    requires { (length slots.now ≡ slot_size * most_lines) × (length keys.old ≡ most_lines) }
-    ensures { SlotsHold (slots_hold fields slots.now) (lines_in most_lines slots.now) keys.new result }
+fn read_slots(slots: &[u8], fields: usize, keys: &mut ArrayVec<u64, LINES>) -> Option<usize>
+    requires { length slots.now ≡ slot_size * most_lines }
+    ensures { SlotsHold (slots_hold fields slots.now) (lines_in most_lines slots.now) keys.new.items result }
 {
-    let mut marks = [0; MARKS];
-    for k in 0..LINES {
-        let at = SLOT * k;
-        if slots[at] == 0 {
+    keys.clear();
+    let mut marks = [false; MARKS];
+    for (k, slot) in slots.chunks_exact(SLOT).enumerate() {
+        if slot[0] == 0 {
             return found_end(slots, k);
         }
-        let key = slot_key(&slots[at..at + SLOT], fields)?;
-        if !note(keys, &mut marks, k, key) {
+        let key = slot_key(slot, fields)?;
+        if !note(keys, &mut marks, key) {
             return None;
         }
     }
@@ -110,9 +112,9 @@ fn header_fields(header: &[u8]) -> Option<usize>
     requires { length header.now ≡ header_size }
     ensures { result ≡ header_fields header.now }
 {
-    if spans::marks(&header[CURRENCY..]) != 0 {
+    if !spans::are_zero(&header[CURRENCY..]) {
         None
-    } else if spans::marks(&header[..CURRENCY]) == 0 {
+    } else if spans::are_zero(&header[..CURRENCY]) {
         Some(OLD_FIELDS)
     } else if is_currency(&header[..CURRENCY]) {
         Some(FIELDS)
@@ -122,9 +124,8 @@ fn header_fields(header: &[u8]) -> Option<usize>
 }
 
 // the register in a buffer; None where the buffer is too small or against the rules
-pub fn read_register(buffer: &[u8], keys: &mut [u64; LINES]) -> Option<Held>
-    requires { length keys.old ≡ most_lines }
-    ensures { RegisterRead buffer.now keys.new result }
+pub fn read_register(buffer: &[u8], keys: &mut ArrayVec<u64, LINES>) -> Option<Held>
+    ensures { RegisterRead buffer.now keys.new.items result }
 {
     if buffer.len() < SIZE {
         return None;
@@ -140,9 +141,8 @@ pub fn read_register(buffer: &[u8], keys: &mut [u64; LINES]) -> Option<Held>
 
 // how many lines an opened register holds; any other buffer is refused
 #[tactic(auto, using(crate::specs::ReadLaws::opened_is, crate::specs::ReadLaws::old_refused, crate::specs::ReadLaws::broken_refused))]
-pub fn read_opened(buffer: &[u8], keys: &mut [u64; LINES]) -> Result<usize, Refusal>
-    requires { length keys.old ≡ most_lines }
-    ensures { OpenedRead buffer.now keys.new result }
+pub fn read_opened(buffer: &[u8], keys: &mut ArrayVec<u64, LINES>) -> Result<usize, Refusal>
+    ensures { OpenedRead buffer.now keys.new.items result }
 {
     match read_register(buffer, keys) {
         Some(Held::Opened(n)) => Ok(n),

@@ -7,11 +7,12 @@ use mathlib.Core.List.{List, [], ◌∷◌, map}
 use Rattle.std.proofs.Math.Logic.{inl, inr, ⊎_elim}
 use Rattle.std.proofs.Math.Path.{refl, ap, ap₂}
 use Rattle.std.proofs.Common.{sym, ◌∙◌, arith, drop_of_length-le, get_or-drop}
-use Prim.Native.Nat.{ℕ, zero, suc, ◌+◌, ◌*◌, ◌<◌, ◌≤◌}
+use Prim.Native.Nat.{ℕ, zero, suc, ◌+◌, ◌*◌, ◌/◌, ◌%◌, ◌<◌, ◌≤◌}
 use Rattle.std.proofs.Math.Nat.{zero-add}
 use Rattle.std.proofs.Math.Dec.{ltb}
 use Rattle.std.proofs.Math.ListN.{length, get_or}
 use borrow.Author.Tests.{eq-eqb, eqb-false, eqb-true, le-leb, le-ltb, leb-true, lt-ltb, ltb-false, ltb-true}
+use Rattle.std.specs.Int.{to_be_bytes, w32}
 use Rattle.std.specs.Prelude.{Some, None}
 use Rattle.std.proofs.lemmas.List.{get_or-map, length-map}
 use Rattle.register_report.specs.Codes.{CodeFound}
@@ -429,3 +430,10 @@ module _ (code : ℕ) where
   pub none_is : CodeFound code None → code ≡ no_code
   unfolding CodeFound
   none_is f = f
+
+-- the three lower bytes of a code are its currency
+pub word_put : (code : ℕ) → code < no_code → take 3 (drop 1 (to_be_bytes w32 code)) ≡ word_of code
+unfolding word_of
+word_put code h =
+    let high : code / 65_536 % 256 ≡ code / 65_536 = omega arith in
+    ap (λ b. b ∷ code / 256 % 256 ∷ code % 256 ∷ []) high

@@ -9,7 +9,6 @@ ghost use Rattle.register.specs.Buffer.{register_in};
 ghost use Rattle.register.specs.Calls.{report_call};
 ghost use Rattle.register.specs.Claims.{ReportPromise, report_back};
 ghost use Rattle.register.specs.Line.{is_record};
-ghost use Rattle.register.specs.Register.{most_lines};
 ghost use Rattle.register.specs.Report.{printed_records};
 ghost use Rattle.register.specs.Refusals.{number_of};
 ghost use Rattle.register_reading.specs.Reading.{LinesCounted};
@@ -17,6 +16,7 @@ ghost use Rattle.register_report.specs.Codes.{CodeFound, currency_code, lowest_c
 ghost use Rattle.register_report.specs.Sums.{LinesWeighed, LinesPut, Numeric, RecordPut, FieldShows, Summed, codes_in, tonnes_in, values_in};
 ghost use Rattle.register_report.specs.Sums.{TotalsFor, TotalsMade, Weighed, WorthsFit, longest_total, total_text, totals_room};
 
+use arrayvec::ArrayVec;
 use printing::{LONGEST_NUMBERS, put, put_numbers};
 use register::{LINES, Refusal, number_of};
 use register_reading::{line_in, read_opened};
@@ -37,6 +37,7 @@ const MOST_TOTAL: usize = 38;
 const TOTALS_ROOM: usize = MOST_TOTAL * LINES + LONGEST_TOTAL;
 
 // a number in a line, and where it ends
+// kept: lexer's Constant has the same two parts, but lexer reads decks, and no crate of the register leans on it
 #[derive(Clone, Copy)]
 struct Field {
     value: u64,
@@ -67,6 +68,7 @@ struct Sizes {
 }
 
 // the number in the field that begins at a place: digits alone, up to the largest price
+// kept: a fold's closure takes any byte and any value; that each is a digit, and the value small, is the loop's invariant
 fn number_at(line: &[u8], at: usize) -> Field
     requires { Numeric line.now at }
     ensures { FieldShows line.now at result }
@@ -90,7 +92,7 @@ fn code_at(line: &[u8], at: usize) -> u64
     requires { at + 3 ≤ length line.now }
     ensures { result ≡ currency_code (take 3 (drop at line.now)) }
 {
-    (line[at] as u64 * 256 + line[at + 1] as u64) * 256 + line[at + 2] as u64
+    u32::from_be_bytes([0, line[at], line[at + 1], line[at + 2]]) as u64
 }
 
 // what a record adds to its currency's sums
@@ -110,8 +112,11 @@ fn worth_of(line: &[u8]) -> Worth
 }
 
 // what each of the n lines of a register adds; the bytes that these lines are printed in
+// kept: buffer and n apart, here and in make_totals, put_lines and put_report: C lends the buffer, and report reads it once, which tells n; a struct
+// of both would be made there for these four alone
+// kept: by the line's place, here and in put_lines, since line_in takes it; iter_mut with enumerate would name it all the same
 fn weigh_lines(buffer: &[u8], n: usize, worths: &mut [Worth; LINES]) -> usize
-    requires { LinesCounted buffer.now n × (length worths.old ≡ most_lines) }
+    requires { LinesCounted buffer.now n }
     ensures { LinesWeighed (register_in buffer.now).lines n worths.new result }
 {
     let mut bytes = 0;
@@ -124,6 +129,7 @@ fn weigh_lines(buffer: &[u8], n: usize, worths: &mut [Worth; LINES]) -> usize
 }
 
 // the lowest code above the last one, if there is one
+// kept: filter and min would find codes of any size, and put_total asks for three bytes, which Worth's type doesn't say
 fn next_code(worths: &[Worth], last: u64) -> Option<u64>
     ensures { CodeFound (lowest_code last no_code (codes_in worths.now)) result }
 {
@@ -147,9 +153,9 @@ fn sums_of(worths: &[Worth], code: u64) -> Sums
     let mut value: u64 = 0;
     for worth in worths {
         if worth.code == code {
-            count = count + 1;
-            tonnes = tonnes + worth.tonnes;
-            value = value + worth.value;
+            count += 1;
+            tonnes += worth.tonnes;
+            value += worth.value;
         }
     }
     Sums {
@@ -165,16 +171,12 @@ fn put_total(code: u64, sums: Sums, at: usize, out: &mut [u8]) -> usize
     ensures { Put out.old out.new at (total_text code sums) result }
 {
     let word_end = put(b"TOTAL,", at, out);
-    let word = [
-        (code / 65_536) as u8,
-        (code / 256 % 256) as u8,
-        (code % 256) as u8,
-    ];
-    let currency_end = put(&word, word_end, out);
+    let currency_end = put(&(code as u32).to_be_bytes()[1..], word_end, out);
     put_numbers(sums.count, sums.tonnes, sums.value, currency_end, out)
 }
 
 // the TOTAL lines of all codes in their order, each with its byte 10, at the start of out; where they end. There are no more codes than lines
+// kept: a turn for each line at most, which the range says; `while let` would say no bound of its turns
 fn put_totals(worths: &[Worth], out: &mut [u8]) -> usize
     requires { WorthsFit worths.now × (totals_room ≤ length out.old) }
     ensures { TotalsFor worths.now out.new result }
@@ -203,6 +205,7 @@ fn make_totals(buffer: &[u8], n: usize, out: &mut [u8]) -> Sizes
         tonnes: 0,
         value: 0,
     };
+    // kept: an array with n beside: it is made, filled and cut to n here; an ArrayVec, not tried, would ask Default and Drop of Worth
     let mut worths = [nothing; LINES];
     let lines = weigh_lines(buffer, n, &mut worths);
     let totals = put_totals(&worths[..n], out);
@@ -233,6 +236,7 @@ fn put_lines(buffer: &[u8], n: usize, output: &mut [u8]) -> usize
 }
 
 // Puts the report of a register of n lines and sets its length, which is 0 before; or the output has no room for it, and nothing is put.
+// kept: the length is set here, and no answer: register's number_of, which the call ends with, takes no answer with a value
 fn put_report(buffer: &[u8], n: usize, output: &mut [u8], length: &mut u32) -> Result<(), Refusal>
     requires { LinesCounted buffer.now n × (length.old ≡ 0) }
     ensures { report_back (number_of result) output.new length.new ≡ report_call buffer.now output.old }
@@ -256,7 +260,7 @@ fn report(buffer: &[u8], output: &mut [u8], length: &mut u32) -> Result<(), Refu
     requires { length.old ≡ 0 }
     ensures { report_back (number_of result) output.new length.new ≡ report_call buffer.now output.old }
 {
-    let mut keys = [0; LINES];
+    let mut keys = ArrayVec::new();
     let n = read_opened(buffer, &mut keys)?;
     put_report(buffer, n, output, length)
 }

@@ -2,6 +2,7 @@
 -- Assumes nothing.
 use Rattle.std.specs.Prelude.{Option, Some, None, Result, Ok, Err, cond, List, [], ◌∷◌, ◌++◌, ◌≡◌, ℕ, zero, suc, ◌+◌, ◌*◌, ◌-◌, ◌≤◌, ◌<◌, ◌^◌, eqb, length, take, drop, get_or, replicate}
 use Rattle.std.proofs.Math.Option.{none, some}
+use Rattle.std.proofs.Props.{props}
 use Rattle.scanning.specs.Splits as Splits
 use Rattle.scanning.specs.Splits.{string, fixed, free}
 use Rattle.scanning.specs.Call.{number4, element_of_row, pattern_of_rows}
@@ -76,6 +77,16 @@ pub record GoodRows (values rows : List ℕ) (count : ℕ) : Type 0 where
   pub few : count ≤ 20
   pub room : 12 * count ≤ length rows
   pub good : (i : ℕ) → i < count → RowGood values (row_element rows i)
+
+-- that rows are good has one proof at most
+row_good_prop : (values : List ℕ) (e : Element) → IsProp (RowGood values e)
+unfolding RowGood
+row_good_prop values (Part from to) = hlevel props
+row_good_prop values (Fixed n) = hlevel props
+row_good_prop values Free = hlevel props
+
+pub good_rows_prop : (values rows : List ℕ) (count : ℕ) → IsProp (GoodRows values rows count)
+good_rows_prop values rows count = hlevel (props, row_good_prop)
 
 -- the element that a row of bytes is
 pub record RowIs (values elements : List ℕ) (at : ℕ) (e : Element) : Type 0 where

@@ -7,7 +7,7 @@ ghost use Rattle.std.proofs.Math.Option.{none};
 ghost use Rattle.scanning.specs.Splits.{string};
 ghost use Rattle.scanning.specs.Trials.{scan};
 ghost use Rattle.scanning.specs.Call.{number4 as Call·number4, split_numbers, answer_numbers, row_count, scan_call, ScanPromise};
-ghost use Rattle.scan.specs.Rows.{row_element, scan_element, pattern_of, size_of, sizes_at, RowSized, RowGood, GoodRows, RowSays, row_answer, RowsSay};
+ghost use Rattle.scan.specs.Rows.{row_element, scan_element, pattern_of, size_of, sizes_at, RowSized, RowGood, GoodRows, good_rows_prop, RowSays, row_answer, RowsSay};
 ghost use Rattle.scan.specs.Steps.{test_of, SkipSays, StandsSays, CallSays, GroupSays, GroupReady, RunSays};
 
 use base::LONGEST;
@@ -31,12 +31,14 @@ pub enum Element {
     Free,
 }
 
-// A pattern of so many rows, the strings of which are parts of the values.
+// A pattern of so many rows, all of them good; its strings are parts of the values.
+// kept: the count stands beside the rows: of a slice cut to them it would be their bytes by 12, worked out wherever a group's end is asked
 #[derive(Clone, Copy)]
 struct Pattern<'a> {
     values: &'a [u8],
     rows: &'a [u8],
     count: usize,
+    ghost ready: { GoodRows values.now rows.now count } by { good_rows_prop values.now rows.now count },
 }
 
 // Why an element fails at a place: other bytes stand there, so that its group moves on; or too few bytes are left, so that the scan ends.
@@ -92,6 +94,7 @@ fn test_string(rest: &[u8], word: &[u8]) -> Result<Option<usize>, Failure>
 }
 
 // The test of an element at a place: the length of its piece, or none for a free filler, which is not tested.
+// kept: reference, values, element and place come apart, here and below: the last two are others at each test, so a struct would be made anew
 fn test_element(
     reference: &[u8],
     values: &[u8],
@@ -118,6 +121,7 @@ fn test_element(
 // The test of a group at a place: the elements from row g on, one after the other, up to a free filler or the pattern's end. Where the first of
 // them, of one byte, is known to pass, it isn't tested again. A group that passed answers that filler's row or the end, and where its last piece
 // ends.
+// kept: known is what `stands` answers, one byte passed or none; and rows go by index, since the answer and the trials are told by it
 fn test_group(
     reference: &[u8],
     pattern: Pattern,
@@ -125,11 +129,10 @@ fn test_group(
     place: usize,
     known: bool,
 ) -> Result<(usize, usize), Failed>
-    requires good_rows { GoodRows pattern.values.now pattern.rows.now pattern.count }
     requires group_ready { GroupReady reference.now pattern.values.now pattern.rows.now pattern.count g place (cond known 1 0) }
     ensures { let p = pattern.entry in GroupSays reference.now p.values.now p.rows.now p.count g place result }
 {
-    let passed = if known { 1 } else { 0 };
+    let passed = usize::from(known);
     let mut at = place + passed;
     for i in g + passed..pattern.count {
         match test_element(reference, pattern.values, row_element(pattern.rows, i), at) {
@@ -178,8 +181,9 @@ fn stands(reference: &[u8], values: &[u8], e: Element, at: usize) -> bool
 // The scan, group by group. The answer holds the lengths that don't depend on the place; each turn passes over places, tests a group and, where all
 // of it passed, writes the gap before it, the start at first and then the length of a free filler. A last free filler reaches the end. What it
 // answers are the trials, of a split found or of none.
+// kept: Ok and Err are found or not, each with the trials made: no refusal, and no struct of a flag and a number
+// kept: a loop: a turn goes on by as many places, or to the group, that its test says; no range or chain has such turns
 fn run(reference: &[u8], pattern: Pattern, answer: &mut [u32; ANSWER_SIZE]) -> Result<usize, usize>
-    requires good_rows { GoodRows pattern.values.now pattern.rows.now pattern.count }
     requires reference_len_bound { (length reference.now ≤ 1024) × (0 < pattern.count) }
     requires answer_value { answer.old ≡ row_answer pattern.count (0 ∷ sizes_at pattern.rows.now pattern.count 0) }
     ensures { let p = pattern.entry in RunSays reference.now p.values.now p.rows.now p.count answer.new result }
@@ -233,6 +237,7 @@ fn length_of(e: Element) -> usize
 }
 
 // the answer with the lengths of a pattern's pieces, behind the start's place
+// kept: by the row's index, here and in read_rows: row_element takes it, and a length has it in the answer
 fn fill(rows: &[u8], count: usize, answer: &mut [u32; ANSWER_SIZE])
     requires count_bound { (count ≤ 20) × (12 * count ≤ length rows.now) }
     requires by_index { (i : ℕ) → i < count → RowSized (row_element rows.now i) }
@@ -266,8 +271,8 @@ fn finish(trials: usize, answer: &mut [u32; ANSWER_SIZE])
 }
 
 // the scan by rows whose lengths stand in the answer
+// kept: reference and pattern come apart, as document 01's scan has them; the clause on the reference's length bounds the trials
 fn scan_filled(reference: &[u8], pattern: Pattern, answer: &mut [u32; ANSWER_SIZE])
-    requires good_rows { GoodRows pattern.values.now pattern.rows.now pattern.count }
     requires reference_len_bound { length reference.now ≤ 1024 }
     requires answer_value { answer.old ≡ row_answer pattern.count (0 ∷ sizes_at pattern.rows.now pattern.count 0) }
     ensures { let p = pattern.entry in answer.new ≡ answer_numbers 0 (scan (pattern_of p.values.now p.rows.now p.count) reference.now) }

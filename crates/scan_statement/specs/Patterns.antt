@@ -4,7 +4,6 @@ use Rattle.base.specs.Current.{table_size}
 use Rattle.encoding.specs.Splices.{splice}
 use Rattle.numbers.specs.Numbers.{IntInRange}
 use Rattle.numbers.specs.declared.Int.{Int}
-use Rattle.evaluator.specs.Memory.{MemoryReady}
 use Rattle.machine.specs.Scanning.{Valued, fixed_at}
 use Rattle.decoder.specs.Holds.{ElementHolds, PatternHolds, PatternsHold}
 use Rattle.decoder.specs.Meaning.{patterns_meaning}
@@ -64,9 +63,8 @@ pub record StringPut (rows rows_left : List ℕ) (i n : ℕ) : Type 0 where
   pub row : (values left w : List ℕ) → Stands values left i n w → RowPut values left rows rows_left i (string w)
 
 -- an element of a string expression to be put into row i
-pub record ValuePutting (table store state : List ℕ) (x : Table.Element) (i : ℕ) (values rows : List ℕ) : Type 0 where
+pub record ValuePutting (table : List ℕ) (x : Table.Element) (i : ℕ) (values rows : List ℕ) : Type 0 where
   pub bytes : table_size ≤ length table
-  pub ready : MemoryReady store state
   pub holds : ElementHolds x
   pub few : i < 20
   pub strings : length values ≡ 20480
@@ -110,9 +108,8 @@ pub record FixedPut (z : Int) (s i : ℕ) (rows rows_left names names_left : Lis
   pub places : length names_left ≡ 20
 
 -- an element of a pattern to be put into row i
-pub record ElementPutting (table store state : List ℕ) (x : PatternElement) (i : ℕ) (values rows names : List ℕ) : Type 0 where
+pub record ElementPutting (table : List ℕ) (x : PatternElement) (i : ℕ) (values rows names : List ℕ) : Type 0 where
   pub bytes : table_size ≤ length table
-  pub ready : MemoryReady store state
   pub searched : ℕ
   pub holds : PatternHolds searched x
   pub few : i < 20
@@ -127,9 +124,8 @@ pub record ElementPut (r : Completion) (values left rows rows_left names names_l
   pub buffers : PatternBuffers left rows_left names_left
 
 -- a pattern of a table whose values can be put into the buffers
-pub record PatternPutting (table store state : List ℕ) (s : Stretch) (values rows names : List ℕ) : Type 0 where
+pub record PatternPutting (table : List ℕ) (s : Stretch) (values rows names : List ℕ) : Type 0 where
   pub bytes : table_size ≤ length table
-  pub ready : MemoryReady store state
   pub searched : ℕ
   pub pattern : PatternsHold table searched s
   pub buffers : PatternBuffers values rows names

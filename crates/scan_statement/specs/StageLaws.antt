@@ -1,5 +1,6 @@
 -- Laws of a scan whose pattern's values are known: no split, or one and what its replacement comes to. Assumes nothing.
-use Rattle.std.specs.Prelude.{true, false, Ok, Err, ℕ, ◌+◌, ◌-◌, ◌≤◌, leb, take, drop, get_or}
+use Rattle.std.specs.Prelude as Prelude
+use Rattle.std.specs.Prelude.{Some, None, true, false, Ok, Err, ℕ, ◌+◌, ◌-◌, ◌≤◌, leb, take, drop, get_or}
 use mathlib.Core.List.{List, ◌++◌}
 use Rattle.std.proofs.Math.Option.{Option, some}
 use Rattle.std.proofs.Math.Path.{◌≡◌, refl, sym, ap, ap₂}
@@ -24,8 +25,6 @@ use Rattle.machine.specs.State.{Memory}
 use Rattle.decoder.specs.Holds.{ReplacementHolds}
 use Rattle.decoder.specs.Meaning.{direction_meaning, elements_meaning, patterns_meaning, replacement_meaning}
 use Rattle.decoder.specs.declared.Direction.{Direction}
-use Rattle.decoder.specs.declared.Replacement.{Replacement}
-use Rattle.decoder.specs.declared.Replacement.TheVariants as replacements
 use Rattle.decoder.specs.declared.Stretch.{Stretch}
 use Rattle.scanning.specs.Trials as Trials
 use Rattle.effects.specs.FillerLaws.{put_back, stays_on}
@@ -179,15 +178,15 @@ module _ {table store state : List ℕ} {d : Direction} {at : Span} {pattern : S
     pub pieces_inside : start + sum ≤ at.to - at.from
     pieces_inside = omega (arith, n.pieces, n.start, sum_is, searched-length)
 
-    abbrev stored : Replacement → Result Memory
+    abbrev stored : Prelude.Option Stretch → Result Memory
     stored x = replaced_by table named state way at start sum x
 
     -- the replacement is the value stored in their place
-    replacing-stored : (x : Replacement)
+    replacing-stored : (x : Prelude.Option Stretch)
         → replacing current way searched n.split (replacement_meaning table x) (memory_in named state) ≡ stored x
     unfolding replacing
-    replacing-stored replacements.Nothing = refl
-    replacing-stored (replacements.By by) =
+    replacing-stored None = refl
+    replacing-stored (Some by) =
         let m = memory_in named state in
         let v = string_of store at.place in
         let put : (whole : List ℕ) (b r x y : ℕ) → Result Memory =
@@ -206,13 +205,13 @@ module _ {table store state : List ℕ} {d : Direction} {at : Span} {pattern : S
         ∙ ap₂ (λ (j k : ℕ). put (string_of named at.place) at.from (at.to - at.from) j k) (sym n.start) sum_is
 
     -- with few notes
-    pub few_stored : (x : Replacement) → ReplacementHolds table x → {more : ℕ} {left : List ℕ}
+    pub few_stored : (x : Prelude.Option Stretch) → ReplacementHolds table x → {more : ℕ} {left : List ℕ}
         → LeavesStore (Ok more) named left (numbers_in state) (stored x) → more ≤ 20
     unfolding pure
-    few_stored replacements.Nothing holds l =
+    few_stored None holds l =
         let none : FewNotes 0 (pure (memory_in named state)) = omega arith in
         omega (arith, few_done none l.1)
-    few_stored (replacements.By by) holds l =
+    few_stored (Some by) holds l =
         let m = memory_in named state in
         let few =
         few_bind by.count 0 (string_in current m (elements_meaning table by)) _ (few_elements_spelt current m table by.from by.count)
@@ -223,7 +222,7 @@ module _ {table store state : List ℕ} {d : Direction} {at : Span} {pattern : S
     abbrev rest : Result Memory → Result ScanLeft
     rest w = with_notes notes (w >>= λ m. pure (record { memory = m; scanned = answered }))
 
-    pub replaced_scans : (x : Replacement) {more : ℕ} {left : List ℕ} → LeavesStore (Ok more) named left (numbers_in state) (stored x)
+    pub replaced_scans : (x : Prelude.Option Stretch) {more : ℕ} {left : List ℕ} → LeavesStore (Ok more) named left (numbers_in state) (stored x)
         → ScanDone (Ok (record { value = true; notes = notes + more })) store left state answer (searched_rest table store state d at pattern (replacement_meaning table x))
     unfolding ◌>>=◌ with_notes pure
     replaced_scans x {more} {left} l =
@@ -243,20 +242,20 @@ module _ {table store state : List ℕ} {d : Direction} {at : Span} {pattern : S
         }
 
     -- what stops it puts the fillers back
-    pub stopped_scans : (x : Replacement) (why : Stop) {left back saved keeping : List ℕ}
+    pub stopped_scans : (x : Prelude.Option Stretch) (why : Stop) {left back saved keeping : List ℕ}
         → LeavesStore (Err why) named left (numbers_in state) (stored x) → Saved x table pattern store saved keeping
         → Copied table pattern keeping left back
         → ScanDone (Err why) store back state answer (searched_rest table store state d at pattern (replacement_meaning table x))
     unfolding ◌>>=◌ with_notes pure
-    stopped_scans replacements.Nothing why l save restore =
+    stopped_scans None why l save restore =
         let never = l.1 in
         let z : ◌≡◌ {A = ℕ} 0 1 = cc in
         absurd (omega arith)
-    stopped_scans (replacements.By by) why {back = back} {saved} {keeping} l save restore = (
+    stopped_scans (Some by) why {back = back} {saved} {keeping} l save restore = (
       put_back table pattern store saved keeping named back q.ready.strings (save.copied by refl) stays
           (λ i h e.
           n.others i e
           (pattern_names current (memory_in store state) i (patterns_meaning table pattern) vs notes q.put.work e))
           (subst (λ (s : List ℕ). Copied table pattern keeping s back) l.0 restore),
-      split_rest (some (elements_meaning table by)) n ∙ ap rest (replacing-stored (replacements.By by) ∙ l.1),
+      split_rest (some (elements_meaning table by)) n ∙ ap rest (replacing-stored (Some by) ∙ l.1),
     )

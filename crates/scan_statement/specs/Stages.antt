@@ -1,6 +1,7 @@
 -- A scan once its reference is known, and once its pattern's values are: what is left of the work, what it asks for and leaves.
 -- Assumes nothing.
-use Rattle.std.specs.Prelude.{List, ◌≡◌, ℕ, ◌+◌, ◌-◌, ◌≤◌, length, get_or}
+use Rattle.std.specs.Prelude as Prelude
+use Rattle.std.specs.Prelude.{Some, None, List, ◌≡◌, ℕ, ◌+◌, ◌-◌, ◌≤◌, length, get_or}
 use Rattle.std.proofs.Math.Option.{Option}
 use Rattle.base.specs.Current.{current, table_size}
 use Rattle.base.specs.Lists.{total}
@@ -13,8 +14,6 @@ use Rattle.machine.specs.State.{Memory}
 use Rattle.decoder.specs.Holds.{PatternsHold, ReplacementHolds, searched_place}
 use Rattle.decoder.specs.Meaning.{direction_meaning, patterns_meaning}
 use Rattle.decoder.specs.declared.Direction.{Direction}
-use Rattle.decoder.specs.declared.Replacement.{Replacement}
-use Rattle.decoder.specs.declared.Replacement.TheVariants as replacements
 use Rattle.decoder.specs.declared.Scan.{Scan}
 use Rattle.decoder.specs.declared.Stretch.{Stretch}
 use Rattle.effects.specs.Fillers.{Copied, lengths_in}
@@ -59,14 +58,14 @@ pub record Findable (table store state : List ℕ) (d : Direction) (at : Span) (
   pub places : length names ≡ 20
 
 -- the fillers of a scan with a replacement are kept
-pub record Saved (x : Replacement) (table : List ℕ) (pattern : Stretch) (store kept left : List ℕ) : Type 0 where
+pub record Saved (x : Prelude.Option Stretch) (table : List ℕ) (pattern : Stretch) (store kept left : List ℕ) : Type 0 where
   pub good : StoreGood left
-  pub copied : (by : Stretch) → x ≡ replacements.By by → Copied table pattern store kept left
+  pub copied : (by : Stretch) → x ≡ Some by → Copied table pattern store kept left
 
 -- so many bytes of the reference from a start on give way to the value of a replacement, if there is one
-abbrev pub replaced_by : (table store state : List ℕ) → Program.Direction → Span → (start sum : ℕ) → Replacement → Result Memory
-replaced_by table store state way at start sum replacements.Nothing = pure (memory_in store state)
-replaced_by table store state way at start sum (replacements.By by) =
+abbrev pub replaced_by : (table store state : List ℕ) → Program.Direction → Span → (start sum : ℕ) → Prelude.Option Stretch → Result Memory
+replaced_by table store state way at start sum None = pure (memory_in store state)
+replaced_by table store state way at start sum (Some by) =
     stored_turned table store state way at.place (found_from way at.from (at.to - at.from) start sum)
     (found_to way at.from (at.to - at.from) start sum) by
 

@@ -1,5 +1,6 @@
 // SCAN and BACKSCAN on the buffers, in the machine's order of work: reference, pattern values, fillers made null, scan, naming,
 // replacement. The contract is an equation with scanning_in of the crate machine.
+// kept: table, store and state come apart, as effects/valued.rt says; out is a slice of 1,024 bytes, as crate evaluator says
 #![tactic(auto)]
 
 pub mod finding;
@@ -17,6 +18,7 @@ use effects::Span;
 use effects::fillers::copy_fillers;
 use effects::reference::{copy_reference, reference_ends};
 use encoding::STATE_SIZE;
+use evaluator::Memory;
 use finding::find_split;
 use replacing::{keep_fillers, replace_pieces};
 use scanning::{ANSWER_SIZE, ROW_SIZE};
@@ -57,7 +59,14 @@ fn scan_span(
     let pattern = s.pattern;
     let n = at.to - at.from;
     copy_reference(store, at, d, &mut reference);
-    let notes = pattern_rows(table, store, state, pattern, values, &mut rows, &mut names)?;
+    let notes = pattern_rows(
+        table,
+        Memory { store, state },
+        pattern,
+        values,
+        &mut rows,
+        &mut names,
+    )?;
     keep_fillers(table, store, kept, s);
     if !find_split(
         table,
@@ -103,6 +112,6 @@ pub fn scan_step(
         (scanning_of table.now store.old state.now s) }
     ensures scan_lent_2 { ScanLent values.new kept.new }
 {
-    let at = reference_ends(store, state, s.direction, s.part)?;
+    let at = reference_ends(Memory { store, state }, s.direction, s.part)?;
     scan_span(table, store, state, s, at, values, kept, answer)
 }

@@ -1,6 +1,6 @@
 // A scan's replacement, where the pieces of its split lay, and the fillers kept for one that stops.
 // Each contract is an equation with the definitions of the crate machine.
-ghost use Rattle.std.specs.Prelude.{◌≡◌, ◌+◌, ◌-◌, ◌≤◌, length, get_or};
+ghost use Rattle.std.specs.Prelude.{◌≡◌, ◌+◌, ◌-◌, ◌≤◌, length};
 ghost use Rattle.base.specs.Lists.{total};
 ghost use Rattle.decoder.specs.Meaning.{direction_meaning};
 ghost use Rattle.effects.specs.Fillers.{Copying, lengths_in};
@@ -8,7 +8,7 @@ ghost use Rattle.effects.specs.ReplacingLaws.{found_from, found_to};
 ghost use Rattle.effects.specs.Valued.{ValueStored};
 ghost use Rattle.scan_statement.specs.Stages.{LengthsCounted, Replaceable, Saved, replaced_pieces};
 
-use decoder::{Direction, Replacement, Scan};
+use decoder::{Direction, Scan};
 use effects::Span;
 use effects::fillers::copy_fillers;
 use effects::replacing::replace_found;
@@ -17,11 +17,13 @@ use scanning::{LENGTHS_AT, START_AT};
 use values::Stop;
 
 // how long the pieces of a split are together
+// kept: the pattern's count stands beside the answer, which as the scan call has it (C interface) says none
 fn pieces_length(answer: &[u32], count: usize) -> usize
     requires { LengthsCounted answer.now count }
     ensures { result ≡ total (λ l. l) (lengths_in answer.now count) }
 {
     let lengths = &answer[LENGTHS_AT..LENGTHS_AT + count];
+    // kept: a loop: the lengths' iterator, mapped and summed, takes 6 instructions more for each replacement
     let mut sum: usize = 0;
     for n in lengths {
         sum += *n as usize;
@@ -58,15 +60,15 @@ pub fn replace_pieces(
         (replaced_pieces table.now store.old state.now s at answer.now) }
 {
     match s.replacement {
-        Replacement::Nothing => Ok(0),
-        Replacement::By(by) => {
+        None => Ok(0),
+        Some(by) => {
             let d = s.direction;
             let n = pieces_length(answer, s.pattern.count);
             let from = found_from(d, at, answer[START_AT] as usize, n);
             let found = Span {
-                place: at.place,
                 from,
                 to: from + n,
+                ..at
             };
             replace_found(table, store, state, d, found, by, out)
         }
@@ -78,7 +80,7 @@ pub fn keep_fillers(table: &[u8], store: &[u8], kept: &mut [u8], s: Scan)
     requires { Copying table.now store.now kept.old s.pattern }
     ensures { Saved s.replacement table.now s.pattern store.now kept.old kept.new }
 {
-    if let Replacement::By(_) = s.replacement {
+    if s.replacement.is_some() {
         copy_fillers(table, store, kept, s.pattern);
     }
 }

@@ -11,12 +11,13 @@ ghost use Rattle.scan_statement.specs.Patterns.{ElementPutting, ElementPut, Patt
 use crate::putting::put_row;
 use base::LONGEST;
 use decoder::{Element, PatternElement, Stretch};
-use encoding::STATE_SIZE;
+use evaluator::Memory;
 use numbers::Int;
 use scanning::RowKind;
 use values::Stop;
 
 // as the place that a piece is to name: none
+// kept: 32 for none, as effects/fillers says: a scan has its names as bytes
 const NONE: u8 = base::STRINGS as u8;
 
 // Row i is a string of n bytes, of which the first 1,024 stand among the values, where each row has as many. One that is longer fits no
@@ -36,19 +37,18 @@ fn put_string(rows: &mut [u8], i: usize, n: usize)
 // Row i is the value of an element of a string expression.
 fn put_value(
     table: &[u8],
-    store: &[u8],
-    state: &[u64; STATE_SIZE],
+    memory: Memory,
     x: Element,
     i: usize,
     values: &mut [u8],
     rows: &mut [u8],
 ) -> Result<u32, Stop>
-    requires { ValuePutting table.now store.now state.now x i values.old rows.old }
+    requires { ValuePutting table.now x i values.old rows.old }
     ensures { ValuePut result values.old values.new rows.old rows.new i
-        (element_in current (memory_in store.now state.now) (element_meaning table.now x)) }
+        (element_in current (memory_in memory.entry.store.now memory.entry.state.now) (element_meaning table.now x)) }
 {
     let at = LONGEST * i;
-    let text = evaluator::append_element(table, store, state, x, &mut values[at..at + LONGEST], 0)?;
+    let text = evaluator::append_element(table, memory, x, &mut values[at..at + LONGEST], 0)?;
     put_string(rows, i, text.value);
     Ok(text.notes)
 }
@@ -71,22 +71,21 @@ fn put_fixed(z: Int, s: usize, i: usize, rows: &mut [u8], names: &mut [u8]) -> u
 // Row i is an element of a pattern of which this string is searched.
 fn put_element(
     table: &[u8],
-    store: &[u8],
-    state: &[u64; STATE_SIZE],
+    memory: Memory,
     x: PatternElement,
     i: usize,
     values: &mut [u8],
     rows: &mut [u8],
     names: &mut [u8],
 ) -> Result<u32, Stop>
-    requires { ElementPutting table.now store.now state.now x i values.old rows.old names.old }
+    requires { ElementPutting table.now x i values.old rows.old names.old }
     ensures { ElementPut result values.old values.new rows.old rows.new names.old names.new i
-        (valued_in current (memory_in store.now state.now) (pattern_meaning table.now x)) }
+        (valued_in current (memory_in memory.entry.store.now memory.entry.state.now) (pattern_meaning table.now x)) }
 {
     match x {
         PatternElement::Value(e) => {
             names[i] = NONE;
-            put_value(table, store, state, e, i, values, rows)
+            put_value(table, memory, e, i, values, rows)
         }
         PatternElement::Free(s) => {
             names[i] = s as u8;
@@ -94,31 +93,31 @@ fn put_element(
             Ok(0)
         }
         PatternElement::Fixed(s, n) => {
-            let z = evaluator::length_value(state, n);
+            let z = evaluator::length_value(memory.state, n);
             Ok(put_fixed(z, s, i, rows, names))
         }
     }
 }
 
 // The rows of a pattern, and the places that its pieces are to name.
+// kept: by the row's index: values, rows and names each have there what belongs to it, values and rows as the scan call has them (C interface)
 pub fn pattern_rows(
     table: &[u8],
-    store: &[u8],
-    state: &[u64; STATE_SIZE],
+    memory: Memory,
     pattern: Stretch,
     values: &mut [u8],
     rows: &mut [u8],
     names: &mut [u8],
 ) -> Result<u32, Stop>
-    requires { PatternPutting table.now store.now state.now pattern values.old rows.old names.old }
+    requires { PatternPutting table.now pattern values.old rows.old names.old }
     ensures { PatternPut result table.now values.new rows.new names.new pattern
-        (pattern_in current (memory_in store.now state.now) (patterns_meaning table.now pattern)) }
+        (pattern_in current (memory_in memory.entry.store.now memory.entry.state.now) (patterns_meaning table.now pattern)) }
 {
     let from = pattern.from;
     let mut notes: u32 = 0;
     for i in 0..pattern.count {
         let x = decoder::pattern_at(table, from + i);
-        notes += put_element(table, store, state, x, i, values, rows, names)?;
+        notes += put_element(table, memory, x, i, values, rows, names)?;
     }
     Ok(notes)
 }

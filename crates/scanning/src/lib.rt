@@ -55,6 +55,7 @@ impl Refusal {
 }
 
 // an answer's numbers, and where it has whether there is a split, the start, the trials, the notes and the lengths
+// kept: wherever an answer is lent it is an array of so many numbers, the caller's, by the C interface
 pub const ANSWER_SIZE: usize = 24;
 
 pub const FOUND_AT: usize = 0;

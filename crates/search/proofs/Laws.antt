@@ -1,8 +1,8 @@
 -- What bytes that differ say of a word's places. Assumes nothing.
 use mathlib.Core.Bool.{Bool, true, false, ◌&&◌, ◌||◌, true≢false}
-use mathlib.Core.List.{List}
+use mathlib.Core.List.{List, [], ◌∷◌}
 use mathlib.Core.Logic.{◌⊎◌, inl, inr, ⊎_elim, ⊎_map}
-use mathlib.Core.Path.{◌≡◌, refl, sym, ◌∙◌, ap, subst}
+use mathlib.Core.Path.{◌≡◌, refl, sym, ◌∙◌, ap}
 use Prim.Native.Nat.{ℕ, zero, suc, ◌+◌, ◌-◌, ◌≤◌, ◌<◌}
 use native.Mathlib.Omega.{arith}
 use lib.Dec.{eqb}
@@ -13,6 +13,7 @@ use borrow.Author.Tests.{eq-eqb, ne_eqb, eqb-true}
 use Rattle.memchr.specs.Find.{Nowhere, NoneBefore, Passes, is_byte}
 use Rattle.base.specs.Choice.{both_pass, neither_true}
 use Rattle.base.specs.Lists.{begins}
+use Rattle.std.specs.List.{fold, zip}
 use Rattle.base.specs.ListLaws.{begins_iff, length_stretch, get_or_stretch, stretch_end}
 use Rattle.search.specs.Passing.{AgreesUntil, Both, Without, NextPlace, NextByte, WordPasses}
 
@@ -61,17 +62,21 @@ agrees-begins rest word n room a =
     eq-eqb n (length word) e ∙ sym (agrees-whole rest word n room a e))
     (below_or_not n (length word))
 
--- one more place of a block with nothing found
-pub hit_more : (fronts backs : List ℕ) (first last : ℕ) (found : Bool) (j : ℕ)
-    → (found ≡ false → (i : ℕ) → i < j → Both fronts backs first last i → ⊥)
-    → (found || (eqb (get_or fronts j 0) first && eqb (get_or backs j 0) last)) ≡ false
-    → (i : ℕ) → i < j + 1 → Both fronts backs first last i → ⊥
-hit_more fronts backs first last found j h e =
-    let parts = neither_true found (eqb (get_or fronts j 0) first && eqb (get_or backs j 0) last) e in
-    below_more (λ i. Both fronts backs first last i → ⊥) j (h parts.0)
-    (λ b.
-    true≢false
-    (sym (both_pass (eq-eqb (get_or fronts j 0) first b.0) (eq-eqb (get_or backs j 0) last b.1)) ∙ parts.1))
+-- a fold that found nothing in two blocks of one length: at no place both bytes stand
+pub hit_none : (fronts backs : List ℕ) (first last : ℕ) (found : Bool) → length fronts ≡ length backs
+    → fold (λ t (p : ℕ × ℕ). t || (eqb p.0 first && eqb p.1 last)) found (zip fronts backs) ≡ false
+    → (found ≡ false) × ((j : ℕ) → j < length fronts → Both fronts backs first last j → ⊥)
+hit_none [] backs first last found size e = (e, λ j h. absurd (omega arith))
+hit_none (x ∷ fronts) [] first last found size e = absurd (omega arith)
+hit_none (x ∷ fronts) (y ∷ backs) first last found size e =
+    let rest = hit_none fronts backs first last (found || (eqb x first && eqb y last)) (omega arith) e in
+    let parts = neither_true found (eqb x first && eqb y last) rest.0 in
+    (parts.0, others parts.1 rest.1)
+  where
+    others : (eqb x first && eqb y last) ≡ false → ((j : ℕ) → j < length fronts → Both fronts backs first last j → ⊥)
+        → (j : ℕ) → j < suc (length fronts) → Both (x ∷ fronts) (y ∷ backs) first last j → ⊥
+    others none more zero h b = true≢false (sym (both_pass (eq-eqb x first b.0) (eq-eqb y last b.1)) ∙ none)
+    others none more (suc j) h b = more j (omega arith) b
 
 module _ {text : List ℕ} {first last span places from : ℕ} where
   -- no place passed yet
@@ -87,20 +92,6 @@ module _ {text : List ℕ} {first last span places from : ℕ} where
           high = w'.high;
           differ = λ j low high. ⊎_elim (λ (h : j < k). w.differ j low h) (λ (h : k ≤ j). w'.differ j h high) (below_or_not j k);
         }
-
-    -- one more place, where one of the two bytes does not stand
-    pub without_one : k < places → (get_or text k 0 ≡ first → get_or text (k + span) 0 ≡ last → ⊥)
-        → Without text first last span places from (k + 1)
-    without_one room h =
-        without_join
-        (record {
-          low = omega arith;
-          high = omega arith;
-          differ =
-              λ j low high.
-              let e : k ≡ j = omega arith in
-              subst (λ (i : ℕ). get_or text i 0 ≡ first → get_or text (i + span) 0 ≡ last → ⊥) e h;
-        })
 
     -- a block more, of two parts of the text where nothing was found
     pub without_block : (size m n : ℕ) → m ≡ size → n ≡ size → k + size ≤ places

@@ -14,6 +14,7 @@ use memchr::memchr;
 const SHORT: usize = 32;
 
 // how many bytes of rest and word are the same, from the first on
+// kept: by index: position over a zip takes 6 percent more instructions for the benchmark's word of 4 bytes, 12 to 15 for words in short lines
 fn same_until(rest: &[u8], word: &[u8]) -> usize
     requires { length word.now ≤ length rest.now }
     ensures { AgreesUntil rest.now word.now result }
@@ -41,14 +42,17 @@ fn hit(fronts: &[u8], backs: &[u8], first: u8, last: u8) -> bool
     requires { length fronts.now ≡ length backs.now }
     ensures { result ≡ false → (j : ℕ) → j < length fronts.now → Both fronts.now backs.now first last j → ⊥ }
 {
-    let mut found = false;
-    for j in 0..fronts.len() {
-        found |= (fronts[j] == first) & (backs[j] == last);
-    }
-    found
+    fronts
+        .iter()
+        .zip(backs)
+        .fold(false, |found, (front, back)| {
+            found | ((*front == first) & (*back == last))
+        })
 }
 
 // the places from one on, in blocks of this size, at which not both first stands and last stands span bytes behind it
+// kept: a while, since it ends at the block that hits: chunks of both spans zipped would have to be counted back to that place
+// kept: the six parameters come apart: last, span and from are others at each turn of passed_word, so a struct would be made anew each time
 fn pass_blocks<const SIZE: usize>(
     text: &[u8],
     first: u8,
@@ -81,12 +85,9 @@ fn pass_bytes(text: &[u8], first: u8, last: u8, span: usize, places: usize, from
     requires { PlacesSearchable text.now span places from }
     ensures { NextPlace text.now first last span places from result }
 {
-    for k in from..places {
-        if text[k] == first && text[k + span] == last {
-            return k;
-        }
-    }
-    places
+    (from..places)
+        .find(|k| text[*k] == first && text[*k + span] == last)
+        .unwrap_or(places)
 }
 
 // The next place from one on at which first stands and last stands span bytes behind it, or the end of the places: by blocks as long as they may

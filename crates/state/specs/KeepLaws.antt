@@ -1,11 +1,11 @@
 -- Laws of the state's check and of its start: the two words for a test of every element, a number in range by the word that keeps it.
 -- Assumes nothing.
-use Rattle.std.specs.Prelude.{Bool, ◌&&◌, List, [], ◌∷◌, map, ◌≡◌, ltb, leb, nat_abs, length, take, drop, replicate}
+use Rattle.std.specs.Prelude.{Bool, ◌&&◌, List, [], ◌∷◌, map, ◌≡◌, ltb, leb, length, take, drop, replicate}
 use Rattle.std.specs.List.{list_all}
 use Rattle.std.proofs.Common.{refl, ap, sym, ◌∙◌, leb-true, leb-false, arith}
 use Rattle.std.proofs.lemmas.Bool.{lt-leb}
 use Rattle.std.proofs.lemmas.List.Folds.{list_all-map}
-use Prim.Native.Nat.{ℕ, ◌≤◌, ◌<◌, ◌^◌}
+use Prim.Native.Nat.{ℕ, ◌<◌}
 use Rattle.base.specs.Choice.{cond_cases, test_cases}
 use Rattle.base.specs.Current.{current, limit}
 use Rattle.base.specs.Lists.{all}

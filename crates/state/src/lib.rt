@@ -3,10 +3,10 @@
 // kept: the state is the caller's array, by the C interface; so these are functions on it and not methods of a struct
 #![tactic(auto)]
 
-ghost use Rattle.std.specs.Prelude.{◌≡◌, ◌+◌, ◌-◌, ◌<◌, ◌≤◌, eqb, ltb, length, get_or, set};
+ghost use Rattle.std.specs.Prelude.{◌≡◌, ◌+◌, ◌-◌, ◌<◌, ◌≤◌, eqb, ltb, get_or, set};
 ghost use Rattle.base.specs.Current.{current};
 ghost use Rattle.base.specs.Lists.{all};
-ghost use Rattle.encoding.specs.Buffers.{status_of, first_state, returns_in, numbers_in, state_keeps, state_size};
+ghost use Rattle.encoding.specs.Buffers.{status_of, first_state, returns_in, numbers_in, state_keeps};
 ghost use Rattle.encoding.specs.Numerals.{biased, unbiased};
 ghost use Rattle.calls.specs.Promises.{StartPromise, start_back};
 ghost use Rattle.numbers.specs.Numbers.{IntInRange};
@@ -24,8 +24,8 @@ use numbers::Int;
 const BEHIND: usize = NUMBERS_AT + base::NUMBERS;
 
 // Whether the returns held are steps of a program with so many.
-fn returns_keep(state: &[u64], steps: usize) -> bool
-    requires { (length state.now ≡ state_size) × (get_or state.now 2 0 ≤ 16) }
+fn returns_keep(state: &[u64; STATE_SIZE], steps: usize) -> bool
+    requires { get_or state.now 2 0 ≤ 16 }
     ensures { result ≡ all (λ k. ltb k steps) (returns_in state.now) }
 {
     let end = RETURNS_AT + (state[HELD_AT] as usize);
@@ -41,8 +41,7 @@ fn keeps_number(n: u64) -> bool
 }
 
 // Whether the numbers are in range.
-fn numbers_keep(state: &[u64]) -> bool
-    requires { length state.now ≡ state_size }
+fn numbers_keep(state: &[u64; STATE_SIZE]) -> bool
     ensures { result ≡ all (is_in_range current) (numbers_in state.now) }
 {
     state[NUMBERS_AT..BEHIND].iter().all(|&n| keeps_number(n))

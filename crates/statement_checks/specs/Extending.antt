@@ -1,50 +1,51 @@
--- Where a kind may not stand, by numbers; what extending the environment by a statement does. Assumes nothing.
-use Rattle.std.specs.Prelude.{Bool, not, ◌&&◌, ◌||◌, List, ◌++◌, ◌≡◌, ℕ, ◌+◌, ◌≤◌, eqb, take, get_or, Option}
+-- Where a kind may not stand; what extending the environment by a statement does. Assumes nothing.
+use Rattle.std.specs.Prelude.{Bool, false, not, List, ◌++◌, ◌≡◌, ℕ, ◌+◌, ◌≤◌, eqb, length, take, Option}
+use Rattle.syntax.specs.Parsing.{for_number, for_string}
+use Rattle.lexer.specs.declared.keywords.Kind.{Kind}
+use Rattle.lexer.specs.declared.keywords.Kind.TheVariants.{End, Routine, EndRoutine, Return}
+use Rattle.symbols.specs.Clauses.{names_room}
 use Rattle.symbols.specs.Entries.{NameEntry, name_of}
-use Rattle.symbols.specs.Holding.{Arrays}
-use Rattle.symbols.specs.Environment.{labels_in, routines_in, label_count_at, routine_count_at, statement_count_at, step_count_at, ended_at, scope_at}
-use Rattle.symbols.specs.Environment.{element_count_at, item_count_at, literal_count_at, name_count_at, use_count_at}
+use Rattle.symbols.specs.Environment.{string_keys, number_keys, labels_in, routines_in, most_labels}
 use Rattle.symbols.specs.declared.Cursor.{Cursor}
-use Rattle.name_checks.specs.Names.{NamesSized}
+use Rattle.symbols.specs.declared.known.Symbols.{Symbols}
 use Rattle.statement_checks.specs.Counts.{steps_behind, ended_behind}
 use Rattle.statement_checks.specs.Labels.{labels_by}
-use Rattle.statement_checks.specs.Listing.{NamesListed, Listing}
+use Rattle.statement_checks.specs.Listing.{ShowsNames, Listing}
 use Rattle.statement_checks.specs.Routines.{routine_names, routines_behind, scope_behind, Opens}
-use Rattle.statement_checks.specs.Uses.{held_uses, Spacious, Used}
+use Rattle.statement_checks.specs.Uses.{Used}
 
--- 9 by a kind's number and the key of the scope
-unfoldable pub wrong_in : (kind scope : ℕ) → Bool
-wrong_in kind scope =
-    ((eqb kind 12 || eqb kind 3) && not (eqb scope 0)) || ((eqb kind 15 || eqb kind 14) && eqb scope 0)
+-- 9 by a kind and the key of the scope
+unfoldable pub wrong_in : Kind → (scope : ℕ) → Bool
+wrong_in Routine scope = not (eqb scope 0)
+wrong_in End scope = not (eqb scope 0)
+wrong_in Return scope = eqb scope 0
+wrong_in EndRoutine scope = eqb scope 0
+wrong_in _ scope = false
 
--- the arrays are ready to be extended by a statement: the names are there already
-pub record Extendable (a : Arrays) (keys tags : List ℕ) (met count : ℕ) : Type 0 where
-  pub listing : Listing a.known a.name_keys a.name_purposes (get_or a.known name_count_at 0) count
-  pub entries : NamesSized keys tags met
-  pub spacious : Spacious (held_uses a) (get_or a.known use_count_at 0 + met)
-  pub statements : get_or a.known statement_count_at 0 ≤ 256
-  pub steps : get_or a.known step_count_at 0 ≤ 256
-  pub labels : get_or a.known label_count_at 0 ≤ 65
-  pub routines : get_or a.known routine_count_at 0 ≤ 16
+-- the table is ready to be extended by a statement: the names are there already, behind the first so many that were known before
+pub record Extendable (s : Symbols) (met before : ℕ) : Type 0 where
+  pub strings : Listing s.names before for_string (string_keys s.known)
+  pub numbers : Listing s.names before for_number (number_keys s.known)
+  pub spacious : s.uses.count + met ≤ names_room
+  pub statements : s.known.statements ≤ 256
+  pub steps : s.known.steps ≤ 256
+  pub labels : length s.known.labels.items ≤ most_labels
+  pub routines : length s.known.routines.items ≤ 16
 
 -- the environment is extended by all of a statement, and the names stay
-pub record Extended (a : Arrays) (es : List NameEntry) (c : Cursor) (kind count : ℕ) (a' : Arrays) : Type 0 where
+pub record Extended (s : Symbols) (es : List NameEntry) (c : Cursor) (kind : Kind) (s' : Symbols) : Type 0 where
   pub opened : Option ℕ
   pub opens : Opens (routine_names es) opened
-  pub name_keys : a'.name_keys ≡ a.name_keys
-  pub name_purposes : a'.name_purposes ≡ a.name_purposes
-  pub shows : NamesListed a'.known a.name_keys a.name_purposes count
-  pub few_labels : get_or a'.known label_count_at 0 ≤ 65
-  pub labels : labels_in a'.known
-      ≡ take 65 (labels_in a.known ++ labels_by (get_or a.known step_count_at 0) (name_of (get_or a.known scope_at 0)) es)
-  pub few_routines : get_or a'.known routine_count_at 0 ≤ 17
-  pub routines : routines_in a'.known ≡ routines_behind (get_or a.known step_count_at 0) (routines_in a.known) opened kind
-  pub statements : get_or a'.known statement_count_at 0 ≡ get_or a.known statement_count_at 0 + 1
-  pub steps : get_or a'.known step_count_at 0 ≡ steps_behind (get_or a.known step_count_at 0) kind
-  pub ended : get_or a'.known ended_at 0 ≡ ended_behind kind
-  pub scope : get_or a'.known scope_at 0 ≡ scope_behind (get_or a.known scope_at 0) opened kind
-  pub elements : get_or a'.known element_count_at 0 ≡ c.elements
-  pub items : get_or a'.known item_count_at 0 ≡ c.items
-  pub literals : get_or a'.known literal_count_at 0 ≡ c.literals
-  pub names : get_or a'.known name_count_at 0 ≡ count
-  pub used : Used (held_uses a) (get_or a.known use_count_at 0) (get_or a.known scope_at 0) es (held_uses a') (get_or a'.known use_count_at 0)
+  pub names : s'.names ≡ s.names
+  pub strings : ShowsNames s.names s.names.count for_string (string_keys s'.known)
+  pub numbers : ShowsNames s.names s.names.count for_number (number_keys s'.known)
+  pub labels : labels_in s'.known ≡ take most_labels (labels_in s.known ++ labels_by s.known.steps (name_of s.known.scope) es)
+  pub routines : routines_in s'.known ≡ routines_behind s.known.steps (routines_in s.known) opened kind
+  pub statements : s'.known.statements ≡ s.known.statements + 1
+  pub steps : s'.known.steps ≡ steps_behind s.known.steps kind
+  pub ended : s'.known.ended ≡ ended_behind kind
+  pub scope : s'.known.scope ≡ scope_behind s.known.scope opened kind
+  pub elements : s'.known.elements ≡ c.elements
+  pub items : s'.known.items ≡ c.items
+  pub literals : s'.known.literals ≡ c.literals
+  pub used : Used s.uses s.known.scope es s'.uses

@@ -1,16 +1,13 @@
--- What the code does that judges a statement by 4 and by 6 to 10 and extends the environment by it (Judged), and the laws for those who
+-- What the code does that judges a statement by 4 and by 6 to 10 and extends the environment by it (Judged), and the law for those who
 -- call it (Callers). Its parts: strings and numbers noted (Listing), labels (Labels), routines (Routines), uses (Uses), counts (Counts), all
--- together (Extending); a kind's number (KindNumbers); numbers of an array one by one (Cells).
+-- together (Extending); lists that are cut at a size (Cuts).
 pub mod Callers
-pub mod Cells
-pub mod CountLaws
 pub mod Counts
+pub mod Cuts
 pub mod Extending
-pub mod ExtendingLaws
 pub mod Judged
 pub mod JudgedLaws
 pub mod Judging
-pub mod KindNumbers
 pub mod LabelLaws
 pub mod Labels
 pub mod Listing

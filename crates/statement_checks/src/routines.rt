@@ -1,76 +1,81 @@
 // The routines declared: ROUTINE opens one, ENDROUTINE closes the latest.
 // Assumes nothing.
-ghost use Rattle.std.specs.Prelude.{◌≡◌, ◌≤◌, length, get_or};
-ghost use Rattle.statement_checks.specs.KindNumbers.{kind_number};
-ghost use Rattle.statement_checks.specs.Routines.{routine_names, routine_opened, routine_closed, scope_behind, Opens, Routed};
-ghost use Rattle.symbols.specs.Environment.{routine_count_at, step_count_at, environment_size};
+ghost use Rattle.std.specs.Prelude.{◌≡◌, ◌≤◌};
+ghost use Rattle.std.specs.List.{position};
+ghost use Rattle.arrayvec.specs.ArrayVec.{array_vec_len};
+ghost use Rattle.validation.specs.Environment.{close_routine};
+ghost use Rattle.symbols.specs.Clauses.{names_room};
+ghost use Rattle.symbols.specs.Environment.{latest_first};
 ghost use Rattle.name_checks.specs.Arrays.{entries_from};
-ghost use Rattle.name_checks.specs.Names.{NamesSized};
+ghost use Rattle.statement_checks.specs.Routines.{declares_routine, routine_names, routines_behind, scope_behind, Opens};
 
+use arrayvec::ArrayVec;
 use lexer::keywords::Kind;
-use symbols::places::{ENTRIES, EXITS, ROUTINE_COUNT, ROUTINE_KEYS, STEPS};
-use symbols::tags::ROUTINE_DECLARED;
-use symbols::{KNOWN, NAMES};
+use symbols::Mentioned;
+use symbols::known::{LISTED_ROUTINES, Routine};
+use symbols::tags::Tag;
 
-// the key of the first routine that a statement declares, if any
-pub fn first_routine(keys: &[u64; NAMES], tags: &[u8; NAMES], met: usize) -> Option<u64>
-    requires { NamesSized keys.now tags.now met }
-    ensures { Opens (routine_names (entries_from keys.now tags.now 0 met)) result }
+// the place of the first tag that declares a routine
+#[tactic(auto, using(crate::proofs::Told::routine_tag))]
+fn routine_place(tags: &[Tag]) -> Option<usize>
+    ensures { result ≡ position declares_routine tags.now }
 {
-    for i in 0..met {
-        if tags[i] % 16 == ROUTINE_DECLARED {
-            return Some(keys[i]);
-        }
-    }
-    None
+    tags.iter().position(
+        |tag: &Tag| -> bool
+            ensures { result ≡ declares_routine tag.now }
+        { *tag == Tag::RoutineDeclared },
+    )
 }
 
-// opens a routine behind the others
-fn open(known: &mut [u64; KNOWN], key: u64)
-    requires { (length known.old ≡ environment_size) × ((get_or known.old routine_count_at 0 ≤ 16) × (get_or known.old step_count_at 0 ≤ 256)) }
-    ensures { known.new ≡ routine_opened known.old key }
+// the key of the first routine that a statement declares, if any
+#[tactic(auto, using(crate::specs::RoutineLaws::routine_first, crate::specs::RoutineLaws::routine_none))]
+pub fn first_routine(mentioned: &Mentioned, met: usize) -> Option<u64>
+    requires { met ≤ names_room }
+    ensures { Opens (routine_names (entries_from mentioned.now 0 met)) result }
 {
-    let n = known[ROUTINE_COUNT] as usize;
-    let step = known[STEPS];
-    known[ROUTINE_KEYS + n] = key;
-    known[ENTRIES + n] = step + 1;
-    known[EXITS + n] = 0;
-    known[ROUTINE_COUNT] = (n + 1) as u64;
+    let i = routine_place(&mentioned.tags[..met])?;
+    Some(mentioned.keys[i])
 }
 
 // closes the latest routine, if there is one
-fn close(known: &mut [u64; KNOWN])
-    requires { (length known.old ≡ environment_size) × ((get_or known.old routine_count_at 0 ≤ 16) × (get_or known.old step_count_at 0 ≤ 256)) }
-    ensures { known.new ≡ routine_closed known.old }
+fn close(routines: &mut ArrayVec<Routine, LISTED_ROUTINES>, exit: usize)
+    ensures { latest_first routines.new.items ≡ close_routine exit (latest_first routines.old.items) }
 {
-    let n = known[ROUTINE_COUNT] as usize;
-    if n > 0 {
-        let step = known[STEPS];
-        known[EXITS + (n - 1)] = step + 1;
+    if let Some(latest) = routines.last_mut() {
+        latest.exit = exit;
     }
 }
 
 // what a statement of a kind makes of the routines
-pub fn extend_routines(known: &mut [u64; KNOWN], opened: Option<u64>, kind: Kind)
-    requires { (length known.old ≡ environment_size) × ((get_or known.old routine_count_at 0 ≤ 16) × (get_or known.old step_count_at 0 ≤ 256)) }
-    ensures { Routed known.old opened (kind_number kind) known.new }
+#[tactic(auto, using(crate::specs::RoutineLaws::latest_opened), unfolding(crate::specs::Routines::routines_behind))]
+pub fn extend_routines(
+    routines: &mut ArrayVec<Routine, LISTED_ROUTINES>,
+    opened: Option<u64>,
+    kind: Kind,
+    step: usize,
+)
+    requires { (array_vec_len routines.old ≤ 16) × (step ≤ 256) }
+    ensures { latest_first routines.new.items ≡ routines_behind step (latest_first routines.old.items) opened kind }
 {
     match (kind, opened) {
-        (Kind::EndRoutine, _) => close(known),
-        (_, Some(key)) => open(known, key),
+        (Kind::EndRoutine, _) => close(routines, step + 1),
+        (_, Some(key)) => routines.push(Routine {
+            key,
+            entry: step + 1,
+            exit: 0,
+        }),
         (_, None) => {}
     }
 }
 
 // the key of the routine that is open behind a statement
+#[tactic(auto, unfolding(crate::specs::Routines::scope_behind))]
 pub fn scope_behind(scope: u64, opened: Option<u64>, kind: Kind) -> u64
-    ensures { result ≡ scope_behind scope opened (kind_number kind) }
+    ensures { result ≡ scope_behind scope opened kind }
 {
-    match opened {
-        Some(key) => key,
-        None => match kind {
-            Kind::EndRoutine => 0,
-            _ => scope,
-        },
+    match (opened, kind) {
+        (Some(key), _) => key,
+        (None, Kind::EndRoutine) => 0,
+        (None, _) => scope,
     }
 }

@@ -7,8 +7,8 @@ use Rattle.std.proofs.Common.{sym, ap₂, ◌∙◌, add-zero, arith, length-app
 use Rattle.std.proofs.Math.Path.{ap, subst}
 use borrow.Author.Tests.{ltb-true, ltb-false}
 use Rattle.base.specs.Lists.{total}
-use Rattle.branch_parser.specs.Rows.{draft_meaning}
-use Rattle.branch_parser.specs.declared.Row.{Row}
+use Rattle.encoding.specs.Meaning.{row_meaning}
+use Rattle.encoding.specs.declared.cells.Row.{Row}
 use Rattle.encoding.specs.Table as Table
 use Rattle.encoding.specs.Table.{statement_row, items_of, elements_of, all_literals}
 use Rattle.calls.specs.Producing.{total-append}
@@ -29,34 +29,35 @@ use Rattle.statement_parser.specs.Drafts.{Draft}
 use Rattle.statement_parser.specs.Clauses.{statement_items, elements_in, FormWritten, FormRead}
 use Rattle.statement_parser.specs.Ends.{ended_by}
 use Rattle.statement_parser.specs.Stages.{Drawn, StageRead}
+use Rattle.symbols.specs.declared.Mentioned.{Mentioned}
 
 -- ---- a form so far
 pub record FormGoing {A S : Type 0} (form : Parsed S) (left : A → List ℕ → Parsed S) (mk : A → Table.Row) (es : A → List PatternElement)
-    (text table keys tags : List ℕ) (c : Cursor) (row : Row) (table' keys' tags' : List ℕ) (d : Cursor) : Type 0 where
+    (text table : List ℕ) (m : Mentioned) (c : Cursor) (row : Row) (table' : List ℕ) (m' : Mentioned) (d : Cursor) : Type 0 where
   pub value : A
   pub before : Parsed A
   pub rows : List ℕ
   pub counted : total (λ n. n) rows ≡ length (es value)
-  pub gets : GetsElements text table keys tags c before value (es value) rows table' keys' tags' d
-  pub made : draft_meaning row ≡ mk value
+  pub gets : GetsElements text table m c before value (es value) rows table' m' d
+  pub made : row_meaning row ≡ mk value
   pub whole : form ≡ (before >>= λ (a, rest). left a rest)
 
 abbrev pub GoingAnswer : {A S : Type 0} (form : Parsed S) (left : A → List ℕ → Parsed S) (mk : A → Table.Row) (es : A → List PatternElement)
-    (text table keys tags : List ℕ) (c : Cursor) → Draft → (table' keys' tags' : List ℕ) → Type 0
-GoingAnswer form left mk es text table keys tags c (Some (row, d)) table' keys' tags' =
-    FormGoing form left mk es text table keys tags c row table' keys' tags' d
-GoingAnswer form left mk es text table keys tags c None table' keys' tags' = form ≡ broken
+    (text table : List ℕ) (m : Mentioned) (c : Cursor) → Draft → (table' : List ℕ) (m' : Mentioned) → Type 0
+GoingAnswer form left mk es text table m c (Some (row, d)) table' m' =
+    FormGoing form left mk es text table m c row table' m' d
+GoingAnswer form left mk es text table m c None table' m' = form ≡ broken
 
 -- of the form this is left to be read; the row so far is what mk makes of the values so far, and es are their elements
 pub record FormGoesOn {A S : Type 0} (form : Parsed S) (left : A → List ℕ → Parsed S) (mk : A → Table.Row) (es : A → List PatternElement)
-    (text table keys tags : List ℕ) (c : Cursor) (r : Draft) (table' keys' tags' : List ℕ) : Type 0 where
-  pub answer : GoingAnswer form left mk es text table keys tags c r table' keys' tags'
+    (text table : List ℕ) (m : Mentioned) (c : Cursor) (r : Draft) (table' : List ℕ) (m' : Mentioned) : Type 0 where
+  pub answer : GoingAnswer form left mk es text table m c r table' m'
 
 -- nothing is read yet
-pub going_start : {S : Type 0} {form : Parsed S} (left : List ℕ → Parsed S) {text table keys tags : List ℕ} {c : Cursor} (n : ℕ) {row : Row}
-    {d : Cursor} → Skips c n d → ReaderReady text keys tags d → form ≡ left (drop d.at text)
-    → FormGoesOn {A = Unit {0}} form (λ _ rest. left rest) (λ _. draft_meaning row) (λ _. []) text table keys tags c (Some (row, d))
-    table keys tags
+pub going_start : {S : Type 0} {form : Parsed S} (left : List ℕ → Parsed S) {text table : List ℕ} {m : Mentioned} {c : Cursor} (n : ℕ) {row : Row}
+    {d : Cursor} → Skips c n d → ReaderReady text d → form ≡ left (drop d.at text)
+    → FormGoesOn {A = Unit {0}} form (λ _ rest. left rest) (λ _. row_meaning row) (λ _. []) text table m c (Some (row, d))
+    table m
 unfolding total
 going_start left {text} n {d = d} s ready e =
     record {
@@ -84,15 +85,15 @@ pairs-left y left a bs =
 -- one part more
 module _ {A U S : Type 0} {form : Parsed S} {left : A → List ℕ → Parsed S} {mk : A → Table.Row} {es : A → List PatternElement}
     (y : List ℕ → Parsed U) (puts : ℕ → U → Table.Row → Table.Row) (eu : U → List PatternElement) (left' : A × U → List ℕ → Parsed S)
-    (mk' : A × U → Table.Row) (es' : A × U → List PatternElement) {text table keys tags : List ℕ} {c : Cursor} (ready : ReaderReady text keys tags c)
+    (mk' : A × U → Table.Row) (es' : A × U → List PatternElement) {text table : List ℕ} {m : Mentioned} {c : Cursor}
     (next : (a : A) (bs : List ℕ) → left a bs ≡ (y bs >>= λ (u, rest). left' (a, u) rest))
     (makes : (a : A) (u : U) → puts (c.elements + length (es a)) u (mk a) ≡ mk' (a, u))
     (sum : (a : A) (u : U) → es a ++ eu u ≡ es' (a, u)) where
-  more-got : {row : Row} {b : Cursor} {t k g : List ℕ} {row' : Row} {d : Cursor} {t' k' g' : List ℕ}
-      → FormGoing form left mk es text table keys tags c row t k g b
-      → Drawn (y (drop b.at text)) (puts b.elements) eu text t k g row b row' t' k' g' d
-      → FormGoing form left' mk' es' text table keys tags c row' t' k' g' d
-  more-got {row} {b} {t} {k} {g} {row'} {d} {t'} {k'} {g'} a s =
+  more-got : {row row' : Row} {b d : Cursor} {t t' : List ℕ} {m₁ m₂ : Mentioned}
+      → FormGoing form left mk es text table m c row t m₁ b
+      → Drawn (y (drop b.at text)) (puts b.elements) eu text t m₁ row b row' t' m₂ d
+      → FormGoing form left' mk' es' text table m c row' t' m₂ d
+  more-got {row} {row'} {b} {d} {t' = t'} {m₂ = m₂} a s =
       let p : A × U = (a.value, s.value) in
       let rows = a.rows ++ s.rows in
       let x : Parsed (A × U) = a.before >>= λ (z, rest). pairs y z rest in
@@ -106,11 +107,11 @@ module _ {A U S : Type 0} {form : Parsed S} {left : A → List ℕ → Parsed S}
             ∙ sym (length-append (es a.value) (eu s.value))
             ∙ ap length (sum a.value s.value);
         gets =
-            subst (λ (l : List PatternElement). GetsElements text table keys tags c x p l rows t' k' g' d) (sum a.value s.value)
-            (elements_then a.gets (λ (z, rest). pairs y z rest) ready (elements-succeed s.gets _ p refl));
+            subst (λ (l : List PatternElement). GetsElements text table m c x p l rows t' m₂ d) (sum a.value s.value)
+            (elements_then a.gets (λ (z, rest). pairs y z rest) (elements-succeed s.gets _ p refl));
         made =
             s.made
-            ∙ ap (λ (n : ℕ). puts n s.value (draft_meaning row)) a.gets.goes.elements
+            ∙ ap (λ (n : ℕ). puts n s.value (row_meaning row)) a.gets.goes.elements
             ∙ ap (puts (c.elements + length (es a.value)) s.value) a.made
             ∙ makes a.value s.value;
         whole =
@@ -119,8 +120,8 @@ module _ {A U S : Type 0} {form : Parsed S} {left : A → List ℕ → Parsed S}
             ∙ sym (bind_assoc a.before (λ (z, rest). pairs y z rest) (λ (z, rest). left' z rest));
       }
 
-  pub going_more : (r q : Draft) {t k g : List ℕ} {t' k' g' : List ℕ} → FormGoesOn form left mk es text table keys tags c r t k g
-      → StageRead y puts eu text t k g r q t' k' g' → FormGoesOn form left' mk' es' text table keys tags c q t' k' g'
+  pub going_more : (r q : Draft) {t t' : List ℕ} {m₁ m₂ : Mentioned} → FormGoesOn form left mk es text table m c r t m₁
+      → StageRead y puts eu text t m₁ r q t' m₂ → FormGoesOn form left' mk' es' text table m c q t' m₂
   going_more (Some (row, b)) (Some (row', d)) a s = record { answer = more-got a.answer s.answer }
   going_more (Some (row, b)) None a s =
       let going = a.answer in
@@ -168,11 +169,11 @@ module _ (text : List ℕ) (at : ℕ) where
     no_step_not = then_broken _ (drop_something at text e)
 
 -- a statement with no items, read to the end
-pub formed_elements : {v : Option Statement} {es : List PatternElement} {rows : List ℕ} {text table keys tags : List ℕ} {c : Cursor}
-    {x : Parsed (Option Statement)} {t k g : List ℕ} {d : Cursor} → GetsElements text table keys tags c x v es rows t k g d → length text ≤ d.at
-    → total (λ n. n) rows ≡ length es → es ≡ elements_in v → [] ≡ statement_items v → FormWritten v (letters (drop c.at text)) table keys tags c x t k g d
+pub formed_elements : {v : Option Statement} {es : List PatternElement} {rows : List ℕ} {text table : List ℕ} {m : Mentioned} {c : Cursor}
+    {x : Parsed (Option Statement)} {t : List ℕ} {m₁ : Mentioned} {d : Cursor} → GetsElements text table m c x v es rows t m₁ d → length text ≤ d.at
+    → total (λ n. n) rows ≡ length es → es ≡ elements_in v → [] ≡ statement_items v → FormWritten v (letters (drop c.at text)) table m c x t m₁ d
 unfolding with_items
-formed_elements {v} {es} {rows} {text} {table} {keys} {tags} {c} {x} {t} {k} {g} {d} a end counted same none' =
+formed_elements {v} {es} {rows} {text} {table} {m} {c} {x} {t} {m₁} {d} a end counted same none' =
     let size : length es ≡ length (elements_in v) = ap length same in
     let bytes : length (all_literals es) ≡ length (all_literals (elements_in v)) = ap (λ (l : List PatternElement). length (all_literals l)) same in
     let items : 0 ≡ length (statement_items v) = ap (λ (l : List Item). length l) none' in
@@ -195,18 +196,16 @@ formed_elements {v} {es} {rows} {text} {table} {keys} {tags} {c} {x} {t} {k} {g}
       elements = a.goes.elements ∙ ap (λ n. c.elements + n) size;
       literals = a.goes.literals ∙ ap (λ n. c.literals + n) bytes;
       few = omega (arith, a.few);
-      keys_size = a.ready.keys_size;
-      tags_size = a.ready.tags_size;
     }
 
 -- the whole form is a step
 module _ {A : Type 0} {form : Parsed (Option Statement)} {left : A → List ℕ → Parsed (Option Statement)} {mk : A → Table.Row}
-    {es : A → List PatternElement} (step : A → Statement) {text table keys tags : List ℕ} {c : Cursor} {t k g : List ℕ}
+    {es : A → List PatternElement} (step : A → Statement) {text table : List ℕ} {m : Mentioned} {c : Cursor} {t : List ℕ} {m₁ : Mentioned}
     (ends : (a : A) (bs : List ℕ) → left a bs ≡ step_form (step a) bs) (makes : (a : A) → mk a ≡ statement_row c.elements c.items (step a))
     (same : (a : A) → es a ≡ elements_of (step a)) (none' : (a : A) → [] ≡ items_of (step a)) where
-  ended_case : (row : Row) (d : Cursor) (b : Bool) → ltb d.at (length text) ≡ b → FormGoing form left mk es text table keys tags c row t k g d
-      → FormRead (letters (drop c.at text)) table keys tags c form
-      (elim b [ true ↦ None | false ↦ Some (Some row, d) ]) t k g
+  ended_case : (row : Row) (d : Cursor) (b : Bool) → ltb d.at (length text) ≡ b → FormGoing form left mk es text table m c row t m₁ d
+      → FormRead (letters (drop c.at text)) table m c form
+      (elim b [ true ↦ None | false ↦ Some (Some row, d) ]) t m₁
   unfolding statement_items elements_in
   ended_case row d true e a =
       record {
@@ -224,14 +223,14 @@ module _ {A : Type 0} {form : Parsed (Option Statement)} {left : A → List ℕ 
               statement = s;
               made = a.made ∙ makes a.value;
               formed =
-                  subst (λ (z : Parsed (Option Statement)). FormWritten (some s) (letters (drop c.at text)) table keys tags c z t k g d) (sym a.whole)
+                  subst (λ (z : Parsed (Option Statement)). FormWritten (some s) (letters (drop c.at text)) table m c z t m₁ d) (sym a.whole)
                   (formed_elements
                   (elements-succeed a.gets (λ (z, rest). left z rest) (some s)
                   (ends a.value (drop d.at text) ∙ step-here text d.at end s)) end a.counted (same a.value) (none' a.value));
             };
       }
 
-  pub going_ended : (r : Draft) → FormGoesOn form left mk es text table keys tags c r t k g
-      → FormRead (letters (drop c.at text)) table keys tags c form (ended_by text r) t k g
+  pub going_ended : (r : Draft) → FormGoesOn form left mk es text table m c r t m₁
+      → FormRead (letters (drop c.at text)) table m c form (ended_by text r) t m₁
   going_ended (Some (row, d)) a = ended_case row d (ltb d.at (length text)) refl a.answer
   going_ended None a = record { answer = a.answer }

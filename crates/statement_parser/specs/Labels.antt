@@ -13,23 +13,22 @@ use Rattle.base.specs.Current.{current}
 use Rattle.base.specs.Limits as Limits
 use Rattle.base.specs.Lists.{all}
 use Rattle.branch_parser.specs.Places.{is_number_known}
-use Rattle.encoding.specs.Splices.{length-splice, splice_nil}
 use Rattle.cards.specs.Bytes.{between, is_letter, is_digit, is_name_byte}
 use Rattle.validation.specs.Refusals.{label_form, with_label, read_statement}
 use Rattle.syntax.specs.Forms.{form_of, statement_form}
 use Rattle.syntax.specs.Keywords as Keywords
 use Rattle.syntax.specs.Keywords.{leading}
 use Rattle.syntax.specs.Program.{Statement}
-use Rattle.syntax.specs.Parsing.{for_label, declaring, purpose_number, Mentions, no_mentions, Parsed, got, broken, mentioning}
+use Rattle.syntax.specs.Parsing.{for_label, declaring, Mentions, no_mentions, Parsed, got, broken, mentioning}
 use Rattle.syntax.specs.Fuel.{run_within}
 use Rattle.syntax.specs.Lexemes.{run_length, name_length}
 use Rattle.symbols.specs.Clauses.{NameNoted}
 use Rattle.symbols.specs.Entries.{entry, name_from, name_of, gather, mentions_in}
-use Rattle.symbols.specs.EntryLaws.{name-key, declared_mentioned}
+use Rattle.symbols.specs.EntryLaws.{name-key, label_declared}
 use Rattle.symbols.specs.ParsingLaws.{mentioning_nothing}
 use Rattle.symbols.specs.Environment.{places_in}
 use Rattle.symbols.specs.declared.Cursor.{Cursor}
-use Rattle.numeric_parser.specs.OperandLaws.{ready_on}
+use Rattle.numeric_parser.specs.OperandLaws.{noting_none, ready_on}
 use Rattle.numeric_parser.specs.Operands.{ReaderReady, cursor_moved}
 use Rattle.card_reader.specs.Keys.{key_of, is_key_byte, LabelKey}
 use Rattle.card_reader.specs.Letters.{letters}
@@ -40,6 +39,9 @@ use Rattle.statement_parser.specs.BehindLaws.{form-noted, lead_fits, of_kind}
 use Rattle.statement_parser.specs.StageLaws.{form-same}
 use Rattle.statement_parser.specs.Steps.{FormAt}
 use Rattle.statement_parser.specs.Clauses.{Starts, FormRead}
+use Rattle.symbols.specs.declared.known.Known.{Known}
+use Rattle.symbols.specs.declared.Mentioned.{Mentioned}
+use Rattle.symbols.specs.declared.tags.Tag.TheVariants.{LabelDeclared}
 
 -- ---- the bytes of a key, one by one
 unfoldable pub name_shown : ℕ → Bool
@@ -163,13 +165,13 @@ unfolding with_label
 labelled_off (got u m rest) form = refl
 labelled_off broken form = refl
 
-abbrev pub form_in : (known text : List ℕ) → Parsed (Option Statement)
+abbrev pub form_in : (known : Known) (text : List ℕ) → Parsed (Option Statement)
 form_in known text = statement_form current (is_number_known known) (places_in known) text
 
-abbrev pub statement_in : (known label_bytes : List ℕ) (whole : Bool) (text : List ℕ) → Parsed (Option Statement)
+abbrev pub statement_in : (known : Known) (label_bytes : List ℕ) (whole : Bool) (text : List ℕ) → Parsed (Option Statement)
 statement_in known label_bytes whole text = read_statement current (is_number_known known) (places_in known) label_bytes whole text
 
-module _ (known text : List ℕ) where
+module _ (known : Known) (text : List ℕ) where
   -- literals that aren't whole
   pub statement_off : (label_bytes : List ℕ) {whole : Bool} → whole ≡ false → statement_in known label_bytes whole text ≡ broken
   unfolding read_statement
@@ -202,40 +204,40 @@ module _ (known text : List ℕ) where
 
   -- a label, and then the statement
   pub statement_named : (label_bytes : List ℕ) {key : ℕ} {whole : Bool} → LabelKey label_bytes key → whole ≡ true → (key ≡ 0 → ⊥)
-      → name_shown key ≡ true → statement_in known label_bytes whole text ≡ mentioning (mentions_in (entry key 9 ∷ []) 0 [] 0) (form_in known text)
-  unfolding read_statement label_form with_label purpose_number key_of
+      → name_shown key ≡ true
+      → statement_in known label_bytes whole text ≡ mentioning (mentions_in (entry key LabelDeclared ∷ []) 0 [] 0) (form_in known text)
+  unfolding read_statement label_form with_label key_of
   statement_named [] w h z e = absurd (z w.is)
   statement_named (b ∷ bs) {key} w h z e =
       ap₂
       (λ (t whole : Bool).
       with_label (elim t [ true ↦ got tt (declaring for_label (b ∷ bs)) [] | false ↦ broken ]) whole (form_in known text))
       (label_shown b bs w ∙ e) h
-      ∙ ap (λ (m : Mentions). mentioning m (form_in known text))
-      (sym (declared_mentioned (b ∷ bs) w.clean for_label) ∙ ap (λ j. mentions_in (entry j 9 ∷ []) 0 [] 0) (sym w.is))
+      ∙ ap (λ (z : Mentions). mentioning z (form_in known text))
+      (sym (label_declared (b ∷ bs) w.clean) ∙ ap (λ j. mentions_in (entry j LabelDeclared ∷ []) 0 [] 0) (sym w.is))
 
 -- ---- what is mentioned with the label
-module _ {most : ℕ} {table keys tags : List ℕ} {c : Cursor} {x : Parsed (Option Statement)} {t k' g' : List ℕ}
-    (room : (c.names ≤ length keys) × (c.names ≤ length tags)) where
-  pub form-labelled : {key : ℕ} {k g : List ℕ} {d : Cursor} → NameNoted keys tags c key 9 k g d → (q : Form) → FormRead most table k g d x q t k' g'
-      → FormRead (most + 1) table keys tags c (mentioning (mentions_in (entry key 9 ∷ []) 0 [] 0) x) q t k' g'
+module _ {most : ℕ} {table t : List ℕ} {m m₂ : Mentioned} {c : Cursor} {x : Parsed (Option Statement)} where
+  pub form-labelled : {key : ℕ} {m₁ : Mentioned} {d : Cursor} → NameNoted m c key LabelDeclared m₁ d → (q : Form) → FormRead most table m₁ d x q t m₂
+      → FormRead (most + 1) table m c (mentioning (mentions_in (entry key LabelDeclared ∷ []) 0 [] 0) x) q t m₂
   unfolding entry
   form-labelled n q f =
       let fits : 1 + most ≤ most + 1 = omega arith in
-      form-noted room (record { keyed = n.keyed; tagged = n.tagged }) (ap (λ (z : Cursor). z.names) n.goes)
+      form-noted (record { keyed = n.keyed; tagged = n.tagged }) (ap (λ (z : Cursor). z.names) n.goes)
       (ap (λ (z : Cursor). z.items) n.goes) (ap (λ (z : Cursor). z.elements) n.goes) (ap (λ (z : Cursor). z.literals) n.goes)
       (ap (λ (z : Cursor). ltb Limits.row_elements z.longest) n.goes) fits q f
 
   -- and with no label
-  pub form_unlabelled : (q : Form) → FormRead most table keys tags c x q t k' g' → FormRead (most + 1) table keys tags c x q t k' g'
+  pub form_unlabelled : (q : Form) → FormRead most table m c x q t m₂ → FormRead (most + 1) table m c x q t m₂
   unfolding no_mentions mentions_in gather
   form_unlabelled q f =
       let fits : 0 + most ≤ most + 1 = omega arith in
       form-same (sym (mentioning_nothing x))
-      (form-noted {es = []} room (record { keyed = sym (splice_nil keys c.names); tagged = sym (splice_nil tags c.names) })
+      (form-noted {es = []} (noting_none c.names)
       (sym (add-zero c.names)) refl refl refl refl fits q f)
 
 -- ---- before a statement the cursor is ready, and so it is behind its label
-pub starts_ready : {text keys tags : List ℕ} {c : Cursor} → Starts text keys tags c → ReaderReady text keys tags c
+pub starts_ready : {text : List ℕ} {c : Cursor} → Starts text c → ReaderReady text c
 starts_ready {text} s =
     record {
       text_size = s.text_size;
@@ -244,13 +246,11 @@ starts_ready {text} s =
       items = omega (arith, s.items);
       elements = omega (arith, s.elements);
       literals = omega (arith, s.literals);
-      keys_size = s.keys_size;
-      tags_size = s.tags_size;
     }
 
-pub starts_labelled : {text keys tags : List ℕ} {c : Cursor} {key : ℕ} {k g : List ℕ} {d : Cursor} → Starts text keys tags c → c.names ≡ 0
-    → NameNoted keys tags c key 9 k g d → Starts text k g d
-starts_labelled {keys = keys} {tags = tags} {c = c} {key = key} s first n =
+pub starts_labelled : {text : List ℕ} {m m₁ : Mentioned} {c d : Cursor} {key : ℕ} → Starts text c → c.names ≡ 0
+    → NameNoted m c key LabelDeclared m₁ d → Starts text d
+starts_labelled s first n =
     record {
       text_size = s.text_size;
       at = ap (λ (z : Cursor). z.at) n.goes ∙ s.at;
@@ -259,17 +259,15 @@ starts_labelled {keys = keys} {tags = tags} {c = c} {key = key} s first n =
       items = omega (arith, s.items, ap (λ (z : Cursor). z.items) n.goes);
       elements = omega (arith, s.elements, ap (λ (z : Cursor). z.elements) n.goes);
       literals = omega (arith, s.literals, ap (λ (z : Cursor). z.literals) n.goes);
-      keys_size = ap length n.keyed ∙ length-splice keys c.names (key ∷ []) (omega (arith, s)) ∙ s.keys_size;
-      tags_size = ap length n.tagged ∙ length-splice tags c.names (9 ∷ []) (omega (arith, s)) ∙ s.tags_size;
     }
 
 -- behind the keyword
-module _ {text keys tags : List ℕ} {c : Cursor} (lead : Keyword) {d : Cursor} (s : Starts text keys tags c) (is : leads lead ≡ leading text)
+module _ {text : List ℕ} {c : Cursor} (lead : Keyword) {d : Cursor} (s : Starts text c) (is : leads lead ≡ leading text)
     (e : d ≡ cursor_moved c lead.size) where
-  pub lead_ready : ReaderReady text keys tags d
+  pub lead_ready : ReaderReady text d
   lead_ready = ready_on lead.size (starts_ready s) e (lead_fits text c lead is s.at)
 
-  pub of_lead : (known : List ℕ) {table : List ℕ} (kind : Keywords.StatementKind) → kind_of lead.kind ≡ kind → (q : Form) {t k g : List ℕ}
-      → FormAt (form_of current (is_number_known known) (places_in known) kind (drop d.at text)) text table keys tags d q t k g
-      → FormRead (letters text) table keys tags c (form_in known text) q t k g
-  of_lead known kind f q a = of_kind text c lead is s.at known kind f e (starts_ready s) lead_ready q a
+  pub of_lead : (known : Known) {table t : List ℕ} {m m₁ : Mentioned} (kind : Keywords.StatementKind) → kind_of lead.kind ≡ kind → (q : Form)
+      → FormAt (form_of current (is_number_known known) (places_in known) kind (drop d.at text)) text table m d q t m₁
+      → FormRead (letters text) table m c (form_in known text) q t m₁
+  of_lead known kind f q a = of_kind text c lead is s.at known kind f e lead_ready q a

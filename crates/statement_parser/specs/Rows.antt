@@ -1,13 +1,13 @@
 -- Rows that are filled part by part. Assumes nothing.
 use Rattle.std.specs.Prelude.{Some, List, ℕ, ◌+◌, ◌-◌, ◌*◌, length}
 use Rattle.std.proofs.Math.Option.{Option, none, some}
-use Rattle.branch_parser.specs.declared.Row.{Row}
+use Rattle.encoding.specs.declared.cells.Row.{Row}
 use Rattle.encoding.specs.Kinds.{range_number, replace_kind}
 use Rattle.encoding.specs.Table as Table
 use Rattle.encoding.specs.Table.{range_cell}
 use Rattle.syntax.specs.Program.{Branch, Element}
 use Rattle.symbols.specs.declared.Cursor.{Cursor}
-use Rattle.numeric_parser.specs.declared.operands.Cell.{Cell}
+use Rattle.encoding.specs.declared.cells.Cell.{Cell}
 use Rattle.statement_parser.specs.Drafts.{Draft}
 
 -- the code's rows: one of which only the kind and the flag are known, and a row with steps, a left and a right cell
@@ -15,19 +15,19 @@ abbrev pub empty_cell : Cell
 empty_cell = record { kind = 0; place = 0; value = 0 }
 
 abbrev pub begun_row : (kind flag : ℕ) → Row
-begun_row kind flag = record { kind = kind; flag = flag; success = 0; failure = 0; left = empty_cell; right = empty_cell }
+begun_row kind flag = record { kind = kind; flag = flag; branch = record { success = 0; failure = 0 }; left = empty_cell; right = empty_cell }
 
 abbrev pub begun_as : (kind flag : ℕ) → Cursor → Draft
 begun_as kind flag c = Some (begun_row kind flag, c)
 
 abbrev pub draft_steps : Row → (success failure : ℕ) → Row
-draft_steps r s f = record { kind = r.kind; flag = r.flag; success = s; failure = f; left = r.left; right = r.right }
+draft_steps r s f = record { kind = r.kind; flag = r.flag; branch = record { success = s; failure = f }; left = r.left; right = r.right }
 
 abbrev pub draft_left : Row → Cell → Row
-draft_left r v = record { kind = r.kind; flag = r.flag; success = r.success; failure = r.failure; left = v; right = r.right }
+draft_left r v = record { kind = r.kind; flag = r.flag; branch = r.branch; left = v; right = r.right }
 
 abbrev pub draft_right : Row → (kind : ℕ) → Cell → Row
-draft_right r k v = record { kind = k; flag = r.flag; success = r.success; failure = r.failure; left = r.left; right = v }
+draft_right r k v = record { kind = k; flag = r.flag; branch = r.branch; left = r.left; right = v }
 
 abbrev pub range_in : (from count more : ℕ) → Cell
 range_in from count more = record { kind = range_number; place = 0; value = from + 65_536 * (count + 65_536 * more) }

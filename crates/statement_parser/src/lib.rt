@@ -1,76 +1,72 @@
 // Every form of a statement, read into a row of the table; a statement with its label.
 // Assumes nothing.
+// kept: text, names, table and cursor are passed one by one, with ReaderReady as a clause, as numeric_parser/operands says
 #![tactic(auto)]
 
 pub mod stages;
 pub mod steps;
 
-ghost use Rattle.std.specs.Prelude.{◌≡◌, ◌≤◌, length};
-ghost use Rattle.base.specs.Current.{table_size};
+ghost use Rattle.std.specs.Prelude.{◌≡◌};
 ghost use Rattle.statement_parser.specs.Clauses.{Starts, StatementFormRead, StatementRead};
 ghost use Rattle.statement_parser.specs.Labels.{name_shown};
-ghost use Rattle.symbols.specs.Environment.{CountsInRange};
 
-use branch_parser::Row;
+use branch_parser::Target;
 use classes::{is_letter, is_letter_or_digit};
-use encoding::step_kinds;
+use encoding::cells::Row;
+use encoding::{TABLE_SIZE, step_kinds};
 use lexer::keywords::{Kind, leading};
 use numeric_parser::operands::skip;
 use steps::{
     if_form, input_form, numbers_form, output_form, plain_form, program_form, replacement_form,
     scan_form, target_form,
 };
-use symbols::tags::{LABEL, LABEL_DECLARED, ROUTINE, ROUTINE_DECLARED};
-use symbols::{Cursor, KNOWN, NAMES, note_name};
+use symbols::known::Known;
+use symbols::tags::Tag;
+use symbols::{Cursor, Mentioned};
 
 // the statement that a packed text is: its row, if it is a step
+// kept: one match with an arm for each kind: the forms take different parts, all of which each closure of a table would have to take
 pub fn read_form(
     text: &[u8],
-    known: &[u64; KNOWN],
-    table: &mut [u8],
-    keys: &mut [u64; NAMES],
-    tags: &mut [u8; NAMES],
+    known: &Known,
+    table: &mut [u8; TABLE_SIZE],
+    mentioned: &mut Mentioned,
     c: Cursor,
 ) -> Option<(Option<Row>, Cursor)>
-    requires starts { Starts text.now keys.old tags.old c }
-    requires counts_in_range { CountsInRange known.now }
-    requires table_size_in_bounds { table_size ≤ length table.old }
-    ensures { StatementFormRead text.now known.now table.old keys.old tags.old c result
-        table.new keys.new tags.new }
+    requires { Starts text.now c }
+    ensures { StatementFormRead text.now known.now table.old mentioned.old c result
+        table.new mentioned.new }
 {
     let lead = leading(text);
     let d = skip(c, lead.size);
     let kind = lead.kind;
     match kind {
-        Kind::Replacement => replacement_form(text, known, table, keys, tags, d),
-        Kind::Number => numbers_form(text, keys, tags, d),
-        Kind::Program => program_form(text, keys, tags, d),
-        Kind::End => plain_form(text, d, step_kinds::FINISH),
-        Kind::Goto => target_form(text, known, keys, tags, d, step_kinds::GOTO, LABEL),
-        Kind::Exit => plain_form(text, d, step_kinds::FINISH),
-        Kind::If => if_form(text, known, keys, tags, d),
-        Kind::Scan => scan_form(text, known, table, keys, tags, d, 1),
-        Kind::Backscan => scan_form(text, known, table, keys, tags, d, 2),
-        Kind::Read => input_form(text, known, keys, tags, d),
-        Kind::Write => output_form(text, known, table, keys, tags, d),
-        Kind::Print => output_form(text, known, table, keys, tags, d),
-        Kind::Routine => target_form(
+        Kind::Replacement => replacement_form(text, known, table, mentioned, d),
+        Kind::Number => numbers_form(text, mentioned, d),
+        Kind::Program => program_form(text, mentioned, d),
+        Kind::End | Kind::Exit => plain_form(text, d, step_kinds::FINISH),
+        Kind::Goto => target_form(text, known, mentioned, d, step_kinds::GOTO, Target::Label),
+        Kind::If => if_form(text, known, mentioned, d),
+        Kind::Scan => scan_form(text, known, table, mentioned, d, 1),
+        Kind::Backscan => scan_form(text, known, table, mentioned, d, 2),
+        Kind::Read => input_form(text, known, mentioned, d),
+        Kind::Write | Kind::Print => output_form(text, known, table, mentioned, d),
+        Kind::Routine => target_form(text, known, mentioned, d, step_kinds::GOTO, Target::Exit),
+        Kind::Execute => target_form(
             text,
             known,
-            keys,
-            tags,
+            mentioned,
             d,
-            step_kinds::GOTO,
-            ROUTINE_DECLARED,
+            step_kinds::EXECUTE,
+            Target::Entry,
         ),
-        Kind::Execute => target_form(text, known, keys, tags, d, step_kinds::EXECUTE, ROUTINE),
-        Kind::EndRoutine => plain_form(text, d, step_kinds::RETURN),
-        Kind::Return => plain_form(text, d, step_kinds::RETURN),
+        Kind::EndRoutine | Kind::Return => plain_form(text, d, step_kinds::RETURN),
         Kind::Unknown => None,
     }
 }
 
 // whether the bytes that a key shows are a letter, and letters and digits behind it
+// kept: a loop over the number: of its bytes (to_le_bytes) the zeros behind the name would have to be cut off first
 fn is_name(key: u64) -> bool
     ensures { result ≡ name_shown key }
 {
@@ -82,38 +78,36 @@ fn is_name(key: u64) -> bool
         if !is_letter_or_digit((rest % 256) as u8) {
             return false;
         }
-        rest = rest / 256;
+        rest /= 256;
     }
     true
 }
 
 // the statement with its label, by the label's key; whole says whether the text's literals are whole
+// kept: whole stands beside the text, which is no Option: its kind is judged, by 4, where literals aren't whole too
 pub fn read_statement(
     text: &[u8],
     label: u64,
     whole: bool,
-    known: &[u64; KNOWN],
-    table: &mut [u8],
-    keys: &mut [u64; NAMES],
-    tags: &mut [u8; NAMES],
+    known: &Known,
+    table: &mut [u8; TABLE_SIZE],
+    mentioned: &mut Mentioned,
     c: Cursor,
 ) -> Option<(Option<Row>, Cursor)>
-    requires starts { Starts text.now keys.old tags.old c }
+    requires starts { Starts text.now c }
     requires names_value { c.names ≡ 0 }
-    requires counts_in_range { CountsInRange known.now }
-    requires table_size_in_bounds { table_size ≤ length table.old }
-    ensures { StatementRead label whole text.now known.now table.old keys.old tags.old c result
-        table.new keys.new tags.new }
+    ensures { StatementRead label whole text.now known.now table.old mentioned.old c result
+        table.new mentioned.new }
 {
     if !whole {
         return None;
     }
     if label == 0 {
-        return read_form(text, known, table, keys, tags, c);
+        return read_form(text, known, table, mentioned, c);
     }
     if !is_name(label) {
         return None;
     }
-    let d = note_name(keys, tags, c, label, LABEL_DECLARED);
-    read_form(text, known, table, keys, tags, d)
+    let d = mentioned.note(c, label, Tag::LabelDeclared);
+    read_form(text, known, table, mentioned, d)
 }

@@ -1,36 +1,33 @@
 // The forms of the kinds of statements, each read from behind its keyword.
 // Assumes nothing.
-ghost use Rattle.std.specs.Prelude.{◌≡◌, ◌≤◌, ◌<◌, length};
-ghost use Rattle.base.specs.Current.{table_size};
-ghost use Rattle.branch_parser.specs.Branches.{TargetTag};
+ghost use Rattle.std.specs.Prelude.{◌≡◌, ◌≤◌, length};
 ghost use Rattle.statement_parser.specs.Ends.{ended_at, ended_by};
 ghost use Rattle.statement_parser.specs.Rows.{begun_as};
 ghost use Rattle.statement_parser.specs.Steps.{TargetFormRead, IfRead, InputRead, OutputRead, StringSetRead, ScanRead};
-ghost use Rattle.statement_parser.specs.Steps.{AssignedRead, NumberSetRead, SetsNumber, ReplacementRead, ProgramRead, NumbersRead, MoreNumbersRead, BehindUnit};
-ghost use Rattle.symbols.specs.Environment.{CountsInRange};
+ghost use Rattle.statement_parser.specs.Steps.{AssignedRead, NumberSetRead, SetsNumber, ReplacementRead, ProgramRead};
+ghost use Rattle.statement_parser.specs.Steps.{NumbersRead, MoreNumbersRead, BehindUnit};
 ghost use Rattle.numeric_parser.specs.Operands.{ReaderReady, InText};
 ghost use Rattle.card_reader.specs.Packs.{longest_text};
 
 use crate::stages::{branch_or_next, range_cell, replaced, stretch};
-use branch_parser::places::number_known;
 use branch_parser::tests::read_test;
-use branch_parser::{BLANK, Row, read_branch, read_target};
-use encoding::{cell_kinds, step_kinds};
+use branch_parser::{BLANK, Target, read_branch, read_target};
+use encoding::cells::{Branch, Cell, Row};
+use encoding::{TABLE_SIZE, cell_kinds, step_kinds};
 use lexer::names::{key_of, name_length};
 use lexer::{begins_at, stands_at};
 use numeric_parser::expression;
-use numeric_parser::operands::{Cell, marked, read_name, read_number, read_part, skip};
-use symbols::tags::{NUMBER_DECLARED, PROGRAM_DECLARED, REFERENCE, STRING};
-use symbols::{Cursor, KNOWN, NAMES};
+use numeric_parser::operands::{marked, read_name, read_number, read_part, skip};
+use string_parser::Elements;
+use symbols::known::Known;
+use symbols::tags::{Role, Tag};
+use symbols::{Cursor, Mentioned};
 
 // the end of a statement, with its row if it is a step: nothing may stand behind it
 fn ended(text: &[u8], row: Option<Row>, d: Cursor) -> Option<(Option<Row>, Cursor)>
     ensures { result ≡ ended_at text.now row d }
 {
-    if d.at < text.len() {
-        return None;
-    }
-    Some((row, d))
+    (text.len() <= d.at).then_some((row, d))
 }
 
 // a keyword alone
@@ -43,22 +40,22 @@ pub fn plain_form(text: &[u8], c: Cursor, kind: u8) -> Option<(Option<Row>, Curs
 // GOTO, ROUTINE and EXECUTE: a step to go to
 pub fn target_form(
     text: &[u8],
-    known: &[u64; KNOWN],
-    keys: &mut [u64; NAMES],
-    tags: &mut [u8; NAMES],
+    known: &Known,
+    mentioned: &mut Mentioned,
     c: Cursor,
     kind: u8,
-    tag: u8,
+    target: Target,
 ) -> Option<(Option<Row>, Cursor)>
-    requires reader_ready { ReaderReady text.now keys.old tags.old c }
-    requires counts_in_range { CountsInRange known.now }
-    requires target_tag { TargetTag tag }
-    ensures { TargetFormRead text.now known.now keys.old tags.old c kind tag result keys.new tags.new }
+    requires { ReaderReady text.now c }
+    ensures { TargetFormRead text.now known.now mentioned.old c kind target result mentioned.new }
 {
-    let (success, d) = read_target(text, known, keys, tags, c, tag)?;
+    let (success, d) = read_target(text, known, mentioned, c, target)?;
     let row = Row {
         kind,
-        success,
+        branch: Branch {
+            success,
+            failure: 0,
+        },
         ..BLANK
     };
     ended(text, Some(row), d)
@@ -67,24 +64,18 @@ pub fn target_form(
 // IF: the test's row has its own kind
 pub fn if_form(
     text: &[u8],
-    known: &[u64; KNOWN],
-    keys: &mut [u64; NAMES],
-    tags: &mut [u8; NAMES],
+    known: &Known,
+    mentioned: &mut Mentioned,
     c: Cursor,
 ) -> Option<(Option<Row>, Cursor)>
-    requires reader_ready { ReaderReady text.now keys.old tags.old c }
-    requires counts_in_range { CountsInRange known.now }
-    ensures { IfRead text.now known.now keys.old tags.old c result keys.new tags.new }
+    requires { ReaderReady text.now c }
+    ensures { IfRead text.now known.now mentioned.old c result mentioned.new }
 {
     let open = marked(text, c, b'(')?;
-    let (test, d) = read_test(text, known, keys, tags, open)?;
+    let (test, d) = read_test(text, known, mentioned, open)?;
     let close = marked(text, d, b')')?;
-    let (b, e) = read_branch(text, known, keys, tags, close)?;
-    let row = Row {
-        success: b.success,
-        failure: b.failure,
-        ..test
-    };
+    let (b, e) = read_branch(text, known, mentioned, close)?;
+    let row = Row { branch: b, ..test };
     ended(text, Some(row), e)
 }
 
@@ -102,23 +93,20 @@ fn behind_unit(text: &[u8], c: Cursor, unit: &[u8]) -> Cursor
 // READ
 pub fn input_form(
     text: &[u8],
-    known: &[u64; KNOWN],
-    keys: &mut [u64; NAMES],
-    tags: &mut [u8; NAMES],
+    known: &Known,
+    mentioned: &mut Mentioned,
     c: Cursor,
 ) -> Option<(Option<Row>, Cursor)>
-    requires reader_ready { ReaderReady text.now keys.old tags.old c }
-    requires counts_in_range { CountsInRange known.now }
-    ensures { InputRead text.now known.now keys.old tags.old c result keys.new tags.new }
+    requires { ReaderReady text.now c }
+    ensures { InputRead text.now known.now mentioned.old c result mentioned.new }
 {
     let d = behind_unit(text, c, b"(60)");
-    let (left, e) = read_part(text, known, keys, tags, d, cell_kinds::STRING, STRING)?;
-    let (b, f) = branch_or_next(text, known, keys, tags, e)?;
+    let (left, e) = read_part(text, known, mentioned, d, cell_kinds::STRING, None)?;
+    let (b, f) = branch_or_next(text, known, mentioned, e)?;
     let row = Row {
         kind: step_kinds::READ,
         left,
-        success: b.success,
-        failure: b.failure,
+        branch: b,
         ..BLANK
     };
     ended(text, Some(row), f)
@@ -127,19 +115,16 @@ pub fn input_form(
 // WRITE and PRINT
 pub fn output_form(
     text: &[u8],
-    known: &[u64; KNOWN],
-    table: &mut [u8],
-    keys: &mut [u64; NAMES],
-    tags: &mut [u8; NAMES],
+    known: &Known,
+    table: &mut [u8; TABLE_SIZE],
+    mentioned: &mut Mentioned,
     c: Cursor,
 ) -> Option<(Option<Row>, Cursor)>
-    requires reader_ready { ReaderReady text.now keys.old tags.old c }
-    requires counts_in_range { CountsInRange known.now }
-    requires table_size_in_bounds { table_size ≤ length table.old }
-    ensures { OutputRead text.now known.now table.old keys.old tags.old c result table.new keys.new tags.new }
+    requires { ReaderReady text.now c }
+    ensures { OutputRead text.now known.now table.old mentioned.old c result table.new mentioned.new }
 {
     let d = behind_unit(text, c, b"(61)");
-    let (right, e) = stretch(text, known, table, keys, tags, d, false)?;
+    let (right, e) = stretch(text, known, table, mentioned, d, Elements::OfString)?;
     let kind = step_kinds::WRITE;
     ended(
         text,
@@ -155,21 +140,18 @@ pub fn output_form(
 // a string or a part of it is set
 fn string_form(
     text: &[u8],
-    known: &[u64; KNOWN],
-    table: &mut [u8],
-    keys: &mut [u64; NAMES],
-    tags: &mut [u8; NAMES],
+    known: &Known,
+    table: &mut [u8; TABLE_SIZE],
+    mentioned: &mut Mentioned,
     c: Cursor,
 ) -> Option<(Option<Row>, Cursor)>
-    requires reader_ready { ReaderReady text.now keys.old tags.old c }
-    requires counts_in_range { CountsInRange known.now }
-    requires table_size_in_bounds { table_size ≤ length table.old }
-    ensures { StringSetRead text.now known.now table.old keys.old tags.old c result
-        table.new keys.new tags.new }
+    requires { ReaderReady text.now c }
+    ensures { StringSetRead text.now known.now table.old mentioned.old c result
+        table.new mentioned.new }
 {
-    let (left, d) = read_part(text, known, keys, tags, c, cell_kinds::STRING, STRING)?;
+    let (left, d) = read_part(text, known, mentioned, c, cell_kinds::STRING, None)?;
     let sets = marked(text, d, b'=')?;
-    let (right, e) = stretch(text, known, table, keys, tags, sets, false)?;
+    let (right, e) = stretch(text, known, table, mentioned, sets, Elements::OfString)?;
     let row = Row {
         kind: step_kinds::SET_STRING,
         left,
@@ -180,24 +162,23 @@ fn string_form(
 }
 
 // SCAN with direction 1, BACKSCAN with direction 2
+// kept: the direction is the number that the row's flag gets, a table's byte: an enum would be opened where the row is made
 pub fn scan_form(
     text: &[u8],
-    known: &[u64; KNOWN],
-    table: &mut [u8],
-    keys: &mut [u64; NAMES],
-    tags: &mut [u8; NAMES],
+    known: &Known,
+    table: &mut [u8; TABLE_SIZE],
+    mentioned: &mut Mentioned,
     c: Cursor,
     direction: u8,
 ) -> Option<(Option<Row>, Cursor)>
-    requires reader_ready { ReaderReady text.now keys.old tags.old c }
-    requires counts_in_range { CountsInRange known.now }
-    requires table_size_in_bounds { table_size ≤ length table.old }
-    ensures { ScanRead text.now known.now table.old keys.old tags.old c direction result
-        table.new keys.new tags.new }
+    requires { ReaderReady text.now c }
+    ensures { ScanRead text.now known.now table.old mentioned.old c direction result
+        table.new mentioned.new }
 {
-    let (left, d) = read_part(text, known, keys, tags, c, cell_kinds::STRING, REFERENCE)?;
+    let reference = Some(Role::Reference);
+    let (left, d) = read_part(text, known, mentioned, c, cell_kinds::STRING, reference)?;
     let open = marked(text, d, b'[')?;
-    let (right, e) = stretch(text, known, table, keys, tags, open, true)?;
+    let (right, e) = stretch(text, known, table, mentioned, open, Elements::OfPattern)?;
     let close = marked(text, e, b']')?;
     let scan = Row {
         kind: step_kinds::SCAN,
@@ -207,33 +188,26 @@ pub fn scan_form(
         ..BLANK
     };
     let from = c.elements;
-    let (row, f) = replaced(text, known, table, keys, tags, scan, close, from)?;
-    let (b, g) = branch_or_next(text, known, keys, tags, f)?;
-    let step = Row {
-        success: b.success,
-        failure: b.failure,
-        ..row
-    };
+    let (row, f) = replaced(text, known, table, mentioned, scan, close, from)?;
+    let (b, g) = branch_or_next(text, known, mentioned, f)?;
+    let step = Row { branch: b, ..row };
     ended(text, Some(step), g)
 }
 
 // the expression that a number is set to
 fn assigned(
     text: &[u8],
-    known: &[u64; KNOWN],
-    table: &mut [u8],
-    keys: &mut [u64; NAMES],
-    tags: &mut [u8; NAMES],
+    known: &Known,
+    table: &mut [u8; TABLE_SIZE],
+    mentioned: &mut Mentioned,
     c: Cursor,
     place: u8,
 ) -> Option<(Option<Row>, Cursor)>
-    requires reader_ready { ReaderReady text.now keys.old tags.old c }
-    requires counts_in_range { CountsInRange known.now }
-    requires table_size_in_bounds { table_size ≤ length table.old }
-    ensures { AssignedRead text.now known.now table.old keys.old tags.old c place result
-        table.new keys.new tags.new }
+    requires { ReaderReady text.now c }
+    ensures { AssignedRead text.now known.now table.old mentioned.old c place result
+        table.new mentioned.new }
 {
-    let d = expression(text, known, table, keys, tags, c, 0)?;
+    let d = expression(text, known, table, mentioned, c, 0)?;
     let right = range_cell(c.items, d.items - c.items, 0);
     let left = Cell {
         kind: cell_kinds::NUMBER,
@@ -252,84 +226,70 @@ fn assigned(
 // a number is set
 fn number_form(
     text: &[u8],
-    known: &[u64; KNOWN],
-    table: &mut [u8],
-    keys: &mut [u64; NAMES],
-    tags: &mut [u8; NAMES],
+    known: &Known,
+    table: &mut [u8; TABLE_SIZE],
+    mentioned: &mut Mentioned,
     c: Cursor,
 ) -> Option<(Option<Row>, Cursor)>
-    requires reader_ready { ReaderReady text.now keys.old tags.old c }
-    requires counts_in_range { CountsInRange known.now }
-    requires table_size_in_bounds { table_size ≤ length table.old }
-    ensures { NumberSetRead text.now known.now table.old keys.old tags.old c result
-        table.new keys.new tags.new }
+    requires { ReaderReady text.now c }
+    ensures { NumberSetRead text.now known.now table.old mentioned.old c result
+        table.new mentioned.new }
 {
-    let (place, d) = read_number(text, known, keys, tags, c)?;
+    let (place, d) = read_number(text, known, mentioned, c)?;
     let e = marked(text, d, b'=')?;
-    assigned(text, known, table, keys, tags, e, place)
+    assigned(text, known, table, mentioned, e, place)
 }
 
 // whether a name known as a number stands before `=`
-fn sets_number(text: &[u8], known: &[u64; KNOWN], at: usize) -> bool
-    requires counts_in_range { CountsInRange known.now }
-    requires at_in_bounds { (at ≤ length text.now) × (length text.now ≤ longest_text) }
+fn sets_number(text: &[u8], known: &Known, at: usize) -> bool
+    requires { (at ≤ length text.now) × (length text.now ≤ longest_text) }
     ensures { SetsNumber text.now known.now at result }
 {
-    let n = name_length(text, at);
-    if number_known(known, key_of(text, at, n)) {
-        return stands_at(text, at + n, b'=');
-    }
-    false
+    // where no name stands it is the empty one
+    let n = name_length(text, at).unwrap_or(0);
+    known.has_number(key_of(text, at, n)) && stands_at(text, at + n, b'=')
 }
 
 // a replacement
 pub fn replacement_form(
     text: &[u8],
-    known: &[u64; KNOWN],
-    table: &mut [u8],
-    keys: &mut [u64; NAMES],
-    tags: &mut [u8; NAMES],
+    known: &Known,
+    table: &mut [u8; TABLE_SIZE],
+    mentioned: &mut Mentioned,
     c: Cursor,
 ) -> Option<(Option<Row>, Cursor)>
-    requires reader_ready { ReaderReady text.now keys.old tags.old c }
-    requires counts_in_range { CountsInRange known.now }
-    requires table_size_in_bounds { table_size ≤ length table.old }
-    ensures { ReplacementRead text.now known.now table.old keys.old tags.old c result
-        table.new keys.new tags.new }
+    requires { ReaderReady text.now c }
+    ensures { ReplacementRead text.now known.now table.old mentioned.old c result
+        table.new mentioned.new }
 {
     if sets_number(text, known, c.at) {
-        return number_form(text, known, table, keys, tags, c);
+        return number_form(text, known, table, mentioned, c);
     }
-    string_form(text, known, table, keys, tags, c)
+    string_form(text, known, table, mentioned, c)
 }
 
 // PROGRAM is no step
 pub fn program_form(
     text: &[u8],
-    keys: &mut [u64; NAMES],
-    tags: &mut [u8; NAMES],
+    mentioned: &mut Mentioned,
     c: Cursor,
 ) -> Option<(Option<Row>, Cursor)>
-    requires { ReaderReady text.now keys.old tags.old c }
-    ensures { ProgramRead text.now keys.old tags.old c result keys.new tags.new }
+    requires { ReaderReady text.now c }
+    ensures { ProgramRead text.now mentioned.old c result mentioned.new }
 {
-    let (_, d) = read_name(text, keys, tags, c, PROGRAM_DECLARED)?;
+    let (_, d) = read_name(text, mentioned, c, Tag::ProgramDeclared)?;
     ended(text, None, d)
 }
 
 // further names of a NUMBER statement
-fn more_numbers(
-    text: &[u8],
-    keys: &mut [u64; NAMES],
-    tags: &mut [u8; NAMES],
-    c: Cursor,
-) -> Option<(Option<Row>, Cursor)>
-    requires { ReaderReady text.now keys.old tags.old c }
-    ensures { MoreNumbersRead text.now keys.old tags.old c result keys.new tags.new }
+// kept: from comma to comma, which counts nothing; as an iterator it would be a struct of text, names and cursor, stopped by `?` all the same
+fn more_numbers(text: &[u8], mentioned: &mut Mentioned, c: Cursor) -> Option<(Option<Row>, Cursor)>
+    requires { ReaderReady text.now c }
+    ensures { MoreNumbersRead text.now mentioned.old c result mentioned.new }
 {
     let mut d = c;
     while stands_at(text, d.at, b',') {
-        let (_, e) = read_name(text, keys, tags, skip(d, 1), NUMBER_DECLARED)?;
+        let (_, e) = read_name(text, mentioned, skip(d, 1), Tag::NumberDeclared)?;
         d = e;
     }
     ended(text, None, d)
@@ -338,13 +298,12 @@ fn more_numbers(
 // NUMBER is no step
 pub fn numbers_form(
     text: &[u8],
-    keys: &mut [u64; NAMES],
-    tags: &mut [u8; NAMES],
+    mentioned: &mut Mentioned,
     c: Cursor,
 ) -> Option<(Option<Row>, Cursor)>
-    requires { ReaderReady text.now keys.old tags.old c }
-    ensures { NumbersRead text.now keys.old tags.old c result keys.new tags.new }
+    requires { ReaderReady text.now c }
+    ensures { NumbersRead text.now mentioned.old c result mentioned.new }
 {
-    let (_, d) = read_name(text, keys, tags, c, NUMBER_DECLARED)?;
-    more_numbers(text, keys, tags, d)
+    let (_, d) = read_name(text, mentioned, c, Tag::NumberDeclared)?;
+    more_numbers(text, mentioned, d)
 }

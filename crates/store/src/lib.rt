@@ -1,5 +1,7 @@
 // The store's cells: whether they keep their rules, where their strings lie, and how a string is set or a stretch of it replaced.
 // Each contract is an equation with the definitions of the crates encoding and calls.
+// kept: the store is the caller's bytes, by the C interface; so these are functions on it and not methods of a struct, and ask for StoreGood
+// kept: a place is a number under 32 by a clause: a type for it would be made of a byte of the table and opened again at each use
 #![tactic(auto)]
 
 pub mod spans;
@@ -25,7 +27,7 @@ fn cell_keeps(store: &[u8], at: usize) -> bool
     }
     let from = at + (2 + n);
     let to = at + CELL_SIZE;
-    spans::marks(&store[from..to]) == 0
+    spans::are_zero(&store[from..to])
 }
 
 // Whether a store is good: long enough, and each cell keeps its rules.
@@ -56,6 +58,7 @@ pub fn string_length(store: &[u8], place: usize) -> usize
 }
 
 // Writes a length into its two bytes at a place.
+// kept: put4 of scan_statement writes four bytes so: each is one call of the library, on a type of its own (u16, u32)
 fn set_length(store: &mut [u8], at: usize, n: usize)
     requires { (at + 1 < length store.old) × (n ≤ 1024) }
     ensures { store.new ≡ splice store.old at (in_bytes 2 n) }

@@ -33,6 +33,7 @@ fn fail(rt: &HostRuntime, name: &str, error: io::Error) {
 }
 
 // Keeps the first bytes that a reader gives: as many as there are, and as there is room for.
+// kept: a while, since a read gives as many bytes as it likes; read_exact fails where fewer come; no Vec: only an error's words are allocated
 fn keep<R: Read>(from: &mut R, to: &mut [u8]) -> io::Result<usize>
     ensures { FileKept result to.new }
 {

@@ -2,9 +2,10 @@
 use mathlib.Core.Bool.{true, false, not, ◌||◌}
 use mathlib.Core.List.{List, [], ◌∷◌}
 use mathlib.Core.Path.{◌≡◌, refl, sym, ap, ◌∙◌}
-use Prim.Native.Nat.{ℕ, suc, ◌-◌, ◌≤◌, ◌<◌}
+use Prim.Native.Nat.{ℕ, suc, ◌-◌}
 use native.Mathlib.Omega.{arith}
-use lib.Dec.{eqb}
+use Rattle.std.proofs.Common.{leb-true, leb-false}
+use lib.Dec.{eqb, leb}
 use lib.ListN.{length, drop, drop_of_length-le}
 use lib.Seq.{drop-cons}
 use Rattle.base.specs.Choice.{test_cases}
@@ -33,14 +34,14 @@ pub quotes_next : (text : List ℕ) (at next : ℕ) → NextByte text 34 at next
 quotes_next text at next n =
     record { is = omega (arith, next-until text 34 at next n, quotes_until (drop at text)); inside = omega (arith, n.high) }
 
-module _ (text : List ℕ) (at : ℕ) where
-  -- the end, and any other place
-  pub nothing_behind : length text ≤ at → true ≡ nothing_here (drop at text)
-  unfolding nothing_here
-  nothing_behind l = sym (ap nothing_here (drop_of_length-le text l))
-
-  pub nothing_at : at < length text → (begins (47 ∷ []) (drop at text) || begins (93 ∷ []) (drop at text)) ≡ nothing_here (drop at text)
-  unfolding nothing_here bytes
-  nothing_at l =
-      let front = drop-cons text at 0 l in
-      ap (λ (bs : List ℕ). begins (47 ∷ []) bs || begins (93 ∷ []) bs) front ∙ sym (ap nothing_here front)
+-- the end, `/` or `]`
+pub nothing_at : (text : List ℕ) (at : ℕ)
+    → nothing_here (drop at text) ≡ (leb (length text) at || (begins (47 ∷ []) (drop at text) || begins (93 ∷ []) (drop at text)))
+unfolding nothing_here bytes
+nothing_at text at =
+    test_cases
+    (λ t. leb (length text) at ≡ t → nothing_here (drop at text) ≡ (t || (begins (47 ∷ []) (drop at text) || begins (93 ∷ []) (drop at text))))
+    (leb (length text) at) (λ _ e. ap nothing_here (drop_of_length-le text (leb-true (length text) at e)))
+    (λ _ e.
+    let front = drop-cons text at 0 (omega (arith, leb-false (length text) at e)) in
+    ap nothing_here front ∙ sym (ap (λ (bs : List ℕ). begins (47 ∷ []) bs || begins (93 ∷ []) bs) front)) refl

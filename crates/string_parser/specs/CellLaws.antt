@@ -20,14 +20,16 @@ use Rattle.syntax.specs.Lexemes.{Resolution, signed, is_sign, number_name, bound
 use Rattle.symbols.specs.Entries.{role_of, mentions_in}
 use Rattle.symbols.specs.ParsingLaws.{succeed_then, expect_then, expect_broken}
 use Rattle.symbols.specs.declared.Cursor.{Cursor}
-use Rattle.numeric_parser.specs.declared.operands.Cell.{Cell}
+use Rattle.symbols.specs.declared.Mentioned.{Mentioned}
+use Rattle.symbols.specs.declared.tags.Role.TheVariants.{Filler}
+use Rattle.encoding.specs.declared.cells.Cell.{Cell}
 use Rattle.numeric_parser.specs.OperandLaws.{skipped, drop-moved, then_broken, cell_same, place-cell, cell_skip, cell_then, chosen, closed_cell}
-use Rattle.numeric_parser.specs.Operands.{cursor_moved, ReaderReady, Gets, OperandRead, PlaceRead, length_cell, placed_in, behind_parenthesis}
+use Rattle.numeric_parser.specs.Operands.{cursor_moved, Gets, OperandRead, PlaceRead, length_cell, placed_in, behind_parenthesis}
 use Rattle.string_parser.specs.Cells.{bare_cell, number_end, number_follows, constant_call, number_or_end, number_call, LengthCell}
 
 -- two ways to go on are the same where they are the same behind a reading
-module _ {A B C : Type 0} {f : A → C} {v : C} {text keys tags : List ℕ} {c : Cursor} {x : Parsed A} {k t : List ℕ} {d : Cursor}
-    (r : Gets f v text keys tags c x k t d) where
+module _ {A B C : Type 0} {f : A → C} {v : C} {text : List ℕ} {m : Mentioned} {c : Cursor} {x : Parsed A} {m₁ : Mentioned} {d : Cursor}
+    (r : Gets f v text m c x m₁ d) where
   pub then_same : (next next' : A × List ℕ → Parsed B) → next (r.value, drop d.at text) ≡ next' (r.value, drop d.at text)
       → x >>= next ≡ x >>= next'
   unfolding ◌>>=◌ mentioning
@@ -36,18 +38,19 @@ module _ {A B C : Type 0} {f : A → C} {v : C} {text keys tags : List ℕ} {c :
       ∙ ap (mentioning (mentions_in r.entries 0 [] 0)) e
       ∙ sym (ap (λ (y : Parsed A). y >>= next') r.is)
 
-module _ (p : Resolution) {text keys tags : List ℕ} {c : Cursor} where
+module _ (p : Resolution) {text : List ℕ} {m : Mentioned} {c : Cursor} where
   -- the m of STRING with its `)`
-  pub number_ends : (kind v : ℕ) (q : Option (ℕ × Cursor)) {k t : List ℕ} → PlaceRead text keys tags c (number_name current p (drop c.at text)) q k t
+  pub number_ends : (kind v : ℕ) (q : Option (ℕ × Cursor)) {m₁ : Mentioned} → PlaceRead text m c (number_name current p (drop c.at text)) q m₁
       → (n : Length) → LengthCell n kind v
-      → OperandRead bare_cell text keys tags c (number_end p n (drop c.at text)) (behind_parenthesis text (placed_in kind v q)) k t
+      → OperandRead bare_cell text m c (number_end p n (drop c.at text)) (behind_parenthesis text (placed_in kind v q)) m₁
   number_ends kind v q a n same =
       closed_cell (Program.string_call n) bare_cell same (placed_in kind v q) (place-cell kind v q a)
 
   -- behind a comma
-  pub number_follows_lem : (kind v : ℕ) (q : Option (Cell × Cursor)) {d : Cursor} {k t : List ℕ} → d ≡ cursor_moved c 1 → begins (44 ∷ []) (drop c.at text) ≡ true
-      → ((n : Length) → LengthCell n kind v → OperandRead bare_cell text keys tags d (number_end p n (drop d.at text)) q k t) → (n : Length)
-      → LengthCell n kind v → OperandRead bare_cell text keys tags c (number_follows p n (drop c.at text)) q k t
+  pub number_follows_lem : (kind v : ℕ) (q : Option (Cell × Cursor)) {d : Cursor} {m₁ : Mentioned} → d ≡ cursor_moved c 1
+      → begins (44 ∷ []) (drop c.at text) ≡ true
+      → ((n : Length) → LengthCell n kind v → OperandRead bare_cell text m d (number_end p n (drop d.at text)) q m₁) → (n : Length)
+      → LengthCell n kind v → OperandRead bare_cell text m c (number_follows p n (drop c.at text)) q m₁
   unfolding bytes
   number_follows_lem kind v q s e a n same =
       cell_same
@@ -55,10 +58,10 @@ module _ (p : Resolution) {text keys tags : List ℕ} {c : Cursor} where
       (cell_skip 1 q (skipped c 1 s) (a n same))
 
   -- STRING with a constant
-  pub constant_called : (q : Option (Cell × Cursor)) (z : ℤ) (n next : ℕ) {d : Cursor} {k t : List ℕ} → d ≡ cursor_moved c n → c.at + n ≡ next
+  pub constant_called : (q : Option (Cell × Cursor)) (z : ℤ) (n next : ℕ) {d : Cursor} {m₁ : Mentioned} → d ≡ cursor_moved c n → c.at + n ≡ next
       → signed current (drop c.at text) ≡ succeed z (drop next text)
-      → OperandRead bare_cell text keys tags d (number_follows p (constantly z) (drop d.at text)) q k t
-      → OperandRead bare_cell text keys tags c (constant_call p (drop c.at text)) q k t
+      → OperandRead bare_cell text m d (number_follows p (constantly z) (drop d.at text)) q m₁
+      → OperandRead bare_cell text m c (constant_call p (drop c.at text)) q m₁
   constant_called q z n next s place is a =
       let from = ap (λ (w : Cursor). drop w.at text) s ∙ ap (λ j. drop j text) place in
       cell_same
@@ -86,23 +89,23 @@ unfolding pattern_cell length_cell
 filler-length s (constantly z) = refl
 filler-length s (numbered i) = refl
 
-module _ (p : Resolution) {text keys tags : List ℕ} {c : Cursor} (ready : ReaderReady text keys tags c) {place : ℕ} {k t : List ℕ} {d : Cursor} where
+module _ (p : Resolution) {text : List ℕ} {m : Mentioned} {c : Cursor} {place : ℕ} {m₁ : Mentioned} {d : Cursor} where
   -- STRING with a number n, and with m alone
-  module _ (a : Gets (λ j. j) place text keys tags c (number_name current p (drop c.at text)) k t d) where
-    pub number_comma : (q : Option (Cell × Cursor)) {e : Cursor} {k' t' : List ℕ} → e ≡ cursor_moved d 1 → begins (44 ∷ []) (drop d.at text) ≡ true
-        → ((n : Length) → LengthCell n text_by_kind.number place → OperandRead bare_cell text k t e (number_end p n (drop e.at text)) q k' t')
-        → OperandRead bare_cell text keys tags c (number_call p (drop c.at text)) q k' t'
+  module _ (a : Gets (λ j. j) place text m c (number_name current p (drop c.at text)) m₁ d) where
+    pub number_comma : (q : Option (Cell × Cursor)) {e : Cursor} {m₂ : Mentioned} → e ≡ cursor_moved d 1 → begins (44 ∷ []) (drop d.at text) ≡ true
+        → ((n : Length) → LengthCell n text_by_kind.number place → OperandRead bare_cell text m₁ e (number_end p n (drop e.at text)) q m₂)
+        → OperandRead bare_cell text m c (number_call p (drop c.at text)) q m₂
     unfolding bytes
     number_comma q s comma b =
         let standing : LengthCell (numbered a.value) text_by_kind.number place =
         λ m. standing_number a.value m ∙ ap (Table.cell text_by_kind.number m) a.made in
-        cell_then a (λ (i, rest). number_or_end p i rest) bare_cell q ready
+        cell_then a (λ (i, rest). number_or_end p i rest) bare_cell q
         (cell_same (chosen _ _ comma ∙ ap (number_end p (numbered a.value)) (sym (drop-moved text d 1 s)))
         (cell_skip 1 q (skipped d 1 s) (b (numbered a.value) standing)))
 
     pub number_only : begins (44 ∷ []) (drop d.at text) ≡ false
-        → OperandRead bare_cell text keys tags c (number_call p (drop c.at text))
-        (behind_parenthesis text (Some ((record { kind = text_kind.number; place = place; value = 140_737_488_355_328 }), d))) k t
+        → OperandRead bare_cell text m c (number_call p (drop c.at text))
+        (behind_parenthesis text (Some ((record { kind = text_kind.number; place = place; value = 140_737_488_355_328 }), d))) m₁
     unfolding bytes pattern_cell biased bias
     number_only none =
         let v : Option (Cell × Cursor) = Some ((record { kind = text_kind.number; place = place; value = 140_737_488_355_328 }), d) in
@@ -113,23 +116,23 @@ module _ (p : Resolution) {text keys tags : List ℕ} {c : Cursor} (ready : Read
         (place-cell text_kind.number 140_737_488_355_328 (Some (place, d)) (record { answer = a })))
 
   -- a filler: fixed where `$` and a length follow
-  module _ (a : Gets (λ j. j) place text keys tags c (string_name current p (role_of 3) (drop c.at text)) k t d) where
-    pub filler_fixed : (q : Option (Cell × Cursor)) {e : Cursor} {k' t' : List ℕ} → e ≡ cursor_moved d 1 → begins (36 ∷ []) (drop d.at text) ≡ true
-        → OperandRead (length_cell fixed_kind.number place) text k t e (bound current p (drop e.at text)) q k' t'
-        → OperandRead (pattern_cell 0) text keys tags c (filler_at current p (drop c.at text)) (behind_parenthesis text q) k' t'
+  module _ (a : Gets (λ j. j) place text m c (string_name current p (role_of (Some Filler)) (drop c.at text)) m₁ d) where
+    pub filler_fixed : (q : Option (Cell × Cursor)) {e : Cursor} {m₂ : Mentioned} → e ≡ cursor_moved d 1 → begins (36 ∷ []) (drop d.at text) ≡ true
+        → OperandRead (length_cell fixed_kind.number place) text m₁ e (bound current p (drop e.at text)) q m₂
+        → OperandRead (pattern_cell 0) text m c (filler_at current p (drop c.at text)) (behind_parenthesis text q) m₂
     unfolding bytes filler_at role_of
     filler_fixed q s dollar b =
         let closes : List ℕ → Parsed PatternElement =
         λ l. bound current p l >>= λ (n, rest). expect (bytes ")") rest >>= λ (_, rest). succeed (fixed_filler a.value n) rest in
-        cell_then a _ (pattern_cell 0) (behind_parenthesis text q) ready
+        cell_then a _ (pattern_cell 0) (behind_parenthesis text q)
         (cell_same (chosen _ _ dollar ∙ ap closes (sym (drop-moved text d 1 s)))
         (closed_cell (fixed_filler a.value) (pattern_cell 0)
         (λ n. filler-length a.value n ∙ ap (λ j. length_cell fixed_kind.number j n) a.made) q
         (cell_skip 1 q (skipped d 1 s) b)))
 
     pub filler_free : begins (36 ∷ []) (drop d.at text) ≡ false
-        → OperandRead (pattern_cell 0) text keys tags c (filler_at current p (drop c.at text))
-        (behind_parenthesis text (Some ((record { kind = free_kind.number; place = place; value = 0 }), d))) k t
+        → OperandRead (pattern_cell 0) text m c (filler_at current p (drop c.at text))
+        (behind_parenthesis text (Some ((record { kind = free_kind.number; place = place; value = 0 }), d))) m₁
     unfolding bytes pattern_cell filler_at role_of
     filler_free none =
         let v : Option (Cell × Cursor) = Some ((record { kind = free_kind.number; place = place; value = 0 }), d) in
@@ -139,21 +142,21 @@ module _ (p : Resolution) {text keys tags : List ℕ} {c : Cursor} (ready : Read
         (closed_cell free_filler (pattern_cell 0) (λ _. refl) v
         (place-cell free_kind.number 0 (Some (place, d)) (record { answer = a })))
 
-pub filler_broken : (p : Resolution) (bs : List ℕ) → string_name current p (role_of 3) bs ≡ broken → filler_at current p bs ≡ broken
+pub filler_broken : (p : Resolution) (bs : List ℕ) → string_name current p (role_of (Some Filler)) bs ≡ broken → filler_at current p bs ≡ broken
 unfolding filler_at role_of
 filler_broken p bs e = then_broken _ e
 
 -- a STRING call by its first byte
-module _ (p : Resolution) {text keys tags : List ℕ} {c : Cursor} {q : Option (Cell × Cursor)} {k t : List ℕ} where
+module _ (p : Resolution) {text : List ℕ} {m : Mentioned} {c : Cursor} {q : Option (Cell × Cursor)} {m₁ : Mentioned} where
   pub text_constant : (is_digit (get_or (drop c.at text) 0 0) || is_sign (drop c.at text)) ≡ true
-      → OperandRead bare_cell text keys tags c (constant_call p (drop c.at text)) q k t
-      → OperandRead bare_cell text keys tags c (text_call current p (drop c.at text)) q k t
+      → OperandRead bare_cell text m c (constant_call p (drop c.at text)) q m₁
+      → OperandRead bare_cell text m c (text_call current p (drop c.at text)) q m₁
   unfolding text_call
   text_constant e a = cell_same (chosen _ _ e) a
 
   pub text_number : (is_digit (get_or (drop c.at text) 0 0) || is_sign (drop c.at text)) ≡ false
-      → OperandRead bare_cell text keys tags c (number_call p (drop c.at text)) q k t
-      → OperandRead bare_cell text keys tags c (text_call current p (drop c.at text)) q k t
+      → OperandRead bare_cell text m c (number_call p (drop c.at text)) q m₁
+      → OperandRead bare_cell text m c (text_call current p (drop c.at text)) q m₁
   unfolding text_call
   text_number e a = cell_same (chosen _ _ e) a
 

@@ -12,7 +12,9 @@ use Rattle.syntax.specs.Strings.{text_call, filler_at}
 use Rattle.syntax.specs.Lexemes.{Resolution, signed, number_name}
 use Rattle.symbols.specs.Environment.{places_in}
 use Rattle.symbols.specs.declared.Cursor.{Cursor}
-use Rattle.numeric_parser.specs.declared.operands.Cell.{Cell}
+use Rattle.symbols.specs.declared.Mentioned.{Mentioned}
+use Rattle.symbols.specs.declared.known.Known.{Known}
+use Rattle.encoding.specs.declared.cells.Cell.{Cell}
 use Rattle.numeric_parser.specs.Operands.{OperandRead}
 
 -- the cell of an element that has no literal bytes: it doesn't depend on those before
@@ -45,22 +47,24 @@ abbrev pub LengthCell : Length → (kind value : ℕ) → Type 0
 LengthCell n kind v = (m : ℕ) → bare_cell (Program.string_call n m) ≡ Table.cell kind m v
 
 -- each reader at the cursor
-abbrev pub NumberEnds : (text known keys tags : List ℕ) (c : Cursor) (kind value : ℕ) → Option (Cell × Cursor) → (keys' tags' : List ℕ) → Type 0
-NumberEnds text known keys tags c kind v r keys' tags' =
-    (n : Length) → LengthCell n kind v → OperandRead bare_cell text keys tags c (number_end (places_in known) n (drop c.at text)) r keys' tags'
+abbrev pub NumberEnds : (text : List ℕ) (known : Known) (m : Mentioned) (c : Cursor) (kind value : ℕ)
+    → Option (Cell × Cursor) → (m' : Mentioned) → Type 0
+NumberEnds text known m c kind v r m' =
+    (n : Length) → LengthCell n kind v → OperandRead bare_cell text m c (number_end (places_in known) n (drop c.at text)) r m'
 
-abbrev pub NumberFollows : (text known keys tags : List ℕ) (c : Cursor) (kind value : ℕ) → Option (Cell × Cursor) → (keys' tags' : List ℕ) → Type 0
-NumberFollows text known keys tags c kind v r keys' tags' =
-    (n : Length) → LengthCell n kind v → OperandRead bare_cell text keys tags c (number_follows (places_in known) n (drop c.at text)) r keys' tags'
+abbrev pub NumberFollows : (text : List ℕ) (known : Known) (m : Mentioned) (c : Cursor) (kind value : ℕ)
+    → Option (Cell × Cursor) → (m' : Mentioned) → Type 0
+NumberFollows text known m c kind v r m' =
+    (n : Length) → LengthCell n kind v → OperandRead bare_cell text m c (number_follows (places_in known) n (drop c.at text)) r m'
 
-abbrev pub ConstantCalled : (text known keys tags : List ℕ) (c : Cursor) → Option (Cell × Cursor) → (keys' tags' : List ℕ) → Type 0
-ConstantCalled text known keys tags c = OperandRead bare_cell text keys tags c (constant_call (places_in known) (drop c.at text))
+abbrev pub ConstantCalled : (text : List ℕ) (known : Known) (m : Mentioned) (c : Cursor) → Option (Cell × Cursor) → (m' : Mentioned) → Type 0
+ConstantCalled text known m c = OperandRead bare_cell text m c (constant_call (places_in known) (drop c.at text))
 
-abbrev pub NumberCalled : (text known keys tags : List ℕ) (c : Cursor) → Option (Cell × Cursor) → (keys' tags' : List ℕ) → Type 0
-NumberCalled text known keys tags c = OperandRead bare_cell text keys tags c (number_call (places_in known) (drop c.at text))
+abbrev pub NumberCalled : (text : List ℕ) (known : Known) (m : Mentioned) (c : Cursor) → Option (Cell × Cursor) → (m' : Mentioned) → Type 0
+NumberCalled text known m c = OperandRead bare_cell text m c (number_call (places_in known) (drop c.at text))
 
-abbrev pub TextCalled : (text known keys tags : List ℕ) (c : Cursor) → Option (Cell × Cursor) → (keys' tags' : List ℕ) → Type 0
-TextCalled text known keys tags c = OperandRead bare_cell text keys tags c (text_call current (places_in known) (drop c.at text))
+abbrev pub TextCalled : (text : List ℕ) (known : Known) (m : Mentioned) (c : Cursor) → Option (Cell × Cursor) → (m' : Mentioned) → Type 0
+TextCalled text known m c = OperandRead bare_cell text m c (text_call current (places_in known) (drop c.at text))
 
-abbrev pub FillerRead : (text known keys tags : List ℕ) (c : Cursor) → Option (Cell × Cursor) → (keys' tags' : List ℕ) → Type 0
-FillerRead text known keys tags c = OperandRead (pattern_cell 0) text keys tags c (filler_at current (places_in known) (drop c.at text))
+abbrev pub FillerRead : (text : List ℕ) (known : Known) (m : Mentioned) (c : Cursor) → Option (Cell × Cursor) → (m' : Mentioned) → Type 0
+FillerRead text known m c = OperandRead (pattern_cell 0) text m c (filler_at current (places_in known) (drop c.at text))

@@ -20,6 +20,7 @@ use Rattle.symbols.specs.Entries.{gather, mentions_in}
 use Rattle.symbols.specs.EntryLaws.{mentions_both}
 use Rattle.symbols.specs.ParsingLaws.{got_broken}
 use Rattle.symbols.specs.declared.Cursor.{Cursor}
+use Rattle.symbols.specs.declared.Mentioned.{Mentioned}
 use Rattle.numeric_parser.specs.OperandLaws.{noting_more, noting_none, mentions_nothing}
 use Rattle.numeric_parser.specs.Operands.{Skips, ReaderReady, Noting, Gets}
 use Rattle.card_reader.specs.Letters.{letters_on}
@@ -35,8 +36,8 @@ rows_total n =
     cond_cases (λ rows. total (λ k. k) rows ≡ n) (eqb n 0) (λ e. sym (eqb-true n 0 e)) (λ _. add-zero n)
 
 -- names alone are no elements
-pub names_elements : {A C : Type 0} {f : A → C} {v : C} {text keys tags : List ℕ} {c : Cursor} {x : Parsed A} {k t : List ℕ} {d : Cursor}
-    (table : List ℕ) (r : Gets f v text keys tags c x k t d) → GetsElements text table keys tags c x r.value [] [] table k t d
+pub names_elements : {A C : Type 0} {f : A → C} {v : C} {text : List ℕ} {m : Mentioned} {c : Cursor} {x : Parsed A} {m₁ : Mentioned} {d : Cursor}
+    (table : List ℕ) (r : Gets f v text m c x m₁ d) → GetsElements text table m c x r.value [] [] table m₁ d
 unfolding all_literals with_elements any
 names_elements {c = c} {d = d} table r =
     record {
@@ -58,8 +59,8 @@ names_elements {c = c} {d = d} table r =
     }
 
 -- nothing is read
-pub elements_none : {A : Type 0} (a : A) {text table keys tags : List ℕ} {c : Cursor} → ReaderReady text keys tags c
-    → GetsElements text table keys tags c (succeed a (drop c.at text)) a [] [] table keys tags c
+pub elements_none : {A : Type 0} (a : A) {text table : List ℕ} {m : Mentioned} {c : Cursor} → ReaderReady text c
+    → GetsElements text table m c (succeed a (drop c.at text)) a [] [] table m c
 unfolding all_literals with_elements any succeed no_mentions mentions_in gather
 elements_none a {c = c} ready =
     record {
@@ -80,11 +81,11 @@ elements_none a {c = c} ready =
       short = omega arith;
     }
 
-module _ {A B : Type 0} {text table keys tags : List ℕ} {c : Cursor} {x : Parsed A} {a : A} {es : List PatternElement} {rows : List ℕ}
-    {t k g : List ℕ} {d : Cursor} (r : GetsElements text table keys tags c x a es rows t k g d) where
+module _ {A B : Type 0} {text table : List ℕ} {m : Mentioned} {c : Cursor} {x : Parsed A} {a : A} {es : List PatternElement} {rows : List ℕ}
+    {t : List ℕ} {m₁ : Mentioned} {d : Cursor} (r : GetsElements text table m c x a es rows t m₁ d) where
   -- a value that takes no more bytes
   pub elements-succeed : (next : A × List ℕ → Parsed B) (b : B) → next (a, drop d.at text) ≡ succeed b (drop d.at text)
-      → GetsElements text table keys tags c (x >>= next) b es rows t k g d
+      → GetsElements text table m c (x >>= next) b es rows t m₁ d
   unfolding ◌>>=◌ mentioning succeed
   elements-succeed next b same =
       let met = mentions_in r.entries 0 rows (length (all_literals es)) in
@@ -103,11 +104,11 @@ module _ {A B : Type 0} {text table keys tags : List ℕ} {c : Cursor} {x : Pars
       }
 
   -- a reading behind another
-  pub elements_then : (next : A × List ℕ → Parsed B) {b : B} {fs : List PatternElement} {rows₂ : List ℕ} {t₂ k₂ g₂ : List ℕ} {e : Cursor}
-      → ReaderReady text keys tags c → GetsElements text t k g d (next (a, drop d.at text)) b fs rows₂ t₂ k₂ g₂ e
-      → GetsElements text table keys tags c (x >>= next) b (es ++ fs) (rows ++ rows₂) t₂ k₂ g₂ e
+  pub elements_then : (next : A × List ℕ → Parsed B) {b : B} {fs : List PatternElement} {rows₂ : List ℕ} {t₂ : List ℕ} {m₂ : Mentioned} {e : Cursor}
+      → GetsElements text t m₁ d (next (a, drop d.at text)) b fs rows₂ t₂ m₂ e
+      → GetsElements text table m c (x >>= next) b (es ++ fs) (rows ++ rows₂) t₂ m₂ e
   unfolding ◌>>=◌ mentioning
-  elements_then next {b} {fs} {rows₂} {e = e} ready q =
+  elements_then next {b} {fs} {rows₂} {e = e} q =
       let size = length-append r.entries q.entries in
       let count = length-append es fs in
       let bytes = literals_size es fs in
@@ -124,7 +125,7 @@ module _ {A B : Type 0} {text table keys tags : List ℕ} {c : Cursor} {x : Pars
             ∙ ap (λ (l : List ℕ). with_elements l d.elements d.literals fs) r.written
             ∙ ap₂ (λ (i j : ℕ). with_elements (with_elements table c.elements c.literals es) i j fs) r.goes.elements r.goes.literals
             ∙ sym (elements-append table c.elements c.literals es fs);
-        noting = noting_more (omega (arith, ready)) (omega (arith, ready)) r.goes.names r.noting q.noting;
+        noting = noting_more r.goes.names r.noting q.noting;
         goes =
             record {
               names = omega (arith, r.goes, q.goes);
@@ -146,11 +147,11 @@ module _ {A B : Type 0} {text table keys tags : List ℕ} {c : Cursor} {x : Pars
   pub elements_broken : (next : A × List ℕ → Parsed B) → next (a, drop d.at text) ≡ broken → x >>= next ≡ broken
   elements_broken next e = got_broken next r.is e
 
-module _ {A : Type 0} {text table keys tags : List ℕ} {c : Cursor} {x : Parsed A} {a : A} {es : List PatternElement} {rows : List ℕ}
-    {t k g : List ℕ} {d : Cursor} where
+module _ {A : Type 0} {text table : List ℕ} {m : Mentioned} {c : Cursor} {x : Parsed A} {a : A} {es : List PatternElement} {rows : List ℕ}
+    {t : List ℕ} {m₁ : Mentioned} {d : Cursor} where
   -- a reading behind skipped bytes
-  pub elements_skip : (n : ℕ) {b : Cursor} → Skips b n c → GetsElements text table keys tags c x a es rows t k g d
-      → GetsElements text table keys tags b x a es rows t k g d
+  pub elements_skip : (n : ℕ) {b : Cursor} → Skips b n c → GetsElements text table m c x a es rows t m₁ d
+      → GetsElements text table m b x a es rows t m₁ d
   elements_skip n {b} s r =
       let names : c.names ≡ b.names = omega (arith, s.goes) in
       record {
@@ -158,7 +159,7 @@ module _ {A : Type 0} {text table keys tags : List ℕ} {c : Cursor} {x : Parsed
         is = r.is;
         written =
             r.written ∙ ap₂ (λ (i j : ℕ). with_elements table i j es) s.goes.elements s.goes.literals;
-        noting = subst (λ j. Noting keys tags j r.entries k g) names r.noting;
+        noting = subst (λ j. Noting m j r.entries m₁) names r.noting;
         goes =
             record {
               names = omega (arith, r.goes, s.goes);

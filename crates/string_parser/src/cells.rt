@@ -1,86 +1,79 @@
 // STRING calls and fillers, each read as a cell of the table.
 // Assumes nothing.
-ghost use Rattle.symbols.specs.Environment.{CountsInRange};
 ghost use Rattle.numeric_parser.specs.Operands.{ReaderReady};
 ghost use Rattle.string_parser.specs.Cells.{NumberEnds, NumberFollows, ConstantCalled, NumberCalled, TextCalled, FillerRead};
 
-use encoding::cell_kinds::{FIXED, FREE, TEXT};
+use encoding::cell_kinds::{FIXED, FREE, TEXT, TEXT_BY};
+use encoding::cells::Cell;
 use lexer::constants::signed;
 use lexer::{constant_at, stands_at};
-use numeric_parser::operands::{Cell, closed, marked, read_bound, read_number, read_string, skip};
-use symbols::tags::FILLER;
-use symbols::{BIAS, Cursor, KNOWN, NAMES, with_bias};
+use numeric_parser::operands::{closed, marked, read_bound, read_number, read_string, skip};
+use symbols::known::Known;
+use symbols::tags::Role;
+use symbols::{BIAS, Cursor, Mentioned, with_bias};
 
 // the m of STRING with its `)`, in a cell of a kind and a value
 fn number_end(
     text: &[u8],
-    known: &[u64; KNOWN],
-    keys: &mut [u64; NAMES],
-    tags: &mut [u8; NAMES],
+    known: &Known,
+    mentioned: &mut Mentioned,
     c: Cursor,
     kind: u8,
     value: usize,
 ) -> Option<(Cell, Cursor)>
-    requires reader_ready { ReaderReady text.now keys.old tags.old c }
-    requires counts_in_range { CountsInRange known.now }
-    ensures { NumberEnds text.now known.now keys.old tags.old c kind value result keys.new tags.new }
+    requires { ReaderReady text.now c }
+    ensures { NumberEnds text.now known.now mentioned.old c kind value result mentioned.new }
 {
-    let (place, d) = read_number(text, known, keys, tags, c)?;
+    let (place, d) = read_number(text, known, mentioned, c)?;
     closed(text, Cell { kind, place, value }, d)
 }
 
 // the m of STRING behind a comma
 fn number_behind(
     text: &[u8],
-    known: &[u64; KNOWN],
-    keys: &mut [u64; NAMES],
-    tags: &mut [u8; NAMES],
+    known: &Known,
+    mentioned: &mut Mentioned,
     c: Cursor,
     kind: u8,
     value: usize,
 ) -> Option<(Cell, Cursor)>
-    requires reader_ready { ReaderReady text.now keys.old tags.old c }
-    requires counts_in_range { CountsInRange known.now }
-    ensures { NumberFollows text.now known.now keys.old tags.old c kind value result keys.new tags.new }
+    requires { ReaderReady text.now c }
+    ensures { NumberFollows text.now known.now mentioned.old c kind value result mentioned.new }
 {
     let d = marked(text, c, b',')?;
-    number_end(text, known, keys, tags, d, kind, value)
+    number_end(text, known, mentioned, d, kind, value)
 }
 
 // STRING with a constant n
 fn constant_call(
     text: &[u8],
-    known: &[u64; KNOWN],
-    keys: &mut [u64; NAMES],
-    tags: &mut [u8; NAMES],
+    known: &Known,
+    mentioned: &mut Mentioned,
     c: Cursor,
 ) -> Option<(Cell, Cursor)>
-    requires reader_ready { ReaderReady text.now keys.old tags.old c }
-    requires counts_in_range { CountsInRange known.now }
-    ensures { ConstantCalled text.now known.now keys.old tags.old c result keys.new tags.new }
+    requires { ReaderReady text.now c }
+    ensures { ConstantCalled text.now known.now mentioned.old c result mentioned.new }
 {
     let at = c.at;
     let number = signed(text, at)?;
     let d = skip(c, number.next - at);
-    number_behind(text, known, keys, tags, d, TEXT, with_bias(number.value))
+    number_behind(text, known, mentioned, d, TEXT, with_bias(number.value))
 }
 
 // STRING with a number n, or with m alone: its n is 0
 fn number_call(
     text: &[u8],
-    known: &[u64; KNOWN],
-    keys: &mut [u64; NAMES],
-    tags: &mut [u8; NAMES],
+    known: &Known,
+    mentioned: &mut Mentioned,
     c: Cursor,
 ) -> Option<(Cell, Cursor)>
-    requires reader_ready { ReaderReady text.now keys.old tags.old c }
-    requires counts_in_range { CountsInRange known.now }
-    ensures { NumberCalled text.now known.now keys.old tags.old c result keys.new tags.new }
+    requires { ReaderReady text.now c }
+    ensures { NumberCalled text.now known.now mentioned.old c result mentioned.new }
 {
-    let (place, d) = read_number(text, known, keys, tags, c)?;
+    let (place, d) = read_number(text, known, mentioned, c)?;
     if stands_at(text, d.at, b',') {
         let value = place as usize;
-        return number_end(text, known, keys, tags, skip(d, 1), TEXT + 1, value);
+        return number_end(text, known, mentioned, skip(d, 1), TEXT_BY, value);
     }
     let cell = Cell {
         kind: TEXT,
@@ -91,38 +84,35 @@ fn number_call(
 }
 
 // a STRING call behind its `(`
+#[tactic(auto, using(crate::specs::CellLaws::text_constant, crate::specs::CellLaws::text_number))]
 pub fn text_call(
     text: &[u8],
-    known: &[u64; KNOWN],
-    keys: &mut [u64; NAMES],
-    tags: &mut [u8; NAMES],
+    known: &Known,
+    mentioned: &mut Mentioned,
     c: Cursor,
 ) -> Option<(Cell, Cursor)>
-    requires reader_ready { ReaderReady text.now keys.old tags.old c }
-    requires counts_in_range { CountsInRange known.now }
-    ensures { TextCalled text.now known.now keys.old tags.old c result keys.new tags.new }
+    requires { ReaderReady text.now c }
+    ensures { TextCalled text.now known.now mentioned.old c result mentioned.new }
 {
     if constant_at(text, c.at) {
-        return constant_call(text, known, keys, tags, c);
+        return constant_call(text, known, mentioned, c);
     }
-    number_call(text, known, keys, tags, c)
+    number_call(text, known, mentioned, c)
 }
 
 // a filler behind its `(`
 pub fn filler(
     text: &[u8],
-    known: &[u64; KNOWN],
-    keys: &mut [u64; NAMES],
-    tags: &mut [u8; NAMES],
+    known: &Known,
+    mentioned: &mut Mentioned,
     c: Cursor,
 ) -> Option<(Cell, Cursor)>
-    requires reader_ready { ReaderReady text.now keys.old tags.old c }
-    requires counts_in_range { CountsInRange known.now }
-    ensures { FillerRead text.now known.now keys.old tags.old c result keys.new tags.new }
+    requires { ReaderReady text.now c }
+    ensures { FillerRead text.now known.now mentioned.old c result mentioned.new }
 {
-    let (place, d) = read_string(text, known, keys, tags, c, FILLER)?;
+    let (place, d) = read_string(text, known, mentioned, c, Some(Role::Filler))?;
     if stands_at(text, d.at, b'$') {
-        let (cell, e) = read_bound(text, known, keys, tags, skip(d, 1), FIXED, place)?;
+        let (cell, e) = read_bound(text, known, mentioned, skip(d, 1), FIXED, place)?;
         return closed(text, cell, e);
     }
     let cell = Cell {

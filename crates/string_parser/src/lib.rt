@@ -1,143 +1,142 @@
 // The parsers of string expressions and patterns: what they read goes to the element rows and literal bytes of the table, the names mentioned
-// to their arrays.
+// to those of the statement.
 // Assumes nothing.
+// kept: text, names, table and cursor are passed one by one, with ReaderReady as a clause, as numeric_parser/operands says
 #![tactic(auto)]
 
 pub mod cells;
 pub mod literals;
 
-ghost use Rattle.std.specs.Prelude.{◌≡◌, ◌≤◌, ◌<◌, length, drop};
-ghost use Rattle.base.specs.Current.{table_size};
+ghost use Rattle.std.specs.Prelude.{◌≡◌, ◌≤◌, drop};
 ghost use Rattle.syntax.specs.Strings.{nothing_here};
 ghost use Rattle.symbols.specs.Bounds.{far_enough};
 ghost use Rattle.symbols.specs.Elements.{with_element};
-ghost use Rattle.symbols.specs.Environment.{CountsInRange};
-ghost use Rattle.numeric_parser.specs.Operands.{ReaderReady, StringTag, meaning};
+ghost use Rattle.encoding.specs.Meaning.{cell_meaning};
+ghost use Rattle.numeric_parser.specs.Operands.{ReaderReady};
 ghost use Rattle.string_parser.specs.Elements.{one_more, ElementRead, PatternElementRead, OneRead, MoreRead, ended_row, RowsRead};
 
 use cells::{filler, text_call};
-use encoding::cell_kinds;
+use encoding::cells::Cell;
+use encoding::{TABLE_SIZE, cell_kinds};
 use lexer::{begins_at, stands_at};
 use literals::literal;
-use numeric_parser::operands::{Cell, read_part, skip};
-use symbols::tags::{SOUGHT, STRING};
-use symbols::{Cursor, KNOWN, NAMES, put_element};
+use numeric_parser::operands::{read_part, skip};
+use symbols::known::Known;
+use symbols::tags::Role;
+use symbols::{Cursor, Mentioned, put_element};
+
+// what a row has: elements of a string expression, or of a pattern
+// kept: a closure that reads an element would write to table and names, and a contract would have to say for any closure what it leaves in them
+#[derive(Clone, Copy)]
+pub enum Elements {
+    OfString,
+    OfPattern,
+}
 
 // writes a cell as the next element
-fn put(table: &mut [u8], c: Cursor, v: Cell) -> Cursor
-    requires { (table_size ≤ length table.old) × (c.elements ≤ far_enough) }
-    ensures { (result ≡ one_more c) × (table.new ≡ with_element table.old c.elements (meaning v)) }
+// kept: numeric_parser's put does so for items: the two differ in the field of the cursor that they count up, which no parameter can name
+fn put(table: &mut [u8; TABLE_SIZE], c: Cursor, v: Cell) -> Cursor
+    requires { c.elements ≤ far_enough }
+    ensures { (result ≡ one_more c) × (table.new ≡ with_element table.old c.elements (cell_meaning v)) }
 {
-    put_element(table, c.elements, v.kind, v.place, v.value);
+    put_element(table, c.elements, v);
     Cursor {
         elements: c.elements + 1,
         ..c
     }
 }
 
-// an element of a string expression; the tag tells the role of a name
+// an element of a string expression, or of a pattern where its names have a role
 fn element(
     text: &[u8],
-    known: &[u64; KNOWN],
-    table: &mut [u8],
-    keys: &mut [u64; NAMES],
-    tags: &mut [u8; NAMES],
+    known: &Known,
+    table: &mut [u8; TABLE_SIZE],
+    mentioned: &mut Mentioned,
     c: Cursor,
-    tag: u8,
+    role: Option<Role>,
 ) -> Option<Cursor>
-    requires reader_ready { ReaderReady text.now keys.old tags.old c }
-    requires counts_in_range { CountsInRange known.now }
-    requires table_size_in_bounds { (table_size ≤ length table.old) × StringTag tag }
-    ensures { ElementRead text.now known.now table.old keys.old tags.old c tag result
-        table.new keys.new tags.new }
+    requires { ReaderReady text.now c }
+    ensures { ElementRead text.now known.now table.old mentioned.old c role result
+        table.new mentioned.new }
 {
     let at = c.at;
     if stands_at(text, at, b'"') {
         return Some(literal(text, table, c));
     }
     if begins_at(text, at, b"STRING(") {
-        let (cell, d) = text_call(text, known, keys, tags, skip(c, 7))?;
+        let (cell, d) = text_call(text, known, mentioned, skip(c, 7))?;
         return Some(put(table, d, cell));
     }
-    let (cell, d) = read_part(text, known, keys, tags, c, cell_kinds::STRING, tag)?;
+    let (cell, d) = read_part(text, known, mentioned, c, cell_kinds::STRING, role)?;
     Some(put(table, d, cell))
 }
 
 // an element of a pattern
 fn pattern_element(
     text: &[u8],
-    known: &[u64; KNOWN],
-    table: &mut [u8],
-    keys: &mut [u64; NAMES],
-    tags: &mut [u8; NAMES],
+    known: &Known,
+    table: &mut [u8; TABLE_SIZE],
+    mentioned: &mut Mentioned,
     c: Cursor,
 ) -> Option<Cursor>
-    requires reader_ready { ReaderReady text.now keys.old tags.old c }
-    requires counts_in_range { CountsInRange known.now }
-    requires table_size_in_bounds { table_size ≤ length table.old }
-    ensures { PatternElementRead text.now known.now table.old keys.old tags.old c result
-        table.new keys.new tags.new }
+    requires { ReaderReady text.now c }
+    ensures { PatternElementRead text.now known.now table.old mentioned.old c result
+        table.new mentioned.new }
 {
     if stands_at(text, c.at, b'(') {
-        let (cell, d) = filler(text, known, keys, tags, skip(c, 1))?;
+        let (cell, d) = filler(text, known, mentioned, skip(c, 1))?;
         return Some(put(table, d, cell));
     }
-    element(text, known, table, keys, tags, c, SOUGHT)
+    element(text, known, table, mentioned, c, Some(Role::Sought))
 }
 
-// an element of a pattern or of a string expression
+// an element of either
 fn one(
     text: &[u8],
-    known: &[u64; KNOWN],
-    table: &mut [u8],
-    keys: &mut [u64; NAMES],
-    tags: &mut [u8; NAMES],
+    known: &Known,
+    table: &mut [u8; TABLE_SIZE],
+    mentioned: &mut Mentioned,
     c: Cursor,
-    patterned: bool,
+    elements: Elements,
 ) -> Option<Cursor>
-    requires reader_ready { ReaderReady text.now keys.old tags.old c }
-    requires counts_in_range { CountsInRange known.now }
-    requires table_size_in_bounds { table_size ≤ length table.old }
-    ensures { OneRead text.now known.now table.old keys.old tags.old c patterned result
-        table.new keys.new tags.new }
+    requires { ReaderReady text.now c }
+    ensures { OneRead text.now known.now table.old mentioned.old c elements result
+        table.new mentioned.new }
 {
-    if patterned {
-        return pattern_element(text, known, table, keys, tags, c);
+    match elements {
+        Elements::OfString => element(text, known, table, mentioned, c, None),
+        Elements::OfPattern => pattern_element(text, known, table, mentioned, c),
     }
-    element(text, known, table, keys, tags, c, STRING)
 }
 
 // more elements, each behind a comma
+// kept: from comma to comma, which counts nothing; as an iterator it would be a struct of all six parameters, stopped by `?` all the same
+// kept: more_numbers of statement_parser goes from comma to comma too; one loop for both would take a closure that writes, as above
 fn more(
     text: &[u8],
-    known: &[u64; KNOWN],
-    table: &mut [u8],
-    keys: &mut [u64; NAMES],
-    tags: &mut [u8; NAMES],
+    known: &Known,
+    table: &mut [u8; TABLE_SIZE],
+    mentioned: &mut Mentioned,
     c: Cursor,
-    patterned: bool,
+    elements: Elements,
 ) -> Option<Cursor>
-    requires reader_ready { ReaderReady text.now keys.old tags.old c }
-    requires counts_in_range { CountsInRange known.now }
-    requires table_size_in_bounds { table_size ≤ length table.old }
-    ensures { MoreRead text.now known.now table.old keys.old tags.old c patterned result
-        table.new keys.new tags.new }
+    requires { ReaderReady text.now c }
+    ensures { MoreRead text.now known.now table.old mentioned.old c elements result
+        table.new mentioned.new }
 {
     let mut d = c;
     while stands_at(text, d.at, b',') {
-        d = one(text, known, table, keys, tags, skip(d, 1), patterned)?;
+        d = one(text, known, table, mentioned, skip(d, 1), elements)?;
     }
     Some(d)
 }
 
 // whether nothing stands at a place: the end, `/` or `]`
+#[tactic(auto, using(crate::proofs::Quotes::nothing_at))]
 fn nothing_here(text: &[u8], at: usize) -> bool
     ensures { result ≡ nothing_here (drop at text.now) }
 {
-    if text.len() <= at {
-        return true;
-    }
-    stands_at(text, at, b'/') | stands_at(text, at, b']')
+    text.len() <= at || stands_at(text, at, b'/') || stands_at(text, at, b']')
 }
 
 // the cursor behind a row that started with this element: the longest row so far may be this one
@@ -145,36 +144,27 @@ fn row_end(from: usize, d: Cursor) -> Cursor
     requires { from ≤ d.elements }
     ensures { result ≡ ended_row from d }
 {
-    let count = d.elements - from;
-    if d.longest < count {
-        return Cursor {
-            longest: count,
-            ..d
-        };
-    }
-    d
+    let longest = d.longest.max(d.elements - from);
+    Cursor { longest, ..d }
 }
 
 // a pattern or a string expression: nothing, or elements parted by commas
 pub fn row(
     text: &[u8],
-    known: &[u64; KNOWN],
-    table: &mut [u8],
-    keys: &mut [u64; NAMES],
-    tags: &mut [u8; NAMES],
+    known: &Known,
+    table: &mut [u8; TABLE_SIZE],
+    mentioned: &mut Mentioned,
     c: Cursor,
-    patterned: bool,
+    elements: Elements,
 ) -> Option<Cursor>
-    requires reader_ready { ReaderReady text.now keys.old tags.old c }
-    requires counts_in_range { CountsInRange known.now }
-    requires table_size_in_bounds { table_size ≤ length table.old }
-    ensures { RowsRead text.now known.now table.old keys.old tags.old c patterned result
-        table.new keys.new tags.new }
+    requires { ReaderReady text.now c }
+    ensures { RowsRead text.now known.now table.old mentioned.old c elements result
+        table.new mentioned.new }
 {
     if nothing_here(text, c.at) {
         return Some(c);
     }
-    let d = one(text, known, table, keys, tags, c, patterned)?;
-    let e = more(text, known, table, keys, tags, d, patterned)?;
+    let d = one(text, known, table, mentioned, c, elements)?;
+    let e = more(text, known, table, mentioned, d, elements)?;
     Some(row_end(c.elements, e))
 }

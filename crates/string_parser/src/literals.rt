@@ -1,7 +1,6 @@
 // Literals: their bytes go to the literal bytes of the table, behind those written before.
 // Assumes nothing.
-ghost use Rattle.std.specs.Prelude.{not, List, ℕ, ◌≤◌, ◌<◌, eqb, length, drop};
-ghost use Rattle.base.specs.Current.{table_size};
+ghost use Rattle.std.specs.Prelude.{not, ℕ, ◌≤◌, ◌<◌, eqb, length, drop};
 ghost use Rattle.cards.specs.Bytes.{quote};
 ghost use Rattle.syntax.specs.Lexemes.{run_length};
 ghost use Rattle.symbols.specs.Bounds.{far_enough};
@@ -10,12 +9,14 @@ ghost use Rattle.card_reader.specs.Packs.{longest_text};
 ghost use Rattle.lexer.specs.Places.{CountedBytes};
 ghost use Rattle.string_parser.specs.Elements.{LiteralWritable, LiteralWritten, LiteralRead};
 
-use encoding::RANGE_STEP;
 use encoding::cell_kinds::LITERAL;
+use encoding::cells::Cell;
+use encoding::{RANGE_STEP, TABLE_SIZE};
 use lexer::begins_at;
-use symbols::{Cursor, put_element, put_literals};
+use symbols::{Cursor, Mentioned, put_element, put_literals};
 
 // how many bytes stand before the next quote
+#[tactic(auto, using(crate::proofs::Quotes::quotes_next))]
 fn literal_length(text: &[u8], at: usize) -> usize
     requires { at ≤ length text.now }
     ensures { CountedBytes text.now at (run_length (λ (b : ℕ). not (eqb b quote)) (drop at text.now)) result }
@@ -24,14 +25,25 @@ fn literal_length(text: &[u8], at: usize) -> usize
 }
 
 // writes the n bytes behind the quote at the cursor as a literal; the cursor goes size further
-fn put_literal(text: &[u8], table: &mut [u8], c: Cursor, n: usize, size: usize) -> Cursor
-    requires { LiteralWritable text.now table.old c n size }
+fn put_literal(
+    text: &[u8],
+    table: &mut [u8; TABLE_SIZE],
+    c: Cursor,
+    n: usize,
+    size: usize,
+) -> Cursor
+    requires { LiteralWritable text.now c n size }
     ensures { LiteralWritten text.now table.old c n size table.new result }
 {
     let from = c.at + 1;
     let end = from + n;
     put_literals(table, c.literals, &text[from..end]);
-    put_element(table, c.elements, LITERAL, 0, c.literals + RANGE_STEP * n);
+    let cell = Cell {
+        kind: LITERAL,
+        place: 0,
+        value: c.literals + RANGE_STEP * n,
+    };
+    put_element(table, c.elements, cell);
     Cursor {
         at: c.at + size,
         elements: c.elements + 1,
@@ -41,11 +53,10 @@ fn put_literal(text: &[u8], table: &mut [u8], c: Cursor, n: usize, size: usize) 
 }
 
 // a literal at its first quote: `""` behind it is one quote, else it goes up to the next quote
-pub fn literal(text: &[u8], table: &mut [u8], c: Cursor) -> Cursor
+pub fn literal(text: &[u8], table: &mut [u8; TABLE_SIZE], c: Cursor) -> Cursor
     requires at_in_bounds { (c.at < length text.now) × (length text.now ≤ longest_text) }
     requires elements_le_far_enough { (c.elements ≤ far_enough) × (c.literals ≤ far_enough) }
-    requires table_size_in_bounds { table_size ≤ length table.old }
-    ensures { (keys tags : List ℕ) → ReaderReady text.now keys tags c → LiteralRead text.now table.old keys tags c table.new result }
+    ensures { (m : Mentioned) → ReaderReady text.now c → LiteralRead text.now table.old m c table.new result }
 {
     let at = c.at + 1;
     if begins_at(text, at, b"\"\"") {

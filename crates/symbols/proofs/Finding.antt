@@ -1,12 +1,43 @@
 -- Looking for a key among others.
 -- Assumes nothing.
-use Rattle.std.proofs.Common.{Option, Some, None, Bool, true, false, cond, List, [], ◌∷◌, ◌≡◌, refl, sym, ap, ◌∙◌, ℕ, suc, ◌+◌, ◌≤◌, length, take, drop, arith, ◌==◌, nat_lt, eqb, eqb-true, eq-eqb, ne_eqb, ltb-false, length-take-le, length-drop}
+use Rattle.std.proofs.Common.{
+  Option,
+  Some,
+  None,
+  Bool,
+  true,
+  false,
+  ◌||◌,
+  cond,
+  List,
+  [],
+  ◌∷◌,
+  ◌≡◌,
+  refl,
+  sym,
+  ap,
+  ◌∙◌,
+  ℕ,
+  suc,
+  ◌+◌,
+  ◌≤◌,
+  length,
+  ap₂,
+  arith,
+  ◌==◌,
+  nat_lt,
+  eqb,
+  eqb-true,
+  eq-eqb,
+  ne_eqb,
+  ltb-false,
+}
 use Rattle.std.proofs.lemmas.List.Recursion.{is_position_or_len}
-use Rattle.std.specs.List.{position, position_or_len}
+use Rattle.std.specs.List.{list_any, position, position_or_len}
 use Rattle.std.specs.Option.{unwrap_or}
 use borrow.Author.Tests.{eqb-false}
 use Rattle.base.specs.Choice.{test_cases}
-use Rattle.symbols.specs.Environment.{key_place}
+use Rattle.symbols.specs.Environment.{key_place, keys_have}
 
 -- equality of numbers either way round
 eqb_swap : (a b : ℕ) → eqb a b ≡ eqb b a
@@ -38,17 +69,20 @@ module _ (key : ℕ) where
       test_cases (λ b. elim b as (λ _. ℕ) [ true ↦ 0 | false ↦ suc (key_place key ks) ] ≤ length (k ∷ ks)) (eqb key k) (λ _. omega arith)
       (λ _. omega (arith, place_within ks))
 
-  pub place_or_count : (known : List ℕ) (from count : ℕ) → from + count ≤ length known → {p : Option ℕ} {r : ℕ}
-      → p ≡ position (λ k. k == key) (take count (drop from known)) → r ≡ unwrap_or p count
-      → (r ≡ key_place key (take count (drop from known))) × (r ≤ count)
-  place_or_count known from count room p r =
-      let keys = take count (drop from known) in
+  pub place_or_count : (keys : List ℕ) {p : Option ℕ} {r : ℕ} → p ≡ position (λ k. k == key) keys → r ≡ unwrap_or p (length keys)
+      → (r ≡ key_place key keys) × (r ≤ length keys)
+  place_or_count keys p r =
       let n = key_place key keys in
-      let size : length keys ≡ count = length-take-le count (drop from known) (omega (arith, length-drop from known)) in
       let within = place_within keys in
-      let whole : unwrap_or (cond (nat_lt n (length keys)) (Some n) None) count ≡ n =
-      test_cases (λ b. nat_lt n (length keys) ≡ b → unwrap_or (cond b (Some n) None) count ≡ n) (nat_lt n (length keys)) (λ _ _. refl)
+      let whole : unwrap_or (cond (nat_lt n (length keys)) (Some n) None) (length keys) ≡ n =
+      test_cases (λ b. nat_lt n (length keys) ≡ b → unwrap_or (cond b (Some n) None) (length keys) ≡ n) (nat_lt n (length keys)) (λ _ _. refl)
       (λ _ e. omega (arith, ltb-false n (length keys) e)) refl in
       let is =
-      r ∙ ap (λ z. unwrap_or z count) (p ∙ ap (λ m. cond (nat_lt m (length keys)) (Some m) None) (sym (place_first keys))) ∙ whole in
+      r ∙ ap (λ z. unwrap_or z (length keys)) (p ∙ ap (λ m. cond (nat_lt m (length keys)) (Some m) None) (sym (place_first keys))) ∙ whole in
       (is, omega (arith, is))
+
+  -- one is equal, in the library's words
+  pub any_equal : (keys : List ℕ) → list_any (λ k. k == key) keys ≡ keys_have key keys
+  unfolding keys_have
+  any_equal [] = refl
+  any_equal (k ∷ ks) = ap₂ {C = Bool} ◌||◌ (eqb_swap k key) (any_equal ks)

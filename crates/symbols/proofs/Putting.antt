@@ -22,6 +22,8 @@ use Rattle.symbols.specs.Cells.{with_cell}
 use Rattle.symbols.specs.Clauses.{cursor_behind_name, NameNoted}
 use Rattle.symbols.specs.Elements.{with_literals, literals-append, literals_rows}
 use Rattle.symbols.specs.declared.Cursor.{Cursor}
+use Rattle.symbols.specs.declared.Mentioned.{Mentioned}
+use Rattle.symbols.specs.declared.tags.Tag.{Tag}
 use Rattle.values.specs.Numbers.{is_negative}
 
 -- a byte, and then bytes behind it
@@ -64,7 +66,7 @@ module _ (t₀ : List ℕ) (at size number : ℕ) where
 -- a cell's kind, its place, and its value
 pub cell-put : (t : List ℕ) (at kind place value : ℕ) → at + 8 ≤ length t
     → splice (set (set t at kind) (at + 1) place) (at + 2) (in_bytes 6 value) ≡ splice t at (cell_bytes (cell kind place value))
-unfolding cell_bytes cell
+unfolding cell_bytes
 cell-put t at kind place value h =
     let size = length-set t at kind in
     ap (λ n. splice (set (set t at kind) (at + 1) place) n (in_bytes 6 value)) (omega arith)
@@ -138,10 +140,10 @@ module _ (t : List ℕ) (l : ℕ) (bytes : List ℕ) (g : table_size ≤ length 
         ∙ literals_at_place (ltb l 4096) refl
 
 -- a name behind the others
-pub noted : (keys tags : List ℕ) (c : Cursor) (key tag : ℕ) → c.names < length keys → c.names < length tags
-    → NameNoted keys tags c key tag (set keys c.names key) (set tags c.names tag) (cursor_behind_name c)
-noted keys tags c key tag h g =
-    record { keyed = set-splice keys c.names key h; tagged = set-splice tags c.names tag g; goes = refl }
+pub noted : (m : Mentioned) (c : Cursor) (key : ℕ) (tag : Tag) → c.names < length m.keys → c.names < length m.tags
+    → NameNoted m c key tag (record { keys = set m.keys c.names key; tags = set m.tags c.names tag }) (cursor_behind_name c)
+noted m c key tag h g =
+    record { keyed = set-splice m.keys c.names key h; tagged = set-splice m.tags c.names tag g; goes = refl }
 
 -- a constant as its cell has it
 pub biased_above : (z : ℤ) → is_negative z ≡ false → 2 ^ 47 + nat_abs z ≡ biased z

@@ -1,17 +1,18 @@
--- What the code that notes names and writes items does. Assumes nothing.
-use Rattle.std.specs.Prelude.{List, [], ◌∷◌, ◌≡◌, ℕ, ◌+◌, ◌<◌, length}
+-- What the code that notes names does. Assumes nothing.
+use Rattle.std.specs.Prelude.{[], ◌∷◌, ◌≡◌, ℕ, ◌+◌}
 use Rattle.encoding.specs.Splices.{splice}
 use Rattle.symbols.specs.declared.Cursor.{Cursor}
+use Rattle.symbols.specs.declared.Mentioned.{Mentioned}
+use Rattle.symbols.specs.declared.tags.Tag.{Tag}
 
 -- how many names fit
 abbrev pub names_room : ℕ
 names_room = 32_800
 
--- there is room for a name
-pub record NameNotable (keys tags : List ℕ) (c : Cursor) : Type 0 where
-  pub keys_size : length keys ≡ names_room
-  pub tags_size : length tags ≡ names_room
-  pub room : c.names < names_room
+-- the cursor before a statement: nothing of it is read, and the counts are those of the deck so far
+abbrev pub cursor_before_statement : (items elements literals : ℕ) → Cursor
+cursor_before_statement items elements literals =
+    record { at = 0; names = 0; items = items; elements = elements; literals = literals; longest = 0 }
 
 -- the cursor behind one name more
 abbrev pub cursor_behind_name : Cursor → Cursor
@@ -26,7 +27,7 @@ cursor_behind_name c =
     }
 
 -- a name was noted
-pub record NameNoted (keys tags : List ℕ) (c : Cursor) (key tag : ℕ) (keys' tags' : List ℕ) (r : Cursor) : Type 0 where
-  pub keyed : keys' ≡ splice keys c.names (key ∷ [])
-  pub tagged : tags' ≡ splice tags c.names (tag ∷ [])
+pub record NameNoted (m : Mentioned) (c : Cursor) (key : ℕ) (tag : Tag) (m' : Mentioned) (r : Cursor) : Type 0 where
+  pub keyed : m'.keys ≡ splice m.keys c.names (key ∷ [])
+  pub tagged : m'.tags ≡ splice m.tags c.names (tag ∷ [])
   pub goes : r ≡ cursor_behind_name c

@@ -1,5 +1,5 @@
 -- What was mentioned goes through `++`; names and keys are each other's; what one name mentioned is. Assumes nothing.
-use Rattle.std.specs.Prelude.{true, false, ◌≡◌, refl, ℕ, zero, suc, ◌+◌, ◌*◌, ◌/◌, ◌%◌, ◌≤◌, eqb, leb}
+use Rattle.std.specs.Prelude.{Option, Some, None, true, false, ◌≡◌, refl, ℕ, zero, suc, ◌+◌, ◌*◌, ◌/◌, ◌%◌, ◌≤◌, eqb, leb}
 use Rattle.std.proofs.Math.Bool.{and-eq-true_iff}
 use mathlib.Core.List.{List, [], ◌∷◌, ◌++◌, map, append_assoc, append-nil}
 use Rattle.std.proofs.Common.{sym, ap, ap₂, ◌∙◌, eqb-true, eq-eqb, ne_eqb, leb-true}
@@ -11,25 +11,44 @@ use Rattle.base.specs.ListLaws.{same_true, same_refl}
 use Rattle.cards.specs.Bytes.{between}
 use Rattle.validation.specs.Deck.{index_of}
 use Rattle.syntax.specs.Parsing.{
-  Purpose,
   for_program,
   for_label,
   for_routine,
   for_number,
   for_string,
-  purpose_number,
   merge_mentions,
   declaring,
   usage,
 }
 use Rattle.card_reader.specs.Keys.{key_of, is_key_byte}
+use Rattle.symbols.specs.declared.known.Known.{Known}
+use Rattle.symbols.specs.declared.tags.Role as Held
+use Rattle.symbols.specs.declared.tags.Role.TheVariants.{Reference, Sought, Filler}
+use Rattle.symbols.specs.declared.tags.Tag.{Tag}
+use Rattle.symbols.specs.declared.tags.Tag.TheVariants.{
+  ProgramDeclared,
+  LabelDeclared,
+  RoutineDeclared,
+  NumberDeclared,
+  LabelUsed,
+  RoutineUsed,
+  NumberUsed,
+  StringUsed,
+  ReferenceUsed,
+  SoughtUsed,
+  FillerUsed,
+}
 use Rattle.symbols.specs.Environment.{string_keys, number_keys, key_place, places_in}
 use Rattle.symbols.specs.Entries.{
   NameEntry,
   entry,
   name_from,
   name_of,
-  purpose_of,
+  purpose_meaning,
+  tag_purpose,
+  tag_declares,
+  tag_roles,
+  string_tag,
   role_of,
   mention_of,
   declares_name,
@@ -126,7 +145,7 @@ place-name n (k ∷ ks) a =
     ap₂ {C = ℕ} (λ t j. elim t [ true ↦ 0 | false ↦ suc j ]) (same_key n k a) (place-name n ks a)
 
 -- the places of a name that is known by its key
-module _ (known n : List ℕ) (a : all is_key_byte n ≡ true) where
+module _ (known : Known) (n : List ℕ) (a : all is_key_byte n ≡ true) where
   pub string_placed : (places_in known).string n ≡ key_place (key_of n) (string_keys known)
   unfolding places_in
   string_placed = place-name n (string_keys known) a
@@ -135,32 +154,50 @@ module _ (known n : List ℕ) (a : all is_key_byte n ≡ true) where
   unfolding places_in
   number_placed = place-name n (number_keys known) a
 
-twice : (n : ℕ) → (2 * n) % 2 ≡ 0
-twice n = omega arith
-
--- what one name mentioned is: with no role, with each role, declared
+-- what one name mentioned is: used, with the roles that its tag says, or declared
 module _ (n : List ℕ) (a : all is_key_byte n ≡ true) where
-  pub used_mentioned : (p : Purpose) → mentions_in (entry (key_of n) (purpose_number p) ∷ []) 0 [] 0 ≡ usage p [] n
-  unfolding mentions_in gather declared_by used_by roles_by declares_name mention_of purpose_of role_of entry usage purpose_number
-  used_mentioned for_program = rw (name-key n a)
-  used_mentioned for_label = rw (name-key n a)
-  used_mentioned for_routine = rw (name-key n a)
-  used_mentioned for_number = rw (name-key n a)
-  used_mentioned for_string = rw (name-key n a)
+  used_as : (t : Tag) → tag_declares t ≡ false
+      → mentions_in (entry (key_of n) t ∷ []) 0 [] 0 ≡ usage (purpose_meaning (tag_purpose t)) (tag_roles t n) n
+  unfolding mentions_in gather declared_by used_by roles_by declares_name mention_of entry usage
+  used_as t used = rw (used, name-key n a, append-nil (tag_roles t n))
 
-  pub declared_mentioned : (p : Purpose) → mentions_in (entry (key_of n) (purpose_number p + 8) ∷ []) 0 [] 0 ≡ declaring p n
-  unfolding mentions_in gather declared_by used_by roles_by declares_name mention_of purpose_of role_of entry declaring purpose_number
-  declared_mentioned for_program = rw (name-key n a)
-  declared_mentioned for_label = rw (name-key n a)
-  declared_mentioned for_routine = rw (name-key n a)
-  declared_mentioned for_number = rw (name-key n a)
-  declared_mentioned for_string = rw (name-key n a)
+  declared_as : (t : Tag) → tag_declares t ≡ true → tag_roles t n ≡ []
+      → mentions_in (entry (key_of n) t ∷ []) 0 [] 0 ≡ declaring (purpose_meaning (tag_purpose t)) n
+  unfolding mentions_in gather declared_by used_by roles_by declares_name mention_of entry declaring
+  declared_as t declared none = rw (declared, name-key n a, none)
 
-  -- a string by the number of its role
-  pub role_mentioned : (tag : ℕ) → tag % 16 ≡ 4 → mentions_in (entry (key_of n) tag ∷ []) 0 [] 0 ≡ usage for_string (role_of (tag / 16) n) n
-  unfolding mentions_in gather declared_by used_by roles_by declares_name mention_of purpose_of entry usage
-  role_mentioned tag h =
-      let purpose : tag % 8 ≡ 4 = omega arith in
-      let half : tag / 8 ≡ 2 * (tag / 16) = omega arith in
-      let used : tag / 8 % 2 ≡ 0 = rw half (twice (tag / 16)) in
-      rw (used, purpose, name-key n a, append-nil (role_of (tag / 16) n))
+  pub label_used : mentions_in (entry (key_of n) LabelUsed ∷ []) 0 [] 0 ≡ usage for_label [] n
+  unfolding tag_declares tag_purpose tag_roles purpose_meaning
+  label_used = used_as LabelUsed refl
+
+  pub routine_used : mentions_in (entry (key_of n) RoutineUsed ∷ []) 0 [] 0 ≡ usage for_routine [] n
+  unfolding tag_declares tag_purpose tag_roles purpose_meaning
+  routine_used = used_as RoutineUsed refl
+
+  pub number_used : mentions_in (entry (key_of n) NumberUsed ∷ []) 0 [] 0 ≡ usage for_number [] n
+  unfolding tag_declares tag_purpose tag_roles purpose_meaning
+  number_used = used_as NumberUsed refl
+
+  pub program_declared : mentions_in (entry (key_of n) ProgramDeclared ∷ []) 0 [] 0 ≡ declaring for_program n
+  unfolding tag_declares tag_purpose tag_roles purpose_meaning
+  program_declared = declared_as ProgramDeclared refl refl
+
+  pub label_declared : mentions_in (entry (key_of n) LabelDeclared ∷ []) 0 [] 0 ≡ declaring for_label n
+  unfolding tag_declares tag_purpose tag_roles purpose_meaning
+  label_declared = declared_as LabelDeclared refl refl
+
+  pub routine_declared : mentions_in (entry (key_of n) RoutineDeclared ∷ []) 0 [] 0 ≡ declaring for_routine n
+  unfolding tag_declares tag_purpose tag_roles purpose_meaning
+  routine_declared = declared_as RoutineDeclared refl refl
+
+  pub number_declared : mentions_in (entry (key_of n) NumberDeclared ∷ []) 0 [] 0 ≡ declaring for_number n
+  unfolding tag_declares tag_purpose tag_roles purpose_meaning
+  number_declared = declared_as NumberDeclared refl refl
+
+  -- a string by its role
+  pub role_mentioned : (r : Option Held.Role) → mentions_in (entry (key_of n) (string_tag r) ∷ []) 0 [] 0 ≡ usage for_string (role_of r n) n
+  unfolding tag_declares tag_purpose tag_roles purpose_meaning string_tag role_of
+  role_mentioned None = used_as StringUsed refl
+  role_mentioned (Some Reference) = used_as ReferenceUsed refl
+  role_mentioned (Some Sought) = used_as SoughtUsed refl
+  role_mentioned (Some Filler) = used_as FillerUsed refl

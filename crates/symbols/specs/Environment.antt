@@ -1,11 +1,13 @@
--- The environment behind some statements of a deck, in one array of numbers: counts first, then the keys of strings and numbers, and the
--- labels and routines declared, each a key and its steps. Assumes nothing.
-use Rattle.std.specs.Prelude.{Bool, true, false, ◌||◌, List, [], ◌∷◌, map, ◌≡◌, ℕ, zero, suc, ◌+◌, ◌≤◌, eqb, length, take, drop, get_or}
+-- What the symbol table shows behind some statements of a deck: the keys of strings and numbers by their places, the labels and routines declared,
+-- and the places of the names known. Assumes nothing.
+use Rattle.std.specs.Prelude.{Bool, true, false, ◌||◌, List, [], ◌∷◌, ◌++◌, map, ℕ, suc, eqb}
 use Rattle.validation.specs.Deck.{index_of, step_of, routine_named}
 use Rattle.validation.specs.Environment.{Label, Routine}
 use Rattle.syntax.specs.Lexemes.{Resolution}
+use Rattle.symbols.specs.declared.known.Known.{Known}
+use Rattle.symbols.specs.declared.known.Label as Listed
+use Rattle.symbols.specs.declared.known.Routine as Opened
 use Rattle.symbols.specs.Entries.{name_of}
-use Rattle.symbols.specs.From.{values_from}
 
 -- one more of each than 10 allows, so that it can be found
 abbrev pub most : ℕ
@@ -14,133 +16,60 @@ most = 33
 abbrev pub most_labels : ℕ
 most_labels = 65
 
-abbrev pub most_routines : ℕ
-most_routines = 17
+-- the table before the first statement
+abbrev pub nothing_known : Known
+nothing_known =
+    record {
+      strings = record { items = [] };
+      numbers = record { items = [] };
+      labels = record { items = [] };
+      routines = record { items = [] };
+      statements = 0;
+      steps = 0;
+      next = 0;
+      ended = false;
+      scope = 0;
+      elements = 0;
+      items = 0;
+      literals = 0;
+    }
 
--- where the numbers stand: four counts (strings, numbers, labels, routines) and the step behind the statement that is read
-abbrev pub label_count_at : ℕ
-label_count_at = 68
+abbrev pub string_keys : Known → List ℕ
+string_keys known = known.strings.items
 
-abbrev pub routine_count_at : ℕ
-routine_count_at = 69
-
-abbrev pub next_at : ℕ
-next_at = 70
-
--- statements and steps so far, whether END was the last, the key of the open routine (0 outside all), the counts of 10, and how many
--- names and uses stand in their own arrays
-abbrev pub statement_count_at : ℕ
-statement_count_at = 71
-
-abbrev pub step_count_at : ℕ
-step_count_at = 72
-
-abbrev pub ended_at : ℕ
-ended_at = 73
-
-abbrev pub scope_at : ℕ
-scope_at = 74
-
-abbrev pub element_count_at : ℕ
-element_count_at = 75
-
-abbrev pub item_count_at : ℕ
-item_count_at = 76
-
-abbrev pub literal_count_at : ℕ
-literal_count_at = 77
-
-abbrev pub name_count_at : ℕ
-name_count_at = 78
-
-abbrev pub use_count_at : ℕ
-use_count_at = 79
-
--- where the keys stand, and what goes with them
-abbrev pub string_keys_at : ℕ
-string_keys_at = 2
-
-abbrev pub number_keys_at : ℕ
-number_keys_at = 35
-
-abbrev pub label_keys_at : ℕ
-label_keys_at = 80
-
-abbrev pub label_steps_at : ℕ
-label_steps_at = 145
-
-abbrev pub label_scopes_at : ℕ
-label_scopes_at = 210
-
-abbrev pub routine_keys_at : ℕ
-routine_keys_at = 275
-
-abbrev pub routine_entries_at : ℕ
-routine_entries_at = 292
-
-abbrev pub routine_exits_at : ℕ
-routine_exits_at = 309
-
-abbrev pub environment_size : ℕ
-environment_size = 326
-
--- the array has its size and its counts are in range
-pub record CountsInRange (known : List ℕ) : Type 0 where
-  pub size : length known ≡ environment_size
-  pub strings : get_or known 0 0 ≤ most
-  pub numbers : get_or known 1 0 ≤ most
-  pub labels : get_or known label_count_at 0 ≤ most_labels
-  pub routines : get_or known routine_count_at 0 ≤ most_routines
-
-unfoldable pub string_keys : List ℕ → List ℕ
-string_keys known = take (get_or known 0 0) (drop string_keys_at known)
-
-unfoldable pub number_keys : List ℕ → List ℕ
-number_keys known = take (get_or known 1 0) (drop number_keys_at known)
+abbrev pub number_keys : Known → List ℕ
+number_keys known = known.numbers.items
 
 -- the place of a key, how many there are if it is none of them
 unfoldable pub key_place : ℕ → List ℕ → ℕ
 key_place k [] = 0
 key_place k (j ∷ js) = elim (eqb k j) [ true ↦ 0 | false ↦ suc (key_place k js) ]
 
--- a key is among n from a place on
-unfoldable pub keys_have : List ℕ → (from n key : ℕ) → Bool
-keys_have known from zero key = false
-keys_have known from (suc n) key = eqb key (get_or known (from + n) 0) || keys_have known from n key
+-- a key is one of others
+unfoldable pub keys_have : ℕ → List ℕ → Bool
+keys_have k [] = false
+keys_have k (j ∷ js) = eqb k j || keys_have k js
 
--- label i, and the labels from i on
-unfoldable pub label_in : List ℕ → ℕ → Label
-label_in known i =
-    record {
-      name = name_of (get_or known (label_keys_at + i) 0);
-      step = get_or known (label_steps_at + i) 0;
-      scope = name_of (get_or known (label_scopes_at + i) 0);
-    }
+-- the labels declared
+unfoldable pub label_meaning : Listed.Label → Label
+label_meaning l = record { name = name_of l.key; step = l.step; scope = name_of l.scope }
 
-abbrev pub labels_from : List ℕ → (i n : ℕ) → List Label
-labels_from known = values_from (label_in known)
+unfoldable pub labels_in : Known → List Label
+labels_in known = map label_meaning known.labels.items
 
-unfoldable pub labels_in : List ℕ → List Label
-labels_in known = labels_from known 0 (get_or known label_count_at 0)
+-- the routines declared, the latest first
+unfoldable pub routine_meaning : Opened.Routine → Routine
+routine_meaning r = record { name = name_of r.key; entry = r.entry; exit = r.exit }
 
--- routine i, and the first n routines, the latest first
-unfoldable pub routine_in : List ℕ → ℕ → Routine
-routine_in known i =
-    record {
-      name = name_of (get_or known (routine_keys_at + i) 0);
-      entry = get_or known (routine_entries_at + i) 0;
-      exit = get_or known (routine_exits_at + i) 0;
-    }
+unfoldable pub latest_first : List Opened.Routine → List Routine
+latest_first [] = []
+latest_first (r ∷ rs) = latest_first rs ++ (routine_meaning r ∷ [])
 
-unfoldable pub routines_down : List ℕ → ℕ → List Routine
-routines_down known zero = []
-routines_down known (suc n) = routine_in known n ∷ routines_down known n
-
-unfoldable pub routines_in : List ℕ → List Routine
-routines_in known = routines_down known (get_or known routine_count_at 0)
+unfoldable pub routines_in : Known → List Routine
+routines_in known = latest_first known.routines.items
 
 -- the places of the names known
-unfoldable pub places_in : List ℕ → Resolution
+unfoldable pub places_in : Known → Resolution
 places_in known =
     record {
       string = λ n. index_of n (map name_of (string_keys known));
@@ -148,5 +77,5 @@ places_in known =
       label = step_of (labels_in known);
       entry = λ n. (routine_named (routines_in known) n).entry;
       exit = λ n. (routine_named (routines_in known) n).exit;
-      next = get_or known next_at 0;
+      next = known.next;
     }

@@ -3,44 +3,38 @@
 // Assumes nothing.
 #![tactic(auto)]
 
-pub mod places;
+pub mod known;
 pub mod tags;
 
 ghost use Rattle.std.specs.List.{position};
-ghost use Rattle.std.specs.Prelude.{◌==◌, [], ◌∷◌, ◌≡◌, ◌+◌, ◌*◌, ◌≤◌, ◌<◌, length, take, drop};
+ghost use Rattle.std.specs.Prelude.{◌==◌, [], ◌∷◌, ◌≡◌, ◌+◌, ◌*◌, ◌≤◌, ◌<◌, length};
 ghost use Rattle.base.specs.Current.{table_size};
 ghost use Rattle.encoding.specs.Numerals.{in_bytes, biased};
 ghost use Rattle.encoding.specs.Splices.{splice};
-ghost use Rattle.encoding.specs.Table.{cell, cell_bytes};
+ghost use Rattle.encoding.specs.Meaning.{cell_meaning};
+ghost use Rattle.encoding.specs.Table.{cell_bytes};
 ghost use Rattle.numbers.specs.Numbers.{IntInRange};
 ghost use Rattle.symbols.specs.Bounds.{far_enough};
 ghost use Rattle.symbols.specs.Cells.{with_cell};
-ghost use Rattle.symbols.specs.Clauses.{NameNotable, NameNoted};
+ghost use Rattle.symbols.specs.Clauses.{names_room, cursor_before_statement, NameNoted};
 ghost use Rattle.symbols.specs.Elements.{with_element, with_literals};
 ghost use Rattle.symbols.specs.Items.{with_item};
-ghost use Rattle.symbols.specs.Environment.{CountsInRange, key_place, keys_have, string_keys, number_keys};
+ghost use Rattle.symbols.specs.Environment.{key_place, keys_have};
 
 use base::{ELEMENTS, ITEMS, LITERALS};
-use encoding::{ELEMENTS_AT, ITEMS_AT, LITERALS_AT, TABLE_CELL};
+use encoding::cells::Cell;
+use encoding::{ELEMENTS_AT, ITEMS_AT, LITERALS_AT, TABLE_CELL, TABLE_SIZE};
 use numbers::Int;
-use places::{NUMBER_COUNT, NUMBER_KEYS, STRING_COUNT, STRING_KEYS};
+use tags::Tag;
 
 // how many names fit: one for each letter of a deck, with which a name begins, and one for the label of each of its lines
 pub const NAMES: usize = 32800;
-
-// how many symbols there are: the keys of the names known, of the labels and routines used, and of the routines that these are used in
-pub const SYMBOLS: usize = 3 * NAMES;
-
-// how many purposes: those of the names known, and of the labels and routines used
-pub const PURPOSES: usize = 2 * NAMES;
-
-// how many numbers the array of the environment has
-pub const KNOWN: usize = 326;
 
 // what a constant has added in its cell
 pub const BIAS: usize = encoding::BIAS as usize;
 
 // where a reader is in the text; how many names, items, elements and literal bytes are written; the longest row of elements so far
+// kept: items, elements and literals stand in Known, Counts, Progress and Places too: as one struct they would be a field further away in each
 #[derive(Clone, Copy)]
 pub struct Cursor {
     pub at: usize,
@@ -51,21 +45,43 @@ pub struct Cursor {
     pub longest: usize,
 }
 
-// notes a name behind those mentioned before
-pub fn note_name(
-    keys: &mut [u64; NAMES],
-    tags: &mut [u8; NAMES],
-    c: Cursor,
-    key: u64,
-    tag: u8,
-) -> Cursor
-    requires { NameNotable keys.old tags.old c }
-    ensures { NameNoted keys.old tags.old c key tag keys.new tags.new result }
-{
-    let n = c.names;
-    keys[n] = key;
-    tags[n] = tag;
-    Cursor { names: n + 1, ..c }
+// the names that a statement mentions, in order of time; the cursor says how many
+// kept: their count is the cursor's (met in the checks): readers answer one value with all counts, and what a failed one noted does not count
+// kept: columns, since a pair of key and tag takes 16 bytes in place of 9, and GATEWAY.md bounds the stack
+// kept: loops over these columns go by index: over the pairs of a zip is_declared_from (name_checks) takes three times as long
+#[derive(Drop)]
+pub struct Mentioned {
+    pub keys: [u64; NAMES],
+    pub tags: [Tag; NAMES],
+}
+
+impl Cursor {
+    // before a statement of which nothing is read, behind so many items, elements and literal bytes
+    pub fn before_statement(items: usize, elements: usize, literals: usize) -> Cursor
+        ensures { result ≡ cursor_before_statement items elements literals }
+    {
+        Cursor {
+            at: 0,
+            names: 0,
+            items,
+            elements,
+            literals,
+            longest: 0,
+        }
+    }
+}
+
+impl Mentioned {
+    // notes a name behind those mentioned before
+    pub fn note(&mut self, c: Cursor, key: u64, tag: Tag) -> Cursor
+        requires { c.names < names_room }
+        ensures { NameNoted self.old c key tag self.new result }
+    {
+        let n = c.names;
+        self.keys[n] = key;
+        self.tags[n] = tag;
+        Cursor { names: n + 1, ..c }
+    }
 }
 
 // a constant as its cell has it
@@ -87,6 +103,7 @@ pub fn put_number(table: &mut [u8], at: usize, size: usize, number: usize)
     ensures { table.new ≡ splice table.old at (in_bytes size number) }
 {
     let mut n = number;
+    // kept: by index: with iter_mut over the part the loop is as long, and that the part comes to lie in the table wants a law more
     for i in 0..size {
         table[at + i] = (n % 256) as u8;
         n /= 256;
@@ -94,45 +111,42 @@ pub fn put_number(table: &mut [u8], at: usize, size: usize, number: usize)
 }
 
 // writes a cell at a place
-pub fn put_cell(table: &mut [u8], at: usize, kind: u8, place: u8, value: usize)
+pub fn put_cell(table: &mut [u8], at: usize, cell: Cell)
     requires { at + 8 ≤ length table.old }
-    ensures { table.new ≡ splice table.old at (cell_bytes (cell kind place value)) }
+    ensures { table.new ≡ splice table.old at (cell_bytes (cell_meaning cell)) }
 {
-    table[at] = kind;
-    table[at + 1] = place;
-    put_number(table, at + 2, 6, value);
+    table[at] = cell.kind;
+    table[at + 1] = cell.place;
+    put_number(table, at + 2, 6, cell.value);
 }
 
 // writes cell k of a region with so many cells; of those behind the last one nothing
-fn put_in(table: &mut [u8], from: usize, most: usize, k: usize, kind: u8, place: u8, value: usize)
-    requires { from + 8 * most ≤ length table.old }
-    ensures { table.new ≡ with_cell table.old from most k (cell kind place value) }
+fn put_in(table: &mut [u8; TABLE_SIZE], from: usize, most: usize, k: usize, cell: Cell)
+    requires { from + 8 * most ≤ table_size }
+    ensures { table.new ≡ with_cell table.old from most k (cell_meaning cell) }
 {
     if k < most {
-        put_cell(table, from + TABLE_CELL * k, kind, place, value);
+        put_cell(table, from + TABLE_CELL * k, cell);
     }
 }
 
 // writes item k; of those behind the last row nothing
-pub fn put_item(table: &mut [u8], k: usize, kind: u8, place: u8, value: usize)
-    requires { table_size ≤ length table.old }
-    ensures { table.new ≡ with_item table.old k (cell kind place value) }
+pub fn put_item(table: &mut [u8; TABLE_SIZE], k: usize, cell: Cell)
+    ensures { table.new ≡ with_item table.old k (cell_meaning cell) }
 {
-    put_in(table, ITEMS_AT, ITEMS, k, kind, place, value);
+    put_in(table, ITEMS_AT, ITEMS, k, cell);
 }
 
 // writes element k; of those behind the last row nothing
-pub fn put_element(table: &mut [u8], k: usize, kind: u8, place: u8, value: usize)
-    requires { table_size ≤ length table.old }
-    ensures { table.new ≡ with_element table.old k (cell kind place value) }
+pub fn put_element(table: &mut [u8; TABLE_SIZE], k: usize, cell: Cell)
+    ensures { table.new ≡ with_element table.old k (cell_meaning cell) }
 {
-    put_in(table, ELEMENTS_AT, ELEMENTS, k, kind, place, value);
+    put_in(table, ELEMENTS_AT, ELEMENTS, k, cell);
 }
 
 // writes literal bytes from byte l on; of those behind the last one nothing
-pub fn put_literals(table: &mut [u8], l: usize, bytes: &[u8])
-    requires table_size_in_bounds { table_size ≤ length table.old }
-    requires l_le_far_enough { (l ≤ far_enough) × (length bytes.now ≤ far_enough) }
+pub fn put_literals(table: &mut [u8; TABLE_SIZE], l: usize, bytes: &[u8])
+    requires { (l ≤ far_enough) × (length bytes.now ≤ far_enough) }
     ensures { table.new ≡ with_literals table.old l bytes.now }
 {
     let from = l.min(LITERALS);
@@ -148,36 +162,17 @@ pub fn place(keys: &[u64], key: u64) -> Option<usize>
     keys.iter().position(|k| *k == key)
 }
 
-// the place of a key among so many from a place on
-pub fn key_place(known: &[u64; KNOWN], from: usize, count: usize, key: u64) -> usize
-    requires { (length known.now ≡ 326) × (from + count ≤ 326) }
-    ensures { (result ≡ key_place key (take count (drop from known.now))) × (result ≤ count) }
+// the place of a key among others, how many there are if it is none of them
+// kept: no Option: the row that the first pass reads has a byte for the place of a name not known yet; so key_place's definition counts too
+pub fn key_place(keys: &[u64], key: u64) -> usize
+    ensures { (result ≡ key_place key keys.now) × (result ≤ length keys.now) }
 {
-    place(&known[from..from + count], key).unwrap_or(count)
+    place(keys, key).unwrap_or(keys.len())
 }
 
-// whether a key stands among n from a place on
-pub fn has_key(known: &[u64; KNOWN], from: usize, n: usize, key: u64) -> bool
-    requires { (length known.now ≡ 326) × (from + n ≤ 326) }
-    ensures { result ≡ keys_have known.now from n key }
+// whether a key is one of others
+pub fn has_key(keys: &[u64], key: u64) -> bool
+    ensures { result ≡ keys_have key keys.now }
 {
-    key_place(known, from, n, key) < n
-}
-
-// the place of a string's name
-pub fn string_place(known: &[u64; KNOWN], key: u64) -> u8
-    requires { CountsInRange known.now }
-    ensures { result ≡ key_place key (string_keys known.now) }
-{
-    let count = known[STRING_COUNT] as usize;
-    key_place(known, STRING_KEYS, count, key) as u8
-}
-
-// the place of a number's name
-pub fn number_place(known: &[u64; KNOWN], key: u64) -> u8
-    requires { CountsInRange known.now }
-    ensures { result ≡ key_place key (number_keys known.now) }
-{
-    let count = known[NUMBER_COUNT] as usize;
-    key_place(known, NUMBER_KEYS, count, key) as u8
+    keys.contains(&key)
 }

@@ -1,31 +1,76 @@
-// The tags of names mentioned, as symbols/Entries has them: the number of a purpose, 8 more where the name is declared, and 16 times the number
-// of the role that a string has in a SCAN.
+// What a name is mentioned as: its purpose, whether it is declared or used, and the role that a string has in a SCAN.
 // Assumes nothing.
-pub const LABEL: u8 = 1;
+ghost use Rattle.std.specs.Prelude.{◌≡◌};
+ghost use Rattle.symbols.specs.Entries.{tag_purpose, tag_declares, string_tag};
 
-pub const ROUTINE: u8 = 2;
+#[derive(Clone, Copy, PartialEq, Eq)]
+pub enum Purpose {
+    Program,
+    Label,
+    Routine,
+    Number,
+    String,
+}
 
-pub const NUMBER: u8 = 3;
+#[derive(Clone, Copy, PartialEq, Eq)]
+pub enum Role {
+    Reference,
+    Sought,
+    Filler,
+}
 
-pub const STRING: u8 = 4;
+// a byte each, for as many names as a deck can mention
+#[derive(Clone, Copy, PartialEq, Eq)]
+pub enum Tag {
+    ProgramDeclared,
+    LabelDeclared,
+    RoutineDeclared,
+    NumberDeclared,
+    LabelUsed,
+    RoutineUsed,
+    NumberUsed,
+    StringUsed,
+    ReferenceUsed,
+    SoughtUsed,
+    FillerUsed,
+}
 
-pub const PROGRAM_DECLARED: u8 = 8;
+impl Tag {
+    // a string's, by its role if it has one
+    #[tactic(auto, unfolding(crate::specs::Entries::string_tag))]
+    pub fn of_string(role: Option<Role>) -> Tag
+        ensures { result ≡ string_tag role }
+    {
+        match role {
+            None => Tag::StringUsed,
+            Some(Role::Reference) => Tag::ReferenceUsed,
+            Some(Role::Sought) => Tag::SoughtUsed,
+            Some(Role::Filler) => Tag::FillerUsed,
+        }
+    }
 
-pub const LABEL_DECLARED: u8 = 9;
+    #[tactic(auto, unfolding(crate::specs::Entries::tag_purpose))]
+    pub fn purpose(self) -> Purpose
+        ensures { result ≡ tag_purpose self }
+    {
+        match self {
+            Tag::ProgramDeclared => Purpose::Program,
+            Tag::LabelDeclared | Tag::LabelUsed => Purpose::Label,
+            Tag::RoutineDeclared | Tag::RoutineUsed => Purpose::Routine,
+            Tag::NumberDeclared | Tag::NumberUsed => Purpose::Number,
+            Tag::StringUsed | Tag::ReferenceUsed | Tag::SoughtUsed | Tag::FillerUsed => {
+                Purpose::String
+            }
+        }
+    }
 
-pub const ROUTINE_DECLARED: u8 = 10;
-
-pub const NUMBER_DECLARED: u8 = 11;
-
-pub const REFERENCE: u8 = 20;
-
-pub const SOUGHT: u8 = 36;
-
-pub const FILLER: u8 = 52;
-
-// the numbers of the roles
-pub const REFERENCE_ROLE: u8 = REFERENCE / 16;
-
-pub const SOUGHT_ROLE: u8 = SOUGHT / 16;
-
-pub const FILLER_ROLE: u8 = FILLER / 16;
+    #[tactic(auto, unfolding(crate::specs::Entries::tag_declares))]
+    pub fn is_declared(self) -> bool
+        ensures { result ≡ tag_declares self }
+    {
+        matches!(
+            self,
+            Tag::ProgramDeclared | Tag::LabelDeclared | Tag::RoutineDeclared | Tag::NumberDeclared
+        )
+    }
+}

@@ -7,16 +7,16 @@ ghost use Rattle.validation.specs.RefusalNumbers.{refusal_number};
 // why a statement, or a deck whose statements pass, is refused
 #[derive(Clone, Copy, PartialEq, Eq)]
 pub enum Refusal {
-    BadLine,
-    Misplaced,
-    BadForm,
-    NameClash,
-    Undeclared,
-    FillerClash,
-    BadNesting,
-    TooMany,
-    BadLink,
-    Recursion,
+    BadLine = 3,
+    Misplaced = 4,
+    BadForm = 5,
+    NameClash = 6,
+    Undeclared = 7,
+    FillerClash = 8,
+    BadNesting = 9,
+    TooMany = 10,
+    BadLink = 11,
+    Recursion = 12,
 }
 
 impl Refusal {
@@ -24,17 +24,6 @@ impl Refusal {
     pub fn number(self) -> u32
         ensures { result ≡ refusal_number self }
     {
-        match self {
-            Refusal::BadLine => 3,
-            Refusal::Misplaced => 4,
-            Refusal::BadForm => 5,
-            Refusal::NameClash => 6,
-            Refusal::Undeclared => 7,
-            Refusal::FillerClash => 8,
-            Refusal::BadNesting => 9,
-            Refusal::TooMany => 10,
-            Refusal::BadLink => 11,
-            Refusal::Recursion => 12,
-        }
+        self as u32
     }
 }

@@ -23,7 +23,7 @@ use Rattle.encoding.specs.Kinds.{Counting, no_place, of_string, of_number, Valui
 use Rattle.encoding.specs.NumeralLaws.{biased-unbiased, number_between_lem}
 use Rattle.encoding.specs.Numerals.{bias, biased, unbiased}
 use Rattle.encoding.specs.Rules.{place_holds, value_holds, holds}
-use Rattle.encoding.specs.Table.{Cell, cell, range_value, payload_value, literal_of, cell_for, literals_at}
+use Rattle.encoding.specs.Table.{Cell, range_value, payload_value, literal_of, cell_for, literals_at}
 use Rattle.encoding.specs.TableReading.{range_from, range_count, payload_in, read_cell}
 use Rattle.verifier.specs.Asked.{CellAsks, cell_asks, asked_among, cell_asked, same_asks, same_asks_true}
 use Rattle.values.specs.Numbers.{is_negative, is_in_range}
@@ -248,7 +248,7 @@ module _ (strings numbers steps : ℕ) where
     -- a cell that passes, and whose literal stands at the place, is read as a thing that is spelled as the cell and holds
     pub class_back : (other : A) (t : List ℕ) (at : ℕ) (c : Cell) (f : CellFound c) → LiteralFits t at f.kind.valuing c.value
         → CellSpelt t at c (spell (read_cell other ks t c))
-    unfolding cell_for cell holds value_asked
+    unfolding cell_for holds value_asked
     class_back other t at c f literal =
         let k = f.kind in
         let fit = f.fits_it in
@@ -293,7 +293,7 @@ module _ (strings numbers steps : ℕ) where
         → at + length (literal_of (spell x).kind.valuing (spell x).payload) < 2 ^ 16
         → (cell_test strings numbers low high (cell_for at (spell x)) ≡ true)
         × (cell_asked (spell x).kind.number ≡ Some (cell_asks (spell x).kind.counting (spell x).kind.valuing))
-    unfolding cell_test asked_test cell_for cell holds asked_among
+    unfolding cell_test asked_test cell_for holds asked_among
     class_forth within at x h small =
         let s = spell x in
         let k = s.kind in

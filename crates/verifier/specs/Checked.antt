@@ -12,8 +12,7 @@ use Rattle.encoding.specs.Table.{steps_at, elements_at, items_at, literals_at, f
 use Rattle.encoding.specs.TableLaws.{ProgramInRange, in_range_lem, length-filled_to, length-element_rows, length-item_rows, keeps_image, length-step_rows}
 use Rattle.encoding.specs.TableReading.{program_in}
 use Rattle.decoder.specs.Kept.{step_count}
-use Rattle.verifier.specs.Same.{SameSteps, all-elements, all-items}
-use Rattle.verifier.specs.Same.{literals-written, items-written, elements-written, steps-written}
+use Rattle.verifier.specs.Same.{SameSteps, all-elements, all-items, literals-written, items-written, elements-written, steps-written}
 use Rattle.verifier.specs.Split.{piece-split, filled-split, items-same, elements_same, steps-same}
 use Rattle.verifier.specs.Written.{piece, piece_add, piece_stands, piece-first, number_written}
 

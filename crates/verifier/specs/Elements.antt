@@ -21,7 +21,7 @@ use Rattle.encoding.specs.Conditions.{current-limit}
 use Rattle.encoding.specs.KindLaws.{KindClass}
 use Rattle.encoding.specs.Kinds.{Valuing, no_value, natural, signed, placed, spelt, Payload, CellKind, Spelled}
 use Rattle.encoding.specs.Rules.{place_holds, value_holds, holds}
-use Rattle.encoding.specs.Table.{Cell, cell, cell_bytes, range_value, payload_value, literal_of, cell_for, pattern_cell, literal_in, all_literals, elements_at, literals_at}
+use Rattle.encoding.specs.Table.{Cell, cell_bytes, range_value, payload_value, literal_of, cell_for, pattern_cell, literal_in, all_literals, elements_at, literals_at}
 use Rattle.encoding.specs.TableReading.{cell_at, range_from, range_count, read_cell}
 use Rattle.verifier.specs.CellTests.{own_length, value_asked, asked_test, cell_test, told_by_kinds, LiteralFits, cell-found, class_back, class_forth}
 use Rattle.verifier.specs.Asked.{CellAsks, cell_asked}
@@ -185,7 +185,7 @@ module _ (strings numbers steps : ℕ) where
       element_forth : (k at : ℕ) (x : A) → cell_bytes (pattern_cell at (f x)) ≡ piece t (elements_at + 8 * k) 8
           → literal_in (f x) ≡ piece t (literals_at + at) (length (literal_in (f x))) → ok x ≡ true → at + length (literal_in (f x)) ≤ 4096
           → element_end high at (cell_at t (elements_at + 8 * k)) ≡ Some (at + length (literal_in (f x)))
-      unfolding element_end element_test holds cell_for cell value_asked
+      unfolding element_end element_test holds cell_for value_asked
       element_forth k at x same bytes hold inside =
           let s = spell x in
           let c = cell_for at s in

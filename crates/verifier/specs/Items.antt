@@ -20,7 +20,7 @@ use Rattle.encoding.specs.KindLaws.{item_class, item_plain, found_plain}
 use Rattle.encoding.specs.Kinds.{item_kinds, spell_item}
 use Rattle.encoding.specs.RowLaws.{EachFrom}
 use Rattle.encoding.specs.Rules.{balanced, most_waiting, item_holds}
-use Rattle.encoding.specs.Table.{Cell, cell, cell_bytes, item_cell, items_at}
+use Rattle.encoding.specs.Table.{Cell, cell_bytes, item_cell, items_at}
 use Rattle.encoding.specs.TableReading.{cell_at, item_of_cell, read_items}
 use Rattle.verifier.specs.CellTests.{cell_test, cell-found, class_back, class_forth, plain_fits}
 use Rattle.verifier.specs.Classes.{items_told, items_within}
@@ -37,7 +37,7 @@ used (operator o) = 2
 used (sign s) = 1
 
 item_used_lem : (x : Item) → item_used (item_cell x).kind ≡ used x
-unfolding item_used used item_cell cell
+unfolding item_used used item_cell
 item_used_lem (operator plus) = refl
 item_used_lem (operator minus) = refl
 item_used_lem (operator times) = refl

@@ -1,5 +1,5 @@
 -- The right cell of a row with its items and elements, and the whole row: the tests ask for what the rules say. Assumes nothing.
-use Rattle.std.specs.Prelude.{Bool, true, ◌&&◌, ◌≡◌, ℕ, ◌+◌, ◌≤◌, ◌<◌, leb, get_or, replicate, Option, Some, None, option_and_then}
+use Rattle.std.specs.Prelude.{Bool, true, false, ◌&&◌, ◌≡◌, ℕ, ◌+◌, ◌≤◌, ◌<◌, leb, get_or, replicate, Option, Some, None, option_and_then}
 use Rattle.std.proofs.Math.Bool.{cond}
 use mathlib.Core.List.{List, [], ◌∷◌, ◌++◌, map}
 use Rattle.std.proofs.Math.Path.{refl, sym, ap, subst}
@@ -33,7 +33,7 @@ use Rattle.verifier.specs.Roles.{roles_test, no_marks, roles-tested, same-cells}
 use Rattle.verifier.specs.Rows.{nothing_written, nothing_passes, range_written, range_passes, operand_written, operand_passes}
 use Rattle.verifier.specs.Same.{ItemSame, SameElements, same-append}
 use Rattle.verifier.specs.Split.{same-front, same_back}
-use Rattle.decoder.specs.declared.Counts.{Counts}
+use Rattle.encoding.specs.declared.cells.Counts.{Counts}
 use Rattle.verifier.specs.declared.steps.Places.{Places}
 use Rattle.verifier.specs.declared.steps.Stretches.{Stretches}
 use Rattle.verifier.specs.Tests.{right_test, stretches, stretches_of, start_test, most_more, last_kind, waiting_left, pattern_test, stretches_test}
@@ -160,11 +160,11 @@ module _ (n : Counts) (few : FewCounts n) where
     -- a pattern whose elements hold and whose roles pass
     pattern-holds : (k at reference : ℕ) (xs : List PatternElement) → length xs ≤ 20
         → all (pattern_holds current n.strings n.numbers n.steps) xs ≡ true → SameElements t k at xs → {m : ℕ} → length xs ≡ m
-        → roles_test t reference (replicate 256 0) k m ≡ true → patterns_hold current n.strings n.numbers n.steps reference xs ≡ true
+        → roles_test t reference (replicate 256 false) k m ≡ true → patterns_hold current n.strings n.numbers n.steps reference xs ≡ true
     unfolding patterns_hold
     pattern-holds k at reference xs short hold same count h =
-        let tested = roles-tested t reference (replicate 256 0) [] k xs no_marks (same-cells t bytes k at xs same) in
-        let roles = sym tested ∙ ap (roles_test t reference (replicate 256 0) k) count ∙ h in
+        let tested = roles-tested t reference (replicate 256 false) [] k xs no_marks (same-cells t bytes k at xs same) in
+        let roles = sym tested ∙ ap (roles_test t reference (replicate 256 false) k) count ∙ h in
         both_pass (le-leb (length xs) 20 short) (both_pass hold roles)
 
     pub right_back : (p q : Places) (reference : ℕ) (r : Righting) (c : Cell) → right_test n r c ≡ true → start_test p r c.value ≡ true
@@ -358,15 +358,15 @@ module _ (n : Counts) (few : FewCounts n) where
         (leb-true (length xs) 20 both.0, both.1)
 
     roles_pass : (reference k at : ℕ) (xs : List PatternElement) → SameElements t k at xs → roles_hold reference [] xs ≡ true
-        → roles_test t reference (replicate 256 0) k (length xs) ≡ true
-    roles_pass reference k at xs same h = roles-tested t reference (replicate 256 0) [] k xs no_marks (same-cells t bytes k at xs same) ∙ h
+        → roles_test t reference (replicate 256 false) k (length xs) ≡ true
+    roles_pass reference k at xs same h = roles-tested t reference (replicate 256 false) [] k xs no_marks (same-cells t bytes k at xs same) ∙ h
 
     pub right_forth : (b : Bool) (p : Places) (reference : ℕ) (r : Righting) (w : RightOf r)
         → right_holds current n.strings n.numbers n.steps b reference r w ≡ true
         → SameElements t p.elements p.literals (right_elements r w) → EachFrom (ItemSame t) p.items (right_items r w)
         → p.elements + length (right_elements r w) ≤ n.elements → p.items + length (right_items r w) ≤ n.items
         → p.literals + length (all_literals (right_elements r w)) ≤ 4096 → RightForth p reference r w
-    unfolding right_test start_test stretches_of stretches right_cell range_cell no_cell cell right_holds right_elements right_items most_more last_kind waiting_left
+    unfolding right_test start_test stretches_of stretches right_cell range_cell no_cell right_holds right_elements right_items most_more last_kind waiting_left
         pattern_test elements_end items_end all_literals
     right_forth b p reference no_right w h es is e i l =
         record {

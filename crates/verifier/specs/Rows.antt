@@ -22,7 +22,7 @@ use Rattle.encoding.specs.TableReading.{other_part, part_of_cell, operand_of_cel
 use Rattle.verifier.specs.Asked.{CellAsks, cell_asks, cell_asked}
 use Rattle.verifier.specs.CellTests.{cell_test, asked_test, fit_test, place_bound, value_low, value_bound, cell-found, class_back, class_forth, plain_fits}
 use Rattle.verifier.specs.Classes.{parts_told, operands_told, parts_within, operands_within, nothing_asks, number_asks, string_asks, range_asks}
-use Rattle.decoder.specs.declared.Counts.{Counts}
+use Rattle.encoding.specs.declared.cells.Counts.{Counts}
 use Rattle.verifier.specs.Tests.{flag_test, steps_test, left_test}
 
 -- a number from one to so many, by each of them
@@ -117,7 +117,6 @@ module _ (strings numbers steps : ℕ) where
       both_pass (both_pass same same) (subst (λ (o : Option CellAsks). asked_test strings numbers o c ≡ true) (sym asks) fit)
 
   cell-is : {k i v : ℕ} (c : Cell) → c.kind ≡ k → c.place ≡ i → c.value ≡ v → cell k i v ≡ c
-  unfolding cell
   cell-is c e f g = λ i. record { kind = sym e i; place = sym f i; value = sym g i }
 
   -- nothing, and a range
@@ -128,7 +127,7 @@ module _ (strings numbers steps : ℕ) where
       cell-is c f.0 (omega (arith, f.1)) (omega (arith, f.2))
 
   pub nothing_passes : cell_test strings numbers nothing_number nothing_number no_cell ≡ true
-  unfolding no_cell cell fit_test place_bound value_low value_bound
+  unfolding no_cell fit_test place_bound value_low value_bound
   nothing_passes = one_passes (cell_asks no_place no_value) no_cell refl nothing_asks refl
 
   pub range_written : (c : Cell) → cell_test strings numbers range_number range_number c ≡ true → (cell range_number 0 c.value ≡ c) × (c.value < 2 ^ 48)
@@ -138,7 +137,7 @@ module _ (strings numbers steps : ℕ) where
       (cell-is c f.0 (omega (arith, f.1)) refl, f.2)
 
   pub range_passes : (v : ℕ) → v < 2 ^ 48 → cell_test strings numbers range_number range_number (cell range_number 0 v) ≡ true
-  unfolding cell fit_test place_bound value_low value_bound
+  unfolding fit_test place_bound value_low value_bound
   range_passes v small =
       one_passes (cell_asks no_place spelt) (cell range_number 0 v) refl range_asks
       (both_pass (both_pass refl (le-leb 0 v (omega arith))) (lt-ltb v 281_474_976_710_656 small))
@@ -192,7 +191,7 @@ module _ (n : Counts) where
   left-written operand_left c h = operand_written n.strings n.numbers n.steps c h
 
   pub left-passes : (l : Lefting) (w : LeftOf l) → left_holds current n.strings n.numbers n.steps l w ≡ true → left_test n l (left_cell l w) ≡ true
-  unfolding left_test left_cell left_holds part_cell operand_cell cell fit_test place_bound value_low value_bound
+  unfolding left_test left_cell left_holds part_cell operand_cell fit_test place_bound value_low value_bound
   left-passes no_left w h = nothing_passes n.strings n.numbers n.steps
   left-passes number_left w h =
       one_passes n.strings n.numbers n.steps (cell_asks of_number no_value) (cell 33 w 0) refl number_asks (both_pass (both_pass h refl) refl)

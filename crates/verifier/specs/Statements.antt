@@ -18,7 +18,7 @@ use Rattle.encoding.specs.Kinds.{Stepping, no_step, one_step, both_steps, RowKin
 use Rattle.encoding.specs.RowLaws.{EachFrom, RowFits}
 use Rattle.encoding.specs.RuleLaws.{steps_front, right_front}
 use Rattle.encoding.specs.Rules.{left_holds, right_holds, steps_hold, left_place, statement_holds}
-use Rattle.encoding.specs.Table.{Cell, Row, row_with, success_of, failure_of, left_cell, right_cell, right_elements, right_items, row_for, statement_row}
+use Rattle.encoding.specs.Table.{Cell, Row, success_of, failure_of, left_cell, right_cell, right_elements, right_items, row_for, statement_row}
 use Rattle.encoding.specs.Table.{elements_of, items_of, all_literals}
 use Rattle.encoding.specs.TableReading.{flag_in, steps_in, left_in, right_in, statement_of_row}
 use Rattle.encoding.specs.Kinds.{Valuing, no_value, natural, signed, placed, spelt}
@@ -28,7 +28,7 @@ use Rattle.verifier.specs.Conjunctions.{three, four}
 use Rattle.verifier.specs.Rights.{right_back, right_forth}
 use Rattle.verifier.specs.Rows.{flag_written, flag_passes, steps-written, steps_hold_lem, steps_pass, left-written, left-passes}
 use Rattle.verifier.specs.Same.{ItemSame, SameElements}
-use Rattle.decoder.specs.declared.Counts.{Counts}
+use Rattle.encoding.specs.declared.cells.Counts.{Counts}
 use Rattle.verifier.specs.declared.steps.Places.{Places}
 use Rattle.verifier.specs.Tests.{flag_test, steps_test, left_test, right_test, start_test, stretches_of, stretches_test, cells_end, row_test, step_test, row_end, places, FewCounts}
 
@@ -56,7 +56,7 @@ module _ (n : Counts) (few : FewCounts n) (t : List ℕ) (bytes : (i : ℕ) → 
   kind_back : (p q : Places) (r : Row) (k : RowKind) → row_in row_kinds r.kind ≡ some k → step_test n p (asks_of k) r ≡ true
       → cells_end n t p k.righting r.left.place (stretches_of k.righting r.right.value) ≡ Some q
       → RowBack p q r (spell_statement (statement_of_row t r))
-  unfolding step_test row_test statement_of_row row_for row_with left_place
+  unfolding step_test row_test statement_of_row row_for left_place
   kind_back p q r k finds h end_ok =
       let right = k.righting in
       let v = r.right.value in
@@ -172,7 +172,7 @@ module _ (n : Counts) (few : FewCounts n) (t : List ℕ) (bytes : (i : ℕ) → 
       → SameElements t p.elements p.literals (elements_of s) → EachFrom (ItemSame t) p.items (items_of s)
       → p.elements + length (elements_of s) ≤ n.elements → p.items + length (items_of s) ≤ n.items
       → p.literals + length (all_literals (elements_of s)) ≤ 4096 → RowForth p s
-  unfolding statement_holds elements_of items_of statement_row row_for row_with row_end step_test row_test row_asked left_place
+  unfolding statement_holds elements_of items_of statement_row row_for row_end step_test row_test row_asked left_place
   row_forth p s h es is e i l =
       let x = spell_statement s in
       let k = x.kind in

@@ -15,7 +15,7 @@ use Rattle.verifier.specs.Asked.{RowAsks, row_asked}
 use Rattle.verifier.specs.Elements.{elements_end}
 use Rattle.verifier.specs.Items.{items_end}
 use Rattle.verifier.specs.Roles.{roles_test}
-use Rattle.decoder.specs.declared.Counts.{Counts}
+use Rattle.encoding.specs.declared.cells.Counts.{Counts}
 use Rattle.verifier.specs.declared.steps.Places.{Places}
 use Rattle.verifier.specs.declared.steps.Stretches.{Stretches}
 
@@ -92,7 +92,7 @@ waiting_left replacing_right = 0
 -- the roles of a pattern
 unfoldable pub pattern_test : Righting → List ℕ → (reference k count : ℕ) → Bool
 unfolding is_pattern
-pattern_test right t r k m = cond (is_pattern right) (roles_test t r (replicate 256 0) k m) true
+pattern_test right t r k m = cond (is_pattern right) (roles_test t r (replicate 256 false) k m) true
 
 -- a program with these counts
 module _ (n : Counts) where

@@ -7,7 +7,7 @@ use Rattle.base.specs.Choice.{cond_cases}
 use Rattle.encoding.specs.Kinds.{Righting}
 use Rattle.encoding.specs.Table.{Cell, Row, steps_at, elements_at, items_at}
 use Rattle.encoding.specs.TableReading.{cell_at, read_row_at}
-use Rattle.decoder.specs.declared.Counts.{Counts}
+use Rattle.encoding.specs.declared.cells.Counts.{Counts}
 use Rattle.verifier.specs.CellTests.{cell_test}
 use Rattle.verifier.specs.Asked.{RowAsks, row_asked}
 use Rattle.verifier.specs.Conjunctions.{seven}

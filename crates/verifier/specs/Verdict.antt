@@ -16,12 +16,12 @@ use Rattle.encoding.specs.NumeralLaws.{byte-read}
 use Rattle.encoding.specs.Numerals.{in_bytes, numeral_at}
 use Rattle.encoding.specs.ProgramLaws.{program_runs, first_step}
 use Rattle.encoding.specs.Rules.{step_holds, is_program, keeps_rules}
-use Rattle.encoding.specs.Table.{Row, row_with, row_bytes, cell_bytes, statement_row, elements_of, items_of, all_elements, all_items, all_literals, steps_at}
+use Rattle.encoding.specs.Table.{Row, row_bytes, cell_bytes, statement_row, elements_of, items_of, all_elements, all_items, all_literals, steps_at}
 use Rattle.encoding.specs.TableLaws.{in_range_lem}
 use Rattle.encoding.specs.TableReading.{read_row_at, statement_of_row, step_in, read_steps, program_in}
 use Rattle.decoder.specs.Kept.{step_count}
 use Rattle.decoder.specs.Reading.{CountsRead}
-use Rattle.decoder.specs.declared.Counts.{Counts}
+use Rattle.encoding.specs.declared.cells.Counts.{Counts}
 use Rattle.verifier.specs.Checked.{Zeros, Checked, checked_keeps, keeps_checked}
 use Rattle.verifier.specs.Conjunctions.{three, five}
 use Rattle.verifier.specs.Same.{SameSteps}
@@ -47,7 +47,7 @@ unfolding statement_of_row is_finish
 finish_read t r e = rw e
 
 finish_written : (s : Statement) (element item : ℕ) → is_finish s ≡ true → (statement_row element item s).kind ≡ finish_kind.number
-unfolding is_finish statement_row row_with
+unfolding is_finish statement_row
 finish_written finish element item h = refl
 finish_written (set_number i x) element item h = absurd (false≢true h)
 finish_written (set_string p xs) element item h = absurd (false≢true h)

@@ -19,7 +19,7 @@ use Rattle.encoding.specs.Rules.{statement_holds, step_holds}
 use Rattle.encoding.specs.Table.{row_bytes, statement_row, elements_of, items_of, all_elements, all_items, all_literals, steps_at}
 use Rattle.encoding.specs.TableReading.{read_row_at, statement_of_row, step_in, read_steps}
 use Rattle.encoding.specs.TableLiterals.{all-literals-append}
-use Rattle.decoder.specs.declared.Counts.{Counts}
+use Rattle.encoding.specs.declared.cells.Counts.{Counts}
 use Rattle.verifier.specs.Rights.{places_same}
 use Rattle.verifier.specs.Same.{StepSame, SameSteps}
 use Rattle.verifier.specs.Statements.{RowBack, row_back, row_forth}

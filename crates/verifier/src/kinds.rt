@@ -1,8 +1,8 @@
 // Cells judged by their kinds: what a kind asks of the place and of the value, and the cells of elements and of items one behind the other.
 // Assumes nothing.
-ghost use Rattle.std.specs.Prelude.{◌≡◌, ◌+◌, ◌≤◌, ◌<◌, ◌^◌, length, replicate, IfSome, option_map};
+ghost use Rattle.std.specs.Prelude.{◌≡◌, ◌+◌, ◌≤◌, ◌<◌, ◌^◌, length, replicate, false, IfSome, option_map};
 ghost use Rattle.base.specs.Current.{table_size};
-ghost use Rattle.decoder.specs.Meaning.{cell_meaning};
+ghost use Rattle.encoding.specs.Meaning.{cell_meaning};
 ghost use Rattle.verifier.specs.Asked.{cell_asked, place_meaning, value_meaning, cell_rule_asks};
 ghost use Rattle.verifier.specs.CellTests.{place_bound, value_low, value_bound, fit_test, asked_test, cell_test, own_length};
 ghost use Rattle.verifier.specs.Elements.{literal_test, element_end, elements_end};
@@ -10,8 +10,13 @@ ghost use Rattle.verifier.specs.Items.{item_used, item_end, items_end};
 ghost use Rattle.verifier.specs.Roles.{role_test, roles_test};
 
 use base::LITERALS;
-use decoder::{Cell, Counts};
-use encoding::{ELEMENTS_AT, RANGE_STEP, TABLE_CELL, WAITING, cell_kinds};
+use encoding::cell_kinds::{
+    CONSTANT, FIRST, FIRST_BY, FIXED, FIXED_BY, FREE, LAST_ITEM, LENGTH, LITERAL, MINUS, NEGATIVE,
+    NOTHING, NUMBER, NUMBER_OF, NUMBER_OF_FIRST, NUMBER_OF_FIRST_BY, OVER, PLUS, POSITIVE, RANGE,
+    STRING, TEXT, TEXT_BY, TIMES,
+};
+use encoding::cells::{Cell, Counts};
+use encoding::{ELEMENTS_AT, RANGE_STEP, TABLE_CELL, WAITING};
 
 // integers are kept with a bias and lie between limits
 const BIAS: usize = encoding::BIAS as usize;
@@ -24,62 +29,8 @@ const PAST: usize = BIAS + LIMIT + 1;
 // a value has 6 bytes
 const VALUES: usize = 281_474_976_710_656;
 
-// kinds as indices; those by a number stand behind those by a constant
-pub const NOTHING: usize = cell_kinds::NOTHING as usize;
-
-pub const PLUS: usize = cell_kinds::PLUS as usize;
-
-const MINUS: usize = cell_kinds::MINUS as usize;
-
-const TIMES: usize = cell_kinds::TIMES as usize;
-
-const OVER: usize = cell_kinds::OVER as usize;
-
-const POSITIVE: usize = cell_kinds::POSITIVE as usize;
-
-const NEGATIVE: usize = cell_kinds::NEGATIVE as usize;
-
-pub const CONSTANT: usize = cell_kinds::CONSTANT as usize;
-
-pub const NUMBER: usize = cell_kinds::NUMBER as usize;
-
-const LENGTH: usize = cell_kinds::LENGTH as usize;
-
-const NUMBER_OF: usize = cell_kinds::NUMBER_OF as usize;
-
-const NUMBER_OF_FIRST: usize = NUMBER_OF + 1;
-
-const NUMBER_OF_FIRST_BY: usize = NUMBER_OF + 2;
-
-pub const LAST_ITEM: usize = cell_kinds::LAST_ITEM as usize;
-
-pub const STRING: usize = cell_kinds::STRING as usize;
-
-const FIRST: usize = STRING + 1;
-
-const FIRST_BY: usize = STRING + 2;
-
-pub const LAST_PART: usize = cell_kinds::LAST_PART as usize;
-
-const LITERAL: usize = cell_kinds::LITERAL as usize;
-
-const TEXT: usize = cell_kinds::TEXT as usize;
-
-const TEXT_BY: usize = TEXT + 1;
-
-pub const LAST_ELEMENT: usize = cell_kinds::LAST_ELEMENT as usize;
-
-const FREE: usize = cell_kinds::FREE as usize;
-
-const FIXED: usize = cell_kinds::FIXED as usize;
-
-const FIXED_BY: usize = FIXED + 1;
-
-pub const LAST_FILLER: usize = cell_kinds::LAST_FILLER as usize;
-
-pub const RANGE: usize = cell_kinds::RANGE as usize;
-
 // what the place of a cell counts
+// kept: NoPlace and NoValue, and in steps NoFlag to NoRight, are rules with a test of their own; as None of an Option each match would nest
 #[derive(Clone, Copy)]
 pub enum PlaceRule {
     NoPlace,
@@ -151,7 +102,7 @@ const OF_NUMBER_PLACED: CellRule = CellRule {
 
 // What a kind asks of a cell, if there is such a kind.
 #[inline(always)]
-fn rule_of(kind: usize) -> Option<CellRule>
+fn rule_of(kind: u8) -> Option<CellRule>
     ensures { option_map cell_rule_asks result ≡ cell_asked kind }
 {
     match kind {
@@ -220,7 +171,7 @@ fn value_bound(rule: ValueRule, n: Counts) -> usize
 fn fits(rule: CellRule, c: Cell, n: Counts) -> bool
     ensures { result ≡ fit_test n.strings n.numbers (cell_rule_asks rule) (cell_meaning c) }
 {
-    (c.place < place_bound(rule.place, n))
+    ((c.place as usize) < place_bound(rule.place, n))
         & (value_low(rule.value) <= c.value)
         & (c.value < value_bound(rule.value, n))
 }
@@ -237,7 +188,7 @@ fn is_ruled(c: Cell, n: Counts) -> bool
 
 // Whether a cell is of a kind from low to high, with a place and a value as the kind asks for.
 #[inline(never)]
-pub fn cell_holds(c: Cell, low: usize, high: usize, n: Counts) -> bool
+pub fn cell_holds(c: Cell, low: u8, high: u8, n: Counts) -> bool
     ensures { result ≡ cell_test n.strings n.numbers low high (cell_meaning c) }
 {
     (low <= c.kind) & (c.kind <= high) & is_ruled(c, n)
@@ -267,7 +218,8 @@ fn literal_holds(rule: ValueRule, value: usize, at: usize) -> bool
 }
 
 // The place among the literals behind an element whose literal stands at a place: none if the element breaks a rule. Kinds go up to high.
-fn element_end(c: Cell, high: usize, at: usize, n: Counts) -> Option<usize>
+// kept: at's bound by a clause, here and below: it is the literals' part of Places, whose bound is no ghost field (steps)
+fn element_end(c: Cell, high: u8, at: usize, n: Counts) -> Option<usize>
     requires { at ≤ 65536 }
     ensures is { result ≡ element_end n.strings n.numbers n.steps high at (cell_meaning c) }
     ensures inside { IfSome result (λ end. end ≤ 4096) }
@@ -285,11 +237,13 @@ fn element_end(c: Cell, high: usize, at: usize, n: Counts) -> Option<usize>
 }
 
 // The place among the literals behind so many elements, from element k on: none if one breaks a rule.
+// kept: by index, as are the crate's other loops: decoder reads at a place of the table, from which chunks_exact would cut bytes first
+// kept: place and count, here and below, come apart: they are out of two structs (Places, Stretches), and a Stretch would be made for a single loop
 pub fn elements_end(
     t: &[u8],
     k: usize,
     count: usize,
-    high: usize,
+    high: u8,
     at: usize,
     n: Counts,
 ) -> Option<usize>
@@ -307,11 +261,12 @@ pub fn elements_end(
 
 // Whether the role of an element of a pattern is as it should be: no string has the place of a filler left of it, which is marked, and no
 // filler that of the reference.
-fn role_holds(kind: usize, place: usize, mark: u8, reference: usize) -> bool
-    ensures { result ≡ role_test reference kind place mark }
+// kept: marked is a truth with no value beside it: what marks says of the place
+fn role_holds(kind: u8, place: usize, marked: bool, reference: usize) -> bool
+    ensures { result ≡ role_test reference kind place marked }
 {
     if kind < LITERAL {
-        return mark == 0;
+        return !marked;
     }
     if kind < FREE {
         return true;
@@ -322,25 +277,26 @@ fn role_holds(kind: usize, place: usize, mark: u8, reference: usize) -> bool
 // Whether the roles of so many elements of a pattern, from element k on, are.
 pub fn roles_hold(t: &[u8], k: usize, count: usize, reference: usize) -> bool
     requires { (table_size ≤ length t.now) × (k + count ≤ 1024) }
-    ensures { result ≡ roles_test t.now reference (replicate 256 0) k count }
+    ensures { result ≡ roles_test t.now reference (replicate 256 false) k count }
 {
-    let mut marks = [0u8; 256];
+    // kept: a mark for each place that a byte may name, in fixed memory
+    let mut marks = [false; 256];
     for i in k..k + count {
         let at = ELEMENTS_AT + TABLE_CELL * i;
-        let kind = t[at] as usize;
+        let kind = t[at];
         let place = t[at + 1] as usize;
         if !role_holds(kind, place, marks[place], reference) {
             return false;
         }
         if FREE <= kind {
-            marks[place] = 1;
+            marks[place] = true;
         }
     }
     true
 }
 
 // How many of the waiting numbers an item takes: an operator two, a sign one, an operand none.
-fn item_used(kind: usize) -> usize
+fn item_used(kind: u8) -> usize
     ensures { (result ≡ item_used kind) × (result ≤ 2) }
 {
     if kind < POSITIVE {
@@ -373,6 +329,7 @@ fn item_end(c: Cell, known: usize, n: Counts) -> Option<usize>
 }
 
 // How many numbers wait behind so many items, from item k on: none if one breaks a rule.
+// kept: as elements_end goes: one function of a region and of a cell's test would have to state each test's bounds as facts of any test
 pub fn items_end(t: &[u8], k: usize, count: usize, n: Counts) -> Option<usize>
     requires { (table_size ≤ length t.now) × (k + count ≤ 1024) }
     ensures { result ≡ items_end n.strings n.numbers n.steps t.now k 0 count }

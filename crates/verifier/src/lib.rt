@@ -1,6 +1,7 @@
 // Whether a table keeps its rules (docs/TABLE.md). Each cell and row is judged by its kind, in one pass; the running places of elements,
 // items and literals say what a range has to be. The contracts cite tests that mirror the code, and the rules themselves at the end.
 // Assumes nothing.
+// kept: a table and its counts come apart: what judges a cell or a row takes the counts alone, and the tests of the contracts have both so
 #![tactic(auto)]
 
 mod kinds;
@@ -11,7 +12,7 @@ ghost use Rattle.base.specs.Current.{current, table_size};
 ghost use Rattle.encoding.specs.Rules.{keeps_rules};
 ghost use Rattle.verifier.specs.Tests.{FewCounts, counts_test, zeros_test, unused_test, ends_test, totals_test};
 
-use decoder::Counts;
+use encoding::cells::Counts;
 use encoding::step_kinds::FINISH;
 use encoding::{ELEMENTS_AT, ITEMS_AT, LITERALS_AT, STEP_ROW, STEPS_AT, TABLE_CELL, TABLE_SIZE};
 use steps::Places;
@@ -34,7 +35,7 @@ fn zeros(t: &[u8], from: usize, to: usize) -> bool
     requires { (from ≤ to) × (to ≤ length t.now) }
     ensures { result ≡ zeros_test t.now from to }
 {
-    store::spans::marks(&t[from..to]) == 0
+    store::spans::are_zero(&t[from..to])
 }
 
 // Whether the bytes that hold nothing are zero: behind the header's counts, and behind the rows of each region.

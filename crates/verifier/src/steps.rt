@@ -3,17 +3,21 @@
 // Assumes nothing.
 ghost use Rattle.std.specs.Prelude.{◌≡◌, ◌+◌, ◌≤◌, ◌<◌, length, IfSome, option_map};
 ghost use Rattle.base.specs.Current.{table_size};
-ghost use Rattle.decoder.specs.Meaning.{cell_meaning, row_meaning};
+ghost use Rattle.encoding.specs.Meaning.{cell_meaning, row_meaning};
 ghost use Rattle.verifier.specs.Asked.{row_asked, flag_meaning, steps_meaning, left_meaning, right_meaning, row_rule_asks};
 ghost use Rattle.verifier.specs.Tests.{FewCounts, RangesShort, PlacesRoom, StretchesInside, flag_test, steps_test, left_test, right_test, stretches_of, start_test, most_more, stretches_test};
 ghost use Rattle.verifier.specs.Tests.{row_test, is_pattern, last_kind, waiting_left, pattern_test, literals_end, cells_end, places_behind_step, steps_end, start};
 
 use crate::kinds;
 use base::ROW;
-use decoder::{Cell, Counts, Row};
+use encoding::cell_kinds::{
+    CONSTANT, LAST_ELEMENT, LAST_FILLER, LAST_ITEM, LAST_PART, NOTHING, NUMBER, RANGE, STRING,
+};
+use encoding::cells::{Branch, Cell, Counts, Row};
 use encoding::{RANGE_MORE, RANGE_STEP, STEP_ROW, step_kinds};
 
 // the places among all elements, items and literal bytes where the next ones stand
+// kept: that they are within their regions (PlacesRoom) is no ghost field: the definitions make Places too, and couldn't without a proof of it
 #[derive(Clone, Copy)]
 pub struct Places {
     pub elements: usize,
@@ -28,32 +32,6 @@ pub struct Stretches {
     pub more: usize,
     pub items: usize,
 }
-
-const SET_NUMBER: usize = step_kinds::SET_NUMBER as usize;
-
-const SET_STRING: usize = step_kinds::SET_STRING as usize;
-
-const GOTO: usize = step_kinds::GOTO as usize;
-
-const FINISH: usize = step_kinds::FINISH as usize;
-
-const EXECUTE: usize = step_kinds::EXECUTE as usize;
-
-const RETURN: usize = step_kinds::RETURN as usize;
-
-const NULL: usize = step_kinds::NULL as usize;
-
-const NUMERIC: usize = step_kinds::NUMERIC as usize;
-
-const COMPARE: usize = step_kinds::COMPARE as usize;
-
-const SCAN: usize = step_kinds::SCAN as usize;
-
-const REPLACE: usize = step_kinds::REPLACE as usize;
-
-const READ: usize = step_kinds::READ as usize;
-
-const WRITE: usize = step_kinds::WRITE as usize;
 
 // what the flag is
 #[derive(Clone, Copy)]
@@ -160,34 +138,35 @@ const REPLACES: RowRule = RowRule {
 };
 
 // the last flags of a comparison and of a direction
-const LAST_COMPARISON: usize = 6;
+// kept: numbers of flags and, in last_kind, of kinds, as encoding/cells says: each is a bound that a table's byte is compared with
+const LAST_COMPARISON: u8 = 6;
 
-const LAST_DIRECTION: usize = 2;
+const LAST_DIRECTION: u8 = 2;
 
 // What a kind asks of a row, if there is such a kind.
-fn rule_of(kind: usize) -> Option<RowRule>
+fn rule_of(kind: u8) -> Option<RowRule>
     ensures { option_map row_rule_asks result ≡ row_asked kind }
 {
     match kind {
-        SET_NUMBER => Some(SETS_NUMBER),
-        SET_STRING => Some(SETS_STRING),
-        GOTO => Some(LEADS),
-        FINISH => Some(ENDS),
-        EXECUTE => Some(LEADS),
-        RETURN => Some(ENDS),
-        NULL => Some(TESTS_STRING),
-        NUMERIC => Some(TESTS_PART),
-        COMPARE => Some(COMPARES),
-        SCAN => Some(SCANS),
-        REPLACE => Some(REPLACES),
-        READ => Some(TESTS_PART),
-        WRITE => Some(WRITES),
+        step_kinds::SET_NUMBER => Some(SETS_NUMBER),
+        step_kinds::SET_STRING => Some(SETS_STRING),
+        step_kinds::GOTO => Some(LEADS),
+        step_kinds::FINISH => Some(ENDS),
+        step_kinds::EXECUTE => Some(LEADS),
+        step_kinds::RETURN => Some(ENDS),
+        step_kinds::NULL => Some(TESTS_STRING),
+        step_kinds::NUMERIC => Some(TESTS_PART),
+        step_kinds::COMPARE => Some(COMPARES),
+        step_kinds::SCAN => Some(SCANS),
+        step_kinds::REPLACE => Some(REPLACES),
+        step_kinds::READ => Some(TESTS_PART),
+        step_kinds::WRITE => Some(WRITES),
         _ => None,
     }
 }
 
 // Whether the flag is one of the kind: a sign of comparison, a direction, or 0.
-fn flags_hold(rule: FlagRule, flag: usize) -> bool
+fn flags_hold(rule: FlagRule, flag: u8) -> bool
     ensures { result ≡ flag_test (flag_meaning rule) flag }
 {
     match rule {
@@ -198,13 +177,13 @@ fn flags_hold(rule: FlagRule, flag: usize) -> bool
 }
 
 // Whether the steps that the row leads to are steps; those that it doesn't lead to are 0.
-fn branch_holds(rule: StepsRule, success: usize, failure: usize, steps: usize) -> bool
-    ensures { result ≡ steps_test steps (steps_meaning rule) success failure }
+fn branch_holds(rule: StepsRule, b: Branch, steps: usize) -> bool
+    ensures { result ≡ steps_test steps (steps_meaning rule) b.success b.failure }
 {
     match rule {
-        StepsRule::NoStep => (success == 0) & (failure == 0),
-        StepsRule::OneStep => (success < steps) & (failure == 0),
-        StepsRule::BothSteps => (success < steps) & (failure < steps),
+        StepsRule::NoStep => (b.success == 0) & (b.failure == 0),
+        StepsRule::OneStep => (b.success < steps) & (b.failure == 0),
+        StepsRule::BothSteps => (b.success < steps) & (b.failure < steps),
     }
 }
 
@@ -213,11 +192,11 @@ fn left_holds(rule: LeftRule, left: Cell, n: Counts) -> bool
     ensures { result ≡ left_test n (left_meaning rule) (cell_meaning left) }
 {
     match rule {
-        LeftRule::NoLeft => kinds::cell_holds(left, kinds::NOTHING, kinds::NOTHING, n),
-        LeftRule::NumberLeft => kinds::cell_holds(left, kinds::NUMBER, kinds::NUMBER, n),
-        LeftRule::StringLeft => kinds::cell_holds(left, kinds::STRING, kinds::STRING, n),
-        LeftRule::PartLeft => kinds::cell_holds(left, kinds::STRING, kinds::LAST_PART, n),
-        LeftRule::OperandLeft => kinds::cell_holds(left, kinds::CONSTANT, kinds::LAST_ITEM, n),
+        LeftRule::NoLeft => kinds::cell_holds(left, NOTHING, NOTHING, n),
+        LeftRule::NumberLeft => kinds::cell_holds(left, NUMBER, NUMBER, n),
+        LeftRule::StringLeft => kinds::cell_holds(left, STRING, STRING, n),
+        LeftRule::PartLeft => kinds::cell_holds(left, STRING, LAST_PART, n),
+        LeftRule::OperandLeft => kinds::cell_holds(left, CONSTANT, LAST_ITEM, n),
     }
 }
 
@@ -226,9 +205,9 @@ fn right_holds(rule: RightRule, right: Cell, n: Counts) -> bool
     ensures { result ≡ right_test n (right_meaning rule) (cell_meaning right) }
 {
     match rule {
-        RightRule::NoRight => kinds::cell_holds(right, kinds::NOTHING, kinds::NOTHING, n),
-        RightRule::OperandRight => kinds::cell_holds(right, kinds::CONSTANT, kinds::LAST_ITEM, n),
-        _ => kinds::cell_holds(right, kinds::RANGE, kinds::RANGE, n),
+        RightRule::NoRight => kinds::cell_holds(right, NOTHING, NOTHING, n),
+        RightRule::OperandRight => kinds::cell_holds(right, CONSTANT, LAST_ITEM, n),
+        _ => kinds::cell_holds(right, RANGE, RANGE, n),
     }
 }
 
@@ -292,7 +271,7 @@ fn row_holds(rule: RowRule, r: Row, n: Counts) -> bool
     ensures { result ≡ row_test n (row_rule_asks rule) (row_meaning r) }
 {
     flags_hold(rule.flag, r.flag)
-        & branch_holds(rule.steps, r.success, r.failure, n.steps)
+        & branch_holds(rule.steps, r.branch, n.steps)
         & left_holds(rule.left, r.left, n)
         & right_holds(rule.right, r.right, n)
 }
@@ -308,13 +287,13 @@ fn has_pattern(rule: RightRule) -> bool
 }
 
 // The last kind that the first elements of a row may have.
-fn last_kind(rule: RightRule) -> usize
+fn last_kind(rule: RightRule) -> u8
     ensures { result ≡ last_kind (right_meaning rule) }
 {
     if has_pattern(rule) {
-        return kinds::LAST_FILLER;
+        return LAST_FILLER;
     }
-    kinds::LAST_ELEMENT
+    LAST_ELEMENT
 }
 
 // How many numbers are left of a row's items: one where there are items.
@@ -340,14 +319,14 @@ fn pattern_holds(t: &[u8], rule: RightRule, k: usize, count: usize, reference: u
 }
 
 // The place among the literals behind both stretches of elements, the kinds of the first up to high: none if an element breaks a rule.
-fn literals_end(t: &[u8], high: usize, s: Stretches, p: Places, n: Counts) -> Option<usize>
+fn literals_end(t: &[u8], high: u8, s: Stretches, p: Places, n: Counts) -> Option<usize>
     requires { (table_size ≤ length t.now) × StretchesInside s p }
     ensures is { result ≡ literals_end n t.now p high s }
     ensures inside { IfSome result (λ end. end ≤ 65536) }
 {
     let middle = kinds::elements_end(t, p.elements, s.first, high, p.literals, n)?;
     let from = p.elements + s.first;
-    kinds::elements_end(t, from, s.more, kinds::LAST_ELEMENT, middle, n)
+    kinds::elements_end(t, from, s.more, LAST_ELEMENT, middle, n)
 }
 
 // The places behind the elements and items of a row: one number is left of the items, if there are any. None if a rule is broken.
@@ -391,7 +370,8 @@ fn step_end(t: &[u8], k: usize, p: Places, n: Counts) -> Option<Places>
         & start_holds(rule.right, range, p)
         & stretches_hold(rule.right, s, p, n)
     {
-        return cells_end(t, rule.right, r.left.place, s, p, n);
+        let reference = r.left.place as usize;
+        return cells_end(t, rule.right, reference, s, p, n);
     }
     None
 }

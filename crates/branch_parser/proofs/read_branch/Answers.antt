@@ -9,8 +9,8 @@ returns-in_err-d c =
     let a = c.args in
     branch_lost c.from_residual.ensures (branch_broken a.known.now (drop a.c.at a.text.now) (mark_none a.text.now 47 a.c c.in_err-d.ensures))
 
-pub read_targets-requires-clause-reader_ready : goal.read_targets-requires-clause-reader_ready
-read_targets-requires-clause-reader_ready c = mark_ready c.args.text.now 47 c.args.c c.requires.reader_ready c.in_ok-d.ensures
+pub read_targets-requires : goal.read_targets-requires
+read_targets-requires c = mark_ready c.args.text.now 47 c.args.c c.requires c.in_ok-d.ensures
 
 pub returns : goal.returns
 returns c =

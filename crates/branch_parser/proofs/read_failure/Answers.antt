@@ -1,15 +1,7 @@
 -- `branch_parser::read_failure` reads a label beside a step.
-use Rattle.std.proofs.Common.{inl, refl, drop}
+use Rattle.std.proofs.Common.{drop}
 use Rattle.branch_parser.specs.BranchLaws.{branch_lost, failure_got, failure_broken}
 use Rattle.branch_parser.proofs.read_failure.Goals as goal
-
-pub read_target-requires : goal.read_target-requires
-read_target-requires c =
-    record {
-      reader_ready = c.requires.reader_ready;
-      counts_in_range = c.requires.counts_in_range;
-      target_tag = record { is = inl refl };
-    }
 
 pub returns-in_err-failure : goal.returns-in_err-failure
 returns-in_err-failure c =

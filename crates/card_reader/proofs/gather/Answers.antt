@@ -12,7 +12,7 @@ pub returns-then-is_skipped : goal.returns-then-is_skipped
 returns-then-is_skipped c =
     let a = c.args in
     gathers_skipped a.deck.now a.from a.text.now c.requires c.line_end-end.result c.line_end-end.ensures
-    (sym c.is_skipped.ensures ∙ c.if-is_skipped.true) c.skipped_entry.result c.skipped_entry.ensures
+    (sym c.is_skipped.ensures ∙ c.if-is_skipped.true) c.sound_line.result c.sound_line.ensures
 
 pub add_line-first-requires : goal.add_line-first-requires
 add_line-first-requires c =

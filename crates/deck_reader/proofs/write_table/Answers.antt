@@ -4,4 +4,4 @@ use Rattle.deck_reader.proofs.write_table.Goals as goal
 
 pub returns : goal.returns
 returns c =
-    table-written c.write_steps-p.ensures c.put_header.ensures
+    table-written c.write_steps-p.ensures (rw (c.len.ensures.value, c.len-2.ensures.value) at c.put_header.ensures)

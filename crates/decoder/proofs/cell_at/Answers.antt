@@ -11,10 +11,5 @@ returns c =
     let values = c.number6.ensures.0 in
     record {
       same = λ i. record { kind = get_or a.t.now a.at 0; place = get_or a.t.now (a.at + 1) 0; value = values i };
-      small =
-          record {
-            kind = (c.type_inv.t a.at).fits;
-            place = (c.type_inv.t (a.at + 1)).fits;
-            value = c.number6.ensures.1;
-          };
+      small = c.number6.ensures.1;
     }

@@ -2,7 +2,7 @@
 use borrow.Author.Rules.{rules}
 use native.Mathlib.Omega.{arith}
 use Rattle.encoding.specs.TableReading.{range_from, range_count}
-use Rattle.decoder.specs.Meaning.{cell_meaning}
+use Rattle.encoding.specs.Meaning.{cell_meaning}
 use Rattle.decoder.proofs.Cells.{literal_element, text_element, numbered_text_element, part_element}
 use Rattle.decoder.proofs.element_of.Goals as goal
 

@@ -2,7 +2,7 @@
 use borrow.Author.Rules.{rules}
 use Rattle.encoding.specs.Kinds.{operator_number, sign_number}
 use Rattle.encoding.specs.TableReading.{item_of_cell}
-use Rattle.decoder.specs.Meaning.{cell_meaning}
+use Rattle.encoding.specs.Meaning.{cell_meaning}
 use Rattle.decoder.proofs.Cells.{operand_item}
 use Rattle.decoder.proofs.item_of.Goals as goal
 

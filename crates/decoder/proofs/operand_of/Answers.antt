@@ -1,6 +1,6 @@
 -- `decoder::operand_of` meets its contract.
 use borrow.Author.Rules.{rules}
-use Rattle.decoder.specs.Meaning.{cell_meaning}
+use Rattle.encoding.specs.Meaning.{cell_meaning}
 use Rattle.decoder.proofs.Cells.{constant_operand, number_operand, length_operand, part_operand}
 use Rattle.decoder.proofs.operand_of.Goals as goal
 

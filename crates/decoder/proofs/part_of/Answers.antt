@@ -1,5 +1,5 @@
 -- `decoder::part_of` meets its contract.
-use Rattle.decoder.specs.Meaning.{cell_meaning}
+use Rattle.encoding.specs.Meaning.{cell_meaning}
 use Rattle.decoder.proofs.Cells.{whole_part, constant_part, numbered_part, other_part_lem}
 use Rattle.decoder.proofs.part_of.Goals as goal
 

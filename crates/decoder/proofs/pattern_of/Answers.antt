@@ -1,6 +1,6 @@
 -- `decoder::pattern_of` meets its contract.
 use borrow.Author.Rules.{rules}
-use Rattle.decoder.specs.Meaning.{cell_meaning}
+use Rattle.encoding.specs.Meaning.{cell_meaning}
 use Rattle.decoder.proofs.Cells.{free_pattern, fixed_pattern, numbered_fixed_pattern, value_pattern}
 use Rattle.decoder.proofs.pattern_of.Goals as goal
 

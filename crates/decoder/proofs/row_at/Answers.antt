@@ -23,5 +23,5 @@ returns c =
             left = left.same i;
             right = right.same i;
           };
-      small = record { kind = (c.type_inv.t a.at).fits; left = left.small; right = right.small };
+      small = record { left = left.small; right = right.small };
     }

@@ -6,8 +6,8 @@ use Prim.Native.Nat.{ℕ}
 use lib.Dec.{eqb}
 use borrow.Author.Tests.{ne_eqb}
 use Rattle.encoding.specs.TableReading.{statement_of_row}
-use Rattle.decoder.specs.Meaning.{row_meaning}
-use Rattle.decoder.proofs.Steps.{set_number_lem, set-string, goes_to, finishes, executes, returns_there, tests_null, tests_numeric, compares}
+use Rattle.encoding.specs.Meaning.{row_meaning}
+use Rattle.decoder.proofs.Steps.{branch_read, set_number_lem, set-string, goes_to, finishes, executes, returns_there, tests_null, tests_numeric, compares}
 use Rattle.decoder.proofs.Steps.{scans, replaces, reads, writes}
 use Rattle.decoder.proofs.statement_of.Goals as goal
 
@@ -36,21 +36,19 @@ returns-in-35 c t = returns_there (row_meaning c.args.r) t c.in-35.is
 
 pub returns-in-48 : goal.returns-in-48
 returns-in-48 c t =
-    tests_null (row_meaning c.args.r) t c.branch_of.result c.in-48.is c.branch_of.ensures
+    tests_null (row_meaning c.args.r) t c.args.r.branch c.in-48.is (branch_read c.args.r)
 
 pub returns-in-49 : goal.returns-in-49
 returns-in-49 c t =
     let part = c.part_of-in-49 in
-    let branch = c.branch_of-in-49 in
-    tests_numeric (row_meaning c.args.r) t part.result branch.result c.in-49.is
-    part.ensures branch.ensures
+    tests_numeric (row_meaning c.args.r) t part.result c.args.r.branch c.in-49.is
+    part.ensures (branch_read c.args.r)
 
 pub returns-in-50 : goal.returns-in-50
 returns-in-50 c t =
     let operands = c.if_of in
-    let branch = c.branch_of-in-50 in
-    compares (row_meaning c.args.r) t operands.result branch.result c.in-50.is
-    operands.ensures branch.ensures
+    compares (row_meaning c.args.r) t operands.result c.args.r.branch c.in-50.is
+    operands.ensures (branch_read c.args.r)
 
 pub returns-in-64 : goal.returns-in-64
 returns-in-64 c t = scans (row_meaning c.args.r) t c.scan_of.result c.in-64.is c.scan_of.ensures
@@ -64,9 +62,8 @@ returns-in-65 c t =
 pub returns-in-80 : goal.returns-in-80
 returns-in-80 c t =
     let part = c.part_of-in-80 in
-    let branch = c.branch_of-in-80 in
-    reads (row_meaning c.args.r) t part.result branch.result c.in-80.is
-    part.ensures branch.ensures
+    reads (row_meaning c.args.r) t part.result c.args.r.branch c.in-80.is
+    part.ensures (branch_read c.args.r)
 
 pub returns-in-81 : goal.returns-in-81
 returns-in-81 c t =

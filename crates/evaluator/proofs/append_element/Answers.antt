@@ -22,7 +22,7 @@ append_between-requires-clause-lies c =
 
 pub append_text-requires-clause-both_in_range : goal.append_text-requires-clause-both_in_range
 append_text-requires-clause-both_in_range c =
-    let store = c.args.store.now in
+    let store = c.args.memory.store.now in
     record { left = (c.length_value.ensures store).range; right = (c.number_at.ensures store).range }
 
 pub returns-in-Literal : goal.returns-in-Literal
@@ -41,7 +41,7 @@ returns-in-Part c =
 pub returns-in-Text : goal.returns-in-Text
 unfolding element_in
 returns-in-Text c =
-    let store = c.args.store.now in
+    let store = c.args.memory.store.now in
     let after = c.append_text.new.out in
     let n = (c.length_value.ensures store).value in
     let m = (c.number_at.ensures store).value in

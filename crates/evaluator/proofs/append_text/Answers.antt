@@ -1,36 +1,36 @@
 -- `evaluator::append_text` meets its contract. What STRING gives lies at the start of scratch.
-use mathlib.Core.List.{List}
-use mathlib.Core.Path.{◌≡◌, sym, ap, subst, ◌∙◌}
-use Prim.Native.Nat.{ℕ, ◌-◌}
+use mathlib.Core.Path.{◌≡◌, sym}
 use native.Mathlib.Omega.{arith}
-use lib.ListN.{take}
+use lib.ListN.{length, take}
+use lib.Seq.{length-take-le}
 use Rattle.std.proofs.lemmas.Result.{err_from_is_err_and}
 use Rattle.numbers.specs.Laws.{text_is, text_fits, text_stops}
-use Rattle.values.specs.Result.{Result, done}
-use Rattle.evaluator.specs.Appending.{Appends}
-use Rattle.evaluator.specs.Notes.{few_done, few_text}
+use Rattle.evaluator.proofs.append_text.Goals.{In_ok-length}
 use Rattle.evaluator.proofs.append_text.Goals as goal
 
-pub append_between-requires-clause-lies : goal.append_between-requires-clause-lies
-append_between-requires-clause-lies c =
+-- scratch has room for it
+lies : (c : In_ok-length) → c.in_ok-length.length.value ≡ length (take c.in_ok-length.length.value c.text_of.new.out)
+lies c =
     let text = c.text_of.ensures in
-    let is = c.in_ok-length.was in
-    let few = few_done (few_text c.args.n.value c.args.m.value) (text_is text is) in
-    record {
-      order = omega arith;
-      within = omega (arith, text_fits text is, text.room);
-      short = omega (arith, text_fits text is);
-      few = few;
-    }
+    sym (length-take-le c.in_ok-length.length.value c.text_of.new.out (omega (arith, text_fits text c.in_ok-length.was, text.room)))
+
+pub slice_bounds-append-end : goal.slice_bounds-append-end
+slice_bounds-append-end c = lies (goal.at.slice_bounds-append-end c).In_ok-length
 
 pub returns : goal.returns
 returns c =
-    let call = c.text_of in
-    let size = c.in_ok-length.length in
-    let none : size.value ≡ size.value - 0 = omega arith in
-    let text = text_is call.ensures c.in_ok-length.was ∙ ap (λ (k : ℕ). done (take k call.new.out) size.notes) none in
-    subst (λ (w : Result (List ℕ)). Appends c.append_between.result c.args.out.now c.append_between.new.out c.args.at w)
-    (sym text) c.append_between.ensures
+    let text = c.text_of.ensures in
+    let is = c.in_ok-length.was in
+    record {
+      added = record {
+        value = _;
+        work = text_is text is;
+        size = lies (goal.at.returns c).In_ok-length;
+        short = omega (arith, text_fits text is);
+        follows = c.append.ensures.follows;
+      };
+      room = c.append.ensures.room;
+    }
 
 pub returns-in_err-length : goal.returns-in_err-length
 returns-in_err-length c =

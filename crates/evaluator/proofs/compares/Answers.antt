@@ -16,7 +16,7 @@ use Rattle.evaluator.proofs.compares.Goals as goal
 
 pub overflow_add-result : goal.overflow_add-result
 overflow_add-result c =
-    let m = memory_in c.args.store.now c.args.state.now in
+    let m = memory_in c.args.memory.store.now c.args.memory.state.now in
     omega (
       arith,
       operand_notes m (operand_meaning c.args.x.left) c.operand_value.ensures c.in_ok-left.was,
@@ -42,7 +42,7 @@ returns-in_err-right c =
 pub returns-in_err-left : goal.returns-in_err-left
 unfolding test_in
 returns-in_err-left c =
-    let m = memory_in c.args.store.now c.args.state.now in
+    let m = memory_in c.args.memory.store.now c.args.memory.state.now in
     let left = number_stops c.operand_value.ensures c.in_err-left.was in
     let p = err_from_is_err_and c.from_residual.result c.from_residual.ensures.1 in
     rw (p.1, p.2)

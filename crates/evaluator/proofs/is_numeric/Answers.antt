@@ -14,7 +14,7 @@ pub returns : goal.returns
 unfolding test_in numeric_part ◌>>=◌ with_notes pure
 returns c =
     let e = c.part_ends-ends.result in
-    let string = take (e.to - e.from) (drop e.from c.args.store.now) in
+    let string = take (e.to - e.from) (drop e.from c.args.memory.store.now) in
     ap (λ (t : Bool). done t e.notes) c.is_numeric.ensures
     ∙ ap (done (is_numeric string)) (sym (add-zero e.notes))
     ∙ ap then_numeric (sym c.part_ends-ends.ensures.work)

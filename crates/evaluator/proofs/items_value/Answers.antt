@@ -8,16 +8,15 @@ use Rattle.evaluator.proofs.items_value.Goals as goal
 
 pub loop-at-init : goal.loop-at-init
 loop-at-init c =
-    valuing_begins (memory_in c.args.store.now c.args.state.now) c.args.table.now c.args.s.from c.args.s.count
-    c.requires.items.whole
+    valuing_begins (memory_in c.args.memory.store.now c.args.memory.state.now) c.args.table.now c.args.s.from c.args.s.count
+    c.requires.1.whole
 
 pub take_item-requires : goal.take_item-requires
 take_item-requires c =
     let l = c.loop-at in
     let read = c.item_at-x in
     record {
-      ready = c.requires.ready;
-      holds = c.requires.items.each l.at read.result (record { low = l.auto.at; high = c.loop-at-test.true }) read.ensures;
+      holds = c.requires.1.each l.at read.result (record { low = l.auto.at; high = c.loop-at-test.true }) read.ensures;
       waits = l.invariant.waits;
       finds = valuing_finds l.invariant c.loop-at-test.true read.result read.ensures;
     }
@@ -37,7 +36,7 @@ overflow_add-notes c =
     let l = c.loop-at in
     let read = c.item_at-x in
     let more = valuing_noted l.invariant c.loop-at-test.true read.result read.ensures c.take_item.ensures c.in_ok-notes.was in
-    omega (arith, more, l.invariant.few, c.requires.items.inside)
+    omega (arith, more, l.invariant.few, c.requires.1.inside)
 
 pub loop-at-preserved : goal.loop-at-preserved
 loop-at-preserved c =

@@ -11,13 +11,13 @@ use Rattle.evaluator.proofs.operand_value.Goals as goal
 pub returns-in-Constant : goal.returns-in-Constant
 returns-in-Constant c =
     rw c.plain.ensures
-    (constant_answers (memory_in c.args.store.now c.args.state.now) c.args.a c.in-Constant.z c.in-Constant.is c.requires.operand_holds)
+    (constant_answers (memory_in c.args.memory.store.now c.args.memory.state.now) c.args.a c.in-Constant.z c.in-Constant.is c.requires)
 
 pub returns-in-Number : goal.returns-in-Number
 returns-in-Number c =
     rw c.plain-in-Number.ensures
-    (number_answers (memory_in c.args.store.now c.args.state.now) c.args.a c.in-Number.i c.number_at.result c.in-Number.is
-    (c.number_at.ensures c.args.store.now))
+    (number_answers (memory_in c.args.memory.store.now c.args.memory.state.now) c.args.a c.in-Number.i c.number_at.result c.in-Number.is
+    (c.number_at.ensures c.args.memory.store.now))
 
 pub returns-in-LengthOf : goal.returns-in-LengthOf
 unfolding operand_in pure string_at

@@ -14,25 +14,24 @@ use Rattle.decoder.specs.Meaning.{operand_meaning, operator_meaning, items_meani
 use Rattle.values.specs.Result.{Result, with_notes}
 use Rattle.evaluator.specs.Memory.{memory_in}
 use Rattle.evaluator.specs.Notes.{few_done, few_operation}
-use Rattle.evaluator.proofs.Pairing.{pair_items, first_holds, second_holds}
-use Rattle.evaluator.proofs.Pairing.{pair_works, pair_first_stops, pair_second_stops}
+use Rattle.evaluator.proofs.Pairing.{pair_items, first_holds, second_holds, pair_works, pair_first_stops, pair_second_stops}
 use Rattle.evaluator.proofs.Working.{operand_notes, number_noted, number_stopped}
 use Rattle.evaluator.proofs.pair_value.Goals.{After-operation}
 use Rattle.evaluator.proofs.pair_value.Goals as goal
 
-pub operand_value-requires-clause-operand_holds : goal.operand_value-requires-clause-operand_holds
-operand_value-requires-clause-operand_holds c =
-    first_holds c.requires.valuable.items c.requires.pair_at c.operand_at.result c.operand_at.ensures
+pub operand_value-requires : goal.operand_value-requires
+operand_value-requires c =
+    first_holds c.requires.items_hold.1 c.requires.pair_at c.operand_at.result c.operand_at.ensures
 
-pub operand_value-requires-2-clause-operand_holds : goal.operand_value-requires-2-clause-operand_holds
-operand_value-requires-2-clause-operand_holds c =
-    second_holds c.requires.valuable.items c.requires.pair_at c.operand_at-2.result c.operand_at-2.ensures
+pub operand_value-requires-2 : goal.operand_value-requires-2
+operand_value-requires-2 c =
+    second_holds c.requires.items_hold.1 c.requires.pair_at c.operand_at-2.result c.operand_at-2.ensures
 
 module _ (c : After-operation) where
   -- the notes of both operands
   notes : c.in_ok-a.a.notes + c.in_ok-b.b.notes ≤ 4
   notes =
-      let m = memory_in c.args.store.now c.args.state.now in
+      let m = memory_in c.args.memory.store.now c.args.memory.state.now in
       omega (
         arith,
         operand_notes m (operand_meaning c.operand_at.result) c.operand_value.ensures c.in_ok-a.was,
@@ -44,10 +43,10 @@ module _ (c : After-operation) where
   made = operation current (operator_meaning c.operator_of-operator.result) c.in_ok-a.a.value.value c.in_ok-b.b.value.value
 
   works : with_notes (c.in_ok-a.a.notes + c.in_ok-b.b.notes) made
-      ≡ numeric_in current (memory_in c.args.store.now c.args.state.now) (items_meaning c.args.table.now c.args.s)
+      ≡ numeric_in current (memory_in c.args.memory.store.now c.args.memory.state.now) (items_meaning c.args.table.now c.args.s)
   works =
-      let m = memory_in c.args.store.now c.args.state.now in
-      let items = pair_items c.requires.valuable.items c.requires.pair_at in
+      let m = memory_in c.args.memory.store.now c.args.memory.state.now in
+      let items = pair_items c.requires.items_hold.1 c.requires.pair_at in
       let left = ap (operand_in current m) (sym c.operand_at.ensures) ∙ number_is c.operand_value.ensures c.in_ok-a.was in
       let right = ap (operand_in current m) (sym c.operand_at-2.ensures) ∙ number_is c.operand_value-2.ensures c.in_ok-b.was in
       let sign = c.operator_of-operator.ensures ∙ ap operator_of_kind c.item_kind.ensures in
@@ -78,8 +77,8 @@ returns-in_err-made c =
 
 pub returns-in_err-b : goal.returns-in_err-b
 returns-in_err-b c =
-    let m = memory_in c.args.store.now c.args.state.now in
-    let items = pair_items c.requires.valuable.items c.requires.pair_at in
+    let m = memory_in c.args.memory.store.now c.args.memory.state.now in
+    let items = pair_items c.requires.items_hold.1 c.requires.pair_at in
     let left = ap (operand_in current m) (sym c.operand_at.ensures) ∙ number_is c.operand_value.ensures c.in_ok-a.was in
     let right = ap (operand_in current m) (sym c.operand_at-2.ensures) ∙ number_stops c.operand_value-2.ensures c.in_err-b.was in
     let p = err_from_is_err_and c.from_residual-in_err-b.result c.from_residual-in_err-b.ensures.1 in
@@ -87,8 +86,8 @@ returns-in_err-b c =
 
 pub returns-in_err-a : goal.returns-in_err-a
 returns-in_err-a c =
-    let m = memory_in c.args.store.now c.args.state.now in
-    let items = pair_items c.requires.valuable.items c.requires.pair_at in
+    let m = memory_in c.args.memory.store.now c.args.memory.state.now in
+    let items = pair_items c.requires.items_hold.1 c.requires.pair_at in
     let left = ap (operand_in current m) (sym c.operand_at.ensures) ∙ number_stops c.operand_value.ensures c.in_err-a.was in
     let p = err_from_is_err_and c.from_residual.result c.from_residual.ensures.1 in
     rw (p.1, p.2) (record { work = sym (pair_first_stops m items left); range = tt })

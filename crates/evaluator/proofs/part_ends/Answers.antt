@@ -12,8 +12,8 @@ use Rattle.evaluator.proofs.part_ends.Goals as goal
 
 pub first_ends-requires-clause-place_bound : goal.first_ends-requires-clause-place_bound
 first_ends-requires-clause-place_bound c =
-    let holds = subst PartHolds c.in-First.is c.requires.part_holds in
-    (holds.0, (c.length_value.ensures c.args.store.now).range)
+    let holds = subst PartHolds c.in-First.is c.requires in
+    (holds.0, (c.length_value.ensures c.args.memory.store.now).range)
 
 pub returns-in-Whole : goal.returns-in-Whole
 unfolding part_in pure string_at
@@ -22,7 +22,7 @@ returns-in-Whole c = rw c.in-Whole.is c.string_ends.ensures
 pub returns-in-First : goal.returns-in-First
 unfolding part_in string_at
 returns-in-First c =
-    let store = c.args.store.now in
+    let store = c.args.memory.store.now in
     rw c.in-First.is
     (subst (λ (z : ℤ). Spans store c.first_ends.result (substring (string_of store c.in-First.s) z))
     (c.length_value.ensures store).value c.first_ends.ensures)

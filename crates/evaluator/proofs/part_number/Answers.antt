@@ -14,7 +14,7 @@ use Rattle.evaluator.proofs.part_number.Goals as goal
 pub behind-requires : goal.behind-requires
 behind-requires c =
     let ends = c.part_ends-ends.result in
-    let string : List ℕ = take (ends.to - ends.from) (drop ends.from c.args.store.now) in
+    let string : List ℕ = take (ends.to - ends.from) (drop ends.from c.args.memory.store.now) in
     omega (arith, few_done (few_number current string) (number_is c.number_of.ensures c.in_ok-number.was), c.part_ends-ends.ensures.lies.few)
 
 pub returns : goal.returns

@@ -10,7 +10,7 @@ use Rattle.evaluator.proofs.string_value.Goals as goal
 
 pub loop-at-init : goal.loop-at-init
 loop-at-init c =
-    spelling_begins (memory_in c.args.store.now c.args.state.now) c.args.table.now c.args.s.from c.args.s.count
+    spelling_begins (memory_in c.args.memory.store.now c.args.memory.state.now) c.args.table.now c.args.s.from c.args.s.count
     c.args.out.now c.requires.out_len
 
 pub append_element-requires : goal.append_element-requires
@@ -18,9 +18,8 @@ append_element-requires c =
     let l = c.loop-at in
     let read = c.element_at-x in
     record {
-      bytes = c.requires.value_spellable.bytes;
-      ready = c.requires.value_spellable.ready;
-      holds = c.requires.value_spellable.elements.each l.at read.result (record { low = l.auto.at; high = c.loop-at-test.true }) read.ensures;
+      bytes = c.requires.elements_hold.0;
+      holds = c.requires.elements_hold.1.each l.at read.result (record { low = l.auto.at; high = c.loop-at-test.true }) read.ensures;
       room = l.invariant.room;
     }
 
@@ -41,10 +40,10 @@ returns-in_err-more c =
     })
 
 pub overflow_add-length : goal.overflow_add-length
-overflow_add-length c = omega (arith, (noted (goal.at.overflow_add-length c).In_ok-more).0, c.loop-at.invariant.short, c.requires.value_spellable.elements.few)
+overflow_add-length c = omega (arith, (noted (goal.at.overflow_add-length c).In_ok-more).0, c.loop-at.invariant.short, c.requires.elements_hold.1.few)
 
 pub overflow_add-notes : goal.overflow_add-notes
-overflow_add-notes c = omega (arith, (noted (goal.at.overflow_add-notes c).In_ok-more).1, c.loop-at.invariant.few, c.requires.value_spellable.elements.few)
+overflow_add-notes c = omega (arith, (noted (goal.at.overflow_add-notes c).In_ok-more).1, c.loop-at.invariant.few, c.requires.elements_hold.1.few)
 
 pub loop-at-preserved : goal.loop-at-preserved
 loop-at-preserved c =

@@ -5,4 +5,4 @@ use Rattle.evaluator.proofs.string_value.Given as goal
 
 abbrev pub invariant-loop-at : goal.invariant-loop-at
 invariant-loop-at l =
-    Spelling (memory_in l.store l.state) l.table l.fn.s.from l.fn.s.count l.out l.length l.notes l.at
+    Spelling (memory_in l.memory.store.now l.memory.state.now) l.table l.fn.s.from l.fn.s.count l.out l.length l.notes l.at

@@ -2,7 +2,8 @@
 use Rattle.std.proofs.Common.{subst}
 use Rattle.std.proofs.lemmas.Result.{err_from_is_err_and}
 use Rattle.calls.specs.Calls.{buffers}
-use Rattle.decoder.specs.Meaning.{branch_meaning, part_meaning}
+use Rattle.encoding.specs.Meaning.{branch_meaning}
+use Rattle.decoder.specs.Meaning.{part_meaning}
 use Rattle.effects.specs.Reading.{RecordRead}
 use Rattle.execution.specs.Laws.{reads, read_stops}
 use Rattle.execution.proofs.read.Goals as goal

@@ -2,7 +2,7 @@
 use Rattle.std.proofs.lemmas.Result.{err_from_is_err_and}
 use Rattle.calls.specs.Calls.{buffers}
 use Rattle.evaluator.specs.Laws.{truth_is, truth_stops}
-use Rattle.decoder.specs.Meaning.{branch_meaning}
+use Rattle.encoding.specs.Meaning.{branch_meaning}
 use Rattle.execution.specs.Laws.{tests, test_stops}
 use Rattle.execution.proofs.take_branch.Goals as goal
 

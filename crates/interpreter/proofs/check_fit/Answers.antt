@@ -8,21 +8,17 @@ use Rattle.interpreter.proofs.check_fit.Goals.{After-keeps-3}
 use Rattle.interpreter.proofs.check_fit.Goals as goal
 
 pub returns-then-table-lt-TABLE_SIZE : goal.returns-then-table-lt-TABLE_SIZE
-returns-then-table-lt-TABLE_SIZE c = (rw (lt-ltb _ _ c.if-table-lt-TABLE_SIZE.true), c.told-state)
+returns-then-table-lt-TABLE_SIZE c = rw (lt-ltb _ _ c.if-table-lt-TABLE_SIZE.true)
 
 pub keeps-requires : goal.keeps-requires
 keeps-requires c = c.if-table-lt-TABLE_SIZE.false
 
 pub returns-then-not-keeps : goal.returns-then-not-keeps
-returns-then-not-keeps c =
-    (rw (le-ltb _ _ c.if-table-lt-TABLE_SIZE.false, sym c.keeps.ensures ∙ c.if-not-keeps.true), c.told-state)
+returns-then-not-keeps c = rw (le-ltb _ _ c.if-table-lt-TABLE_SIZE.false, sym c.keeps.ensures ∙ c.if-not-keeps.true)
 
 pub returns-then-not-keeps-2 : goal.returns-then-not-keeps-2
-returns-then-not-keeps-2 c = (
-  rw
-      (le-ltb _ _ c.if-table-lt-TABLE_SIZE.false, sym c.keeps.ensures ∙ c.if-not-keeps.false, sym c.keeps-2.ensures ∙ c.if-not-keeps-2.true),
-  c.told-state,
-)
+returns-then-not-keeps-2 c =
+    rw (le-ltb _ _ c.if-table-lt-TABLE_SIZE.false, sym c.keeps.ensures ∙ c.if-not-keeps.false, sym c.keeps-2.ensures ∙ c.if-not-keeps-2.true)
 
 -- three tests passed, so the last one tells
 last : (c : After-keeps-3)
@@ -37,7 +33,8 @@ last c =
     )
 
 pub returns-then-not-keeps-3 : goal.returns-then-not-keeps-3
-returns-then-not-keeps-3 c = (sym (last (goal.at.returns-then-not-keeps-3 c).After-keeps-3 ∙ ap (λ (t : Bool). cond (not t) 15 0) c.if-not-keeps-3.true), c.told-state)
+returns-then-not-keeps-3 c =
+    sym (last (goal.at.returns-then-not-keeps-3 c).After-keeps-3 ∙ ap (λ (t : Bool). cond (not t) 15 0) c.if-not-keeps-3.true)
 
 pub returns : goal.returns
-returns c = (sym (last (goal.at.returns c).After-keeps-3 ∙ ap (λ (t : Bool). cond (not t) 15 0) c.if-not-keeps-3.false), c.told-state)
+returns c = sym (last (goal.at.returns c).After-keeps-3 ∙ ap (λ (t : Bool). cond (not t) 15 0) c.if-not-keeps-3.false)

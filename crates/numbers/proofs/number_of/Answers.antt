@@ -9,8 +9,8 @@ use lib.ListN.{drop}
 use Rattle.values.specs.Conversion.{decimal, is_numeric}
 use Rattle.values.specs.Result.{done}
 use Rattle.numbers.specs.Numbers.{sign_length, Capped}
-use Rattle.numbers.proofs.Reading.{numeric_some, number_other, number_beyond, number_negative, number_positive}
-use Rattle.numbers.proofs.number_of.Goals.{After-decimal_from-v}
+use Rattle.numbers.proofs.Reading.{sign_most, rest-is, numeric_some, number_other, number_beyond, number_negative, number_positive}
+use Rattle.numbers.proofs.number_of.Goals.{After-decimal_of-v}
 use Rattle.numbers.proofs.number_of.Goals as goal
 
 pub returns-then-not-is_numeric : goal.returns-then-not-is_numeric
@@ -19,14 +19,13 @@ returns-then-not-is_numeric c =
     let other = sym numeric.ensures ∙ c.if-not-is_numeric.true in
     record { work = sym (number_other c.args.s.now other); range = omega arith }
 
-pub decimal_from-v-requires : goal.decimal_from-v-requires
-decimal_from-v-requires c =
-    let numeric = c.is_numeric in
-    let some = numeric_some c.args.s.now
-    (sym numeric.ensures ∙ c.if-not-is_numeric.false) in
-    omega arith
+pub slice_bounds-decimal_of-count : goal.slice_bounds-decimal_of-count
+slice_bounds-decimal_of-count c = omega (arith, c.sign_length.ensures, sign_most c.args.s.now)
 
-module _ (c : After-decimal_from-v) where
+pub slice_bounds-decimal_of-start : goal.slice_bounds-decimal_of-start
+slice_bounds-decimal_of-start c = omega (arith, c.sign_length.ensures, sign_most c.args.s.now)
+
+module _ (c : After-decimal_of-v) where
   abbrev string : List ℕ
   string = c.args.s.now
 
@@ -35,25 +34,25 @@ module _ (c : After-decimal_from-v) where
       let call = c.is_numeric in
       sym call.ensures ∙ c.if-not-is_numeric.false
 
-  capped : Capped c.decimal_from-v.result (decimal 0 (drop (sign_length string) string))
+  capped : Capped c.decimal_of-v.result (decimal 0 (drop (sign_length string) string))
   capped =
-      subst (λ (start : ℕ). Capped c.decimal_from-v.result (decimal 0 (drop start string))) c.sign_length.ensures
-      c.decimal_from-v.ensures
+      subst (λ (digits : List ℕ). Capped c.decimal_of-v.result (decimal 0 digits))
+      (rest-is c.sign_length.result string ∙ ap (λ (k : ℕ). drop k string) c.sign_length.ensures) c.decimal_of-v.ensures
 
 pub returns-then-v-gt-LIMIT : goal.returns-then-v-gt-LIMIT
 returns-then-v-gt-LIMIT c =
-    let d = (goal.at.returns-then-v-gt-LIMIT c).After-decimal_from-v in
+    let d = (goal.at.returns-then-v-gt-LIMIT c).After-decimal_of-v in
     record { work = sym (number_beyond (string d) (numeric d) ((capped d).above c.if-v-gt-LIMIT.true)); range = tt }
 
 pub bounds-s-0 : goal.bounds-s-0
 bounds-s-0 c =
-    let d = (goal.at.bounds-s-0 c).After-decimal_from-v in
+    let d = (goal.at.bounds-s-0 c).After-decimal_of-v in
     omega (arith, numeric_some (string d) (numeric d))
 
 pub returns-then-s-eq45 : goal.returns-then-s-eq45
 returns-then-s-eq45 c =
-    let d = (goal.at.returns-then-s-eq45 c).After-decimal_from-v in
-    let v = c.decimal_from-v.result in
+    let d = (goal.at.returns-then-s-eq45 c).After-decimal_of-v in
+    let v = c.decimal_of-v.result in
     let small = c.if-v-gt-LIMIT.false in
     let value = c.negate.ensures.value ∙ ap neg_ℤ c.int_of.ensures.value in
     rw c.plain.ensures
@@ -65,8 +64,8 @@ returns-then-s-eq45 c =
 
 pub returns : goal.returns
 returns c =
-    let d = (goal.at.returns c).After-decimal_from-v in
-    let v = c.decimal_from-v.result in
+    let d = (goal.at.returns c).After-decimal_of-v in
+    let v = c.decimal_of-v.result in
     let small = c.if-v-gt-LIMIT.false in
     rw c.plain-2.ensures
     (record {

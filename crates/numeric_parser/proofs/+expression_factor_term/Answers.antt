@@ -15,12 +15,12 @@ use Rattle.numeric_parser.proofs.+expression_factor_term.Goals as goal
 
 pub expression-skip-d-requires : goal.expression-skip-d-requires
 expression-skip-d-requires t c =
-    let ready = c.requires.reader_ready in
+    let ready = c.requires in
     omega (arith, (sign_told _ _ c.mark_at-mark.ensures).inside ready.inside, c.size.ensures, ready)
 
 pub expression-loop-e-init : goal.expression-loop-e-init
 expression-loop-e-init t c =
-    joining_signed c.requires.reader_ready (sign_told _ _ c.mark_at-mark.ensures) c.size.ensures c.skip-d.ensures
+    joining_signed c.requires (sign_told _ _ c.mark_at-mark.ensures) c.size.ensures c.skip-d.ensures
 
 pub expression-returns-in_err-e : goal.expression-returns-in_err-e
 expression-returns-in_err-e t c =
@@ -47,7 +47,6 @@ expression-loop-e-preserved t c =
     joining_again c.loop-e.invariant c.term.ensures c.in_ok-e.was c.put_mark-f.ensures
     (sum-joins (places_in c.args.known.now) c.args.depth (sum_told _ _ c.mark_at-mark-in-loop-e.ensures))
     (c.is_none.ensures ∙ ap not c.if-is_none.false) c.skip-d-in-loop-e.ensures
-    (c.put_mark-f.auto.table ∙ c.term.auto.table ∙ c.loop-e.invariant.same_size)
 
 pub factor-returns-then-not-stands_at : goal.factor-returns-then-not-stands_at
 unfolding bytes
@@ -67,9 +66,9 @@ factor-returns-then-depth-ge-DEEPEST t c =
 pub factor-expression-requires : goal.factor-expression-requires
 factor-expression-requires t c =
     let paren = sym c.stands_at.ensures ∙ c.if-not-stands_at.false in
-    let ready = ready_moved (40 ∷ []) c.requires.reader_ready c.skip.ensures paren in
+    let ready = ready_moved (40 ∷ []) c.requires c.skip.ensures paren in
     let at = ap (λ (z : Cursor). z.at) c.skip.ensures in
-    (omega (arith, at, ready.inside), (ready, (c.requires.counts_in_range, c.requires.table_size_in_bounds)))
+    (omega (arith, at, ready.inside), ready)
 
 pub factor-returns-in_err-d : goal.factor-returns-in_err-d
 unfolding bytes deepest
@@ -89,14 +88,14 @@ factor-returns t c =
     let paren = sym c.stands_at.ensures ∙ c.if-not-stands_at.false in
     subst
     (λ (r : Option Cursor).
-    FactorRead a.text.now a.known.now a.table.now a.keys.now a.tags.now a.c a.depth r new.table new.keys new.tags)
+    FactorRead a.text.now a.known.now a.table.now a.mentioned.now a.c a.depth r new.table new.mentioned)
     (sym c.marked.ensures)
     (inside_closed p a.depth a.c paren (lt-ltb _ _ (omega arith)) (Some c.in_ok-d.d)
     (deeper p a.depth a.c c.skip.ensures c.in_ok-d.ensures))
 
 pub term-loop-e-init : goal.term-loop-e-init
 term-loop-e-init t c =
-    let ready = c.requires.reader_ready in
+    let ready = c.requires in
     joining_begins ready (omega (arith, ready.items))
 
 pub term-returns-in_err-e : goal.term-returns-in_err-e
@@ -122,4 +121,3 @@ term-loop-e-preserved t c =
     joining_again c.loop-e.invariant c.factor.ensures c.in_ok-e.was c.put_mark-f.ensures
     (product-joins (places_in c.args.known.now) c.args.depth (product_told _ _ c.mark_at-mark.ensures))
     (c.is_none.ensures ∙ ap not c.if-is_none.false) c.skip-d.ensures
-    (c.put_mark-f.auto.table ∙ c.factor.auto.table ∙ c.loop-e.invariant.same_size)

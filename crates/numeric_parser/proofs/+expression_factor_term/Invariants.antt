@@ -19,7 +19,7 @@ decreases-term l = 3 * (length l.text.now - l.c.at) + 1
 abbrev pub invariant-expression-loop-e : goal.invariant-expression-loop-e
 invariant-expression-loop-e l =
     Joining (term_from current (places_in l.known) l.depth) (more_terms_from current (places_in l.known) l.depth) l.text
-    l.initial.table l.initial.keys l.initial.tags l.initial.mark l.initial.d l.table l.keys l.tags l.mark l.d
+    l.initial.table l.initial.mentioned l.initial.mark l.initial.d l.table l.mentioned l.mark l.d
 
 abbrev pub decreases-expression-loop-e : goal.decreases-expression-loop-e
 decreases-expression-loop-e l = length l.text - l.d.at
@@ -27,7 +27,7 @@ decreases-expression-loop-e l = length l.text - l.d.at
 abbrev pub invariant-term-loop-e : goal.invariant-term-loop-e
 invariant-term-loop-e l =
     Joining (factor_from current (places_in l.known) l.depth) (more_factors_from current (places_in l.known) l.depth) l.text
-    l.initial.table l.initial.keys l.initial.tags l.initial.mark l.initial.d l.table l.keys l.tags l.mark l.d
+    l.initial.table l.initial.mentioned l.initial.mark l.initial.d l.table l.mentioned l.mark l.d
 
 abbrev pub decreases-term-loop-e : goal.decreases-term-loop-e
 decreases-term-loop-e l = length l.text - l.d.at

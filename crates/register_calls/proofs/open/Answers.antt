@@ -27,12 +27,12 @@ returns-in_err-ok_or c =
     rw (p.1, p.2)
     (ap (λ (r : Result Held Refusal). buffer_back (number_of r) a.buffer.now) (e.value ∙ ap (λ h. ok_or h BadBuffer) e.ok_part)
     ∙ open_broken_gets a.buffer.now a.currency.now (sym c.is_currency.ensures ∙ c.if-not-is_currency.false)
-    (is_broken a.buffer.now read.new.keys (subst (RegisterRead a.buffer.now read.new.keys) e.ok_part read.ensures)))
+    (is_broken a.buffer.now read.new.keys.items (subst (RegisterRead a.buffer.now read.new.keys.items) e.ok_part read.ensures)))
 
 pub tell_house-requires : goal.tell_house-requires
 tell_house-requires c =
     let a = c.args in
-    let keys = c.read_register.new.keys in
+    let keys = c.read_register.new.keys.items in
     let read = subst (RegisterRead a.buffer.now keys) (c.in_ok-ok_or.ensures.ok_part ∙ ap Some c.in-Opened.is) c.read_register.ensures in
     let keeps = (is_opened_lem a.buffer.now keys c.in-Opened.field-0 read).counted.keeps in
     (currency_size a.currency.now (sym c.is_currency.ensures ∙ c.if-not-is_currency.false), omega (arith, sound_size a.buffer.now keeps))
@@ -40,14 +40,14 @@ tell_house-requires c =
 pub open_old-requires : goal.open_old-requires
 open_old-requires c =
     let a = c.args in
-    let keys = c.read_register.new.keys in
+    let keys = c.read_register.new.keys.items in
     let read = subst (RegisterRead a.buffer.now keys) (c.in_ok-ok_or.ensures.ok_part ∙ ap Some c.in-Old.is) c.read_register.ensures in
     (is_old a.buffer.now keys c.in-Old.n read, sym c.is_currency.ensures ∙ c.if-not-is_currency.false)
 
 pub returns-in-Opened : goal.returns-in-Opened
 returns-in-Opened c =
     let a = c.args in
-    let keys = c.read_register.new.keys in
+    let keys = c.read_register.new.keys.items in
     let read = subst (RegisterRead a.buffer.now keys) (c.in_ok-ok_or.ensures.ok_part ∙ ap Some c.in-Opened.is) c.read_register.ensures in
     opened_again_gets a.buffer.now a.currency.now (sym c.is_currency.ensures ∙ c.if-not-is_currency.false) c.in-Opened.field-0 keys
     c.tell_house.new.buffer (is_opened_lem a.buffer.now keys c.in-Opened.field-0 read) c.tell_house.ensures

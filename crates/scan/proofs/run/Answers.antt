@@ -45,21 +45,20 @@ whole c =
 pub loop-failed-init : goal.loop-failed-init
 loop-failed-init c =
     let p = c.requires in
-    run-begins p.reference_len_bound.0 p.good_rows.few p.reference_len_bound.1 p.answer_value
+    run-begins p.reference_len_bound.0 c.args.pattern.ready.few p.reference_len_bound.1 p.answer_value
 
 pub row_element-e-requires : goal.row_element-e-requires
 row_element-e-requires c =
     let i = c.loop-failed.invariant in
-    let p = c.requires.good_rows in
+    let p = c.args.pattern.ready in
     omega arith
 
 pub pass_places-k-requires : goal.pass_places-k-requires
 pass_places-k-requires c =
     let a = c.args in
-    let p = c.requires in
     let s = c.loop-failed in record {
       at_in_bounds = s.invariant.inside;
-      row_good = subst (RowGood a.pattern.values.now) (sym c.row_element-e.ensures) (p.good_rows.good s.g s.invariant.more);
+      row_good = subst (RowGood a.pattern.values.now) (sym c.row_element-e.ensures) (a.pattern.ready.good s.g s.invariant.more);
     }
 
 pub overflow_add-place : goal.overflow_add-place
@@ -76,10 +75,9 @@ pub stands-known-requires : goal.stands-known-requires
 stands-known-requires c =
     let a = c.args in
     let s = c.loop-failed in
-    let p = c.requires in
     let r = skipped (goal.at.stands-known-requires c).After-pass_places-k in record {
       at_in_bounds = r.inside;
-      row_good = subst (RowGood a.pattern.values.now) (sym c.row_element-e.ensures) (p.good_rows.good s.g r.more);
+      row_good = subst (RowGood a.pattern.values.now) (sym c.row_element-e.ensures) (a.pattern.ready.good s.g r.more);
     }
 
 pub test_group-requires : goal.test_group-requires
@@ -90,12 +88,11 @@ test_group-requires c =
     let p = c.requires in
     let r = skipped (goal.at.test_group-requires c).After-pass_places-k in
     record {
-      good_rows = p.good_rows;
       group_ready = record {
         short = p.reference_len_bound.0;
         reached =
             group_known a.reference.now a.pattern.values.now a.pattern.rows.now a.pattern.count s.g (s.place + k) c.stands-known.result r.more r.inside
-            (p.good_rows.good s.g r.more)
+            (a.pattern.ready.good s.g r.more)
             (λ h.
             ap (λ (x : Element). test_of (scan_element a.pattern.values.now x) (drop (s.place + k) a.reference.now)) (sym c.row_element-e.ensures)
             ∙ c.stands-known.ensures h);

@@ -31,7 +31,6 @@ returns-then-pattern-eq0 c =
 pub run-requires : goal.run-requires
 run-requires c =
     record {
-      good_rows = c.requires.good_rows;
       reference_len_bound = (c.requires.reference_len_bound, omega (arith, c.if-pattern-eq0.false));
       answer_value = c.requires.answer_value;
     }

@@ -50,8 +50,8 @@ returns-in_err-read_rows c =
     (call_bad a.reference.now a.values.now a.elements.now c.if-reference-gt-LONGEST.false (count_most a.elements.now c.if-elements-gt-MOST.false) r.bad
     ∙ ap (λ x. scan_turned_down (refusal_number x)) (sym (p.2 ∙ r.why)))
 
-pub scan_filled-requires-clause-good_rows : goal.scan_filled-requires-clause-good_rows
-scan_filled-requires-clause-good_rows c = (rows (goal.at.scan_filled-requires-clause-good_rows c).In_ok-read_rows).good
+pub invariant_of-pattern : goal.invariant_of-pattern
+invariant_of-pattern c = record { ready = (rows (goal.at.invariant_of-pattern c).In_ok-read_rows).good }
 
 pub scan_filled-requires-clause-answer_value : goal.scan_filled-requires-clause-answer_value
 scan_filled-requires-clause-answer_value c = (rows (goal.at.scan_filled-requires-clause-answer_value c).In_ok-read_rows).left

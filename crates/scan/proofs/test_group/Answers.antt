@@ -5,10 +5,13 @@ use Rattle.scan.specs.Steps.{Test}
 use Rattle.scan.specs.Steps.{test_of, GroupSays}
 use Rattle.scan.specs.Rows.{row_element, scan_element, RowGood}
 use lib.ListN.{drop, length-drop}
-use mathlib.Core.Path.{◌≡◌, sym, ◌∙◌, ap, subst}
+use mir.Val.{bool_byte}
+use mathlib.Core.Bool.{cond}
+use mathlib.Core.Path.{◌≡◌, refl, sym, ◌∙◌, ap, subst}
 use native.Mathlib.Omega.{arith}
+use Rattle.base.specs.Choice.{test_cases}
 use Rattle.std.specs.Prelude.{Ok}
-use Rattle.scan.proofs.test_group.Goals.{After-test_element, then-known, else-known}
+use Rattle.scan.proofs.test_group.Goals.{After-test_element}
 use Rattle.scan.proofs.test_group.Goals as goal
 
 -- the test of the element read
@@ -23,17 +26,14 @@ test-told c told =
 
 pub loop-i-init : goal.loop-i-init
 loop-i-init c =
-    let ready = c.requires.group_ready.reached in
-    elim c.if-known.branch [
-      | then-known w ↦ rw w.passed-is (rw w.if-known.true at ready)
-      | else-known w ↦ rw w.passed-is (rw w.if-known.false at ready)
-    ]
+    let one = test_cases (λ t. bool_byte t ≡ cond t 1 0) c.args.known (λ _. refl) (λ _. refl) in
+    rw (c.from-passed.ensures, one) c.requires.group_ready.reached
 
 pub test_element-requires : goal.test_element-requires
 test_element-requires c =
     let a = c.args in record {
       at_in_bounds = c.loop-i.invariant.inside;
-      row_good = subst (RowGood a.pattern.values.now) (sym c.row_element.ensures) (c.requires.good_rows.good c.loop-i.i c.loop-i-test.true);
+      row_good = subst (RowGood a.pattern.values.now) (sym c.row_element.ensures) (c.args.pattern.ready.good c.loop-i.i c.loop-i-test.true);
     }
 
 pub loop-i-preserved : goal.loop-i-preserved
@@ -41,14 +41,14 @@ loop-i-preserved c =
     let s = c.loop-i in
     let h = test-told (goal.at.loop-i-preserved c).After-test_element (c.in-Ok-Some.is ∙ ap Ok c.in-Ok-Some.field-0-is) in
     group_piece s.invariant c.loop-i-test.true
-    (c.requires.good_rows.good s.i c.loop-i-test.true) h
+    (c.args.pattern.ready.good s.i c.loop-i-test.true) h
 
 pub overflow_add-at-in-Ok-Some : goal.overflow_add-at-in-Ok-Some
 overflow_add-at-in-Ok-Some c =
     let a = c.args in
     let s = c.loop-i in
     let h = test-told (goal.at.overflow_add-at-in-Ok-Some c).After-test_element (c.in-Ok-Some.is ∙ ap Ok c.in-Ok-Some.field-0-is) in
-    let size = piece_size a.pattern.values.now (drop s.at a.reference.now) _ _ (c.requires.good_rows.good s.i c.loop-i-test.true) h in
+    let size = piece_size a.pattern.values.now (drop s.at a.reference.now) _ _ (c.args.pattern.ready.good s.i c.loop-i-test.true) h in
     omega (arith, size.1, length-drop s.at a.reference.now, s.invariant.inside, c.requires.group_ready.short)
 
 pub returns-in-Ok-None : goal.returns-in-Ok-None
@@ -65,7 +65,7 @@ returns-in-Err c =
     let s = c.loop-i in
     let h = test-told (goal.at.returns-in-Err c).After-test_element c.in-Err.is in
     record {
-      few = omega (arith, c.requires.good_rows.few);
+      few = omega (arith, c.args.pattern.ready.few);
       same = group_failed s.invariant c.loop-i-test.true c.in-Err.failure h;
     }
 

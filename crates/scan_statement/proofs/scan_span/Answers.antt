@@ -40,7 +40,6 @@ pub pattern_rows-requires : goal.pattern_rows-requires
 pattern_rows-requires c =
     record {
       bytes = c.requires.referred.scannable.bytes;
-      ready = c.requires.referred.scannable.ready;
       searched = _;
       pattern = c.requires.referred.scannable.pattern;
       buffers =

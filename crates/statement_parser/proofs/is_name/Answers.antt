@@ -10,10 +10,14 @@ pub loop-rest-init : goal.loop-rest-init
 loop-rest-init c = looked_start c.args.key (sym c.is_letter.ensures ∙ c.if-not-is_letter.false)
 
 pub returns-then-not-is_letter_or_digit : goal.returns-then-not-is_letter_or_digit
-returns-then-not-is_letter_or_digit c = looked_not c.args.key c.loop-rest.rest c.loop-rest.invariant c.loop-rest-test.true (sym c.is_letter_or_digit.ensures ∙ c.if-not-is_letter_or_digit.true)
+returns-then-not-is_letter_or_digit c =
+    looked_not c.args.key c.loop-rest.rest c.loop-rest.invariant c.loop-rest-test.true
+    (sym c.is_letter_or_digit.ensures ∙ c.if-not-is_letter_or_digit.true)
 
 pub loop-rest-preserved : goal.loop-rest-preserved
-loop-rest-preserved c = looked_more c.args.key c.loop-rest.rest c.loop-rest.invariant c.loop-rest-test.true (sym c.is_letter_or_digit.ensures ∙ c.if-not-is_letter_or_digit.false)
+loop-rest-preserved c =
+    looked_more c.args.key c.loop-rest.rest c.loop-rest.invariant c.loop-rest-test.true
+    (sym c.is_letter_or_digit.ensures ∙ c.if-not-is_letter_or_digit.false)
 
 pub returns : goal.returns
 returns c = looked_all c.args.key c.loop-rest.rest c.loop-rest.invariant c.loop-rest-test.false

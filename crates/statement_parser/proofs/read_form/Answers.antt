@@ -1,6 +1,5 @@
 -- `statement_parser::read_form` goes by the kind of the statement.
 use mathlib.Core.List.{List}
-use mathlib.Core.Logic.{inl, inr}
 use mathlib.Core.Path.{◌≡◌, refl, ap}
 use Prim.Native.Nat.{ℕ}
 use native.Mathlib.Omega.{arith}
@@ -8,12 +7,13 @@ use lib.ListN.{drop}
 use Rattle.base.specs.Current.{current}
 use Rattle.branch_parser.specs.Places.{is_number_known}
 use Rattle.encoding.specs.Kinds.{finish_kind, return_kind}
-use Rattle.encoding.specs.Table as Table
 use Rattle.encoding.specs.Table.{statement_row, elements_of, items_of, direction_number, no_cell}
-use Rattle.syntax.specs.Forms.{form_of, goto_form, routine_form, execute_form}
-use Rattle.syntax.specs.Keywords.{StatementKind, REPLACEMENT, NUMBER, PROGRAM, END, GOTO, EXIT, IF, SCAN, BACKSCAN, READ, WRITE, PRINT, ROUTINE, EXECUTE, ENDROUTINE, RETURN, UNKNOWN}
+use Rattle.syntax.specs.Forms.{form_of}
+use Rattle.syntax.specs.Keywords.{StatementKind, REPLACEMENT, NUMBER, PROGRAM, END, GOTO, EXIT, IF, SCAN, BACKSCAN, READ, WRITE, PRINT}
+use Rattle.syntax.specs.Keywords.{ROUTINE, EXECUTE, ENDROUTINE, RETURN, UNKNOWN}
 use Rattle.syntax.specs.Program.{forward, backward, finish, return}
 use Rattle.symbols.specs.Environment.{places_in}
+use Rattle.symbols.specs.declared.Mentioned.{Mentioned}
 use Rattle.numeric_parser.specs.Operands.{ReaderReady}
 use Rattle.lexer.specs.Kinds.{kind_of}
 use Rattle.statement_parser.specs.BehindLaws.{lead_fits}
@@ -24,32 +24,31 @@ use Rattle.statement_parser.specs.StepLaws.{plain-read, goto_leads, routine_lead
 use Rattle.statement_parser.specs.Steps.{FormAt}
 use Rattle.statement_parser.specs.Drafts.{Form}
 use Rattle.std.specs.Prelude.{None}
+use Rattle.std.proofs.Common.{⊎_elim}
 use Rattle.statement_parser.proofs.read_form.Goals.{After-skip-d}
 use Rattle.statement_parser.proofs.read_form.Goals as goal
 
 pub skip-d-requires : goal.skip-d-requires
-skip-d-requires c = omega (arith, lead_fits c.args.text.now c.args.c c.leading-lead.result c.leading-lead.ensures c.requires.starts.at, c.requires.starts.text_size)
+skip-d-requires c =
+    let lead = c.leading-lead in
+    omega (arith, lead_fits c.args.text.now c.args.c lead.result lead.ensures c.requires.at, c.requires.text_size)
 
 -- behind the keyword the cursor is ready, and what the form of its kind reads is the statement
 module _ (c : After-skip-d) where
-  ready : ReaderReady c.args.text.now c.args.keys.now c.args.tags.now c.skip-d.result
-  ready = lead_ready c.leading-lead.result c.requires.starts c.leading-lead.ensures c.skip-d.ensures
+  ready : ReaderReady c.args.text.now c.skip-d.result
+  ready = lead_ready c.leading-lead.result c.requires c.leading-lead.ensures c.skip-d.ensures
 
-  of_kind : {table : List ℕ} (kind : StatementKind) → kind_of c.leading-lead.result.kind ≡ kind → (q : Form) {t k g : List ℕ}
+  of_kind : {table t : List ℕ} {m : Mentioned} (kind : StatementKind) → kind_of c.leading-lead.result.kind ≡ kind → (q : Form)
       → FormAt
       (form_of current (is_number_known c.args.known.now) (places_in c.args.known.now) kind (drop c.skip-d.result.at c.args.text.now))
-      c.args.text.now table c.args.keys.now c.args.tags.now c.skip-d.result q t k g
-      → StatementFormRead c.args.text.now c.args.known.now table c.args.keys.now c.args.tags.now c.args.c q t k g
+      c.args.text.now table c.args.mentioned.now c.skip-d.result q t m
+      → StatementFormRead c.args.text.now c.args.known.now table c.args.mentioned.now c.args.c q t m
   of_kind =
-      of_lead c.leading-lead.result c.requires.starts c.leading-lead.ensures c.skip-d.ensures
+      of_lead c.leading-lead.result c.requires c.leading-lead.ensures c.skip-d.ensures
       c.args.known.now
 
 pub replacement_form-requires : goal.replacement_form-requires
-replacement_form-requires c = record {
-  reader_ready = ready (goal.at.replacement_form-requires c).After-skip-d;
-  counts_in_range = c.requires.counts_in_range;
-  table_size_in_bounds = c.requires.table_size_in_bounds;
-}
+replacement_form-requires c = ready (goal.at.replacement_form-requires c).After-skip-d
 
 pub numbers_form-requires : goal.numbers_form-requires
 numbers_form-requires c = ready (goal.at.numbers_form-requires c).After-skip-d
@@ -58,70 +57,28 @@ pub program_form-requires : goal.program_form-requires
 program_form-requires c = ready (goal.at.program_form-requires c).After-skip-d
 
 pub target_form-requires : goal.target_form-requires
-target_form-requires c =
-    record {
-      reader_ready = ready (goal.at.target_form-requires c).After-skip-d;
-      counts_in_range = c.requires.counts_in_range;
-      target_tag = record { is = inl refl };
-    }
+target_form-requires c = ready (goal.at.target_form-requires c).After-skip-d
 
 pub if_form-requires : goal.if_form-requires
-if_form-requires c =
-    record {
-      reader_ready = ready (goal.at.if_form-requires c).After-skip-d;
-      counts_in_range = c.requires.counts_in_range;
-    }
+if_form-requires c = ready (goal.at.if_form-requires c).After-skip-d
 
 pub scan_form-requires : goal.scan_form-requires
-scan_form-requires c = record {
-  reader_ready = ready (goal.at.scan_form-requires c).After-skip-d;
-  counts_in_range = c.requires.counts_in_range;
-  table_size_in_bounds = c.requires.table_size_in_bounds;
-}
+scan_form-requires c = ready (goal.at.scan_form-requires c).After-skip-d
 
 pub scan_form-requires-in-Backscan : goal.scan_form-requires-in-Backscan
-scan_form-requires-in-Backscan c = record {
-  reader_ready = ready (goal.at.scan_form-requires-in-Backscan c).After-skip-d;
-  counts_in_range = c.requires.counts_in_range;
-  table_size_in_bounds = c.requires.table_size_in_bounds;
-}
+scan_form-requires-in-Backscan c = ready (goal.at.scan_form-requires-in-Backscan c).After-skip-d
 
 pub input_form-requires : goal.input_form-requires
-input_form-requires c =
-    record {
-      reader_ready = ready (goal.at.input_form-requires c).After-skip-d;
-      counts_in_range = c.requires.counts_in_range;
-    }
+input_form-requires c = ready (goal.at.input_form-requires c).After-skip-d
 
 pub output_form-requires : goal.output_form-requires
-output_form-requires c = record {
-  reader_ready = ready (goal.at.output_form-requires c).After-skip-d;
-  counts_in_range = c.requires.counts_in_range;
-  table_size_in_bounds = c.requires.table_size_in_bounds;
-}
-
-pub output_form-requires-in-Print : goal.output_form-requires-in-Print
-output_form-requires-in-Print c = record {
-  reader_ready = ready (goal.at.output_form-requires-in-Print c).After-skip-d;
-  counts_in_range = c.requires.counts_in_range;
-  table_size_in_bounds = c.requires.table_size_in_bounds;
-}
+output_form-requires c = ready (goal.at.output_form-requires c).After-skip-d
 
 pub target_form-requires-in-Routine : goal.target_form-requires-in-Routine
-target_form-requires-in-Routine c =
-    record {
-      reader_ready = ready (goal.at.target_form-requires-in-Routine c).After-skip-d;
-      counts_in_range = c.requires.counts_in_range;
-      target_tag = record { is = inr (inr refl) };
-    }
+target_form-requires-in-Routine c = ready (goal.at.target_form-requires-in-Routine c).After-skip-d
 
 pub target_form-requires-in-Execute : goal.target_form-requires-in-Execute
-target_form-requires-in-Execute c =
-    record {
-      reader_ready = ready (goal.at.target_form-requires-in-Execute c).After-skip-d;
-      counts_in_range = c.requires.counts_in_range;
-      target_tag = record { is = inr (inl refl) };
-    }
+target_form-requires-in-Execute c = ready (goal.at.target_form-requires-in-Execute c).After-skip-d
 
 pub returns-in-Replacement : goal.returns-in-Replacement
 unfolding form_of
@@ -142,22 +99,21 @@ returns-in-Program c =
     c.program_form.result (c.program_form.ensures c.args.known.now c.args.table.now)
 
 pub returns-in-End : goal.returns-in-End
-unfolding form_of statement_row elements_of items_of Table.row_with no_cell
+unfolding form_of statement_row elements_of items_of no_cell
 returns-in-End c =
-    of_kind (goal.at.returns-in-End c).After-skip-d END (ap kind_of c.in-End.is)
-    c.plain_form.result (form_ends c.plain_form.ensures (plain-read finish finish_kind.number (ready (goal.at.returns-in-End c).After-skip-d) refl refl refl))
+    let at = (goal.at.returns-in-End c).After-skip-d in
+    let r = c.plain_form in
+    ⊎_elim
+    (λ e. of_kind at END (ap kind_of e) r.result (form_ends r.ensures (plain-read finish finish_kind.number (ready at) refl refl refl)))
+    (λ e. of_kind at EXIT (ap kind_of e) r.result (form_ends r.ensures (plain-read finish finish_kind.number (ready at) refl refl refl)))
+    c.in-End.is
 
 pub returns-in-Goto : goal.returns-in-Goto
 unfolding form_of
 returns-in-Goto c =
-    of_kind (goal.at.returns-in-Goto c).After-skip-d GOTO (ap kind_of c.in-Goto.is)
-    c.target_form.result (c.target_form.ensures (goto_form current (is_number_known c.args.known.now) (places_in c.args.known.now)) (goto_leads c.args.known.now) c.args.table.now)
-
-pub returns-in-Exit : goal.returns-in-Exit
-unfolding form_of statement_row elements_of items_of Table.row_with no_cell
-returns-in-Exit c =
-    of_kind (goal.at.returns-in-Exit c).After-skip-d EXIT (ap kind_of c.in-Exit.is)
-    c.plain_form-in-Exit.result (form_ends c.plain_form-in-Exit.ensures (plain-read finish finish_kind.number (ready (goal.at.returns-in-Exit c).After-skip-d) refl refl refl))
+    let r = c.target_form in
+    of_kind (goal.at.returns-in-Goto c).After-skip-d GOTO (ap kind_of c.in-Goto.is) r.result
+    (r.ensures _ (goto_leads c.args.known.now) c.args.table.now)
 
 pub returns-in-If : goal.returns-in-If
 unfolding form_of
@@ -186,38 +142,33 @@ returns-in-Read c =
 pub returns-in-Write : goal.returns-in-Write
 unfolding form_of
 returns-in-Write c =
-    of_kind (goal.at.returns-in-Write c).After-skip-d WRITE (ap kind_of c.in-Write.is)
-    c.output_form.result c.output_form.ensures
-
-pub returns-in-Print : goal.returns-in-Print
-unfolding form_of
-returns-in-Print c =
-    of_kind (goal.at.returns-in-Print c).After-skip-d PRINT (ap kind_of c.in-Print.is)
-    c.output_form-in-Print.result c.output_form-in-Print.ensures
+    let at = (goal.at.returns-in-Write c).After-skip-d in
+    let r = c.output_form in
+    ⊎_elim (λ e. of_kind at WRITE (ap kind_of e) r.result r.ensures) (λ e. of_kind at PRINT (ap kind_of e) r.result r.ensures) c.in-Write.is
 
 pub returns-in-Routine : goal.returns-in-Routine
 unfolding form_of
 returns-in-Routine c =
-    of_kind (goal.at.returns-in-Routine c).After-skip-d ROUTINE (ap kind_of c.in-Routine.is)
-    c.target_form-in-Routine.result (c.target_form-in-Routine.ensures (routine_form current (is_number_known c.args.known.now) (places_in c.args.known.now)) (routine_leads c.args.known.now) c.args.table.now)
+    let r = c.target_form-in-Routine in
+    of_kind (goal.at.returns-in-Routine c).After-skip-d ROUTINE (ap kind_of c.in-Routine.is) r.result
+    (r.ensures _ (routine_leads c.args.known.now) c.args.table.now)
 
 pub returns-in-Execute : goal.returns-in-Execute
 unfolding form_of
 returns-in-Execute c =
-    of_kind (goal.at.returns-in-Execute c).After-skip-d EXECUTE (ap kind_of c.in-Execute.is)
-    c.target_form-in-Execute.result (c.target_form-in-Execute.ensures (execute_form current (is_number_known c.args.known.now) (places_in c.args.known.now)) (execute_leads c.args.known.now) c.args.table.now)
+    let r = c.target_form-in-Execute in
+    of_kind (goal.at.returns-in-Execute c).After-skip-d EXECUTE (ap kind_of c.in-Execute.is) r.result
+    (r.ensures _ (execute_leads c.args.known.now) c.args.table.now)
 
 pub returns-in-EndRoutine : goal.returns-in-EndRoutine
-unfolding form_of statement_row elements_of items_of Table.row_with no_cell
+unfolding form_of statement_row elements_of items_of no_cell
 returns-in-EndRoutine c =
-    of_kind (goal.at.returns-in-EndRoutine c).After-skip-d ENDROUTINE (ap kind_of c.in-EndRoutine.is)
-    c.plain_form-in-EndRoutine.result (form_ends c.plain_form-in-EndRoutine.ensures (plain-read return return_kind.number (ready (goal.at.returns-in-EndRoutine c).After-skip-d) refl refl refl))
-
-pub returns-in-Return : goal.returns-in-Return
-unfolding form_of statement_row elements_of items_of Table.row_with no_cell
-returns-in-Return c =
-    of_kind (goal.at.returns-in-Return c).After-skip-d RETURN (ap kind_of c.in-Return.is)
-    c.plain_form-in-Return.result (form_ends c.plain_form-in-Return.ensures (plain-read return return_kind.number (ready (goal.at.returns-in-Return c).After-skip-d) refl refl refl))
+    let at = (goal.at.returns-in-EndRoutine c).After-skip-d in
+    let r = c.plain_form-in-EndRoutine in
+    ⊎_elim
+    (λ e. of_kind at ENDROUTINE (ap kind_of e) r.result (form_ends r.ensures (plain-read return return_kind.number (ready at) refl refl refl)))
+    (λ e. of_kind at RETURN (ap kind_of e) r.result (form_ends r.ensures (plain-read return return_kind.number (ready at) refl refl refl)))
+    c.in-EndRoutine.is
 
 pub returns-in-Unknown : goal.returns-in-Unknown
 unfolding form_of

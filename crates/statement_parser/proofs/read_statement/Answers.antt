@@ -1,7 +1,7 @@
 -- `statement_parser::read_statement` notes the label, if there is one, and reads the statement.
 use mathlib.Core.Path.{sym, ◌∙◌}
-use native.Mathlib.Omega.{arith}
-use Rattle.statement_parser.specs.Labels.{statement_off, statement_plain, statement_unnamed, statement_named, form_unlabelled, form-labelled, starts_labelled}
+use Rattle.statement_parser.specs.Labels.{statement_off, statement_plain, statement_unnamed, statement_named}
+use Rattle.statement_parser.specs.Labels.{form_unlabelled, form-labelled, starts_labelled}
 use Rattle.statement_parser.specs.StageLaws.{form-same}
 use Rattle.statement_parser.proofs.read_statement.Goals as goal
 
@@ -12,11 +12,10 @@ returns-then-not-whole c =
 
 pub returns-then-label-eq0 : goal.returns-then-label-eq0
 returns-then-label-eq0 c =
-    let s = c.requires.starts in
     λ label_bytes w.
     form-same
     (statement_plain c.args.known.now c.args.text.now label_bytes w c.if-not-whole.false c.if-label-eq0.true)
-    (form_unlabelled (omega (arith, s), omega (arith, s)) c.read_form.result c.read_form.ensures)
+    (form_unlabelled c.read_form.result c.read_form.ensures)
 
 pub returns-then-not-is_name : goal.returns-then-not-is_name
 returns-then-not-is_name c =
@@ -29,20 +28,13 @@ returns-then-not-is_name c =
     }
 
 pub read_form-requires-2 : goal.read_form-requires-2
-read_form-requires-2 c =
-    let p = c.requires in
-    record {
-      starts = starts_labelled p.starts p.names_value c.note_name-d.ensures;
-      counts_in_range = p.counts_in_range;
-      table_size_in_bounds = p.table_size_in_bounds;
-    }
+read_form-requires-2 c = let p = c.requires in starts_labelled p.starts p.names_value c.note-d.ensures
 
 pub returns : goal.returns
 returns c =
-    let s = c.requires.starts in
     λ label_bytes w.
     form-same
     (statement_named c.args.known.now c.args.text.now label_bytes w c.if-not-whole.false
     c.if-label-eq0.false (sym c.is_name.ensures ∙ c.if-not-is_name.false))
-    (form-labelled (omega (arith, s), omega (arith, s)) c.note_name-d.ensures c.read_form-2.result
+    (form-labelled c.note-d.ensures c.read_form-2.result
     c.read_form-2.ensures)

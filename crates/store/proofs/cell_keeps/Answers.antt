@@ -16,5 +16,5 @@ pub returns : goal.returns
 returns c =
     let a = c.args in
     let low : get_or a.store.now a.at 0 < 256 = search rules in
-    c.marks.ensures
+    c.are_zero.ensures
     ∙ cell-zeros a.store.now a.at c.number2-n.result low c.number2-n.ensures.0 c.if-n-gt-LONGEST.false

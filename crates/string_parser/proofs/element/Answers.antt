@@ -1,5 +1,5 @@
 -- `string_parser::element` reads an element of a string expression.
-use Rattle.std.proofs.Common.{refl, Some, None, [], ◌∷◌, ap, sym, ◌/◌, drop, length-drop, arith}
+use Rattle.std.proofs.Common.{refl, Some, None, [], ◌∷◌, ap, sym, drop, length-drop, arith}
 use Rattle.base.specs.ListLaws.{begins_room}
 use Rattle.base.specs.Text.{bytes}
 use Rattle.symbols.specs.Entries.{role_of}
@@ -12,29 +12,25 @@ pub literal-requires : goal.literal-requires
 literal-requires c =
     let one = begins_room (34 ∷ []) (drop c.args.c.at c.args.text.now) (sym c.if-stands_at.ensures) in
     let size = length-drop c.args.c.at c.args.text.now in
-    let ready = c.requires.reader_ready in record {
-      at_in_bounds = (omega arith, ready.text_size);
-      elements_le_far_enough = (omega arith, omega arith);
-      table_size_in_bounds = c.requires.table_size_in_bounds.0;
-    }
+    record { at_in_bounds = (omega arith, c.requires.text_size); elements_le_far_enough = (omega arith, omega arith) }
 
 pub returns-then-stands_at : goal.returns-then-stands_at
 returns-then-stands_at c =
     let a = c.args in
-    element_literal (places_in a.known.now) (role_of (a.tag / 16)) c.requires.reader_ready (sym c.if-stands_at.ensures)
-    (c.literal.ensures a.keys.now a.tags.now c.requires.reader_ready)
+    element_literal (places_in a.known.now) (role_of a.role) c.requires (sym c.if-stands_at.ensures)
+    (c.literal.ensures a.mentioned.now c.requires)
 
-pub text_call-requires-clause-reader_ready : goal.text_call-requires-clause-reader_ready
+pub text_call-requires : goal.text_call-requires
 unfolding bytes
-text_call-requires-clause-reader_ready c =
-    ready_moved (bytes "STRING(") c.requires.reader_ready c.skip.ensures (sym c.if-begins_at.ensures)
+text_call-requires c =
+    ready_moved (bytes "STRING(") c.requires c.skip.ensures (sym c.if-begins_at.ensures)
 
 pub returns-in_err-cell : goal.returns-in_err-cell
 unfolding bytes
 returns-in_err-cell c =
     let a = c.args in
     one_written None (c.from_residual.ensures, refl)
-    (element_text (places_in a.known.now) (role_of (a.tag / 16)) c.requires.reader_ready (sym c.if-stands_at.ensures) None
+    (element_text (places_in a.known.now) (role_of a.role) c.requires (sym c.if-stands_at.ensures) None
     c.skip.ensures (sym c.if-begins_at.ensures) c.in_err-cell.ensures)
 
 pub returns-then-begins_at : goal.returns-then-begins_at
@@ -43,7 +39,7 @@ returns-then-begins_at c =
     let a = c.args in
     let q = c.put.ensures in
     one_written (Some (c.in_ok-cell.cell, c.in_ok-cell.d)) (ap Some q.0, q.1)
-    (element_text (places_in a.known.now) (role_of (a.tag / 16)) c.requires.reader_ready (sym c.if-stands_at.ensures)
+    (element_text (places_in a.known.now) (role_of a.role) c.requires (sym c.if-stands_at.ensures)
     (Some (c.in_ok-cell.cell, c.in_ok-cell.d)) c.skip.ensures (sym c.if-begins_at.ensures) c.in_ok-cell.ensures)
 
 pub returns-in_err-cell-2 : goal.returns-in_err-cell-2
@@ -51,7 +47,7 @@ unfolding bytes
 returns-in_err-cell-2 c =
     let a = c.args in
     one_written None (c.from_residual-in_err-cell-2.ensures, refl)
-    (element_part (places_in a.known.now) (role_of (a.tag / 16)) c.requires.reader_ready (sym c.if-stands_at.ensures) None
+    (element_part (places_in a.known.now) (role_of a.role) c.requires (sym c.if-stands_at.ensures) None
     (sym c.if-begins_at.ensures) c.in_err-cell-2.ensures)
 
 pub returns : goal.returns
@@ -60,5 +56,5 @@ returns c =
     let a = c.args in
     let q = c.put-2.ensures in
     one_written (Some (c.in_ok-cell-2.cell, c.in_ok-cell-2.d)) (ap Some q.0, q.1)
-    (element_part (places_in a.known.now) (role_of (a.tag / 16)) c.requires.reader_ready (sym c.if-stands_at.ensures)
+    (element_part (places_in a.known.now) (role_of a.role) c.requires (sym c.if-stands_at.ensures)
     (Some (c.in_ok-cell-2.cell, c.in_ok-cell-2.d)) (sym c.if-begins_at.ensures) c.in_ok-cell-2.ensures)

@@ -6,9 +6,10 @@ use Rattle.string_parser.specs.Elements.{shown, read_one}
 use Rattle.string_parser.specs.RowLaws.{RowPassing}
 use Rattle.string_parser.proofs.more.Given as goal
 
-abbrev pub invariant-loop-table : goal.invariant-loop-table
-invariant-loop-table l =
-    RowPassing (shown l.patterned) (read_one l.patterned (places_in l.known)) l.text l.initial.table l.initial.keys l.initial.tags l.initial.d l.table l.keys l.tags l.d
+abbrev pub invariant-loop-elements : goal.invariant-loop-elements
+invariant-loop-elements l =
+    RowPassing (shown l.elements) (read_one l.elements (places_in l.known)) l.text l.initial.table l.initial.mentioned l.initial.d
+    l.table l.mentioned l.d
 
-abbrev pub decreases-loop-table : goal.decreases-loop-table
-decreases-loop-table l = length l.text - l.d.at
+abbrev pub decreases-loop-elements : goal.decreases-loop-elements
+decreases-loop-elements l = length l.text - l.d.at

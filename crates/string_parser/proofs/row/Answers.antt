@@ -1,5 +1,5 @@
 -- `string_parser::row` reads a row and counts it.
-use Rattle.std.proofs.Common.{Option, Some, None, sym, subst, drop, arith, ap}
+use Rattle.std.proofs.Common.{Option, Some, None, sym, subst, drop, ap}
 use Rattle.symbols.specs.Environment.{places_in}
 use Rattle.symbols.specs.declared.Cursor.{Cursor}
 use Rattle.string_parser.specs.Elements.{RowsRead, shown, read_one}
@@ -8,41 +8,36 @@ use Rattle.string_parser.proofs.row.Goals as goal
 
 pub returns-then-nothing_here : goal.returns-then-nothing_here
 returns-then-nothing_here c =
-    row-whole c.args.patterned c.args.known.now _
-    (row_nothing (shown c.args.patterned) (read_one c.args.patterned (places_in c.args.known.now)) c.requires.reader_ready
+    row-whole c.args.elements c.args.known.now _
+    (row_nothing (shown c.args.elements) (read_one c.args.elements (places_in c.args.known.now)) c.requires
     (sym c.if-nothing_here.ensures))
 
 pub returns-in_err-d : goal.returns-in_err-d
 returns-in_err-d c =
     let a = c.args in
-    rows_lost a.patterned a.known.now c.from_residual.ensures
-    (row-whole a.patterned a.known.now _
+    rows_lost a.elements a.known.now c.from_residual.ensures
+    (row-whole a.elements a.known.now _
     (record {
       answer =
-          row_broken (read_one a.patterned (places_in a.known.now)) (drop a.c.at a.text.now) (sym c.if-nothing_here.ensures)
+          row_broken (read_one a.elements (places_in a.known.now)) (drop a.c.at a.text.now) (sym c.if-nothing_here.ensures)
           c.in_err-d.ensures.answer;
     }))
 
 pub more-requires : goal.more-requires
-more-requires c =
-    record {
-      reader_ready = c.in_ok-d.ensures.answer.gets.ready;
-      counts_in_range = c.requires.counts_in_range;
-      table_size_in_bounds = omega (arith, c.one.auto.table, c.requires.table_size_in_bounds);
-    }
+more-requires c = c.in_ok-d.ensures.answer.gets.ready
 
 pub returns-in_err-e : goal.returns-in_err-e
 returns-in_err-e c =
     let a = c.args in
-    rows_lost a.patterned a.known.now c.from_residual-in_err-e.ensures
-    (row-whole a.patterned a.known.now _
-    (row-got (shown a.patterned) (read_one a.patterned (places_in a.known.now)) (sym c.if-nothing_here.ensures) c.requires.reader_ready
+    rows_lost a.elements a.known.now c.from_residual-in_err-e.ensures
+    (row-whole a.elements a.known.now _
+    (row-got (shown a.elements) (read_one a.elements (places_in a.known.now)) (sym c.if-nothing_here.ensures)
     c.in_ok-d.ensures.answer None c.in_err-e.ensures))
 
 pub row_end-requires : goal.row_end-requires
 row_end-requires c =
     let a = c.args in
-    row-behind (shown a.patterned) (read_one a.patterned (places_in a.known.now)) (sym c.if-nothing_here.ensures) c.in_ok-d.ensures.answer
+    row-behind (shown a.elements) (read_one a.elements (places_in a.known.now)) (sym c.if-nothing_here.ensures) c.in_ok-d.ensures.answer
     c.in_ok-e.ensures
 
 pub returns : goal.returns
@@ -51,8 +46,8 @@ returns c =
     let m = c.more in
     subst
     (λ (r : Option Cursor).
-    RowsRead a.text.now a.known.now a.table.now a.keys.now a.tags.now a.c a.patterned r m.new.table m.new.keys m.new.tags)
+    RowsRead a.text.now a.known.now a.table.now a.mentioned.now a.c a.elements r m.new.table m.new.mentioned)
     (sym (ap Some c.row_end.ensures))
-    (row-whole a.patterned a.known.now _
-    (row-got (shown a.patterned) (read_one a.patterned (places_in a.known.now)) (sym c.if-nothing_here.ensures) c.requires.reader_ready
+    (row-whole a.elements a.known.now _
+    (row-got (shown a.elements) (read_one a.elements (places_in a.known.now)) (sym c.if-nothing_here.ensures)
     c.in_ok-d.ensures.answer (Some c.in_ok-e.e) c.in_ok-e.ensures))

@@ -1,11 +1,7 @@
--- `symbols::has_key` asks whether the key's place is one of those.
-use mathlib.Core.Path.{ap, ◌∙◌}
-use lib.Dec.{ltb}
-use native.Mathlib.Omega.{arith}
-use Rattle.symbols.specs.EnvironmentLaws.{place_inside}
+-- `symbols::has_key` asks whether one of the keys is equal.
+use mathlib.Core.Path.{◌∙◌}
+use Rattle.symbols.proofs.Finding.{any_equal}
 use Rattle.symbols.proofs.has_key.Goals as goal
 
 pub returns : goal.returns
-returns c =
-    let a = c.args in
-    ap (λ i. ltb i a.n) c.key_place.ensures.0 ∙ place_inside a.known.now a.key a.from a.n (omega arith)
+returns c = c.contains.ensures.value ∙ any_equal c.args.key c.args.keys.now

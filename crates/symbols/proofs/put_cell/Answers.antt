@@ -17,4 +17,4 @@ shape_of-table c = c.put_number.auto.table ∙ simp length-set
 pub returns : goal.returns
 returns c =
     let a = c.args in
-    c.put_number.ensures ∙ cell-put a.table.now a.at a.kind a.place a.value (omega arith)
+    c.put_number.ensures ∙ cell-put a.table.now a.at a.cell.kind a.cell.place a.cell.value (omega arith)

@@ -8,5 +8,5 @@ returns c =
     let a = c.args in
     let from = c.min-from in
     let n = c.min-n in
-    literals_put a.table.now a.l a.bytes.now c.requires.table_size_in_bounds from.result n.result from.ensures n.ensures _ (omega arith)
+    literals_put a.table.now a.l a.bytes.now (omega arith) from.result n.result from.ensures n.ensures _ (omega arith)
     c.copy_from_slice.ensures.after

@@ -4,4 +4,4 @@ use Rattle.verifier.proofs.zeros.Goals as goal
 
 pub returns : goal.returns
 unfolding zeros_test
-returns c = c.marks.ensures
+returns c = c.are_zero.ensures

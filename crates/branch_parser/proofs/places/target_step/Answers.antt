@@ -1,26 +1,36 @@
--- `branch_parser::places::target_step` goes by the tag.
-use Rattle.std.proofs.Common.{◌∙◌, arith}
+-- `branch_parser::places::target_step` goes by the target.
+use Rattle.std.proofs.Common.{Option, Some, None, ◌≡◌, ℕ, MatchOption, sym, ap, ◌∙◌, rules}
 use Rattle.symbols.specs.Entries.{name_of}
-use Rattle.branch_parser.specs.Places.{entry_found, exit_found, step_tagged, step_exit}
+use Rattle.branch_parser.specs.Places.{step_to, step_found, entry_found, exit_found, label_leads, entry_leads, exit_leads}
+use Rattle.branch_parser.specs.declared.Target.{Target}
 use Rattle.branch_parser.proofs.places.target_step.Goals as goal
 
-pub returns-then-tag-eq-LABEL : goal.returns-then-tag-eq-LABEL
-returns-then-tag-eq-LABEL c = step_tagged c.args.known.now (name_of c.args.key) c.if-tag-eq-LABEL.true c.label_step.ensures
+-- what `map_or` gives, from what it gives for one found
+given : {X : Type 0} (f : Option X → ℕ) {r : ℕ} (o : Option X) {P : X → Type 0} → MatchOption o (r ≡ f None) P → ((x : X) → P x → r ≡ f (Some x))
+    → r ≡ f o
+given f None e g = e
+given f (Some x) p g = g x p
 
-pub column_of-requires : goal.column_of-requires
-column_of-requires c =
-    (c.requires.size, λ i e. omega (arith, c.routine_found-routine.ensures.inside i e, c.requires.routines))
+pub returns-in-Label : goal.returns-in-Label
+returns-in-Label c =
+    let a = c.args in
+    given step_found c.label_found.result c.map_or.ensures (λ x p. search rules)
+    ∙ ap step_found c.label_found.ensures
+    ∙ label_leads a.known.now a.key
+    ∙ ap (λ (t : Target). step_to a.known.now t (name_of a.key)) (sym c.in-Label.is)
 
-pub returns-then-tag-eq-ROUTINE : goal.returns-then-tag-eq-ROUTINE
-returns-then-tag-eq-ROUTINE c =
-    step_tagged c.args.known.now (name_of c.args.key) c.if-tag-eq-ROUTINE.true
-    (c.column_of.ensures ∙ entry_found _ _ _ c.routine_found-routine.ensures)
+pub returns-in-Entry : goal.returns-in-Entry
+returns-in-Entry c =
+    let a = c.args in
+    given entry_found c.routine_found.result c.map_or-in-Entry.ensures (λ x p. search rules)
+    ∙ ap entry_found c.routine_found.ensures
+    ∙ entry_leads a.known.now a.key
+    ∙ ap (λ (t : Target). step_to a.known.now t (name_of a.key)) (sym c.in-Entry.is)
 
-pub column_of-requires-2 : goal.column_of-requires-2
-column_of-requires-2 c =
-    (c.requires.size, λ i e. omega (arith, c.routine_found-routine.ensures.inside i e, c.requires.routines))
-
-pub returns : goal.returns
-returns c =
-    step_exit c.args.known.now (name_of c.args.key) c.if-tag-eq-LABEL.false c.if-tag-eq-ROUTINE.false
-    (c.column_of-2.ensures ∙ exit_found _ _ _ c.routine_found-routine.ensures)
+pub returns-in-Exit : goal.returns-in-Exit
+returns-in-Exit c =
+    let a = c.args in
+    given exit_found c.routine_found-in-Exit.result c.map_or-in-Exit.ensures (λ x p. search rules)
+    ∙ ap exit_found c.routine_found-in-Exit.ensures
+    ∙ exit_leads a.known.now a.key
+    ∙ ap (λ (t : Target). step_to a.known.now t (name_of a.key)) (sym c.in-Exit.is)

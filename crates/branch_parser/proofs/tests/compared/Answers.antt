@@ -17,11 +17,7 @@ pub skip-requires : goal.skip-requires
 skip-requires c = omega (arith, c.in_ok-sign.ensures.answer.inside)
 
 pub if_operand-requires : goal.if_operand-requires
-if_operand-requires c =
-    record {
-      reader_ready = ready_on c.in_ok-sign.sign.size c.requires.reader_ready c.skip.ensures c.in_ok-sign.ensures.answer.inside;
-      counts_in_range = c.requires.counts_in_range;
-    }
+if_operand-requires c = ready_on c.in_ok-sign.sign.size c.requires c.skip.ensures c.in_ok-sign.ensures.answer.inside
 
 pub returns-in_err-right : goal.returns-in_err-right
 returns-in_err-right c =

@@ -6,11 +6,7 @@ use Rattle.branch_parser.specs.TestLaws.{comparing_then, comparing_broken}
 use Rattle.branch_parser.proofs.tests.comparing.Goals as goal
 
 pub compared-requires : goal.compared-requires
-compared-requires c =
-    record {
-      reader_ready = c.in_ok-left.ensures.answer.ready;
-      counts_in_range = c.requires.counts_in_range;
-    }
+compared-requires c = c.in_ok-left.ensures.answer.ready
 
 pub returns-in_err-left : goal.returns-in_err-left
 returns-in_err-left c =
@@ -20,5 +16,5 @@ returns-in_err-left c =
 
 pub returns : goal.returns
 returns c =
-    comparing_then (places_in c.args.known.now) c.in_ok-left.left c.requires.reader_ready c.in_ok-left.ensures.answer c.compared.result
+    comparing_then (places_in c.args.known.now) c.in_ok-left.left c.in_ok-left.ensures.answer c.compared.result
     c.compared.ensures

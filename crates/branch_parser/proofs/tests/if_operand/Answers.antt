@@ -8,7 +8,7 @@ pub returns-then-constant_at : goal.returns-then-constant_at
 returns-then-constant_at c =
     let a = c.args in
     if_signed (places_in a.known.now) (sym c.constant_at.ensures ∙ c.if-constant_at.true)
-    (c.signed_constant.ensures a.keys.now a.tags.now c.requires.reader_ready)
+    (c.signed_constant.ensures a.mentioned.now c.requires)
 
 pub returns : goal.returns
 returns c =

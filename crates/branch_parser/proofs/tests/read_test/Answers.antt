@@ -7,10 +7,10 @@ use Rattle.branch_parser.specs.Rows.{draft_ends}
 use Rattle.branch_parser.specs.TestLaws.{test_null, test_numeric, test_compares}
 use Rattle.branch_parser.proofs.tests.read_test.Goals as goal
 
-pub read_string-requires-clause-reader_ready : goal.read_string-requires-clause-reader_ready
+pub read_string-requires : goal.read_string-requires
 unfolding bytes
-read_string-requires-clause-reader_ready c =
-    ready_moved (bytes "NULL(") c.requires.reader_ready c.skip.ensures (sym c.if-begins_at.ensures)
+read_string-requires c =
+    ready_moved (bytes "NULL(") c.requires c.skip.ensures (sym c.if-begins_at.ensures)
 
 pub returns-in_err-place : goal.returns-in_err-place
 unfolding bytes
@@ -28,7 +28,7 @@ returns-then-begins_at c =
 pub read_part-requires-clause-reader_ready : goal.read_part-requires-clause-reader_ready
 unfolding bytes
 read_part-requires-clause-reader_ready c =
-    ready_moved (bytes "NUMERIC(") c.requires.reader_ready c.skip-then-begins_at-2.ensures (sym c.if-begins_at-2.ensures)
+    ready_moved (bytes "NUMERIC(") c.requires c.skip-then-begins_at-2.ensures (sym c.if-begins_at-2.ensures)
 
 pub returns-in_err-cell : goal.returns-in_err-cell
 unfolding bytes

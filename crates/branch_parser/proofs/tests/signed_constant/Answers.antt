@@ -17,7 +17,7 @@ pub skip-requires : goal.skip-requires
 skip-requires c = omega (arith, signed_ends c.in_ok-number.ensures refl)
 
 pub returns-in_err-number : goal.returns-in_err-number
-returns-in_err-number c = λ keys tags ready. cell_lost c.from_residual.ensures (signed_broken c.in_err-number.ensures refl)
+returns-in_err-number c = λ m ready. cell_lost c.from_residual.ensures (signed_broken c.in_err-number.ensures refl)
 
 pub returns : goal.returns
 returns c =
@@ -25,7 +25,7 @@ returns c =
     let n = c.in_ok-number.number in
     let ends = signed_ends u refl in
     let constant_cell : ℕ → Table.Cell = Table.cell constant_kind.number 0 in
-    λ keys tags ready.
+    λ m ready.
     record {
       answer =
           value_got (λ i. constant_cell (biased i)) n.value.value (constant_cell c.with_bias.result) n.next ready (signed_is u refl) ends.0 ends.1

@@ -1,7 +1,6 @@
 -- `card_reader::Joining::add_line` adds a line.
 use Rattle.card_reader.proofs.Parts.{added, text_fits}
 use Rattle.card_reader.specs.Packs.{longest_text}
-use Rattle.card_reader.specs.Packs.{longest_text}
 use native.Mathlib.Omega.{arith}
 use Rattle.card_reader.proofs.Joining.add_line.Goals as goal
 

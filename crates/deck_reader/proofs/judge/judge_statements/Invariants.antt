@@ -2,15 +2,13 @@
 use Prim.Native.Nat.{◌+◌, ◌-◌}
 use lib.ListN.{length}
 use mathlib.Core.Path.{◌≡◌}
-use Rattle.name_checks.specs.Arrays.{arrays}
 use Rattle.card_reader.specs.Packs.{longest_text}
 use Rattle.deck_reader.specs.DeckLaws.{DeckJudging}
-use Rattle.deck_reader.specs.Judging.{ArraysLent}
 use Rattle.deck_reader.proofs.judge.judge_statements.Given as goal
 
 abbrev pub invariant-loop-from : goal.invariant-loop-from
 invariant-loop-from l =
-    DeckJudging l.deck (arrays l.known l.symbols l.purposes) l.from l.card × ArraysLent l.keys l.tags l.table × (length l.text ≡ longest_text) × (length l.table ≡ length l.initial.table)
+    DeckJudging l.deck l.symbols l.from l.card × (length l.text ≡ longest_text)
 
 abbrev pub decreases-loop-from : goal.decreases-loop-from
 decreases-loop-from l =

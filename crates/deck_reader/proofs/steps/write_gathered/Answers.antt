@@ -1,31 +1,38 @@
 -- `deck_reader::steps::write_gathered`: nothing, or the step of a statement.
-use mathlib.Core.Bool.{true≢false}
-use mathlib.Core.Path.{refl, sym, ◌∙◌}
+use Prim.Native.Nat.{◌+◌}
+use mathlib.Core.Path.{◌≡◌, refl, sym, subst, ◌∙◌}
 use native.Mathlib.Omega.{arith}
+use lib.ListN.{take}
 use lib.Seq.{length-take-le}
-use Rattle.deck_reader.specs.StepsLaws.{counted_next}
+use Rattle.card_reader.specs.declared.PackedStatement.{PackedStatement}
+use Rattle.deck_reader.specs.Steps.{PackedWritten, next_at}
 use Rattle.deck_reader.proofs.steps.write_gathered.Goals as goal
 
-pub returns-then-e : goal.returns-then-e
-returns-then-e c =
-    record { skips = λ _. (c.passed.ensures, refl, refl, refl, refl); writes = λ f. absurd (true≢false (sym c.if-e.true ∙ f)) }
+pub returns-in-None : goal.returns-in-None
+returns-in-None c = record { skips = λ _. (refl, refl, refl, refl); writes = λ q is. absurd (cc (sym c.in-None.is ∙ is)) }
 
 pub slice_bounds-write_packed-end : goal.slice_bounds-write_packed-end
 slice_bounds-write_packed-end c =
-    sym (length-take-le c.args.e.length c.args.text.now c.requires.counts_small.3)
+    let q = c.in-Some.packed in sym (length-take-le q.length c.args.text.now (c.requires.1 q c.in-Some.is).1)
 
 pub write_packed-requires : goal.write_packed-requires
-write_packed-requires c = record {
-  counts_small = (
-    c.requires.counts_small.0,
-    c.requires.counts_small.1,
-    omega (arith, length-take-le c.args.e.length c.args.text.now c.requires.counts_small.3, c.requires.counts_small.2),
-    c.requires.text_bound,
-  );
-  counts_in_range = counted_next c.requires.counts_in_range _;
-  arrays_lent = c.requires.arrays_lent;
-}
+write_packed-requires c =
+    let q = c.in-Some.packed in
+    let w = c.requires.1 q c.in-Some.is in
+    (c.requires.0, omega (arith, length-take-le q.length c.args.text.now w.1, w.0), w.2)
 
-pub returns : goal.returns
-returns c =
-    record { skips = λ t. absurd (true≢false (sym t ∙ c.if-e.false)); writes = λ _. (refl, c.write_packed.ensures) }
+pub returns-in-Some : goal.returns-in-Some
+returns-in-Some c =
+    let a = c.args in
+    let known = next_at a.known.now (a.p.steps + 1) in
+    let w = c.write_packed in
+    record {
+      skips = λ t. absurd (cc (sym t ∙ c.in-Some.is));
+      writes =
+          λ q is.
+          let same : c.in-Some.packed ≡ q = cc (sym c.in-Some.is ∙ is) in (
+            refl,
+            subst (λ (z : PackedStatement). PackedWritten (take z.length a.text.now) known z a.p a.table.now w.result w.new.table)
+                same w.ensures,
+          );
+    }

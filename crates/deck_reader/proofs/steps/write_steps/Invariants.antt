@@ -2,16 +2,14 @@
 use mathlib.Core.Path.{◌≡◌}
 use Prim.Native.Nat.{◌+◌, ◌-◌}
 use lib.ListN.{length}
-use Rattle.card_reader.specs.Packs.{longest_text}
-use Rattle.deck_reader.specs.Judging.{ArraysLent}
-use Rattle.deck_reader.specs.Steps.{DeckAccepted}
+use Rattle.deck_reader.specs.Steps.{DeckAccepted, next_at}
 use Rattle.deck_reader.specs.StepsLaws.{Ongoing}
 use Rattle.deck_reader.proofs.steps.write_steps.Given as goal
 
 abbrev pub invariant-loop-p : goal.invariant-loop-p
 invariant-loop-p l =
-    ((w : DeckAccepted l.deck l.initial.known) → Ongoing l.deck l.initial.known l.initial.table w.whole w.arrays w.taken l.known l.p l.table)
-    × ArraysLent l.keys l.tags l.table × (length l.text ≡ longest_text) × (length l.table ≡ length l.initial.table)
+    (l.known ≡ next_at l.initial.known l.known.next)
+    × ((w : DeckAccepted l.deck l.initial.known) → Ongoing l.deck l.initial.table w.whole l.p l.table)
 
 abbrev pub decreases-loop-p : goal.decreases-loop-p
 decreases-loop-p l =

@@ -25,7 +25,7 @@ copied c told =
 
 pub returns-in-Forward : goal.returns-in-Forward
 unfolding turned
-returns-in-Forward c = c.copy.ensures ∙ copied (goal.at.returns-in-Forward c).After-string_start-start c.in-Forward.is
+returns-in-Forward c = c.write.ensures ∙ copied (goal.at.returns-in-Forward c).After-string_start-start c.in-Forward.is
 
 pub returns-in-Backward : goal.returns-in-Backward
 unfolding turned

@@ -19,7 +19,7 @@ returns-in_default c =
         stays_same a.store.now c.requires.value_spellable.ready.strings,
         ap (λ p. set_string_in current m (part_meaning p) (elements_meaning a.table.now a.s)) c.in-First.is
             ∙ first_none a.table.now a.store.now a.state.now c.in-First.place a.s (length_meaning c.in-First.n)
-            (c.in_default.ensures a.store.now),
+            (c.in_default.ensures a.store.now).0,
       );
     }
 
@@ -34,12 +34,12 @@ returns-in-Whole c =
     (sym c.string_length-to.ensures.0))
     c.set_value.ensures
 
-pub returns-in-Some : goal.returns-in-Some
-returns-in-Some c =
+pub returns-in-Ok : goal.returns-in-Ok
+returns-in-Ok c =
     let a = c.args in
     let m = memory_in a.store.now a.state.now in
     let n = length_meaning c.in-First.n in
-    let asks = c.in-Some.ensures a.store.now in
+    let asks = c.in-Ok.ensures a.store.now in
     stored_as _ a.store.now _ a.state.now _ _
     (ap (λ p. set_string_in current m (part_meaning p) (elements_meaning a.table.now a.s)) c.in-First.is
     ∙ first-between a.table.now a.store.now a.state.now c.in-First.place a.s n asks.0

@@ -1,4 +1,5 @@
 -- `run::run` meets its contract: no step asked for, buffers that are unfit, or a run on buffers that aren't.
+use Rattle.std.proofs.Common.{rules}
 use mathlib.Core.Path.{◌≡◌, refl, sym, ap, ◌∙◌}
 use Prim.Native.Nat.{◌<◌}
 use native.Mathlib.Omega.{arith}
@@ -21,11 +22,11 @@ pub repeat-requires : goal.repeat-requires
 repeat-requires c =
     let a = c.args in
     let fit = c.check_fit in
-    fit_given a.table.now a.input.now (buffers a.store.now a.state.now a.output.now) (sym (ap checked_number c.in-Ok.is) ∙ fit.ensures.0)
-    fit.ensures.1
+    fit_given a.table.now a.input.now (buffers a.store.now a.state.now a.output.now) (sym (ap checked_number c.in-Ok.is) ∙ fit.ensures)
+    (search rules)
 
 pub returns-in-Ok : goal.returns-in-Ok
-returns-in-Ok c = run-kept (λ _. c.check_fit.ensures.1) c.repeat.ensures.run_answers
+returns-in-Ok c = run-kept (λ _. (search rules)) c.repeat.ensures.run_answers
 
 pub returns-in-Err : goal.returns-in-Err
 returns-in-Err c =
@@ -34,8 +35,8 @@ returns-in-Err c =
     let fit = c.check_fit in
     let n = refusal_number c.in-Err.refusal in
     let refused : 0 < n = refusal_some c.in-Err.refusal in
-    let is = sym (ap checked_number c.in-Err.is) ∙ fit.ensures.0 in
+    let is = sym (ap checked_number c.in-Err.is) ∙ fit.ensures in
     let some : 0 < a.count = omega (arith, c.if-count-eq0.false) in
     rw (c.new-in-Err.ensures, c.number.ensures)
-    (run-kept (λ _. fit.ensures.1)
+    (run-kept (λ _. (search rules))
     (unfit_run a.table.now a.input.now b n is refused (unfit_answers a.table.now a.input.now b n is refused refl refl) a.count some))

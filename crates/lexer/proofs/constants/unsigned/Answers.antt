@@ -24,7 +24,7 @@ pub returns-then-value-le-LIMIT : goal.returns-then-value-le-LIMIT
 returns-then-value-le-LIMIT c =
     let a = c.args in
     let n = c.digit_count-n in
-    let v = c.decimal_from-value in
+    let v = c.decimal_of-value in
     let capped = digits_capped a.text.now a.at v.result n.result n.ensures.is v.ensures in
     record {
       read =
@@ -38,7 +38,7 @@ pub returns : goal.returns
 returns c =
     let a = c.args in
     let n = c.digit_count-n in
-    let v = c.decimal_from-value in
+    let v = c.decimal_of-value in
     let capped = digits_capped a.text.now a.at v.result n.result n.ensures.is v.ensures in
     record {
       read = unsigned_above (drop a.at a.text.now) n.result v.result n.ensures.is (omega arith) capped c.if-value-le-LIMIT.false;

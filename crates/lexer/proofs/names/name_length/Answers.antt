@@ -14,7 +14,7 @@ use mathlib.Core.List.{List}
 use Prim.Native.Nat.{ℕ}
 use lib.ListN.{drop, get_or}
 use Rattle.cards.specs.Bytes.{is_letter, is_name_byte}
-use Rattle.lexer.proofs.Forms.{name_none, name-is, name_long}
+use Rattle.lexer.proofs.Forms.{name_none, name_of_letters}
 use Rattle.lexer.proofs.names.name_length.Goals.{After-is_letter, After-count-n}
 use Rattle.lexer.proofs.names.name_length.Goals as goal
 
@@ -43,26 +43,8 @@ count c =
     ∙ length-prefix_len is_name_byte rest
     ∙ ap (λ (l : List ℕ). prefix_len is_name_byte l) c.behind.ensures)
 
-pub returns-then-n-le8 : goal.returns-then-n-le8
-returns-then-n-le8 c =
-    let d = (goal.at.returns-then-n-le8 c).After-is_letter in
-    let a = c.args in
-    let n = c.count-n in
-    let counts = count (goal.at.returns-then-n-le8 c).After-count-n in
-    record {
-      is = name-is (drop a.at a.text.now) n.result counts.is (letter d ∙ c.if-not-is_letter.false) c.if-n-le8.true;
-      short = omega arith;
-      inside = counts.inside;
-    }
-
-pub returns-else-n-le8 : goal.returns-else-n-le8
-returns-else-n-le8 c =
-    let d = (goal.at.returns-else-n-le8 c).After-is_letter in
-    let a = c.args in
-    let n = c.count-n in
-    let counts = count (goal.at.returns-else-n-le8 c).After-count-n in
-    record {
-      is = name_long (drop a.at a.text.now) n.result counts.is (letter d ∙ c.if-not-is_letter.false) c.if-n-le8.false;
-      short = omega arith;
-      inside = omega arith;
-    }
+pub returns : goal.returns
+returns c =
+    let d = goal.at.returns c in
+    name_of_letters c.args.text.now c.args.at c.count-n.result (count d.After-count-n)
+    (letter d.After-is_letter ∙ c.if-not-is_letter.false) c.then_some.ensures

@@ -1,47 +1,31 @@
 -- `link_checks::executed::executed_pairs` notes use by use. The invariant: the pairs of the uses passed.
-use Prim.Native.Nat.{◌+◌}
-use Rattle.link_checks.proofs.Pairings.{no_pairs, up_to, to_start, uses_one, uses_other, uses_whole}
-use Rattle.link_checks.specs.Pairs.{Paired, use_pairs}
-use mathlib.Core.Bool.{Bool, false}
-use mathlib.Core.List.{List}
-use mathlib.Core.Path.{subst, sym}
-use lib.ListN.{length-replicate}
-use native.Mathlib.Omega.{arith}
-use Rattle.link_checks.proofs.executed.executed_pairs.Goals.{then-use_purposes-u-eq-ROUTINE, else-use_purposes-u-eq-ROUTINE}
+use Rattle.std.proofs.Common.{Bool, List, ◌+◌, get_or, subst, sym, ◌∙◌, arith}
+use Rattle.symbols.specs.declared.tags.Purpose.TheVariants.{Program}
+use Rattle.link_checks.proofs.Pairings.{no_pairs, up_to, is_executed, to_start, uses_one, uses_other, uses_whole}
+use Rattle.link_checks.specs.Pairs.{routine_count, Paired, use_pairs}
+use Rattle.link_checks.proofs.executed.executed_pairs.Goals.{then-eq, else-eq}
 use Rattle.link_checks.proofs.executed.executed_pairs.Goals as goal
 
 pub loop-u-init : goal.loop-u-init
 loop-u-init c =
-    let a = c.args in
-    let f = use_pairs a.known.now a.use_keys.now a.use_scopes.now a.use_purposes.now in
-    (to_start a.count c.requires.count_bound f no_pairs (length-replicate 289 false), omega arith)
-
-pub note_use-requires : goal.note_use-requires
-note_use-requires c =
-    record { counted = c.requires.closable.counted; size = c.loop-u.invariant.0.size; few = c.requires.count_bound }
+    let s = c.args.symbols.now in
+    (to_start (routine_count s.known) (use_pairs s.known s.uses) no_pairs, omega arith)
 
 pub loop-u-preserved : goal.loop-u-preserved
 loop-u-preserved c =
-    let a = c.args in
+    let s = c.args.symbols.now in
     let l = c.loop-u in
-    let Next : List Bool → Type 0 =
-    λ pairs. Paired a.count no_pairs pairs (up_to (use_pairs a.known.now a.use_keys.now a.use_scopes.now a.use_purposes.now) (l.u + 1)) in (
-      elim c.if-use_purposes-u-eq-ROUTINE.branch [
-        | then-use_purposes-u-eq-ROUTINE w ↦
+    let count = routine_count s.known in
+    let told = sym (is_executed (get_or s.uses.purposes l.u Program)) ∙ sym c.eq.ensures in
+    let Next : List Bool → Type 0 = λ pairs. Paired count no_pairs pairs (up_to (use_pairs s.known s.uses) (l.u + 1)) in (
+      elim c.if-eq.branch [
+        | then-eq w ↦
             subst Next (sym w.pairs-is)
-            (uses_one a.count c.requires.count_bound a.known.now a.use_keys.now a.use_scopes.now a.use_purposes.now l.pairs
-            w.note_use.new.pairs l.u l.invariant.0 w.if-use_purposes-u-eq-ROUTINE.true w.note_use.ensures)
-        | else-use_purposes-u-eq-ROUTINE w ↦
-            subst Next (sym w.pairs-is)
-            (uses_other a.count c.requires.count_bound a.known.now a.use_keys.now a.use_scopes.now a.use_purposes.now l.pairs l.u
-            l.invariant.0 w.if-use_purposes-u-eq-ROUTINE.false)
+            (uses_one count s.known s.uses l.pairs w.note_use.new.pairs l.u l.invariant.0 (told ∙ w.if-eq.true) w.note_use.ensures)
+        | else-eq w ↦ subst Next (sym w.pairs-is) (uses_other count s.known s.uses l.pairs l.u l.invariant.0 (told ∙ w.if-eq.false))
       ],
       omega arith,
     )
 
 pub returns : goal.returns
-returns c =
-    let a = c.args in
-    let l = c.loop-u in
-    uses_whole a.count c.requires.count_bound a.known.now a.use_keys.now a.use_scopes.now a.use_purposes.now l.pairs l.u
-    l.invariant.0 (omega arith)
+returns c = let l = c.loop-u in uses_whole c.args.symbols.now l.pairs l.u l.invariant.0 (omega arith)

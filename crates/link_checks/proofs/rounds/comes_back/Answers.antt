@@ -7,10 +7,6 @@ loop-round-init c =
     let a = c.args in
     turned_none a.pairs.now a.count a.i c.requires.i_lt_count c.row_of-marks.result c.row_of-marks.ensures
 
-pub next_marks-marks-requires : goal.next_marks-marks-requires
-next_marks-marks-requires c =
-    record { marks_size = c.loop-round.invariant.size; size = c.requires.pair_places.size; few = c.requires.pair_places.few }
-
 pub loop-round-preserved : goal.loop-round-preserved
 loop-round-preserved c =
     let a = c.args in

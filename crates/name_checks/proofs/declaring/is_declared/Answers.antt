@@ -1,18 +1,43 @@
 -- `declaring::is_declared` looks a name up where its purpose has it.
-use mathlib.Core.Path.{◌∙◌}
-use Rattle.name_checks.specs.DeclaringLaws.{declared_label, declared_routine, declared_number, declared_none}
-use native.Mathlib.Omega.{arith}
+use Rattle.std.proofs.Common.{rules, tests, ◌∙◌, ⊎_elim, sym, eqb}
+use Rattle.std.proofs.lemmas.Iterator.{YieldsList-from_slice}
+use Rattle.std.proofs.lemmas.Iterator.Search.{any_from_yields_List}
+use Rattle.symbols.specs.declared.known.Label as Listed
+use Rattle.symbols.specs.declared.known.Routine as Opened
+use Rattle.name_checks.specs.DeclaringLaws.{declared_key, declared_is}
+use Rattle.name_checks.proofs.Comparing.{key_listed}
 use Rattle.name_checks.proofs.declaring.is_declared.Goals as goal
 
-pub returns-in-1 : goal.returns-in-1
-returns-in-1 c = c.has_key.ensures ∙ declared_label c.args.known.now c.requires c.args.key c.args.p c.in-1.is
+pub returns-in-Label : goal.returns-in-Label
+unfolding declared_key
+returns-in-Label c =
+    let a = c.args in
+    let known = a.known.now in
+    let test = λ (l : Listed.Label). eqb l.key a.key in
+    any_from_yields_List test _ _ c.any.result c.any.ensures.ran (YieldsList-from_slice known.labels.items (cc))
+    (λ x b q k. search (rules, tests))
+    ∙ key_listed (λ (l : Listed.Label). l.key) a.key known.labels.items
+    ∙ sym (declared_is known a.key a.purpose ∙ rw c.in-Label.is)
 
-pub returns-in-2 : goal.returns-in-2
-returns-in-2 c = c.has_key-in-2.ensures ∙ declared_routine c.args.known.now c.requires c.args.key c.args.p c.in-2.is
+pub returns-in-Routine : goal.returns-in-Routine
+unfolding declared_key
+returns-in-Routine c =
+    let a = c.args in
+    let known = a.known.now in
+    let test = λ (r : Opened.Routine). eqb r.key a.key in
+    any_from_yields_List test _ _ c.any-in-Routine.result c.any-in-Routine.ensures.ran (YieldsList-from_slice known.routines.items (cc))
+    (λ x b q k. search (rules, tests))
+    ∙ key_listed (λ (r : Opened.Routine). r.key) a.key known.routines.items
+    ∙ sym (declared_is known a.key a.purpose ∙ rw c.in-Routine.is)
 
-pub returns-in-3 : goal.returns-in-3
-returns-in-3 c = c.has_key-in-3.ensures ∙ declared_number c.args.known.now c.requires c.args.key c.args.p c.in-3.is
+pub returns-in-Number : goal.returns-in-Number
+unfolding declared_key
+returns-in-Number c =
+    let a = c.args in
+    c.has_number.ensures ∙ sym (declared_is a.known.now a.key a.purpose ∙ rw c.in-Number.is)
 
-pub returns-in_default : goal.returns-in_default
-returns-in_default c =
-    declared_none c.args.known.now c.requires c.args.key c.args.p (λ e. omega arith) (λ e. omega arith) (λ e. omega arith)
+pub returns-in-Program : goal.returns-in-Program
+unfolding declared_key
+returns-in-Program c =
+    let a = c.args in
+    sym (declared_is a.known.now a.key a.purpose ∙ ⊎_elim (λ e. rw e) (λ e. rw e) c.in-Program.is)

@@ -1,10 +1,9 @@
 -- `roles::has_clash` finds a role that clashes. The invariant: the roles left, with the reference so far, lead to the same.
 use mathlib.Core.Path.{◌≡◌}
-use Prim.Native.Nat.{◌≤◌}
 use Rattle.name_checks.specs.RoleLaws.{clash_from}
 use Rattle.name_checks.specs.Roles.{Unclashed}
 use Rattle.name_checks.proofs.roles.has_clash.Given as goal
 
 abbrev pub invariant-loop-i : goal.invariant-loop-i
 invariant-loop-i l =
-    (l.i ≤ l.met) × (clash_from l.keys l.tags l.met l.searched l.i ≡ clash_from l.keys l.tags l.met 0 0) × Unclashed l.keys l.tags l.i
+    (clash_from l.mentioned l.met l.searched l.i ≡ clash_from l.mentioned l.met 0 0) × Unclashed l.mentioned l.i

@@ -5,10 +5,10 @@ use Rattle.symbols.specs.Environment.{places_in}
 use Rattle.numeric_parser.specs.OperandLaws.{ready_moved, cell_ends, called_length, called_number, called_plain}
 use Rattle.numeric_parser.proofs.operands.read_called.Goals as goal
 
-pub read_string-requires-clause-reader_ready : goal.read_string-requires-clause-reader_ready
+pub read_string-requires : goal.read_string-requires
 unfolding bytes
-read_string-requires-clause-reader_ready c =
-    ready_moved (bytes "LENGTH(") c.requires.reader_ready c.skip.ensures (sym c.if-begins_at.ensures)
+read_string-requires c =
+    ready_moved (bytes "LENGTH(") c.requires c.skip.ensures (sym c.if-begins_at.ensures)
 
 pub returns-in_err-place : goal.returns-in_err-place
 unfolding bytes
@@ -26,7 +26,7 @@ returns-then-begins_at c =
 pub read_part-requires-clause-reader_ready : goal.read_part-requires-clause-reader_ready
 unfolding bytes
 read_part-requires-clause-reader_ready c =
-    ready_moved (bytes "NUMBER(") c.requires.reader_ready c.skip-then-begins_at-2.ensures (sym c.if-begins_at-2.ensures)
+    ready_moved (bytes "NUMBER(") c.requires c.skip-then-begins_at-2.ensures (sym c.if-begins_at-2.ensures)
 
 pub returns-in_err-cell : goal.returns-in_err-cell
 unfolding bytes

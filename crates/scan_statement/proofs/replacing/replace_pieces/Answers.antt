@@ -29,33 +29,33 @@ overflow_add-found c =
 
 pub replace_found-requires : goal.replace_found-requires
 replace_found-requires c =
-    let by = c.in-By.is in
+    let by = c.in-Some.is in
     let end = c.found_from-from.ensures.2 in record {
       value_spellable = record { bytes = c.requires.replaceable.bytes; ready = c.requires.replaceable.ready; elements = subst (ReplacementHolds c.args.table.now) by c.requires.replaceable.replacement };
       between = record { known = c.requires.replaceable.between.known; order = omega arith; within = omega (arith, c.requires.replaceable.between.within, end) };
       out_len = c.requires.out_len;
     }
 
-pub returns-in-Nothing : goal.returns-in-Nothing
+pub returns-in-None : goal.returns-in-None
 unfolding pure
-returns-in-Nothing c =
+returns-in-None c =
     let a = c.args in
     stored_as _ a.store.now _ a.state.now _ _
     (ap
     (replaced_by a.table.now a.store.now a.state.now (direction_meaning a.s.direction) a.at _ _)
-    c.in-Nothing.is)
+    c.in-None.is)
     (record { leaves = (stays_same a.store.now c.requires.replaceable.ready.strings, refl) })
 
-pub returns-in-By : goal.returns-in-By
-returns-in-By c =
+pub returns-in-Some : goal.returns-in-Some
+returns-in-Some c =
     let a = c.args in
     let way = direction_meaning a.s.direction in
     let size = a.at.to - a.at.from in
     let sum = c.pieces_length-n in
     stored_as _ a.store.now _ a.state.now _ _
-    (ap (replaced_by a.table.now a.store.now a.state.now way a.at _ _) c.in-By.is
-    ∙ ap₂ (λ (i j : ℕ). stored_turned a.table.now a.store.now a.state.now way a.at.place (found_from way a.at.from size i j) (found_to way a.at.from size i j) c.in-By.by)
+    (ap (replaced_by a.table.now a.store.now a.state.now way a.at _ _) c.in-Some.is
+    ∙ ap₂ (λ (i j : ℕ). stored_turned a.table.now a.store.now a.state.now way a.at.place (found_from way a.at.from size i j) (found_to way a.at.from size i j) c.in-Some.by)
     refl (sym sum.ensures)
-    ∙ ap₂ (λ (from to : ℕ). stored_turned a.table.now a.store.now a.state.now way a.at.place from to c.in-By.by)
+    ∙ ap₂ (λ (from to : ℕ). stored_turned a.table.now a.store.now a.state.now way a.at.place from to c.in-Some.by)
     (sym c.found_from-from.ensures.0) (sym c.found_from-from.ensures.1))
     c.replace_found.ensures

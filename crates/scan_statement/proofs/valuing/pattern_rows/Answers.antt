@@ -10,7 +10,7 @@ use Rattle.scan_statement.proofs.valuing.pattern_rows.Goals as goal
 pub loop-i-init : goal.loop-i-init
 loop-i-init c =
     let a = c.args in
-    valuing_begins (memory_in a.store.now a.state.now) a.table.now a.pattern.from a.pattern.count a.values.now a.rows.now
+    valuing_begins (memory_in a.memory.store.now a.memory.state.now) a.table.now a.pattern.from a.pattern.count a.values.now a.rows.now
     a.names.now c.requires.buffers
 
 pub overflow_add-from : goal.overflow_add-from
@@ -27,7 +27,6 @@ put_element-requires c =
     let l = c.loop-i in
     record {
       bytes = c.requires.bytes;
-      ready = c.requires.ready;
       searched = c.requires.searched;
       holds =
           c.requires.pattern.each (c.args.pattern.from + l.i) c.pattern_at-x.result

@@ -5,4 +5,4 @@ use Rattle.scan_statement.proofs.valuing.pattern_rows.Given as goal
 
 abbrev pub invariant-loop-i : goal.invariant-loop-i
 invariant-loop-i l =
-    RowsValued (memory_in l.store l.state) l.table l.from l.i-end l.values l.rows l.names l.notes l.i
+    RowsValued (memory_in l.memory.store.now l.memory.state.now) l.table l.from l.i-end l.values l.rows l.names l.notes l.i

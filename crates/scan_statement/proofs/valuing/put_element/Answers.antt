@@ -19,7 +19,6 @@ pub put_value-requires : goal.put_value-requires
 put_value-requires c =
     record {
       bytes = c.requires.bytes;
-      ready = c.requires.ready;
       holds = subst (PatternHolds c.requires.searched) c.in-Value.is c.requires.holds;
       few = c.requires.few;
       strings = c.requires.buffers.strings;
@@ -34,7 +33,7 @@ overflow_cast-names c =
 pub length_value-z-requires : goal.length_value-z-requires
 length_value-z-requires c =
     let holds = subst (PatternHolds c.requires.searched) c.in-Fixed.is c.requires.holds in record {
-      state_numbered = c.requires.ready.numbers;
+      state_numbered = c.args.memory.ready.numbers;
       length_holds = holds.1;
     }
 
@@ -42,7 +41,7 @@ pub put_fixed-requires : goal.put_fixed-requires
 put_fixed-requires c =
     let holds = subst (PatternHolds c.requires.searched) c.in-Fixed.is c.requires.holds in
     record {
-      range = (c.length_value-z.ensures c.args.store.now).range;
+      range = (c.length_value-z.ensures c.args.memory.store.now).range;
       known = holds.0.place;
       few = c.requires.few;
       lines = c.requires.buffers.lines;
@@ -53,7 +52,7 @@ pub returns-in-Value : goal.returns-in-Value
 returns-in-Value c =
     let put = (goal.at.returns-in-Value c).After-put_value in
     let a = c.args in
-    let m = memory_in a.store.now a.state.now in
+    let m = memory_in a.memory.store.now a.memory.state.now in
     let e = c.put_value.ensures in
     let values = c.put_value.new.values in
     let rows = c.put_value.new.rows in
@@ -76,7 +75,7 @@ pub returns-in-Free : goal.returns-in-Free
 returns-in-Free c =
     let put = (goal.at.returns-in-Free c).After-put_row in
     let a = c.args in
-    let m = memory_in a.store.now a.state.now in
+    let m = memory_in a.memory.store.now a.memory.state.now in
     let holds = subst (PatternHolds c.requires.searched) c.in-Free.is c.requires.holds in
     let place = c.in-Free.s in
     let rows = c.put_row.new.rows in
@@ -99,7 +98,7 @@ unfolding valued_in
 returns-in-Fixed c =
     let put = (goal.at.returns-in-Fixed c).After-put_fixed in
     let a = c.args in
-    let m = memory_in a.store.now a.state.now in
+    let m = memory_in a.memory.store.now a.memory.state.now in
     let e = c.put_fixed.ensures in
     let place = c.in-Fixed.s in
     let rows = c.put_fixed.new.rows in
@@ -110,7 +109,7 @@ returns-in-Fixed c =
           names a.i (valued_in current m (pattern_meaning a.table.now x)))
           (sym c.in-Fixed.is)
           (subst (λ (z : ℤ). ElementRowPut a.values.now a.values.now a.rows.now rows a.names.now names a.i c.put_fixed.result (fixed_at place z))
-          (c.length_value-z.ensures a.store.now).value
+          (c.length_value-z.ensures a.memory.store.now).value
           (e.put a.values.now c.requires.buffers.strings));
       buffers =
           record {

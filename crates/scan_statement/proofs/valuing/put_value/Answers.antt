@@ -26,7 +26,6 @@ append_element-requires c =
     let size : at + 1024 - at ≡ 1024 = omega arith in
     record {
       bytes = c.requires.bytes;
-      ready = c.requires.ready;
       holds = c.requires.holds;
       room = length_stretch c.args.values.now at (at + 1024 - at) (omega (arith, c.requires.few, c.requires.strings)) ∙ size;
     }
@@ -41,11 +40,11 @@ lent c =
 adds : (c : After-append_element) {r : Text} → c.append_element.result ≡ r
     → (let a = c.args in
     AppendedText r (lent c) c.append_element.new.out 0
-    (element_in current (memory_in a.store.now a.state.now) (element_meaning a.table.now a.x)))
+    (element_in current (memory_in a.memory.store.now a.memory.state.now) (element_meaning a.table.now a.x)))
 adds c e =
     let a = c.args in
     subst (λ (r : Text). AppendedText r (lent c) c.append_element.new.out 0
-    (element_in current (memory_in a.store.now a.state.now) (element_meaning a.table.now a.x)))
+    (element_in current (memory_in a.memory.store.now a.memory.state.now) (element_meaning a.table.now a.x)))
     e c.append_element.ensures.added
 
 pub put_string-requires : goal.put_string-requires

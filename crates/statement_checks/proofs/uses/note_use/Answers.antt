@@ -1,20 +1,14 @@
 -- `uses::note_use` notes a label or routine used.
-use Rattle.name_checks.specs.ArrayLaws.{two-regions}
-use Rattle.statement_checks.specs.UseLaws.{used-one}
-use lib.ListN.{length-set}
+use Rattle.statement_checks.specs.UseLaws.{used_one, used_none}
 use native.Mathlib.Omega.{arith}
 use Rattle.statement_checks.proofs.uses.note_use.Goals as goal
 
-pub bounds-uses-n : goal.bounds-uses-n
-bounds-uses-n c = let s = c.requires in omega (arith, two-regions c.args.uses.now s.scopes_size, s.room)
-
-pub bounds-uses-n-in-1 : goal.bounds-uses-n-in-1
-bounds-uses-n-in-1 c =
-    let s = c.requires in
+pub returns-in-LabelUsed : goal.returns-in-LabelUsed
+returns-in-LabelUsed c =
     let a = c.args in
-    omega (arith, length-set a.uses.now a.n a.key, two-regions a.uses.now s.scopes_size, s.room)
+    used_one a.uses.now a.key a.scope _ (omega arith) (omega arith) (omega arith) a.tag c.purpose.ensures c.in-LabelUsed.is
 
-pub returns-in-1 : goal.returns-in-1
-returns-in-1 c =
+pub returns-in_default : goal.returns-in_default
+returns-in_default c =
     let a = c.args in
-    used-one a.uses.now a.purposes.now a.n a.key a.scope a.tag c.requires
+    used_none a.uses.now a.key a.scope a.tag c.in_default.not-LabelUsed c.in_default.not-RoutineUsed

@@ -1,12 +1,11 @@
 -- `statement_parser::stages::branch_or_next` reads a branch field, if there is one.
-use Rattle.std.proofs.Common.{[], refl, sym, ap, ◌∙◌, drop}
+use Rattle.std.proofs.Common.{[], refl, sym, drop}
 use Rattle.base.specs.Current.{current}
 use Rattle.branch_parser.specs.Places.{is_number_known}
-use Rattle.branch_parser.specs.Rows.{draft_meaning}
 use Rattle.syntax.specs.Forms.{branch_if_any}
 use Rattle.symbols.specs.Environment.{places_in}
 use Rattle.statement_parser.specs.PartLaws.{branch_stage}
-use Rattle.statement_parser.specs.Rows.{with_branch, with_steps}
+use Rattle.statement_parser.specs.Rows.{with_branch}
 use Rattle.statement_parser.specs.StageLaws.{stage_got, stage_same, branch-any, branch_not, steps-made}
 use Rattle.statement_parser.specs.Stages.{branching}
 use Rattle.statement_parser.proofs.stages.branch_or_next.Goals as goal
@@ -20,9 +19,10 @@ returns-then-stands_at c =
     (branch_stage a.known.now row r.result r.ensures table)
 
 pub returns : goal.returns
+unfolding places_in
 returns c =
     let a = c.args in
     λ row table.
     stage_got (branch_if_any current (is_number_known a.known.now) (places_in a.known.now)) (λ _. with_branch) (λ _. []) refl
-    (branch_not a.known.now table row _ a.c c.requires.reader_ready (sym c.if-stands_at.ensures)
-    (steps-made row refl ∙ ap (λ n. with_steps n n (draft_meaning row)) c.next_step-next.ensures))
+    (branch_not a.known.now table row _ a.c c.requires (sym c.if-stands_at.ensures)
+    (steps-made row refl))

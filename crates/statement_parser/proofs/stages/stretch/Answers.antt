@@ -10,5 +10,5 @@ pub returns : goal.returns
 returns c =
     let a = c.args in
     λ row.
-    stage_got (parse_row a.patterned (places_in a.known.now)) (λ n xs. with_range n xs) (shown_row a.patterned) refl
-    (drawn_row (shown_size a.patterned) row c.in_ok-d.ensures.answer refl c.range_cell-cell.ensures)
+    stage_got (parse_row a.elements (places_in a.known.now)) (λ n xs. with_range n xs) (shown_row a.elements) refl
+    (drawn_row (shown_size a.elements) row c.in_ok-d.ensures.answer refl c.range_cell-cell.ensures)

@@ -1,6 +1,6 @@
 -- `statement_parser::steps::input_form` reads a string and a branch field.
 use Rattle.std.proofs.Common.{Some, None}
-use Rattle.branch_parser.specs.declared.Row.{Row}
+use Rattle.encoding.specs.declared.cells.Row.{Row}
 use Rattle.base.specs.Text.{bytes}
 use Rattle.encoding.specs.Kinds.{read_kind}
 use Rattle.numeric_parser.specs.OperandLaws.{ready_at}
@@ -15,7 +15,7 @@ begun = begun_row read_kind.number 0
 
 pub read_part-requires-clause-reader_ready : goal.read_part-requires-clause-reader_ready
 read_part-requires-clause-reader_ready c =
-    ready_at c.behind_unit-d.ensures.skips c.requires.reader_ready c.behind_unit-d.ensures.inside
+    ready_at c.behind_unit-d.ensures.skips c.requires c.behind_unit-d.ensures.inside
 
 pub returns-in_err-left : goal.returns-in_err-left
 unfolding bytes
@@ -24,8 +24,8 @@ returns-in_err-left c =
     let u = c.behind_unit-d.ensures in
     λ table.
     form_ends c.from_residual.ensures
-    (input_read a.known.now table u.size u.skips c.requires.reader_ready (ready_at u.skips c.requires.reader_ready u.inside) u.is None None
-    (part_stage a.known.now begun 4 None c.in_err-left.ensures) (λ _. unread))
+    (input_read a.known.now table u.size u.skips (ready_at u.skips c.requires u.inside) u.is None None
+    (part_stage a.known.now begun None None c.in_err-left.ensures) (λ _. unread))
 
 pub returns-in_err-b : goal.returns-in_err-b
 unfolding bytes
@@ -36,8 +36,8 @@ returns-in_err-b c =
     let row = draft_left begun l.left in
     λ table.
     form_ends c.from_residual-in_err-b.ensures
-    (input_read a.known.now table u.size u.skips c.requires.reader_ready (ready_at u.skips c.requires.reader_ready u.inside) u.is (Some (row, l.e)) None
-    (part_stage a.known.now begun 4 (Some (l.left, l.e)) l.ensures) (c.in_err-b.ensures row))
+    (input_read a.known.now table u.size u.skips (ready_at u.skips c.requires u.inside) u.is (Some (row, l.e)) None
+    (part_stage a.known.now begun None (Some (l.left, l.e)) l.ensures) (c.in_err-b.ensures row))
 
 pub returns : goal.returns
 unfolding bytes
@@ -49,5 +49,5 @@ returns c =
     let row = draft_left begun l.left in
     λ table.
     form_ends c.ended.ensures
-    (input_read a.known.now table u.size u.skips c.requires.reader_ready (ready_at u.skips c.requires.reader_ready u.inside) u.is (Some (row, l.e))
-    (Some (draft_steps row b.b.success b.b.failure, b.f)) (part_stage a.known.now begun 4 (Some (l.left, l.e)) l.ensures) (b.ensures row))
+    (input_read a.known.now table u.size u.skips (ready_at u.skips c.requires u.inside) u.is (Some (row, l.e))
+    (Some (draft_steps row b.b.success b.b.failure, b.f)) (part_stage a.known.now begun None (Some (l.left, l.e)) l.ensures) (b.ensures row))

@@ -12,41 +12,42 @@ use Rattle.statement_parser.specs.StageLaws.{form_lost, form_ends}
 use Rattle.statement_parser.proofs.steps.more_numbers.Goals.{After-read_name}
 use Rattle.statement_parser.proofs.steps.more_numbers.Goals as goal
 
-pub loop-keys-init : goal.loop-keys-init
-loop-keys-init c = (c.requires, λ r k g m. m)
+pub loop-mentioned-init : goal.loop-mentioned-init
+loop-mentioned-init c = (c.requires, λ r m f. f)
 
 pub skip-requires : goal.skip-requires
-skip-requires c = omega (arith, c.loop-keys.invariant.0)
+skip-requires c = omega (arith, c.loop-mentioned.invariant.0)
 
 pub read_name-requires : goal.read_name-requires
 read_name-requires c =
-    let comma = sym c.stands_at.ensures ∙ c.loop-keys-test.true in
-    ready_moved (44 ∷ []) c.loop-keys.invariant.0 c.skip.ensures comma
+    let comma = sym c.stands_at.ensures ∙ c.loop-mentioned-test.true in
+    ready_moved (44 ∷ []) c.loop-mentioned.invariant.0 c.skip.ensures comma
 
 -- the name behind the comma
 module _ (c : After-read_name) where
-  comma : begins (44 ∷ []) (drop c.loop-keys.d.at c.args.text.now) ≡ true
-  comma = sym c.stands_at.ensures ∙ c.loop-keys-test.true
+  comma : begins (44 ∷ []) (drop c.loop-mentioned.d.at c.args.text.now) ≡ true
+  comma = sym c.stands_at.ensures ∙ c.loop-mentioned-test.true
 
 pub returns-in_err-e : goal.returns-in_err-e
 returns-in_err-e c =
     let at = (goal.at.returns-in_err-e c).After-read_name in
-    let inv = at.loop-keys.invariant in
-    inv.1 _ _ _ (λ k h table. form_lost c.from_residual.ensures (numbers_broken table inv.0 (comma at) c.skip.ensures c.in_err-e.ensures.answer k h))
+    let inv = at.loop-mentioned.invariant in
+    let broken = numbers_broken c.args.text.now at.loop-mentioned.d (comma at) c.skip.ensures c.in_err-e.ensures.answer in
+    inv.1 _ _ (λ k h table. form_lost c.from_residual.ensures (broken k h))
 
-pub loop-keys-smaller : goal.loop-keys-smaller
-loop-keys-smaller c =
+pub loop-mentioned-smaller : goal.loop-mentioned-smaller
+loop-mentioned-smaller c =
     let name = c.in_ok-e.ensures.answer in
     omega (arith, name.further, name.ready.inside, ap (λ (z : Cursor). z.at) c.skip.ensures)
 
-pub loop-keys-preserved : goal.loop-keys-preserved
-loop-keys-preserved c =
-    let at = (goal.at.loop-keys-preserved c).After-read_name in
-    let inv = at.loop-keys.invariant in
+pub loop-mentioned-preserved : goal.loop-mentioned-preserved
+loop-mentioned-preserved c =
+    let at = (goal.at.loop-mentioned-preserved c).After-read_name in
+    let inv = at.loop-mentioned.invariant in
     let name = c.in_ok-e.ensures.answer in
-    (name.ready, λ r k g m. inv.1 r k g (λ n h table. numbers_more table inv.0 (comma at) c.skip.ensures name r (λ n l. m n l table) n h))
+    (name.ready, λ r m f. inv.1 r m (λ k h table. numbers_more table (comma at) inv.0 c.skip.ensures name r (λ n l. f n l table) k h))
 
 pub returns : goal.returns
 returns c =
-    let end = sym c.stands_at.ensures ∙ c.loop-keys-test.false in
-    c.loop-keys.invariant.1 c.ended.result _ _ (λ k h table. form_ends c.ended.ensures (numbers_end table c.loop-keys.invariant.0 end k))
+    let end = sym c.stands_at.ensures ∙ c.loop-mentioned-test.false in
+    c.loop-mentioned.invariant.1 c.ended.result _ (λ k h table. form_ends c.ended.ensures (numbers_end table c.loop-mentioned.invariant.0 end k))

@@ -1,16 +1,16 @@
 -- `statement_parser::steps::more_numbers` reads further names, each behind a comma. Whatever is read from a turn on, with it all is read.
-use mathlib.Core.List.{List}
-use Prim.Native.Nat.{ℕ, ◌-◌}
+use Prim.Native.Nat.{◌-◌}
 use lib.ListN.{length}
 use Rattle.numeric_parser.specs.Operands.{ReaderReady}
 use Rattle.statement_parser.specs.Steps.{MoreNumbersRead}
 use Rattle.statement_parser.specs.Drafts.{Form}
+use Rattle.symbols.specs.declared.Mentioned.{Mentioned}
 use Rattle.statement_parser.proofs.steps.more_numbers.Given as goal
 
-abbrev pub invariant-loop-keys : goal.invariant-loop-keys
-invariant-loop-keys l =
-    ReaderReady l.text l.keys l.tags l.d
-    × ((r : Form) (k g : List ℕ) → MoreNumbersRead l.text l.keys l.tags l.d r k g → MoreNumbersRead l.text l.initial.keys l.initial.tags l.initial.d r k g)
+abbrev pub invariant-loop-mentioned : goal.invariant-loop-mentioned
+invariant-loop-mentioned l =
+    ReaderReady l.text l.d
+    × ((r : Form) (m : Mentioned) → MoreNumbersRead l.text l.mentioned l.d r m → MoreNumbersRead l.text l.initial.mentioned l.initial.d r m)
 
-abbrev pub decreases-loop-keys : goal.decreases-loop-keys
-decreases-loop-keys l = length l.text - l.d.at
+abbrev pub decreases-loop-mentioned : goal.decreases-loop-mentioned
+decreases-loop-mentioned l = length l.text - l.d.at

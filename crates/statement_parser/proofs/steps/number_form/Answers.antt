@@ -17,8 +17,8 @@ returns-in_err-e c =
     form_lost c.from_residual-in_err-e.ensures
     (number_open a.known.now p.ensures.answer (mark_none a.text.now 61 p.d c.in_err-e.ensures))
 
-pub assigned-requires-clause-reader_ready : goal.assigned-requires-clause-reader_ready
-assigned-requires-clause-reader_ready c =
+pub assigned-requires : goal.assigned-requires
+assigned-requires c =
     mark_ready c.args.text.now 61 c.in_ok-place.d c.in_ok-place.ensures.answer.ready c.in_ok-e.ensures
 
 pub returns : goal.returns
@@ -26,4 +26,4 @@ returns c =
     let a = c.args in
     let p = c.in_ok-place in
     let m = mark_passed a.text.now 61 p.d c.in_ok-e.ensures in
-    number_then a.known.now p.ensures.answer a.table.now c.requires.reader_ready m.0 c.assigned.result m.1 c.assigned.ensures
+    number_then a.known.now p.ensures.answer a.table.now m.0 c.assigned.result m.1 c.assigned.ensures

@@ -13,5 +13,5 @@ pub returns : goal.returns
 returns c =
     let d = c.in_ok-d.d in
     λ known table.
-    numbers-first table c.requires known c.in_ok-d.ensures.answer c.more_numbers.result
+    numbers-first table known c.in_ok-d.ensures.answer c.more_numbers.result
     (c.more_numbers.ensures (length (drop d.at c.args.text.now)) (omega arith) table)

@@ -10,4 +10,4 @@ returns-in_err-d c =
     λ known table. form_lost c.from_residual.ensures (program_broken known (drop a.c.at a.text.now) c.in_err-d.ensures.answer)
 
 pub returns : goal.returns
-returns c = λ known table. form_ends c.ended.ensures (program_read known table c.requires c.in_ok-d.ensures.answer)
+returns c = λ known table. form_ends c.ended.ensures (program_read known table c.in_ok-d.ensures.answer)

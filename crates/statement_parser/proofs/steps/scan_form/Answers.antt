@@ -1,6 +1,7 @@
 -- `statement_parser::steps::scan_form` reads a reference, a pattern, a replacement and a branch field.
 use Rattle.std.proofs.Common.{Option, Some, None, refl, sym, ap, arith}
 use Rattle.symbols.specs.declared.Cursor.{Cursor}
+use Rattle.symbols.specs.declared.tags.Role.TheVariants.{Reference}
 use Rattle.branch_parser.specs.Tests.{rowed_at}
 use Rattle.encoding.specs.Kinds.{scan_kind}
 use Rattle.numeric_parser.specs.OperandLaws.{text_here, mark_passed, mark_ready}
@@ -16,9 +17,10 @@ returns-in_err-left c =
     let begun = begun_row scan_kind.number a.direction in
     λ way e.
     form_ends c.from_residual.ensures
-    (scan-read a.known.now way c.requires.reader_ready None None None None None None {t₃ = a.table.now} {k₃ = a.keys.now} {g₃ = a.tags.now}
-    {k₅ = a.keys.now} {g₅ = a.tags.now}
-    (λ t. from_draft (ap (λ n. begun_as scan_kind.number n a.c) (sym e)) (part_stage a.known.now begun 20 None c.in_err-left.ensures t)) refl
+    (scan-read a.known.now way c.requires None None None None None None {t₃ = a.table.now} {m₃ = a.mentioned.now}
+    {m₅ = a.mentioned.now}
+    (λ t.
+    from_draft (ap (λ n. begun_as scan_kind.number n a.c) (sym e)) (part_stage a.known.now begun (Some Reference) None c.in_err-left.ensures t)) refl
     unread refl unread (λ _. unread))
 
 pub returns-in_err-open : goal.returns-in_err-open
@@ -29,13 +31,13 @@ returns-in_err-open c =
     let row = draft_left begun l.left in
     λ way e.
     form_ends c.from_residual-in_err-open.ensures
-    (scan-read a.known.now way c.requires.reader_ready (Some (row, l.d)) None None None None None {t₃ = a.table.now} {k₃ = a.keys.now}
-    {g₃ = a.tags.now} {k₅ = a.keys.now} {g₅ = a.tags.now}
-    (λ t. from_draft (ap (λ n. begun_as scan_kind.number n a.c) (sym e)) (part_stage a.known.now begun 20 (Some (l.left, l.d)) l.ensures t))
+    (scan-read a.known.now way c.requires (Some (row, l.d)) None None None None None {t₃ = a.table.now} {m₃ = a.mentioned.now} {m₅ = a.mentioned.now}
+    (λ t.
+    from_draft (ap (λ n. begun_as scan_kind.number n a.c) (sym e)) (part_stage a.known.now begun (Some Reference) (Some (l.left, l.d)) l.ensures t))
     (ap (λ (d : Option Cursor). rowed_at row d) c.in_err-open.ensures) unread refl unread (λ _. unread))
 
-pub stretch-requires-clause-reader_ready : goal.stretch-requires-clause-reader_ready
-stretch-requires-clause-reader_ready c =
+pub stretch-requires : goal.stretch-requires
+stretch-requires c =
     mark_ready c.args.text.now 91 c.in_ok-left.d c.in_ok-left.ensures.answer.ready c.in_ok-open.ensures
 
 pub returns-in_err-right : goal.returns-in_err-right
@@ -46,9 +48,10 @@ returns-in_err-right c =
     let row = draft_left begun l.left in
     λ way e.
     form_ends c.from_residual-in_err-right.ensures
-    (scan-read a.known.now way c.requires.reader_ready (Some (row, l.d)) (Some (row, c.in_ok-open.open)) None None None None
-    {k₅ = a.keys.now} {g₅ = a.tags.now}
-    (λ t. from_draft (ap (λ n. begun_as scan_kind.number n a.c) (sym e)) (part_stage a.known.now begun 20 (Some (l.left, l.d)) l.ensures t))
+    (scan-read a.known.now way c.requires (Some (row, l.d)) (Some (row, c.in_ok-open.open)) None None None None
+    {m₅ = a.mentioned.now}
+    (λ t.
+    from_draft (ap (λ n. begun_as scan_kind.number n a.c) (sym e)) (part_stage a.known.now begun (Some Reference) (Some (l.left, l.d)) l.ensures t))
     (ap (λ (d : Option Cursor). rowed_at row d) c.in_ok-open.ensures) (c.in_err-right.ensures row) refl unread (λ _. unread))
 
 pub marked-requires-2 : goal.marked-requires-2
@@ -64,14 +67,15 @@ returns-in_err-close c =
     let scan = draft_right row row.kind r.right in
     λ way e.
     form_ends c.from_residual-in_err-close.ensures
-    (scan-read a.known.now way c.requires.reader_ready (Some (row, l.d)) (Some (row, c.in_ok-open.open)) (Some (scan, r.e)) None None None
-    {k₅ = a.keys.now} {g₅ = a.tags.now}
-    (λ t. from_draft (ap (λ n. begun_as scan_kind.number n a.c) (sym e)) (part_stage a.known.now begun 20 (Some (l.left, l.d)) l.ensures t))
+    (scan-read a.known.now way c.requires (Some (row, l.d)) (Some (row, c.in_ok-open.open)) (Some (scan, r.e)) None None None
+    {m₅ = a.mentioned.now}
+    (λ t.
+    from_draft (ap (λ n. begun_as scan_kind.number n a.c) (sym e)) (part_stage a.known.now begun (Some Reference) (Some (l.left, l.d)) l.ensures t))
     (ap (λ (d : Option Cursor). rowed_at row d) c.in_ok-open.ensures) (r.ensures row)
     (ap (λ (d : Option Cursor). rowed_at scan d) c.in_err-close.ensures) unread (λ _. unread))
 
-pub replaced-requires-clause-following : goal.replaced-requires-clause-following
-replaced-requires-clause-following c =
+pub replaced-requires : goal.replaced-requires
+replaced-requires c =
     let text = c.args.text.now in
     let l = c.in_ok-left in
     let r = c.in_ok-right.ensures (draft_left (begun_row scan_kind.number c.args.direction) l.left) in
@@ -91,9 +95,10 @@ returns-in_err-row c =
     let scan = draft_right row row.kind r.right in
     λ way e.
     form_ends c.from_residual-in_err-row.ensures
-    (scan-read a.known.now way c.requires.reader_ready (Some (row, l.d)) (Some (row, c.in_ok-open.open)) (Some (scan, r.e))
+    (scan-read a.known.now way c.requires (Some (row, l.d)) (Some (row, c.in_ok-open.open)) (Some (scan, r.e))
     (Some (scan, c.in_ok-close.close)) None None
-    (λ t. from_draft (ap (λ n. begun_as scan_kind.number n a.c) (sym e)) (part_stage a.known.now begun 20 (Some (l.left, l.d)) l.ensures t))
+    (λ t.
+    from_draft (ap (λ n. begun_as scan_kind.number n a.c) (sym e)) (part_stage a.known.now begun (Some Reference) (Some (l.left, l.d)) l.ensures t))
     (ap (λ (d : Option Cursor). rowed_at row d) c.in_ok-open.ensures) (r.ensures row)
     (ap (λ (d : Option Cursor). rowed_at scan d) c.in_ok-close.ensures) c.in_err-row.ensures (λ _. unread))
 
@@ -108,9 +113,10 @@ returns-in_err-b c =
     let scan = draft_right row row.kind r.right in
     λ way e.
     form_ends c.from_residual-in_err-b.ensures
-    (scan-read a.known.now way c.requires.reader_ready (Some (row, l.d)) (Some (row, c.in_ok-open.open)) (Some (scan, r.e))
+    (scan-read a.known.now way c.requires (Some (row, l.d)) (Some (row, c.in_ok-open.open)) (Some (scan, r.e))
     (Some (scan, c.in_ok-close.close)) (Some (p.row, p.f)) None
-    (λ t. from_draft (ap (λ n. begun_as scan_kind.number n a.c) (sym e)) (part_stage a.known.now begun 20 (Some (l.left, l.d)) l.ensures t))
+    (λ t.
+    from_draft (ap (λ n. begun_as scan_kind.number n a.c) (sym e)) (part_stage a.known.now begun (Some Reference) (Some (l.left, l.d)) l.ensures t))
     (ap (λ (d : Option Cursor). rowed_at row d) c.in_ok-open.ensures) (r.ensures row)
     (ap (λ (d : Option Cursor). rowed_at scan d) c.in_ok-close.ensures) p.ensures (c.in_err-b.ensures p.row))
 
@@ -126,8 +132,9 @@ returns c =
     let scan = draft_right row row.kind r.right in
     λ way e.
     form_ends c.ended.ensures
-    (scan-read a.known.now way c.requires.reader_ready (Some (row, l.d)) (Some (row, c.in_ok-open.open)) (Some (scan, r.e))
+    (scan-read a.known.now way c.requires (Some (row, l.d)) (Some (row, c.in_ok-open.open)) (Some (scan, r.e))
     (Some (scan, c.in_ok-close.close)) (Some (p.row, p.f)) (Some (draft_steps p.row b.b.success b.b.failure, b.g))
-    (λ t. from_draft (ap (λ n. begun_as scan_kind.number n a.c) (sym e)) (part_stage a.known.now begun 20 (Some (l.left, l.d)) l.ensures t))
+    (λ t.
+    from_draft (ap (λ n. begun_as scan_kind.number n a.c) (sym e)) (part_stage a.known.now begun (Some Reference) (Some (l.left, l.d)) l.ensures t))
     (ap (λ (d : Option Cursor). rowed_at row d) c.in_ok-open.ensures) (r.ensures row)
     (ap (λ (d : Option Cursor). rowed_at scan d) c.in_ok-close.ensures) p.ensures (b.ensures p.row))

@@ -1,22 +1,40 @@
 -- `statement_parser::steps::sets_number` looks a name up.
-use mathlib.Core.Path.{sym, ap, ◌∙◌}
-use mathlib.Core.Bool.{◌&&◌}
-use lib.ListN.{drop}
-use Prim.Native.Nat.{◌+◌}
-use mathlib.Core.List.{[], ◌∷◌}
+use Rattle.std.proofs.Common.{Bool, ◌&&◌, [], ◌∷◌, ◌≡◌, sym, ap, subst, ◌∙◌, ◌+◌, drop, arith}
 use Rattle.base.specs.Lists.{begins}
+use Rattle.lexer.specs.Places.{NameAt}
+use Rattle.lexer.specs.Laws.{name_counted}
 use Rattle.statement_parser.specs.BehindLaws.{sets_is}
+use Rattle.statement_parser.specs.Steps.{SetsNumber}
+use Rattle.statement_parser.proofs.steps.sets_number.Goals.{After-unwrap_or-n, After-has_number}
 use Rattle.statement_parser.proofs.steps.sets_number.Goals as goal
 
-pub returns-then-number_known : goal.returns-then-number_known
-returns-then-number_known c =
-    let a = c.args in
-    let is = sets_is a.known.now c.name_length-n.ensures c.key_of.ensures in
-    c.stands_at.ensures
-    ∙ sym (is ∙ ap (λ b. b && begins (61 ∷ []) (drop (a.at + c.name_length-n.result) a.text.now)) (sym c.number_known.ensures ∙ c.if-number_known.true))
+-- so many bytes are the name
+module _ (c : After-unwrap_or-n) where
+  name : NameAt c.args.text.now c.args.at c.unwrap_or-n.result
+  name =
+      subst (NameAt c.args.text.now c.args.at) (sym c.unwrap_or-n.ensures) (name_counted c.name_length.result c.name_length.ensures)
 
-pub returns : goal.returns
-returns c =
-    let a = c.args in
-    let is = sets_is a.known.now c.name_length-n.ensures c.key_of.ensures in
-    sym (is ∙ ap (λ b. b && begins (61 ∷ []) (drop (a.at + c.name_length-n.result) a.text.now)) (sym c.number_known.ensures ∙ c.if-number_known.false))
+-- what is answered, by whether it is known
+module _ (c : After-has_number) (n : NameAt c.args.text.now c.args.at c.unwrap_or-n.result) where
+  answered : {b r : Bool} → c.has_number.result ≡ b → r ≡ (b && begins (61 ∷ []) (drop (c.args.at + c.unwrap_or-n.result) c.args.text.now))
+      → SetsNumber c.args.text.now c.args.known.now c.args.at r
+  answered e h =
+      let is = sets_is c.args.known.now n c.key_of.ensures in
+      h
+      ∙ sym
+      (is ∙ ap (λ b. b && begins (61 ∷ []) (drop (c.args.at + c.unwrap_or-n.result) c.args.text.now)) (sym c.has_number.ensures ∙ e))
+
+pub key_of-requires : goal.key_of-requires
+key_of-requires c =
+    let n = name (goal.at.key_of-requires c).After-unwrap_or-n in
+    record { is = n.is; inside = omega (arith, n.inside, c.requires) }
+
+pub returns-then-has_number : goal.returns-then-has_number
+returns-then-has_number c =
+    let at = goal.at.returns-then-has_number c in
+    answered at.After-has_number (name at.After-unwrap_or-n) c.if-has_number.true c.stands_at.ensures
+
+pub returns-else-has_number : goal.returns-else-has_number
+returns-else-has_number c =
+    let at = goal.at.returns-else-has_number c in
+    answered at.After-has_number (name at.After-unwrap_or-n) c.if-has_number.false c.if-has_number.false

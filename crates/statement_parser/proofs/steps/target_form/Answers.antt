@@ -11,8 +11,8 @@ returns-in_err-success c =
     let a = c.args in
     λ form leads table.
     form_ends c.from_residual.ensures
-    (target_read a.known.now a.kind a.tag leads c.requires.reader_ready None
-    (target_stage a.known.now (begun_row a.kind 0) a.tag None c.in_err-success.ensures table))
+    (target_read a.known.now a.kind a.target leads c.requires None
+    (target_stage a.known.now (begun_row a.kind 0) a.target None c.in_err-success.ensures table))
 
 pub returns : goal.returns
 returns c =
@@ -20,5 +20,5 @@ returns c =
     let s = c.in_ok-success in
     λ form leads table.
     form_ends c.ended.ensures
-    (target_read a.known.now a.kind a.tag leads c.requires.reader_ready (Some (draft_steps (begun_row a.kind 0) s.success 0, s.d))
-    (target_stage a.known.now (begun_row a.kind 0) a.tag (Some (s.success, s.d)) s.ensures table))
+    (target_read a.known.now a.kind a.target leads c.requires (Some (draft_steps (begun_row a.kind 0) s.success 0, s.d))
+    (target_stage a.known.now (begun_row a.kind 0) a.target (Some (s.success, s.d)) s.ensures table))

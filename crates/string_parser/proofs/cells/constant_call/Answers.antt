@@ -18,10 +18,7 @@ with_bias-requires c = signed_range c.in_ok-number.ensures refl
 
 pub number_behind-requires : goal.number_behind-requires
 number_behind-requires c =
-    let ends = signed_ends c.in_ok-number.ensures refl in record {
-      reader_ready = ready_on _ c.requires.reader_ready c.skip-d.ensures (omega (arith, ends));
-      counts_in_range = c.requires.counts_in_range;
-    }
+    let ends = signed_ends c.in_ok-number.ensures refl in ready_on _ c.requires c.skip-d.ensures (omega (arith, ends))
 
 pub returns-in_err-number : goal.returns-in_err-number
 returns-in_err-number c = cell_lost c.from_residual.ensures (then_broken _ (signed_broken c.in_err-number.ensures refl))

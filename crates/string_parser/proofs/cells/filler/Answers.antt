@@ -17,16 +17,16 @@ read_bound-requires-clause-reader_ready c =
 pub returns-in_err-cell : goal.returns-in_err-cell
 returns-in_err-cell c =
     cell_ends c.from_residual-in_err-cell.ensures
-    (filler_fixed (places_in c.args.known.now) c.requires.reader_ready c.in_ok-place.ensures.answer None c.skip.ensures
+    (filler_fixed (places_in c.args.known.now) c.in_ok-place.ensures.answer None c.skip.ensures
     (sym c.if-stands_at.ensures) c.in_err-cell.ensures)
 
 pub returns-then-stands_at : goal.returns-then-stands_at
 returns-then-stands_at c =
     cell_ends c.closed.ensures
-    (filler_fixed (places_in c.args.known.now) c.requires.reader_ready c.in_ok-place.ensures.answer (Some (c.in_ok-cell.cell, c.in_ok-cell.e))
+    (filler_fixed (places_in c.args.known.now) c.in_ok-place.ensures.answer (Some (c.in_ok-cell.cell, c.in_ok-cell.e))
     c.skip.ensures (sym c.if-stands_at.ensures) c.in_ok-cell.ensures)
 
 pub returns : goal.returns
 returns c =
     cell_ends c.closed-2.ensures
-    (filler_free (places_in c.args.known.now) c.requires.reader_ready c.in_ok-place.ensures.answer (sym c.if-stands_at.ensures))
+    (filler_free (places_in c.args.known.now) c.in_ok-place.ensures.answer (sym c.if-stands_at.ensures))

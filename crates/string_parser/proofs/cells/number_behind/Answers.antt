@@ -12,8 +12,8 @@ returns-in_err-d c =
     cell_lost c.from_residual.ensures
     (number_alone (places_in a.known.now) (drop a.c.at a.text.now) (mark_none a.text.now 44 a.c c.in_err-d.ensures) n)
 
-pub number_end-requires-clause-reader_ready : goal.number_end-requires-clause-reader_ready
-number_end-requires-clause-reader_ready c = mark_ready c.args.text.now 44 c.args.c c.requires.reader_ready c.in_ok-d.ensures
+pub number_end-requires : goal.number_end-requires
+number_end-requires c = mark_ready c.args.text.now 44 c.args.c c.requires c.in_ok-d.ensures
 
 pub returns : goal.returns
 returns c =

@@ -18,7 +18,6 @@ put_literal-requires c =
       near = omega arith;
       elements = omega arith;
       literals = omega arith;
-      table_size = omega arith;
     }
 
 pub returns-then-begins_at : goal.returns-then-begins_at
@@ -28,7 +27,7 @@ returns-then-begins_at c =
     let bs = drop (a.c.at + 1) a.text.now in
     let two = begins_room (34 ∷ (34 ∷ [])) bs quotes in
     let size = length-drop (a.c.at + 1) a.text.now in
-    λ keys tags ready.
+    λ m ready.
     literal_spelt 1 3 ready (omega arith) (omega arith) (omega arith)
     (literal_quote bs quotes ∙ literal_ends a.text.now a.c.at 1 2 3 (omega arith)) c.put_literal.ensures
 
@@ -38,9 +37,10 @@ returns-then-at-n c =
     let other = sym c.begins_at.ensures ∙ c.if-begins_at.false in
     let n = c.literal_length-n in
     let bs = drop (a.c.at + 1) a.text.now in
-    λ keys tags ready.
+    λ m ready.
     literal_spelt n.result (n.result + 2) ready (omega arith) (omega (arith, c.if-at-n.true)) (omega arith)
-    (literal_run bs other n.ensures.is ∙ literal_ends a.text.now a.c.at n.result (n.result + 1) (n.result + 2) (omega arith)) c.put_literal-then-at-n.ensures
+    (literal_run bs other n.ensures.is ∙ literal_ends a.text.now a.c.at n.result (n.result + 1) (n.result + 2) (omega arith))
+    c.put_literal-then-at-n.ensures
 
 pub returns : goal.returns
 returns c =
@@ -48,6 +48,6 @@ returns c =
     let other = sym c.begins_at.ensures ∙ c.if-begins_at.false in
     let n = c.literal_length-n in
     let bs = drop (a.c.at + 1) a.text.now in
-    λ keys tags ready.
+    λ m ready.
     literal_spelt n.result (n.result + 1) ready (omega (arith, n.ensures.inside)) (omega (arith, n.ensures.inside)) (omega arith)
     (literal_run bs other n.ensures.is ∙ literal_open a.text.now a.c.at n.result c.if-at-n.false) c.put_literal-2.ensures

@@ -5,7 +5,7 @@ use Prim.Native.Nat.{ℕ, ◌+◌}
 use lib.Dec.{leb}
 use native.Mathlib.Omega.{arith}
 use Rattle.std.specs.Prelude.{Some}
-use Rattle.decoder.specs.Meaning.{cell_meaning}
+use Rattle.encoding.specs.Meaning.{cell_meaning}
 use Rattle.encoding.specs.Kinds.{Valuing}
 use Rattle.verifier.specs.Asked.{cell_rule_asks}
 use Rattle.verifier.specs.CellTests.{own_length, value_asked, asked_test, cell_test}

@@ -1,6 +1,6 @@
 -- `verifier::kinds::is_ruled` meets its contract.
 use mathlib.Core.Path.{◌∙◌, ap}
-use Rattle.decoder.specs.Meaning.{cell_meaning}
+use Rattle.encoding.specs.Meaning.{cell_meaning}
 use Rattle.verifier.specs.CellTests.{asked_test}
 use Rattle.verifier.proofs.kinds.is_ruled.Goals as goal
 

@@ -3,7 +3,7 @@ use native.Mathlib.Omega.{arith}
 use mathlib.Core.Path.{sym, ◌∙◌, ap}
 use Prim.Native.Nat.{ℕ, ◌+◌, ◌-◌}
 use Rattle.std.specs.Prelude.{Some}
-use Rattle.decoder.specs.Meaning.{cell_meaning}
+use Rattle.encoding.specs.Meaning.{cell_meaning}
 use Rattle.verifier.specs.Turns.{item_other, item_few, item_many, item_holds_lem}
 use Rattle.verifier.proofs.kinds.item_end.Goals as goal
 

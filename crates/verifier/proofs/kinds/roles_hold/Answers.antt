@@ -3,6 +3,7 @@ use mathlib.Core.Path.{◌≡◌, refl, sym, ◌∙◌, ap}
 use Prim.Native.Nat.{◌+◌, ◌*◌, ◌-◌}
 use native.Mathlib.Omega.{arith}
 use lib.ListN.{get_or, replicate}
+use mathlib.Core.Bool.{false}
 use Rattle.encoding.specs.Table.{elements_at}
 use Rattle.encoding.specs.TableReading.{cell_at}
 use Rattle.verifier.specs.Roles.{roles_test, roles_more, roles_stop, roles_done, marks-filler, marks-other}
@@ -12,7 +13,7 @@ pub loop-i-init : goal.loop-i-init
 loop-i-init c =
     let a = c.args in
     let size : a.count ≡ a.k + a.count - a.k = omega arith in
-    (refl, ap (roles_test a.t.now a.reference (replicate 256 0) a.k) size)
+    (refl, ap (roles_test a.t.now a.reference (replicate 256 false) a.k) size)
 
 pub returns-then-not-role_holds : goal.returns-then-not-role_holds
 unfolding elements_at cell_at

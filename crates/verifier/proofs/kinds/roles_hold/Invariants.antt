@@ -1,4 +1,5 @@
 -- `verifier::kinds::roles_hold` meets its contract.
+use mathlib.Core.Bool.{false}
 use mathlib.Core.Path.{◌≡◌}
 use Prim.Native.Nat.{◌+◌, ◌-◌}
 use lib.ListN.{length, replicate}
@@ -8,4 +9,4 @@ use Rattle.verifier.proofs.kinds.roles_hold.Given as goal
 abbrev pub invariant-loop-i : goal.invariant-loop-i
 invariant-loop-i l =
     (length l.marks ≡ 256)
-    × (roles_test l.t l.reference (replicate 256 0) l.k l.count ≡ roles_test l.t l.reference l.marks l.i (l.k + l.count - l.i))
+    × (roles_test l.t l.reference (replicate 256 false) l.k l.count ≡ roles_test l.t l.reference l.marks l.i (l.k + l.count - l.i))

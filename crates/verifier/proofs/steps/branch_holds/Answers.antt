@@ -6,12 +6,12 @@ use Rattle.verifier.proofs.steps.branch_holds.Goals as goal
 
 pub returns-in-NoStep : goal.returns-in-NoStep
 unfolding steps_test steps_meaning
-returns-in-NoStep c = ap (λ r. steps_test c.args.steps (steps_meaning r) c.args.success c.args.failure) (sym c.in-NoStep.is)
+returns-in-NoStep c = ap (λ r. steps_test c.args.steps (steps_meaning r) c.args.b.success c.args.b.failure) (sym c.in-NoStep.is)
 
 pub returns-in-OneStep : goal.returns-in-OneStep
 unfolding steps_test steps_meaning
-returns-in-OneStep c = ap (λ r. steps_test c.args.steps (steps_meaning r) c.args.success c.args.failure) (sym c.in-OneStep.is)
+returns-in-OneStep c = ap (λ r. steps_test c.args.steps (steps_meaning r) c.args.b.success c.args.b.failure) (sym c.in-OneStep.is)
 
 pub returns-in-BothSteps : goal.returns-in-BothSteps
 unfolding steps_test steps_meaning
-returns-in-BothSteps c = ap (λ r. steps_test c.args.steps (steps_meaning r) c.args.success c.args.failure) (sym c.in-BothSteps.is)
+returns-in-BothSteps c = ap (λ r. steps_test c.args.steps (steps_meaning r) c.args.b.success c.args.b.failure) (sym c.in-BothSteps.is)

@@ -1,6 +1,6 @@
 -- `verifier::steps::left_holds` meets its contract.
 use mathlib.Core.Path.{sym, ◌∙◌, ap}
-use Rattle.decoder.specs.Meaning.{cell_meaning}
+use Rattle.encoding.specs.Meaning.{cell_meaning}
 use Rattle.verifier.specs.Asked.{left_meaning}
 use Rattle.verifier.specs.Tests.{left_test}
 use Rattle.verifier.proofs.steps.left_holds.Goals as goal

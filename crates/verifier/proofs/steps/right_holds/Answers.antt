@@ -1,7 +1,7 @@
 -- `verifier::steps::right_holds` meets its contract.
 use mathlib.Core.Path.{◌≡◌, refl, sym, ◌∙◌, ap}
-use Rattle.decoder.specs.Meaning.{cell_meaning}
-use Rattle.decoder.specs.declared.Counts.{Counts}
+use Rattle.encoding.specs.Meaning.{cell_meaning}
+use Rattle.encoding.specs.declared.cells.Counts.{Counts}
 use Rattle.encoding.specs.Table.{Cell}
 use Rattle.verifier.specs.Asked.{right_meaning}
 use Rattle.verifier.specs.CellTests.{cell_test}

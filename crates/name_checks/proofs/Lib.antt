@@ -1,0 +1,2 @@
+-- What the code compares: purposes, tags, keys (Comparing).
+pub mod Comparing

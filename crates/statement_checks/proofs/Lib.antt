@@ -1,0 +1,2 @@
+-- What the code's tests of tags and purposes tell (Told).
+pub mod Told
