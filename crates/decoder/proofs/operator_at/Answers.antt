@@ -1,9 +1,8 @@
--- `decoder::item_kind` meets its contract.
-use mathlib.Core.Path.{refl}
+-- `decoder::operator_at` meets its contract.
 use Rattle.encoding.specs.Table.{items_at}
 use Rattle.encoding.specs.TableReading.{cell_at}
-use Rattle.decoder.proofs.item_kind.Goals as goal
+use Rattle.decoder.proofs.operator_at.Goals as goal
 
 pub returns : goal.returns
 unfolding items_at cell_at
-returns c = refl
+returns c = c.operator_of.ensures
